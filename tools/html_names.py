@@ -20,6 +20,8 @@ WIDTH = 100
 HEAD = """\
 //! The names that HTML gives to characters, by their first letter: behind `&name;` stand the characters, up to the
 //! next space. Written by `tools/html-names`.
+
+// A list for each byte from A to z.
 """
 
 
@@ -53,11 +55,13 @@ def lines(names: list[str]) -> Iterator[str]:
     yield line
 
 
-def constant(letter: str) -> str:
-    kind = "CAPITAL" if letter.isupper() else "SMALL"
-    text = "\n".join(lines(sorted((name for name in NAMES if name[0] == letter), key=rank)))
-    return f'pub(crate) const {kind}_{letter.upper()}: &str = "\\\n{text}";\n'
+def literal(first: str) -> str:
+    """The list of the names with this first byte, as an element of the array."""
+    names = sorted((name for name in NAMES if name[0] == first), key=rank)
+    text = "\n".join(lines(names))
+    return f'    "\\\n{text}",\n' if names else '    "",\n'
 
 
 def source() -> str:
-    return "\n".join([HEAD, *map(constant, sorted({name[0] for name in NAMES}))])
+    texts = [literal(chr(byte)) for byte in range(ord("A"), ord("z") + 1)]
+    return f"{HEAD}pub(crate) const NAMES: [&str; {len(texts)}] = [\n{''.join(texts)}];\n"

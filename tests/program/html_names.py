@@ -8,7 +8,7 @@ from tests.program.room import Group, Room
 from tests.running import Outcome
 from tools import html_names
 
-LIST = re.compile(r'const (CAPITAL|SMALL)_([A-Z]): &str = "\\\n(.*?)";\n', re.S)
+LIST = re.compile(r'^    "(?:\\\n(.*?))?",$', re.S | re.M)
 ESCAPED = re.compile(r'\\u\{([0-9a-f]+)\}|\\(["\\])')
 
 
@@ -21,7 +21,7 @@ def text_of(literal: str) -> str:
 def lists() -> dict[str, str]:
     """The list of each first letter."""
     found = LIST.findall(html_names.LISTS.read_text(encoding="utf-8"))
-    return {letter if kind == "CAPITAL" else letter.lower(): text_of(literal) for kind, letter, literal in found}
+    return {chr(ord("A") + place): text_of(literal) for place, literal in enumerate(found)}
 
 
 def character_names(room: Room) -> Iterator[Outcome]:

@@ -8,8 +8,9 @@ use Rattle.std.specs.Str.{bytes_eq}
 use Rattle.onix_outline.specs.Composites.{has_stranger}
 use Rattle.onix_outline.specs.Names.{stranger}
 use Rattle.onix_outline.specs.Nodes.{Nodes, Tag, no_nodes, node}
-use Rattle.onix_mapping.specs.Elements.{Composite, composites, first, text_or_empty}
+use Rattle.onix_mapping.specs.Elements.{Composite, each_at, text_at}
 use Rattle.onix_mapping.specs.Header.{Choices, Heading, heading_in, message_fields}
+use Rattle.onix_mapping.specs.Records.{Fields}
 use Rattle.onix_mapping.specs.declared.header.Refusal.{Refusal}
 use Rattle.onix_conversion.specs.declared.rejection.Rejection.{Rejection}
 use Rattle.onix_conversion.specs.declared.rejection.Rejection.TheVariants as why
@@ -37,11 +38,11 @@ header_in (node name tag text below rest) =
 
 -- the Products, in order
 abbrev pub products_in : Nodes → List Composite
-products_in nodes = composites (codes "Product") nodes
+products_in nodes = each_at "Product" nodes
 
 -- the record with which the part behind so many begins: it has the number that follows those of the
 -- parts before it
-abbrev pub first_record : Heading → Nodes → ℕ → List (List ℕ)
+abbrev pub first_record : Heading → Nodes → ℕ → Fields
 first_record h header before =
     codes "Message" ∷ message_fields h.sender h.addressee (decimal (h.number + before)) header
 
@@ -58,7 +59,7 @@ terms o h header = record {
 -- that a message is refused for what its Header says
 abbrev pub header_refused : Composite → Refusal → Rejection
 header_refused header refusal =
-    why.Header refusal (text_or_empty (codes "MessageNumber") header.below) (place_of header)
+    why.Header refusal (text_at "MessageNumber" header.below) (place_of header)
 
 -- why the elements behind a Header refuse the message, by the first that does
 abbrev pub refused_behind : Nodes → Option Rejection

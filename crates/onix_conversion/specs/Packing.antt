@@ -8,6 +8,7 @@ use Rattle.onix_mapping.specs.Elements.{Composite}
 use Rattle.onix_mapping.specs.Notes.{Note, note, wrong}
 use Rattle.onix_mapping.specs.ProductRecords.{Form, forms}
 use Rattle.onix_mapping.specs.Products.{reference_in}
+use Rattle.onix_mapping.specs.Records.{Fields, Records}
 use Rattle.onix_mapping.specs.declared.notes.Wrong.TheVariants.{TooLarge}
 use Rattle.onix_conversion.specs.Messages.{empty_messages, fits, message_text}
 use Rattle.onix_conversion.specs.Tallies.{no_tally, place_of, refused_for, tallied}
@@ -35,7 +36,7 @@ converted parts notes wrong = record { parts = parts; notes = notes; wrong = wro
 -- what that says, how many parts there are, the type of identifier that is preferred, and how many
 -- products may be wrong.
 pub record Terms : Type 0 where
-  pub first : ℕ → List (List ℕ)
+  pub first : ℕ → Fields
   pub opening : Opening
   pub most : ℕ
   pub preferred : List ℕ
@@ -46,7 +47,7 @@ pub record Terms : Type 0 where
 -- full parts, the notes, and how many products there are and are wrong.
 pub record Work : Type 0 where
   pub full : ℕ
-  pub begun : List (List (List ℕ))
+  pub begun : Records
   pub beyond : Option Position
   pub parts : List (List ℕ)
   pub notes : List ProductNote
@@ -62,10 +63,6 @@ no_work = record { full = 0; begun = []; beyond = None; parts = []; notes = []; 
 abbrev pub with_part : ℕ → ℕ → List ℕ → List (List ℕ) → List (List ℕ)
 with_part most full text parts = if nat_lt full most then parts ++ text ∷ [] else parts
 
--- the texts, with that of the part that was begun
-abbrev pub written : Terms → Work → List (List ℕ)
-written t w = with_part t.most w.full (message_text (t.first w.full) w.begun) w.parts
-
 -- the place of the first product for which there is no part, where a product at this place begins
 -- the part behind so many
 abbrev pub beyond_at : ℕ → ℕ → Option Position → Position → Option Position
@@ -73,29 +70,8 @@ beyond_at most full (Some earlier) place = Some earlier
 beyond_at most full None place = if nat_lt full most then None else Some place
 
 -- a product in the part that was begun
-abbrev pub joined : Work → List (List (List ℕ)) → Work
+abbrev pub joined : Work → Records → Work
 joined w records = record w { begun = w.begun ++ records }
-
--- a product in the next part
-abbrev pub turned : Terms → Work → Position → List (List (List ℕ)) → Work
-turned t w place records = record {
-  full = w.full + 1;
-  begun = records;
-  beyond = beyond_at t.most (w.full + 1) w.beyond place;
-  parts = written t w;
-  notes = w.notes;
-  tally = w.tally;
-}
-
--- records of a product at this place go into the part that was begun where that has room, else into
--- the next; nothing, where that has no room for them either
-abbrev pub packed : Terms → Work → Position → List (List (List ℕ)) → Option Work
-packed t w place records =
-    if fits (t.first w.full) (w.begun ++ records) then Some (joined w records)
-    else if fits (t.first (w.full + 1)) records then Some (turned t w place records)
-    else None
-
--- ---- products
 
 -- notes on a product of this reference
 abbrev pub product_notes : List ℕ → List Note → List ProductNote
@@ -108,36 +84,59 @@ noted c notes w = record w {
   tally = tallied w.tally c notes;
 }
 
--- a product by the first of these forms that is not too large for a message; without one it is left
--- out
-abbrev pub with_forms : Terms → Work → Composite → List Form → Work
-with_forms t w c [] = noted c (note c.element (wrong TooLarge []) ∷ []) w
-with_forms t w c (f ∷ forms) =
-    unwrap_or (option_map (noted c f.notes) (packed t w (place_of c) f.records))
-    (with_forms t w c forms)
+module _ (t : Terms) (w : Work) where
+  -- the texts, with that of the part that was begun
+  abbrev pub written : List (List ℕ)
+  written = with_part t.most w.full (message_text (t.first w.full) w.begun) w.parts
 
-abbrev pub after_product : Terms → Work → Composite → Work
-after_product t w c = with_forms t w c (forms t.opening t.preferred c)
+  -- a product in the next part
+  abbrev pub turned : Position → Records → Work
+  turned place records = record w {
+    full = w.full + 1;
+    begun = records;
+    beyond = beyond_at t.most (w.full + 1) w.beyond place;
+    parts = written;
+  }
+
+  -- records of a product at this place go into the part that was begun where that has room, else
+  -- into the next; nothing, where that has no room for them either
+  abbrev pub packed : Position → Records → Option Work
+  packed place records =
+      if fits (t.first w.full) (w.begun ++ records) then Some (joined w records)
+      else if fits (t.first (w.full + 1)) records then Some (turned place records)
+      else None
+
+  -- ---- products
+
+  -- a product by the first of these forms that is not too large for a message; without one it is
+  -- left out
+  abbrev pub with_forms : Composite → List Form → Work
+  with_forms c [] = noted c (note c.element (wrong TooLarge []) ∷ []) w
+  with_forms c (f ∷ forms) =
+      unwrap_or (option_map (noted c f.notes) (packed (place_of c) f.records)) (with_forms c forms)
+
+  abbrev pub after_product : Composite → Work
+  after_product c = with_forms c (forms t.opening t.preferred c)
+
+  -- ---- the end
+
+  -- the texts of all parts: those that are left over are messages without products
+  abbrev pub all_written : List (List ℕ)
+  all_written = written ++ empty_messages t.first (w.full + 1) (t.most - (w.full + 1))
+
+  -- a message that needs more parts than there are is refused
+  abbrev pub ended_at : Option Position → Result Converted Rejection
+  ended_at (Some place) = Err (why.Parts (w.full + 1) place)
+  ended_at None = Ok (converted all_written w.notes w.tally.wrong)
+
+  -- and before it one of which too many products are wrong
+  abbrev pub ended_by : Option Rejection → Result Converted Rejection
+  ended_by (Some rejection) = Err rejection
+  ended_by None = ended_at w.beyond
+
+  abbrev pub ended : Result Converted Rejection
+  ended = ended_by (refused_for t.allowed w.tally)
 
 -- the products in order
 abbrev pub after_products : Terms → Work → List Composite → Work
 after_products t w products = fold (after_product t) w products
-
--- ---- the end
-
--- the texts of all parts: those that are left over are messages without products
-abbrev pub all_written : Terms → Work → List (List ℕ)
-all_written t w = written t w ++ empty_messages t.first (w.full + 1) (t.most - (w.full + 1))
-
--- a message that needs more parts than there are is refused
-abbrev pub ended_at : Terms → Work → Option Position → Result Converted Rejection
-ended_at t w (Some place) = Err (why.Parts (w.full + 1) place)
-ended_at t w None = Ok (converted (all_written t w) w.notes w.tally.wrong)
-
--- and before it one of which too many products are wrong
-abbrev pub ended_by : Terms → Work → Option Rejection → Result Converted Rejection
-ended_by t w (Some rejection) = Err rejection
-ended_by t w None = ended_at t w w.beyond
-
-abbrev pub ended : Terms → Work → Result Converted Rejection
-ended t w = ended_by t w (refused_for t.allowed w.tally)

@@ -23,15 +23,14 @@ no_tally = record { products = 0; wrong = 0; first = None }
 
 -- with one more that is wrong
 abbrev pub with_wrong : Tally → Composite → Tally
-with_wrong t c = record {
-  products = t.products;
+with_wrong t c = record t {
   wrong = t.wrong + 1;
   first = option_or t.first
       (Some (record { reference = reference_in c.below; place = place_of c }));
 }
 
 abbrev pub with_product : Tally → Tally
-with_product t = record { products = t.products + 1; wrong = t.wrong; first = t.first }
+with_product t = record t { products = t.products + 1 }
 
 -- with one more that has these notes: it is wrong where one of them says so
 abbrev pub tallied : Tally → Composite → List Note → Tally

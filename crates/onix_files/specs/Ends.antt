@@ -92,49 +92,49 @@ file_end ended output before after = record {
 abbrev pub LeavesNothing : FileEnd → Type 0
 LeavesNothing e = (e.output ≡ []) × (e.after ≡ e.before)
 
--- the files of the parts of a FILE of this name in a folder
-abbrev pub part_files : Asking → List ℕ → List ℕ → List (List ℕ) → List NamedText
-part_files a folder name parts =
-    files_of (place folder (name_of name) a.options.choices.parts) parts
-
 -- the texts of parts are told: those that a file keeps too, or they are no longer than the largest
 -- message, which is in memory
 abbrev pub AreTold : Bool → List (List ℕ) → Type 0
 AreTold is_told parts = (is_told ≡ true) ⊎ (length (concat parts) ≤ limit)
 
--- The parts of a FILE of this name were written: into a folder, so that each file holds its
--- part's text, of what was there nothing is lost, and nothing else is new; or to standard output,
--- one after the other.
-abbrev pub WritesTo : Option (List ℕ) → Asking → List ℕ → List (List ℕ) → FileEnd → Type 0
-WritesTo (Some folder) a name parts e =
-    (e.output ≡ []) × (a.is_told ≡ true → Names (part_files a folder name parts) e.before e.after)
-WritesTo None a name parts e =
-    (e.after ≡ e.before) × (AreTold a.is_told parts → e.output ≡ concat parts)
+module _ (a : Asking) (name : List ℕ) where
+  -- the files of the parts of a FILE of this name in a folder
+  abbrev pub part_files : List ℕ → List (List ℕ) → List NamedText
+  part_files folder parts = files_of (place folder (name_of name) a.options.choices.parts) parts
 
--- a first part of them was: into a folder some of the files may be there, to standard output a
--- front
-abbrev pub MayWriteTo : Option (List ℕ) → Asking → List ℕ → List (List ℕ) → FileEnd → Type 0
-MayWriteTo (Some folder) a name parts e =
-    (e.output ≡ []) × (a.is_told ≡ true → MayName (part_files a folder name parts) e.before e.after)
-MayWriteTo None a name parts e =
-    (e.after ≡ e.before)
-    × (AreTold a.is_told parts → (rest : List ℕ) × (e.output ++ rest ≡ concat parts))
+  -- The parts of a FILE of this name were written: into a folder, so that each file holds its
+  -- part's text, of what was there nothing is lost, and nothing else is new; or to standard output,
+  -- one after the other.
+  abbrev pub WritesTo : Option (List ℕ) → List (List ℕ) → FileEnd → Type 0
+  WritesTo (Some folder) parts e =
+      (e.output ≡ []) × (a.is_told ≡ true → Names (part_files folder parts) e.before e.after)
+  WritesTo None parts e =
+      (e.after ≡ e.before) × (AreTold a.is_told parts → e.output ≡ concat parts)
+
+  -- a first part of them was: into a folder some of the files may be there, to standard output a
+  -- front
+  abbrev pub MayWriteTo : Option (List ℕ) → List (List ℕ) → FileEnd → Type 0
+  MayWriteTo (Some folder) parts e =
+      (e.output ≡ []) × (a.is_told ≡ true → MayName (part_files folder parts) e.before e.after)
+  MayWriteTo None parts e =
+      (e.after ≡ e.before)
+      × (AreTold a.is_told parts → (rest : List ℕ) × (e.output ++ rest ≡ concat parts))
 
 -- how a FILE of this name and of these bytes, where they are told, ends so
 abbrev pub EndsAs : Ended → Asking → List ℕ → Option (List ℕ) → FileEnd → Type 0
 EndsAs ended.Done a name bytes e =
     (made : Converted) × Says bytes a.options (Ok made) × (made.wrong ≡ 0)
-    × WritesTo a.folder a name made.parts e
+    × WritesTo a name a.folder made.parts e
 EndsAs ended.LeftOut a name bytes e =
     (made : Converted) × Says bytes a.options (Ok made) × (0 < made.wrong)
-    × WritesTo a.folder a name made.parts e
+    × WritesTo a name a.folder made.parts e
 EndsAs ended.Refused a name bytes e =
     LeavesNothing e × ((f : Fault) × IsRefusal f × ExplainsFault bytes a.options f)
 EndsAs ended.Packed a name bytes e = LeavesNothing e × (is_packed name ≡ true)
 EndsAs ended.Fault a name bytes e =
     LeavesNothing e
     ⊎ ((made : Converted) × Says bytes a.options (Ok made)
-    × MayWriteTo a.folder a name made.parts e)
+    × MayWriteTo a name a.folder made.parts e)
 
 -- How a FILE of this name and of these bytes, where they are told, ends: its messages are written,
 -- where it was converted, with or without wrong products; nothing is, where it was refused for what

@@ -31,17 +31,16 @@ AreEnds a told before after (name ∷ names) (e ∷ ends) =
     × (e.before ≡ before) × IsEnd a name bytes e × AreEnds a left e.after after names ends
 AreEnds a told before after names ends = ⊥
 
--- FILEs of these names end with this status: what was written of each stands one after the other
-abbrev pub AllEnd : Asking → Option (List ℕ) → Holdings → Holdings → List (List ℕ)
-    → (List ℕ → Type 0) → ℕ → Type 0
-AllEnd a told before after names written status =
-    (ends : List FileEnd) × AreEnds a told before after names ends × written (outputs ends)
-    × (status ≡ status_of_all ends)
+module _ (a : Asking) (told : Option (List ℕ)) (before after : Holdings)
+    (names : List (List ℕ)) (written : List ℕ → Type 0) (status : ℕ) where
+  -- FILEs of these names end with this status: what was written of each stands one after the other
+  abbrev pub AllEnd : Type 0
+  AllEnd =
+      (ends : List FileEnd) × AreEnds a told before after names ends × written (outputs ends)
+      × (status ≡ status_of_all ends)
 
--- How a run ends with this status: as its FILEs end; or, with 3, before the first, where the folder
--- is none.
-abbrev pub RunEnds : Asking → Option (List ℕ) → Holdings → Holdings → List (List ℕ)
-    → (List ℕ → Type 0) → ℕ → Type 0
-RunEnds a told before after names written status =
-    AllEnd a told before after names written status
-    ⊎ ((is_some a.folder ≡ true) × (status ≡ 3) × written [] × (after ≡ before))
+  -- How a run ends with this status: as its FILEs end; or, with 3, before the first, where the
+  -- folder is none.
+  abbrev pub RunEnds : Type 0
+  RunEnds =
+      AllEnd ⊎ ((is_some a.folder ≡ true) × (status ≡ 3) × written [] × (after ≡ before))

@@ -325,12 +325,12 @@ detailed-rows o markets (fields, same, is) notes more (detail ∷ below) (ds, re
     (one-supply o fields is ds (detail ∷ below) (never-empty o detail below ds reads) reads)
 
 behind-rows : (o : Opening) (preferred : List ℕ) (ds ms : List Composite) (why : Option Reason) → outcome_reason (markets_outcome ms) ≡ why
-    → AreSupplies o (outcome_records (behind_markets why (markets_outcome ms) o preferred ds))
+    → AreSupplies o (outcome_records (behind_markets o preferred why (markets_outcome ms) ds))
 behind-rows o preferred ds ms (Some reason) e = no-supplies o
 behind-rows o preferred ds ms None e =
     detailed-rows o (markets_outcome ms) (markets-rows o ms e) (notes_below (markets_outcome ms)) (all_notes (detail_in o preferred) ds) (all_records (detail_in o preferred) ds) (details-rows o preferred ds)
 
-supply-rows : (o : Opening) (preferred : List ℕ) (ds : List Composite) (nodes : Nodes) → AreSupplies o (outcome_records (supply_by ds o preferred nodes))
+supply-rows : (o : Opening) (preferred : List ℕ) (ds : List Composite) (nodes : Nodes) → AreSupplies o (outcome_records (supply_by o preferred ds nodes))
 supply-rows o preferred [] nodes = no-supplies o
 supply-rows o preferred (d ∷ ds) nodes = behind-rows o preferred (d ∷ ds) (markets_in nodes) (outcome_reason (markets_outcome (markets_in nodes))) refl
 
@@ -434,7 +434,7 @@ pair-right kind written stands e rest r =
     let (a, b) = both-none (unread (term_said code2_of) bad.IdentifierType kind) (unless (is_field written) bad.IdentifierValue stands) e in
     one-pair kind written rest (code-is kind (unless-none (is_some (term_said code2_of kind)) bad.IdentifierType kind a)) (field-is written (unless-none (is_field written) bad.IdentifierValue stands b)) r
 
-right-is : (c : Composite) (there : Bool) (reason : Option Reason) → is_there c ≡ there → identifier_reason c ≡ reason → (rest : List (List ℕ)) → ArePairs rest → ArePairs (pair_by reason c ++ rest)
+right-is : (c : Composite) (there : Bool) (reason : Option Reason) → is_there c ≡ there → identifier_reason c ≡ reason → (rest : List (List ℕ)) → ArePairs rest → ArePairs (pair_by c reason ++ rest)
 right-is c there (Some reason) t e rest r = r
 right-is c true None t e rest r =
     let none : pair_reason (type_of c) (value_written c) (value_of c) ≡ None = rw t at e in
@@ -501,7 +501,7 @@ own-code nodes e = go (unread (term_said code2_of) bad.NotificationType (notific
     go (Some r) is f = let no = rw is at f in cc no
 
 own-rows : (o : Opening) (preferred : List ℕ) (nodes : Nodes) → IsField (reference_in nodes) → (own : Option Reason) → own_reason nodes ≡ own → (below : Option Reason)
-    → AreOf o (standing_records own below o preferred nodes) (reference_in nodes ∷ [])
+    → AreOf o (standing_records o preferred own below nodes) (reference_in nodes ∷ [])
 own-rows o preferred nodes f (Some own) e below = emptied-rows o nodes f (right_pairs nodes) (right-pairs (identifiers_in nodes))
 own-rows o preferred nodes f None e (Some below) = emptied-rows o nodes f (right_pairs nodes) (right-pairs (identifiers_in nodes))
 own-rows o preferred nodes f None e None =
@@ -518,7 +518,7 @@ product-rows o preferred c = go (is_field (reference_in c.below)) refl
     nodes : Nodes
     nodes = c.below
 
-    whole : IsField (reference_in nodes) → AreOf o (standing_records (own_reason nodes) (reason_below o preferred nodes) o preferred nodes) (reference_in nodes ∷ [])
+    whole : IsField (reference_in nodes) → AreOf o (standing_records o preferred (own_reason nodes) (reason_below o preferred nodes) nodes) (reference_in nodes ∷ [])
     whole f = own-rows o preferred nodes f (own_reason nodes) refl (reason_below o preferred nodes)
 
     small : IsField (reference_in nodes) → (notes : List Note) → AllByRecursion (λ f. AreOf o f.records (reference_in nodes ∷ [])) (small_forms notes nodes)

@@ -3,7 +3,6 @@ use Rattle.std.specs.Prelude.{ℕ, List, [], ◌∷◌, Option, Some, None, if�
 use Rattle.std.specs.Prelude.{map, option_and_then}
 use Rattle.std.specs.Option.{option_or, unwrap_or}
 use Rattle.xml_text.specs.Grammar.{is_filled}
-use Rattle.onix_outline.specs.Composites.{text_in}
 use Rattle.onix_outline.specs.Nodes.{Nodes}
 use Rattle.onix_terms.specs.Code.{code2_of}
 use Rattle.onix_terms.specs.Options.{◌>>=◌}
@@ -11,99 +10,90 @@ use Rattle.onix_terms.specs.Quantity.{quantity_of}
 use Rattle.onix_message.specs.Detail.{detail_of}
 use Rattle.onix_message.specs.Fields.{optional}
 use Rattle.onix_message.specs.declared.row.Opening.{Opening}
-use Rattle.onix_mapping.specs.Elements.{Composite, below_of, composites, first, text_or_empty}
+use Rattle.onix_mapping.specs.Elements.{Composite, below_of, each_at, first, some_at}
+use Rattle.onix_mapping.specs.Elements.{text_at}
 use Rattle.onix_mapping.specs.Identifiers.{Identifier, chosen, identifiers_in}
-use Rattle.onix_mapping.specs.Notes.{Reason, wrong}
+use Rattle.onix_mapping.specs.Notes.{Reason, Reasons, wrong}
 use Rattle.onix_mapping.specs.Outcomes.{Outcome, all_notes, all_records, left_out, written}
 use Rattle.onix_mapping.specs.Parties.{Pair, pair_of, supplier_kind}
 use Rattle.onix_mapping.specs.Prices.{Around, price_outcome}
-use Rattle.onix_mapping.specs.Records.{first_some, is_field, said, term_said, unless, unread}
+use Rattle.onix_mapping.specs.Records.{Fields, first_some, is_field, said}
+use Rattle.onix_mapping.specs.Records.{term_said, unless, unread}
 use Rattle.onix_mapping.specs.declared.notes.Wrong.TheVariants as bad
-
--- what stands in the Supplier
-abbrev pub supplier_in : Nodes → Nodes
-supplier_in nodes = below_of (first (composites (codes "Supplier") nodes))
 
 -- the UnpricedItemType of a Price without an amount
 abbrev pub unpriced_price : Nodes → Option (List ℕ)
 unpriced_price nodes =
-    if is_some (text_in (codes "PriceAmount") nodes) then None
-    else text_in (codes "UnpricedItemType") nodes
+    if is_some (some_at "PriceAmount" nodes) then None else some_at "UnpricedItemType" nodes
 
--- the UnpricedItemType of a SupplyDetail, else the first one of its Prices that have no amount
-abbrev pub unpriced_in : Nodes → Option (List ℕ)
-unpriced_in nodes =
-    option_or (text_in (codes "UnpricedItemType") nodes)
-    (first_some (map (λ c. unpriced_price c.below) (composites (codes "Price") nodes)))
+module _ (nodes : Nodes) where
+  abbrev pub prices_in : List Composite
+  prices_in = each_at "Price" nodes
 
--- the identifier of the supplier that is chosen: the first of the preferred type, else the first
-abbrev pub supplier_identifier : List ℕ → Nodes → Option Identifier
-supplier_identifier preferred nodes =
-    chosen preferred (identifiers_in supplier_kind (supplier_in nodes))
+  -- what stands in the Supplier
+  abbrev pub supplier_in : Nodes
+  supplier_in = below_of (first (each_at "Supplier" nodes))
 
--- its type and its value, both empty where there is none; nothing, where it lacks one
-abbrev pub supplier_pair : List ℕ → Nodes → Option Pair
-supplier_pair preferred nodes = pair_of (supplier_identifier preferred nodes)
+  -- the UnpricedItemType of a SupplyDetail, else the first one of its Prices that have no amount
+  abbrev pub unpriced_in : Option (List ℕ)
+  unpriced_in =
+      option_or (some_at "UnpricedItemType" nodes)
+      (first_some (map (λ c. unpriced_price c.below) prices_in))
+
+  -- the OrderQuantityMinimum, where it is a quantity
+  abbrev pub default_minimum : Option (List ℕ)
+  default_minimum =
+      option_and_then (λ text. if is_some (term_said quantity_of text) then Some text else None)
+      (some_at "OrderQuantityMinimum" nodes)
 
 -- The fields of a SupplyDetail behind its name, each as it stands, and empty where it is absent:
 -- role, identifier and name of the supplier, availability, UnpricedItemType.
-abbrev pub detail_fields : Pair → Nodes → List (List ℕ)
+abbrev pub detail_fields : Pair → Nodes → Fields
 detail_fields p nodes =
-    text_or_empty (codes "SupplierRole") (supplier_in nodes)
-    ∷ p.id_type
-    ∷ p.id_value
-    ∷ text_or_empty (codes "SupplierName") (supplier_in nodes)
-    ∷ text_or_empty (codes "ProductAvailability") nodes
-    ∷ unwrap_or (unpriced_in nodes) []
-    ∷ []
-
--- the record of a SupplyDetail; nothing, where the desk would not take it
-abbrev pub detail_record : List ℕ → Nodes → Option (List (List ℕ))
-detail_record preferred nodes = do
-  p ← supplier_pair preferred nodes
-  d ← said detail_of (detail_fields p nodes)
-  Some (codes "SupplyDetail" ∷ detail_fields p nodes)
-
--- ---- why it is left out
+    text_at "SupplierRole" (supplier_in nodes) ∷ p.id_type ∷ p.id_value
+    ∷ text_at "SupplierName" (supplier_in nodes) ∷ text_at "ProductAvailability" nodes
+    ∷ unwrap_or (unpriced_in nodes) [] ∷ []
 
 -- an identifier has a type, and a value that the desk takes
-abbrev pub identifier_reasons : Option Identifier → List ℕ → List (Option Reason)
+abbrev pub identifier_reasons : Option Identifier → List ℕ → Reasons
 identifier_reasons None name = unless (is_filled name) bad.Supplier [] ∷ []
 identifier_reasons (Some i) name =
     unread (term_said code2_of) bad.SupplierType (unwrap_or i.id_type [])
-    ∷ unless (is_field (unwrap_or i.id_value [])) bad.SupplierValue (unwrap_or i.id_value [])
-    ∷ []
+    ∷ unless (is_field (unwrap_or i.id_value [])) bad.SupplierValue (unwrap_or i.id_value []) ∷ []
 
 -- a name of the supplier that the desk would not take
 abbrev pub name_reason : List ℕ → Option Reason
 name_reason name = if is_filled name then unless (is_field name) bad.SupplierName name else None
 
--- which fields of a SupplyDetail the desk does not take, each where it does not
-abbrev pub detail_reasons : List ℕ → Nodes → List (Option Reason)
-detail_reasons preferred nodes =
-    unread (term_said code2_of) bad.SupplierRole
-    (text_or_empty (codes "SupplierRole") (supplier_in nodes))
-    ∷ first_some
-    (identifier_reasons (supplier_identifier preferred nodes)
-    (text_or_empty (codes "SupplierName") (supplier_in nodes)))
-    ∷ name_reason (text_or_empty (codes "SupplierName") (supplier_in nodes))
-    ∷ unread (term_said code2_of) bad.Availability
-    (text_or_empty (codes "ProductAvailability") nodes)
-    ∷ unread (optional (term_said code2_of)) bad.Unpriced (unwrap_or (unpriced_in nodes) [])
-    ∷ []
+module _ (preferred : List ℕ) (nodes : Nodes) where
+  -- the identifier of the supplier that is chosen: the first of the preferred type, else the first
+  abbrev pub supplier_identifier : Option Identifier
+  supplier_identifier = chosen preferred (identifiers_in supplier_kind (supplier_in nodes))
 
--- why a SupplyDetail that the desk would not take is left out
-abbrev pub detail_refusal : List ℕ → Nodes → Reason
-detail_refusal preferred nodes =
-    unwrap_or (first_some (detail_reasons preferred nodes)) (wrong bad.SupplyDetail [])
+  -- its type and its value, both empty where there is none; nothing, where it lacks one
+  abbrev pub supplier_pair : Option Pair
+  supplier_pair = pair_of supplier_identifier
 
--- ---- its Prices
+  -- the record of a SupplyDetail; nothing, where the desk would not take it
+  abbrev pub detail_record : Option Fields
+  detail_record = do
+    p ← supplier_pair
+    d ← said detail_of (detail_fields p nodes)
+    Some (codes "SupplyDetail" ∷ detail_fields p nodes)
 
--- the OrderQuantityMinimum, where it is a quantity
-abbrev pub default_minimum : Nodes → Option (List ℕ)
-default_minimum nodes =
-    option_and_then (λ text. if is_some (term_said quantity_of text) then Some text else None)
-    (text_in (codes "OrderQuantityMinimum") nodes)
+  -- which fields of a SupplyDetail the desk does not take, each where it does not
+  abbrev pub detail_reasons : Reasons
+  detail_reasons =
+      unread (term_said code2_of) bad.SupplierRole (text_at "SupplierRole" (supplier_in nodes))
+      ∷ first_some
+      (identifier_reasons supplier_identifier (text_at "SupplierName" (supplier_in nodes)))
+      ∷ name_reason (text_at "SupplierName" (supplier_in nodes))
+      ∷ unread (term_said code2_of) bad.Availability (text_at "ProductAvailability" nodes)
+      ∷ unread (optional (term_said code2_of)) bad.Unpriced (unwrap_or (unpriced_in nodes) []) ∷ []
+
+  -- why a SupplyDetail that the desk would not take is left out
+  abbrev pub detail_refusal : Reason
+  detail_refusal = unwrap_or (first_some detail_reasons) (wrong bad.SupplyDetail [])
 
 -- what stands around the Prices of a SupplyDetail
 abbrev pub around_in : Opening → Nodes → Around
@@ -113,20 +103,14 @@ around_in o nodes = record {
   minimum = default_minimum nodes;
 }
 
-abbrev pub prices_in : Nodes → List Composite
-prices_in nodes = composites (codes "Price") nodes
-
 -- what a Price of a SupplyDetail with these elements comes to
 abbrev pub price_in : Opening → Nodes → Composite → Outcome
 price_in o nodes price = price_outcome (around_in o nodes) price.below
 
--- ---- what it comes to
-
-abbrev pub detail_by : Option (List (List ℕ)) → Opening → List ℕ → Nodes → Outcome
+abbrev pub detail_by : Option Fields → Opening → List ℕ → Nodes → Outcome
 detail_by None o preferred nodes = left_out (detail_refusal preferred nodes)
 detail_by (Some detail) o preferred nodes =
-    written (detail
-    ∷ all_records (price_in o nodes) (prices_in nodes))
+    written (detail ∷ all_records (price_in o nodes) (prices_in nodes))
     (all_notes (price_in o nodes) (prices_in nodes))
 
 -- what a SupplyDetail comes to: its record with those of its Prices, or it is left out

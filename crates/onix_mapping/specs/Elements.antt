@@ -1,6 +1,7 @@
 -- The elements of one name in a composite, each with what stands in it.
+use Prim.Native.String.{String}
 use Rattle.std.specs.Prelude.{◌≡◌, ℕ, suc, List, [], ◌∷◌, Option, Some, None, if◌then◌else◌}
-use Rattle.std.specs.Prelude.{unwrap_or}
+use Rattle.std.specs.Prelude.{codes, unwrap_or}
 use Rattle.std.specs.Borrow.{Bor}
 use Rattle.std.specs.Str.{bytes_eq}
 use Rattle.onix_mapping.specs.declared.elements.Composite.{Composite as Lent}
@@ -43,6 +44,18 @@ below_of (Some c) = c.below
 -- the text of the first element of this name that has one, else the empty text
 abbrev pub text_or_empty : List ℕ → Nodes → List ℕ
 text_or_empty name nodes = unwrap_or (text_in name nodes) []
+
+-- the same of a name as it is written here
+abbrev pub text_at : String → Nodes → List ℕ
+text_at name nodes = text_or_empty (codes name) nodes
+
+-- that text, where there is one
+abbrev pub some_at : String → Nodes → Option (List ℕ)
+some_at name nodes = text_in (codes name) nodes
+
+-- the elements of such a name
+abbrev pub each_at : String → Nodes → List Composite
+each_at name nodes = composites (codes name) nodes
 
 -- ---- lines
 

@@ -5,14 +5,15 @@ use Rattle.std.specs.Prelude.{Result, Ok, Err, if◌then◌else◌, codes, decim
 use Rattle.std.specs.List.{list_all, list_any}
 use Rattle.std.specs.Option.{ok_or}
 use Rattle.std.specs.Str.{is_utf8}
-use Rattle.onix_outline.specs.Composites.{text_in}
 use Rattle.onix_outline.specs.Nodes.{Nodes, no_nodes}
 use Rattle.onix_message.specs.Opening.{opening_of}
 use Rattle.onix_message.specs.declared.row.Opening.{Opening}
 use Rattle.onix_terms.specs.Number.{number_from, number_of}
-use Rattle.onix_mapping.specs.Elements.{Composite, below_of, composites, first, text_or_empty}
+use Rattle.onix_mapping.specs.Elements.{Composite, below_of, each_at, first, some_at}
+use Rattle.onix_mapping.specs.Elements.{text_at}
 use Rattle.onix_mapping.specs.Identifiers.{Identifier, chosen, identifiers_in, is_text}
 use Rattle.onix_mapping.specs.Parties.{Pair, addressee_kind, pair_of, sender_kind}
+use Rattle.onix_mapping.specs.Records.{Fields}
 use Rattle.onix_mapping.specs.declared.header.Refusal.{Refusal}
 use Rattle.onix_mapping.specs.declared.header.Refusal.TheVariants as why
 
@@ -35,13 +36,14 @@ abbrev pub ◌>>=◌ : {A B : Type 0} → Result A Refusal → (A → Result B R
 
 -- ---- sender
 
--- what stands in the Sender
-abbrev pub sender_below : Nodes → Nodes
-sender_below nodes = below_of (first (composites (codes "Sender") nodes))
+module _ (nodes : Nodes) where
+  -- what stands in the Sender
+  abbrev pub sender_below : Nodes
+  sender_below = below_of (first (each_at "Sender" nodes))
 
--- the identifiers of the sender
-abbrev pub sender_ids : Nodes → List Identifier
-sender_ids nodes = identifiers_in sender_kind (sender_below nodes)
+  -- the identifiers of the sender
+  abbrev pub sender_ids : List Identifier
+  sender_ids = identifiers_in sender_kind sender_below
 
 -- an identifier with both a type and a value
 abbrev pub is_whole : Identifier → Bool
@@ -61,18 +63,19 @@ given_or None said = said
 -- gives none, the one that is chosen
 abbrev pub sender_in : Choices → Nodes → Result Pair Refusal
 sender_in c nodes =
-    if list_any is_whole (sender_ids nodes) then named_sender (chosen c.id_type (sender_ids nodes))
-    else given_or c.sender (named_sender (chosen c.id_type (sender_ids nodes)))
+    let named = named_sender (chosen c.id_type (sender_ids nodes)) in
+    if list_any is_whole (sender_ids nodes) then named else given_or c.sender named
 
 -- ---- addressee
 
--- an identifier of that type and value
-abbrev pub is_pair : Pair → Identifier → Bool
-is_pair p i = is_text p.id_type i.id_type && is_text p.id_value i.id_value
+module _ (p : Pair) where
+  -- an identifier of that type and value
+  abbrev pub is_pair : Identifier → Bool
+  is_pair i = is_text p.id_type i.id_type && is_text p.id_value i.id_value
 
--- an addressee with such an identifier
-abbrev pub has_pair : Pair → Nodes → Bool
-has_pair p nodes = list_any (is_pair p) (identifiers_in addressee_kind nodes)
+  -- an addressee with such an identifier
+  abbrev pub has_pair : Nodes → Bool
+  has_pair nodes = list_any is_pair (identifiers_in addressee_kind nodes)
 
 -- the first addressee that the caller means
 abbrev pub meant : Option Pair → List Composite → Result Nodes Refusal
@@ -89,7 +92,7 @@ addressee_in p (a ∷ b ∷ more) = meant p (a ∷ b ∷ more)
 -- the type and the value of the addressee, both empty where there is none
 abbrev pub addressee_pair : Choices → Nodes → Result Pair Refusal
 addressee_pair c nodes = do
-  below ← addressee_in c.addressee (composites (codes "Addressee") nodes)
+  below ← addressee_in c.addressee (each_at "Addressee" nodes)
   ok_or (pair_of (chosen c.id_type (identifiers_in addressee_kind below))) why.Malformed
 
 -- ---- number
@@ -115,29 +118,21 @@ first_number parts n = do
 -- the number of the first part, by the one that the caller gives, else that of the Header
 abbrev pub number_in : Choices → Nodes → Result ℕ Refusal
 number_in c nodes = do
-  n ← given_or c.number (added c.offset (text_in (codes "MessageNumber") nodes))
+  n ← given_or c.number (added c.offset (some_at "MessageNumber" nodes))
   first_number c.parts n
 
 -- ---- the record
 
 -- the fields behind the name of the record with which a part of this number begins, in form 2, each
 -- as it stands
-abbrev pub message_fields : Pair → Pair → List ℕ → Nodes → List (List ℕ)
+abbrev pub message_fields : Pair → Pair → List ℕ → Nodes → Fields
 message_fields sender addressee number nodes =
-    codes "2"
-    ∷ sender.id_type
-    ∷ sender.id_value
-    ∷ addressee.id_type
-    ∷ addressee.id_value
-    ∷ number
-    ∷ text_or_empty (codes "MessageRepeat") nodes
-    ∷ text_or_empty (codes "SentDateTime") nodes
-    ∷ text_or_empty (codes "DefaultPriceType") nodes
-    ∷ text_or_empty (codes "DefaultCurrencyCode") nodes
-    ∷ []
+    codes "2" ∷ sender.id_type ∷ sender.id_value ∷ addressee.id_type ∷ addressee.id_value ∷ number
+    ∷ text_at "MessageRepeat" nodes ∷ text_at "SentDateTime" nodes
+    ∷ text_at "DefaultPriceType" nodes ∷ text_at "DefaultCurrencyCode" nodes ∷ []
 
 -- what the desk reads of the record Message with these fields
-abbrev pub opening_said : List (List ℕ) → Option Opening
+abbrev pub opening_said : Fields → Option Opening
 opening_said fields =
     if list_all is_utf8 fields then opening_of (codes "Message" ∷ fields) else None
 

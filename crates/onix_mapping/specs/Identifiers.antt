@@ -1,9 +1,10 @@
 -- The identifiers of senders, addressees, suppliers and products.
 use Rattle.std.specs.Prelude.{ℕ, Bool, false, ◌||◌, filter, List, [], ◌∷◌, Option, Some, None}
-use Rattle.std.specs.Prelude.{if◌then◌else◌, codes, is_some, map}
+use Rattle.std.specs.Prelude.{if◌then◌else◌, is_some, map}
 use Rattle.std.specs.Option.{option_or}
 use Rattle.std.specs.Str.{bytes_eq}
-use Rattle.onix_outline.specs.Composites.{text_in, composites_in}
+use Rattle.onix_outline.specs.Composites.{text_in}
+use Rattle.onix_mapping.specs.Elements.{composites, first, some_at}
 use Rattle.onix_outline.specs.Nodes.{Nodes}
 
 -- the names of an identifier and of its type: SupplierIdentifier and SupplierIDType
@@ -19,7 +20,7 @@ pub record Identifier : Type 0 where
 -- what stands in an identifier
 abbrev pub identifier_in : Kind → Nodes → Identifier
 identifier_in kind nodes =
-    record { id_type = text_in kind.type_name nodes; id_value = text_in (codes "IDValue") nodes }
+    record { id_type = text_in kind.type_name nodes; id_value = some_at "IDValue" nodes }
 
 -- an identifier with neither is as none
 abbrev pub is_there : Identifier → Bool
@@ -28,7 +29,7 @@ is_there i = is_some i.id_type || is_some i.id_value
 -- the identifiers in a composite, in order
 abbrev pub identifiers_in : Kind → Nodes → List Identifier
 identifiers_in kind nodes =
-    filter is_there (map (identifier_in kind) (composites_in kind.name nodes))
+    filter is_there (map (λ c. identifier_in kind c.below) (composites kind.name nodes))
 
 abbrev pub is_text : List ℕ → Option (List ℕ) → Bool
 is_text text None = false
@@ -40,10 +41,6 @@ first_of_type id_type [] = None
 first_of_type id_type (i ∷ ids) =
     if is_text id_type i.id_type then Some i else first_of_type id_type ids
 
-abbrev pub first_of : List Identifier → Option Identifier
-first_of [] = None
-first_of (i ∷ ids) = Some i
-
 -- the identifier that is written: the first of the preferred type, else the first
 abbrev pub chosen : List ℕ → List Identifier → Option Identifier
-chosen preferred ids = option_or (first_of_type preferred ids) (first_of ids)
+chosen preferred ids = option_or (first_of_type preferred ids) (first ids)

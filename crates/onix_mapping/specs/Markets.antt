@@ -1,5 +1,5 @@
 -- The Markets of a ProductSupply, as one.
-use Rattle.std.specs.Prelude.{◌≡◌, ℕ, Bool, true, false, ◌==◌, List, [], ◌∷◌, length, Option, Some}
+use Rattle.std.specs.Prelude.{◌≡◌, Bool, true, false, ◌==◌, List, [], ◌∷◌, length, Option, Some}
 use Rattle.std.specs.Prelude.{None, if◌then◌else◌, codes, map, not, option_map}
 use Rattle.std.specs.Prelude.{option_to_list, Result, Ok, Err}
 use Rattle.std.specs.List.{flat_map, list_any}
@@ -8,11 +8,11 @@ use Rattle.onix_outline.specs.Nodes.{Nodes}
 use Rattle.onix_message.specs.Fields.{territory_fields}
 use Rattle.onix_message.specs.Supply.{supply_of}
 use Rattle.onix_terms.specs.declared.territory.Territory.{Territory}
-use Rattle.onix_mapping.specs.Elements.{Composite, composites}
+use Rattle.onix_mapping.specs.Elements.{Composite, each_at}
 use Rattle.onix_mapping.specs.Notes.{Note, Reason, foreign, is_wrong, reason_notes, reason_view}
 use Rattle.onix_mapping.specs.Notes.{wrong}
 use Rattle.onix_mapping.specs.Outcomes.{Outcome, left_out, written}
-use Rattle.onix_mapping.specs.Records.{clean, first_some}
+use Rattle.onix_mapping.specs.Records.{Fields, clean, first_some}
 use Rattle.onix_mapping.specs.Territories.{Area, area_fields, area_in, area_refusal, market_of}
 use Rattle.onix_mapping.specs.Territories.{territory_notes, unheld}
 use Rattle.onix_mapping.specs.Unions.{union}
@@ -22,75 +22,78 @@ use Rattle.onix_mapping.specs.declared.notes.Wrong.TheVariants as bad
 
 -- ---- one Market
 
--- why a Market is left out, where it is: the desk cannot hold it, or would not take it
-abbrev pub market_reason : Area → Option Reason
-market_reason area = option_or (unheld area) (area_refusal area)
+module _ (area : Area) where
+  -- why a Market is left out, where it is: the desk cannot hold it, or would not take it
+  abbrev pub market_reason : Option Reason
+  market_reason = option_or (unheld area) (area_refusal area)
 
--- where a Market holds that is not left out
-abbrev pub territory_by : Option Reason → Area → Option Territory
-territory_by (Some reason) area = None
-territory_by None area = option_map (λ s. s.market) (market_of area)
+  -- where a Market holds that is not left out
+  abbrev pub territory_by : Option Reason → Option Territory
+  territory_by (Some reason) = None
+  territory_by None = option_map (λ s. s.market) (market_of area)
 
-abbrev pub territory_of : Composite → Option Territory
-territory_of m = territory_by (market_reason (area_in m.below)) (area_in m.below)
+  -- the territory as it stands of one that is not left out
+  abbrev pub area_by : Option Reason → Option Area
+  area_by (Some reason) = None
+  area_by None = Some area
 
 -- the notes on a Market: that it is left out, or those on its territory
 abbrev pub market_notes_by : Option Reason → Composite → List Note
 market_notes_by (Some reason) m = reason_notes m.element (Some reason)
 market_notes_by None m = territory_notes (area_in m.below)
 
-abbrev pub market_notes : Composite → List Note
-market_notes m = market_notes_by (market_reason (area_in m.below)) m
-
--- ---- all Markets
-
-abbrev pub markets_in : Nodes → List Composite
-markets_in nodes = composites (codes "Market") nodes
-
--- where those Markets hold that are not left out
-abbrev pub territories_of : List Composite → List Territory
-territories_of markets = flat_map (λ m. option_to_list (territory_of m)) markets
-
--- a Market's territory, as it stands, where it is not left out
-abbrev pub area_by : Option Reason → Area → Option Area
-area_by (Some reason) area = None
-area_by None area = Some area
-
-abbrev pub held_area : Composite → Option Area
-held_area m = area_by (market_reason (area_in m.below)) (area_in m.below)
-
--- the first of the Markets that are not left out
-abbrev pub first_held : List Composite → Option Area
-first_held markets = first_some (map held_area markets)
-
--- whether one of them is left out as foreign
+-- whether it is left out as foreign
 abbrev pub is_foreign : Option Reason → Bool
 is_foreign None = false
 is_foreign (Some reason) = not (is_wrong reason.why)
 
-abbrev pub is_foreign_market : Composite → Bool
-is_foreign_market m = is_foreign (market_reason (area_in m.below))
+module _ (m : Composite) where
+  abbrev pub territory_of : Option Territory
+  territory_of = territory_by (area_in m.below) (market_reason (area_in m.below))
 
-abbrev pub one_is_foreign : List Composite → Bool
-one_is_foreign markets = list_any is_foreign_market markets
+  abbrev pub held_area : Option Area
+  held_area = area_by (area_in m.below) (market_reason (area_in m.below))
+
+  abbrev pub market_notes : List Note
+  market_notes = market_notes_by (market_reason (area_in m.below)) m
+
+  abbrev pub is_foreign_market : Bool
+  is_foreign_market = is_foreign (market_reason (area_in m.below))
+
+-- ---- all Markets
+
+abbrev pub markets_in : Nodes → List Composite
+markets_in nodes = each_at "Market" nodes
+
+module _ (markets : List Composite) where
+  -- where those Markets hold that are not left out
+  abbrev pub territories_of : List Territory
+  territories_of = flat_map (λ m. option_to_list (territory_of m)) markets
+
+  -- the first of them, as it stands
+  abbrev pub first_held : Option Area
+  first_held = first_some (map held_area markets)
+
+  abbrev pub one_is_foreign : Bool
+  one_is_foreign = list_any is_foreign_market markets
 
 -- ---- the record of a ProductSupply
 
-abbrev pub supply_record : List (List ℕ) → List (List ℕ)
+abbrev pub supply_record : Fields → Fields
 supply_record fields = codes "ProductSupply" ∷ fields
 
 -- the fields of a union, written out; nothing, where one is too long
-abbrev pub union_fields : Territory → Option (List (List ℕ))
+abbrev pub union_fields : Territory → Option Fields
 union_fields t = option_map (λ s. territory_fields t) (clean supply_of (territory_fields t))
 
 -- of several Markets, of which this is the first: their union, and where no country lies in them
 -- the first as it stands
-abbrev pub joined : Area → Option Territory → Option (List (List ℕ))
+abbrev pub joined : Area → Option Territory → Option Fields
 joined first None = Some (area_fields first)
 joined first (Some t) = union_fields t
 
 -- of one Market as it stands, of several as one
-abbrev pub held_fields : Area → List Territory → Option (List (List ℕ))
+abbrev pub held_fields : Area → List Territory → Option Fields
 held_fields first territories =
     if length territories == 1 then Some (area_fields first) else joined first (union territories)
 
@@ -99,7 +102,7 @@ abbrev pub no_market : Bool → Reason
 no_market some_foreign =
     if some_foreign then foreign other.NoMarketLeft [] else wrong bad.NoMarketLeft []
 
-abbrev pub joined_outcome : Option (List (List ℕ)) → List Note → Outcome
+abbrev pub joined_outcome : Option Fields → List Note → Outcome
 joined_outcome None notes = left_out (foreign other.LongMarkets [])
 joined_outcome (Some fields) notes = written (supply_record fields ∷ []) notes
 
@@ -125,10 +128,10 @@ markets_outcome (m ∷ markets) = held_outcome (first_held (m ∷ markets)) (m �
 
 -- where a Market holds, or why it is left out
 abbrev pub IsHeld : Result Territory LentReason → Area → Type 0
-IsHeld (Ok territory) area = (market_reason area ≡ None) × (territory_by None area ≡ Some territory)
+IsHeld (Ok territory) area = (market_reason area ≡ None) × (territory_by area None ≡ Some territory)
 IsHeld (Err reason) area = market_reason area ≡ Some (reason_view reason)
 
 -- a call put the record of these fields into the buffer; false, where there are none
-abbrev pub IsFilled : Bool → List (List ℕ) → Option (List (List ℕ)) → Type 0
+abbrev pub IsFilled : Bool → Fields → Option Fields → Type 0
 IsFilled true held fields = option_map supply_record fields ≡ Some held
 IsFilled false held fields = fields ≡ None

@@ -13,6 +13,10 @@ pub record Reason : Type 0 where
   pub why : Why
   pub text : List ℕ
 
+-- some reasons, each where it holds
+abbrev pub Reasons : Type 0
+Reasons = List (Option Reason)
+
 -- what a note speaks of, and the reason
 pub record Note : Type 0 where
   pub element : Element

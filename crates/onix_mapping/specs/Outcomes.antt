@@ -1,18 +1,19 @@
 -- What a composite comes to.
-use Rattle.std.specs.Prelude.{ℕ, List, [], ◌++◌, Option, Some, None}
+use Rattle.std.specs.Prelude.{List, [], ◌++◌, Option, Some, None}
 use Rattle.std.specs.List.{flat_map}
 use Rattle.onix_mapping.specs.Elements.{Composite, Element}
 use Rattle.onix_mapping.specs.Notes.{Note, Reason, reason_notes}
+use Rattle.onix_mapping.specs.Records.{Records}
 
 -- nothing; records that are written, with notes on what is left out below it; or it is left out,
 -- with all that is below it
 pub data Outcome : Type 0 where
   nothing : Outcome
-  written : List (List (List ℕ)) → List Note → Outcome
+  written : Records → List Note → Outcome
   left_out : Reason → Outcome
 
 -- its records
-abbrev pub outcome_records : Outcome → List (List (List ℕ))
+abbrev pub outcome_records : Outcome → Records
 outcome_records (written records notes) = records
 outcome_records other = []
 
@@ -30,10 +31,11 @@ outcome_reason other = None
 abbrev pub outcome_notes : Element → Outcome → List Note
 outcome_notes element outcome = notes_below outcome ++ reason_notes element (outcome_reason outcome)
 
--- the records of several composites, one after the other
-abbrev pub all_records : (Composite → Outcome) → List Composite → List (List (List ℕ))
-all_records comes composites = flat_map (λ c. outcome_records (comes c)) composites
+module _ (comes : Composite → Outcome) (composites : List Composite) where
+  -- the records of several composites, one after the other
+  abbrev pub all_records : Records
+  all_records = flat_map (λ c. outcome_records (comes c)) composites
 
--- the notes on several composites
-abbrev pub all_notes : (Composite → Outcome) → List Composite → List Note
-all_notes comes composites = flat_map (λ c. outcome_notes c.element (comes c)) composites
+  -- the notes on several composites
+  abbrev pub all_notes : List Note
+  all_notes = flat_map (λ c. outcome_notes c.element (comes c)) composites

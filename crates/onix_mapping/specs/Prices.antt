@@ -17,11 +17,13 @@ use Rattle.onix_terms.specs.Code.{code2_of, currency_of}
 use Rattle.onix_terms.specs.Quantity.{quantity_of}
 use Rattle.onix_mapping.specs.Dates.{days, days_in}
 use Rattle.onix_mapping.specs.declared.dates.Days.{Days}
-use Rattle.onix_mapping.specs.Elements.{Composite, composites, first, text_or_empty}
+use Rattle.onix_mapping.specs.Elements.{Composite, composites, each_at, first, some_at}
+use Rattle.onix_mapping.specs.Elements.{text_at, text_or_empty}
 use Rattle.onix_mapping.specs.Identifiers.{is_text}
-use Rattle.onix_mapping.specs.Notes.{Note, Reason, foreign, is_wrong, note, wrong}
+use Rattle.onix_mapping.specs.Notes.{Note, Reason, Reasons, foreign, is_wrong, note}
+use Rattle.onix_mapping.specs.Notes.{wrong}
 use Rattle.onix_mapping.specs.Outcomes.{Outcome, left_out, nothing, written}
-use Rattle.onix_mapping.specs.Records.{first_some, said, term_said, unread}
+use Rattle.onix_mapping.specs.Records.{Fields, first_some, said, term_said, unread}
 use Rattle.onix_mapping.specs.Territories.{Area, area_fields, area_in, area_refusal}
 use Rattle.onix_mapping.specs.Territories.{territory_notes, unheld}
 use Rattle.onix_mapping.specs.declared.notes.Foreign.{Foreign}
@@ -43,56 +45,48 @@ pub record Around : Type 0 where
 
 -- ---- the record
 
--- the days of a Price whose PriceDates are right
-abbrev pub right_days : Nodes → Days
-right_days nodes = result_unwrap_or (days_in nodes) (days None None)
-
--- where an amount has its point
-abbrev pub point_in : List ℕ → Option ℕ
-point_in text = position (λ b. b == 46) text
-
 -- a text with its point there, without the zeros behind the third decimal
 abbrev pub cut_zeros : Option ℕ → List ℕ → List ℕ
 cut_zeros None text = text
 cut_zeros (Some at) text =
     if list_all (λ b. b == 48) (drop (at + 4) text) then take (at + 4) text else text
 
--- an amount, as it is written
-abbrev pub amount_written : Nodes → List ℕ
-amount_written nodes =
-    cut_zeros (point_in (text_or_empty (codes "PriceAmount") nodes))
-    (text_or_empty (codes "PriceAmount") nodes)
-
--- The fields that each Price has behind its name, empty where it has none: type, amount, currency,
--- territory, the first and the last day.
-abbrev pub eight_fields : Area → Days → Nodes → List (List ℕ)
-eight_fields a d nodes =
-    text_or_empty (codes "PriceType") nodes
-    ∷ amount_written nodes
-    ∷ text_or_empty (codes "CurrencyCode") nodes
-    ∷ (area_fields a ++ (day_field d.first ∷ day_field d.last ∷ []))
+-- where an amount has its point
+abbrev pub point_in : List ℕ → Option ℕ
+point_in text = position (λ b. b == 46) text
 
 -- a quantity; one of zeros alone is as absent
 abbrev pub unless_zeros : List ℕ → Option (List ℕ)
 unless_zeros text = if list_all (λ b. b == 48) text then None else Some text
 
--- the MinimumOrderQuantity of a Price
-abbrev pub own_minimum : Nodes → Option (List ℕ)
-own_minimum nodes = option_and_then unless_zeros (text_in (codes "MinimumOrderQuantity") nodes)
+module _ (nodes : Nodes) where
+  -- the days of a Price whose PriceDates are right
+  abbrev pub right_days : Days
+  right_days = result_unwrap_or (days_in nodes) (days None None)
+
+  -- an amount, as it is written
+  abbrev pub amount_written : List ℕ
+  amount_written =
+      cut_zeros (point_in (text_at "PriceAmount" nodes)) (text_at "PriceAmount" nodes)
+
+  -- the MinimumOrderQuantity of a Price
+  abbrev pub own_minimum : Option (List ℕ)
+  own_minimum = option_and_then unless_zeros (some_at "MinimumOrderQuantity" nodes)
+
+-- The fields that each Price has behind its name, empty where it has none: type, amount, currency,
+-- territory, the first and the last day.
+abbrev pub eight_fields : Area → Days → Nodes → Fields
+eight_fields a d nodes =
+    text_at "PriceType" nodes ∷ amount_written nodes ∷ text_at "CurrencyCode" nodes
+    ∷ (area_fields a ++ (day_field d.first ∷ day_field d.last ∷ []))
 
 -- the fields of a Price: those, and a minimum where it or its SupplyDetail has one
-abbrev pub price_fields : Around → Nodes → List (List ℕ)
+abbrev pub price_fields : Around → Nodes → Fields
 price_fields around nodes =
     eight_fields (area_in nodes) (right_days nodes) nodes
     ++ option_to_list (option_or (own_minimum nodes) around.minimum)
 
 -- ---- why a Price is left out
-
--- the text of an element, where it is another than 00
-abbrev pub other_in : List ℕ → Nodes → Option (List ℕ)
-other_in name nodes =
-    option_and_then (λ text. if bytes_eq text (codes "00") then None
-    else Some text) (text_in name nodes)
 
 -- the type of the first of some composites that has another one than 00, the empty text where that
 -- has none
@@ -101,10 +95,6 @@ other_type name [] = None
 other_type name (c ∷ cs) =
     if is_text (codes "00") (text_in name c.below) then other_type name cs
     else Some (text_or_empty name c.below)
-
--- whether there is a PriceCoded, of which the text does not count
-abbrev pub coded_in : Nodes → Option (List ℕ)
-coded_in nodes = option_map (λ c. []) (first (composites (codes "PriceCoded") nodes))
 
 -- what stands behind the digits at the front
 abbrev pub behind_digits : List ℕ → List ℕ
@@ -121,57 +111,9 @@ abbrev pub has_more_decimals : List ℕ → Bool
 has_more_decimals [] = false
 has_more_decimals (b ∷ text) = is_ascii_digit b && is_long_part (behind_digits text)
 
--- an amount that has more decimals than the desk knows
-abbrev pub long_amount : Nodes → Option (List ℕ)
-long_amount nodes =
-    if has_more_decimals (amount_written nodes) then Some (amount_written nodes) else None
-
 abbrev pub is_zero : Option ℕ → Bool
 is_zero None = false
 is_zero (Some n) = n == 0
-
--- an amount of 0, which a choice by price would always take
-abbrev pub no_charge : Nodes → Option (List ℕ)
-no_charge nodes =
-    if is_zero (term_said amount_of (amount_written nodes)) then Some (amount_written nodes)
-    else None
-
--- whether there is an EpubLicense, of which the text does not count
-abbrev pub license_in : Nodes → Option (List ℕ)
-license_in nodes = option_map (λ c. []) (first (composites (codes "EpubLicense") nodes))
-
--- the name of an element, where it has a text
-abbrev pub named : List ℕ → Nodes → Option (List ℕ)
-named name nodes = option_map (λ text. name) (text_in name nodes)
-
--- the elements of ONIX 2.1 that say what a Price is, each where it is there
-abbrev pub old_elements : Nodes → List (Option (List ℕ))
-old_elements nodes =
-    named (codes "PriceTypeCode") nodes
-    ∷ named (codes "PriceEffectiveFrom") nodes
-    ∷ named (codes "PriceEffectiveUntil") nodes
-    ∷ named (codes "CountryCode") nodes
-    ∷ []
-
--- Which fields of a Price the desk does not take, each where it does not: it is outside its
--- grammar, or it is empty and has no default in the header.
-abbrev pub field_reasons : Opening → Nodes → List (Option Reason)
-field_reasons o nodes =
-    unread (term_said amount_of) bad.Amount (amount_written nodes)
-    ∷ unread (or_default (term_said code2_of) o.header.default_type) bad.PriceType
-    (text_or_empty (codes "PriceType") nodes)
-    ∷ unread (or_default (term_said currency_of) o.header.default_currency) bad.Currency
-    (text_or_empty (codes "CurrencyCode") nodes)
-    ∷ area_refusal (area_in nodes)
-    ∷ unread (optional (term_said quantity_of)) bad.Quantity (unwrap_or (own_minimum nodes) [])
-    ∷ []
-
--- a Price of which the desk would not take the record, for the first field that it does not take,
--- if it is one of those
-abbrev pub refusal : Around → Nodes → Option Reason
-refusal around nodes =
-    if is_some (said (price_of around.opening) (price_fields around nodes)) then None
-    else Some (unwrap_or (first_some (field_reasons around.opening nodes)) (wrong bad.Price []))
 
 -- a reason, where it is foreign, and where it is wrong
 abbrev pub if_foreign : Reason → Option Reason
@@ -180,35 +122,88 @@ if_foreign reason = if is_wrong reason.why then None else Some reason
 abbrev pub if_wrong : Reason → Option Reason
 if_wrong reason = if is_wrong reason.why then Some reason else None
 
--- for where, for how much and between which days a Price holds; behind those the elements of ONIX
--- 2.1, and dates that are none
-abbrev pub late_reasons : Nodes → List (Option Reason)
-late_reasons nodes =
-    unheld (area_in nodes)
-    ∷ option_map (foreign MoreDecimals) (long_amount nodes)
-    ∷ option_map (foreign NoCharge) (no_charge nodes)
-    ∷ option_and_then if_foreign (result_err (days_in nodes))
-    ∷ option_map (wrong bad.OldElement) (first_some (old_elements nodes))
-    ∷ option_and_then if_wrong (result_err (days_in nodes))
+module _ (nodes : Nodes) where
+  -- the text of an element, where it is another than 00
+  abbrev pub other_in : List ℕ → Option (List ℕ)
+  other_in name =
+      option_and_then (λ text. if bytes_eq text (codes "00") then None else Some text)
+      (text_in name nodes)
+
+  -- whether there is such a composite, of which the text does not count
+  abbrev pub mark_in : List ℕ → Option (List ℕ)
+  mark_in name = option_map (λ c. []) (first (composites name nodes))
+
+  -- the name of an element, where it has a text
+  abbrev pub named : List ℕ → Option (List ℕ)
+  named name = option_map (λ text. name) (text_in name nodes)
+
+  -- an amount that has more decimals than the desk knows
+  abbrev pub long_amount : Option (List ℕ)
+  long_amount =
+      if has_more_decimals (amount_written nodes) then Some (amount_written nodes) else None
+
+  -- an amount of 0, which a choice by price would always take
+  abbrev pub no_charge : Option (List ℕ)
+  no_charge =
+      if is_zero (term_said amount_of (amount_written nodes)) then Some (amount_written nodes)
+      else None
+
+  -- the elements of ONIX 2.1 that say what a Price is, each where it is there
+  abbrev pub old_elements : List (Option (List ℕ))
+  old_elements =
+      named (codes "PriceTypeCode") ∷ named (codes "PriceEffectiveFrom")
+      ∷ named (codes "PriceEffectiveUntil") ∷ named (codes "CountryCode") ∷ []
+
+  -- for where, for how much and between which days a Price holds; behind those the elements of
+  -- ONIX 2.1, and dates that are none
+  abbrev pub late_reasons : Reasons
+  late_reasons =
+      unheld (area_in nodes)
+      ∷ option_map (foreign MoreDecimals) long_amount
+      ∷ option_map (foreign NoCharge) no_charge
+      ∷ option_and_then if_foreign (result_err (days_in nodes))
+      ∷ option_map (wrong bad.OldElement) (first_some old_elements)
+      ∷ option_and_then if_wrong (result_err (days_in nodes))
+      ∷ []
+
+  -- why a Price is another than the desk knows, each where it holds
+  abbrev pub early_reasons : Reasons
+  early_reasons =
+      option_map (foreign PriceQualifier) (other_in (codes "PriceQualifier"))
+      ∷ option_map (foreign PricePer) (other_in (codes "PricePer"))
+      ∷ option_map (foreign PriceCondition)
+      (other_type (codes "PriceConditionType") (each_at "PriceCondition" nodes))
+      ∷ option_map (foreign PriceConstraint)
+      (other_type (codes "PriceConstraintType") (each_at "PriceConstraint" nodes))
+      ∷ option_map (foreign PriceCoded) (mark_in (codes "PriceCoded"))
+      ∷ option_map (foreign CurrencyZone) (some_at "CurrencyZone" nodes)
+      ∷ option_map (foreign EpubLicense) (mark_in (codes "EpubLicense"))
+      ∷ late_reasons
+
+-- Which fields of a Price the desk does not take, each where it does not: it is outside its
+-- grammar, or it is empty and has no default in the header.
+abbrev pub field_reasons : Opening → Nodes → Reasons
+field_reasons o nodes =
+    unread (term_said amount_of) bad.Amount (amount_written nodes)
+    ∷ unread (or_default (term_said code2_of) o.header.default_type) bad.PriceType
+    (text_at "PriceType" nodes)
+    ∷ unread (or_default (term_said currency_of) o.header.default_currency) bad.Currency
+    (text_at "CurrencyCode" nodes)
+    ∷ area_refusal (area_in nodes)
+    ∷ unread (optional (term_said quantity_of)) bad.Quantity (unwrap_or (own_minimum nodes) [])
     ∷ []
 
--- why a Price is another than the desk knows, each where it holds
-abbrev pub early_reasons : Nodes → List (Option Reason)
-early_reasons nodes =
-    option_map (foreign PriceQualifier) (other_in (codes "PriceQualifier") nodes)
-    ∷ option_map (foreign PricePer) (other_in (codes "PricePer") nodes)
-    ∷ option_map (foreign PriceCondition)
-    (other_type (codes "PriceConditionType") (composites (codes "PriceCondition") nodes))
-    ∷ option_map (foreign PriceConstraint)
-    (other_type (codes "PriceConstraintType") (composites (codes "PriceConstraint") nodes))
-    ∷ option_map (foreign PriceCoded) (coded_in nodes)
-    ∷ option_map (foreign CurrencyZone) (text_in (codes "CurrencyZone") nodes)
-    ∷ option_map (foreign EpubLicense) (license_in nodes)
-    ∷ late_reasons nodes
+module _ (around : Around) (nodes : Nodes) where
+  -- a Price of which the desk would not take the record, for the first field that it does not take,
+  -- if it is one of those
+  abbrev pub refusal : Option Reason
+  refusal =
+      if is_some (said (price_of around.opening) (price_fields around nodes)) then None
+      else Some (unwrap_or (first_some (field_reasons around.opening nodes)) (wrong bad.Price []))
 
--- why a Price is left out, each where it holds: what is both foreign and wrong is foreign
-abbrev pub reasons_against : Around → Nodes → List (Option Reason)
-reasons_against around nodes = early_reasons nodes ++ refusal around nodes ∷ []
+  -- why a Price is left out, each where it holds: what is both foreign and wrong is foreign
+  abbrev pub reasons_against : Reasons
+  reasons_against = early_reasons nodes ++ refusal ∷ []
 
 -- ---- what a Price comes to
 
@@ -229,18 +224,19 @@ outcome_of None around nodes =
     (territory_notes (area_in nodes) ++ discount_notes nodes)
 outcome_of (Some why) around nodes = left_out why
 
--- A Price without an amount and without PriceCoded is nothing, whatever else stands in it, where
--- the record of its SupplyDetail has an UnpricedItemType: its own is there too, where it has one.
-abbrev pub is_nothing : Around → Nodes → Bool
-is_nothing around nodes =
-    around.is_unpriced
-    && (is_none (text_in (codes "PriceAmount") nodes) && is_none (coded_in nodes))
+module _ (around : Around) (nodes : Nodes) where
+  -- A Price without an amount and without PriceCoded is nothing, whatever else stands in it, where
+  -- the record of its SupplyDetail has an UnpricedItemType: its own is there too, where it has one.
+  abbrev pub is_nothing : Bool
+  is_nothing =
+      around.is_unpriced
+      && (is_none (some_at "PriceAmount" nodes) && is_none (mark_in nodes (codes "PriceCoded")))
 
--- what a Price comes to
-abbrev pub price_outcome : Around → Nodes → Outcome
-price_outcome around nodes =
-    if is_nothing around nodes then nothing
-    else outcome_of (first_some (reasons_against around nodes)) around nodes
+  -- what a Price comes to
+  abbrev pub price_outcome : Outcome
+  price_outcome =
+      if is_nothing then nothing
+      else outcome_of (first_some (reasons_against around nodes)) around nodes
 
 -- ---- without where it lies in memory
 

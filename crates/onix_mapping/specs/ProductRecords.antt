@@ -9,28 +9,14 @@ use Rattle.onix_message.specs.declared.row.Opening.{Opening}
 use Rattle.onix_mapping.specs.Elements.{Composite, Element}
 use Rattle.onix_mapping.specs.Notes.{Note, Reason, foreign, is_wrong, note, reason_notes, wrong}
 use Rattle.onix_mapping.specs.Products.{bare_record, emptied_record, has_isbn, identifier_notes}
-use Rattle.onix_mapping.specs.Products.{is_deletion, notification_in, own_reason, own_record}
-use Rattle.onix_mapping.specs.Products.{reference_in}
-use Rattle.onix_mapping.specs.Records.{is_field}
+use Rattle.onix_mapping.specs.Products.{is_deletion, notification_in, own_reason, product_record}
+use Rattle.onix_mapping.specs.Products.{reference_in, right_pairs}
+use Rattle.onix_mapping.specs.Records.{Records, is_field}
 use Rattle.onix_mapping.specs.Supplies.{supplies_notes, supplies_reason, supplies_records}
 use Rattle.onix_mapping.specs.declared.notes.Foreign.TheVariants as other
 use Rattle.onix_mapping.specs.declared.notes.Wrong.TheVariants as bad
 use Rattle.onix_mapping.specs.declared.product_records.Fate.{Fate}
 use Rattle.onix_mapping.specs.declared.product_records.Fate.TheVariants as fate
-
--- ---- supplies: nothing below a deletion is looked at but its identifiers
-
-abbrev pub records_below : Opening → List ℕ → Nodes → List (List (List ℕ))
-records_below o preferred nodes =
-    if is_deletion nodes then [] else supplies_records o preferred nodes
-
-abbrev pub notes_on_supplies : Opening → List ℕ → Nodes → List Note
-notes_on_supplies o preferred nodes =
-    if is_deletion nodes then [] else supplies_notes o preferred nodes
-
-abbrev pub reason_below : Opening → List ℕ → Nodes → Option Reason
-reason_below o preferred nodes =
-    if is_deletion nodes then None else supplies_reason o preferred nodes
 
 -- ---- notes on what is written
 
@@ -40,68 +26,76 @@ is_followed notification =
     list_any (bytes_eq notification) (codes "01" ∷ codes "02" ∷ codes "03" ∷ codes "04"
     ∷ codes "05" ∷ [])
 
--- that the desk will not find a product by an ISBN
-abbrev pub isbn_reason : Nodes → Option Reason
-isbn_reason nodes =
-    if is_deletion nodes || has_isbn nodes then None else Some (foreign other.NoIsbn [])
+module _ (nodes : Nodes) where
+  -- that the desk will not find a product by an ISBN
+  abbrev pub isbn_reason : Option Reason
+  isbn_reason =
+      if is_deletion nodes || has_isbn nodes then None else Some (foreign other.NoIsbn [])
 
--- that the desk ignores a product of this NotificationType
-abbrev pub ignored_reason : Nodes → Option Reason
-ignored_reason nodes =
-    if is_followed (notification_in nodes) then None
-    else Some (foreign other.Ignored (notification_in nodes))
+  -- that the desk ignores a product of this NotificationType
+  abbrev pub ignored_reason : Option Reason
+  ignored_reason =
+      if is_followed (notification_in nodes) then None
+      else Some (foreign other.Ignored (notification_in nodes))
 
-abbrev pub written_notes : Nodes → Element → List Note
-written_notes nodes product =
-    reason_notes product (isbn_reason nodes) ++ reason_notes product (ignored_reason nodes)
-
--- ---- a Product with a RecordReference that the desk would take
-
--- its records: those of a product that is emptied, where its own fields or its supplies say why
-abbrev pub standing_records : Option Reason → Option Reason → Opening → List ℕ → Nodes
-    → List (List (List ℕ))
-standing_records (Some own) below o preferred nodes = emptied_record nodes ∷ []
-standing_records None (Some below) o preferred nodes = emptied_record nodes ∷ []
-standing_records None None o preferred nodes = own_record nodes ∷ records_below o preferred nodes
-
--- the notes on it behind those on its identifiers
-abbrev pub standing_notes : Option Reason → Option Reason → Opening → List ℕ → Composite → List Note
-standing_notes (Some own) below o preferred c = note c.element own ∷ []
-standing_notes None (Some below) o preferred c =
-    notes_on_supplies o preferred c.below ++ note c.element below ∷ []
-standing_notes None None o preferred c =
-    notes_on_supplies o preferred c.below ++ written_notes c.below c.element
-
--- ---- what a Product comes to
-
--- the records of a Product: none of one without a RecordReference that the desk would take
-abbrev pub product_records : Opening → List ℕ → Nodes → List (List (List ℕ))
-product_records o preferred nodes =
-    if is_field (reference_in nodes)
-    then standing_records (own_reason nodes) (reason_below o preferred nodes) o preferred nodes
-    else []
-
--- the notes on it
-abbrev pub product_notes : Opening → List ℕ → Composite → List Note
-product_notes o preferred c =
-    if is_field (reference_in c.below)
-    then identifier_notes c.below
-    ++ standing_notes (own_reason c.below) (reason_below o preferred c.below) o preferred c
-    else note c.element (wrong bad.RecordReference (reference_in c.below)) ∷ []
-
--- why it is emptied, but for its size
-abbrev pub why_emptied : Opening → List ℕ → Nodes → Option Reason
-why_emptied o preferred nodes = option_or (own_reason nodes) (reason_below o preferred nodes)
+  abbrev pub written_notes : Element → List Note
+  written_notes product = reason_notes product isbn_reason ++ reason_notes product ignored_reason
 
 -- whether it is written as it stands, emptied or left out
 abbrev pub standing_fate : Option Reason → Fate
 standing_fate None = fate.Written
 standing_fate (Some reason) = fate.Emptied
 
-abbrev pub fate_of : Opening → List ℕ → Nodes → Fate
-fate_of o preferred nodes =
-    if is_field (reference_in nodes) then standing_fate (why_emptied o preferred nodes)
-    else fate.LeftOut
+module _ (o : Opening) (preferred : List ℕ) where
+  -- ---- supplies: nothing below a deletion is looked at but its identifiers
+
+  abbrev pub records_below : Nodes → Records
+  records_below nodes = if is_deletion nodes then [] else supplies_records o preferred nodes
+
+  abbrev pub notes_on_supplies : Nodes → List Note
+  notes_on_supplies nodes = if is_deletion nodes then [] else supplies_notes o preferred nodes
+
+  abbrev pub reason_below : Nodes → Option Reason
+  reason_below nodes = if is_deletion nodes then None else supplies_reason o preferred nodes
+
+  -- ---- a Product with a RecordReference that the desk would take
+
+  -- its records: those of a product that is emptied, where its own fields or its supplies say why
+  abbrev pub standing_records : Option Reason → Option Reason → Nodes → Records
+  standing_records (Some own) below nodes = emptied_record nodes ∷ []
+  standing_records None (Some below) nodes = emptied_record nodes ∷ []
+  standing_records None None nodes =
+      product_record (notification_in nodes) (right_pairs nodes) nodes ∷ records_below nodes
+
+  -- the notes on it behind those on its identifiers
+  abbrev pub standing_notes : Option Reason → Option Reason → Composite → List Note
+  standing_notes (Some own) below c = note c.element own ∷ []
+  standing_notes None (Some below) c = notes_on_supplies c.below ++ note c.element below ∷ []
+  standing_notes None None c = notes_on_supplies c.below ++ written_notes c.below c.element
+
+  -- ---- what a Product comes to
+
+  -- the records of a Product: none of one without a RecordReference that the desk would take
+  abbrev pub product_records : Nodes → Records
+  product_records nodes =
+      if is_field (reference_in nodes)
+      then standing_records (own_reason nodes) (reason_below nodes) nodes else []
+
+  -- the notes on it
+  abbrev pub product_notes : Composite → List Note
+  product_notes c =
+      if is_field (reference_in c.below)
+      then identifier_notes c.below
+      ++ standing_notes (own_reason c.below) (reason_below c.below) c
+      else note c.element (wrong bad.RecordReference (reference_in c.below)) ∷ []
+
+  -- why it is emptied, but for its size
+  abbrev pub why_emptied : Nodes → Option Reason
+  why_emptied nodes = option_or (own_reason nodes) (reason_below nodes)
+
+  abbrev pub fate_of : Nodes → Fate
+  fate_of nodes =
+      if is_field (reference_in nodes) then standing_fate (why_emptied nodes) else fate.LeftOut
 
 -- ---- one that is too large for a message
 
@@ -111,10 +105,10 @@ too_large_notes c = identifier_notes c.below ++ note c.element (wrong bad.TooLar
 
 -- a form in which a product may be written: its records, and the notes on it then
 pub record Form : Type 0 where
-  pub records : List (List (List ℕ))
+  pub records : Records
   pub notes : List Note
 
-abbrev pub form : List (List (List ℕ)) → List Note → Form
+abbrev pub form : Records → List Note → Form
 form records notes = record { records = records; notes = notes }
 
 -- one that is emptied with its identifiers, and one with its reference in their place

@@ -11,13 +11,21 @@ use Rattle.onix_message.specs.declared.row.RowFault.TheVariants as fault
 use Rattle.onix_mapping.specs.Notes.{Reason, wrong}
 use Rattle.onix_mapping.specs.declared.notes.Wrong.{Wrong}
 
+-- the fields of a record
+abbrev pub Fields : Type 0
+Fields = List (List ℕ)
+
+-- several records, each by its fields
+abbrev pub Records : Type 0
+Records = List Fields
+
 -- what is read of the fields of a record; nothing, where one of them is too long or has a control
 -- character
-abbrev pub clean : {A : Type 0} → (List (List ℕ) → Option A) → List (List ℕ) → Option A
+abbrev pub clean : {A : Type 0} → (Fields → Option A) → Fields → Option A
 clean read fields = if list_all is_clean fields then read fields else None
 
 -- what is read of texts as the fields of a record; nothing, where one of them is no UTF-8 either
-abbrev pub said : {A : Type 0} → (List (List ℕ) → Option A) → List (List ℕ) → Option A
+abbrev pub said : {A : Type 0} → (Fields → Option A) → Fields → Option A
 said read texts = if list_all is_utf8 texts then clean read texts else None
 
 -- a value that a text writes
@@ -46,7 +54,7 @@ first_some (x ∷ xs) = option_or x (first_some xs)
 -- ---- what a call gives
 
 -- a call put these fields into a buffer, which are those that are asked for, unless memory ran out
-abbrev pub Fills : Result (Unit {0}) RowFault → List (List ℕ) → Option (List (List ℕ)) → Type 0
+abbrev pub Fills : Result (Unit {0}) RowFault → Fields → Option (Fields) → Type 0
 Fills (Ok u) fields wanted = wanted ≡ Some fields
 Fills (Err fault.Wrong) fields wanted = wanted ≡ None
 Fills (Err fault.Memory) fields wanted = Unit {0}

@@ -1,15 +1,15 @@
 -- Where a Market or a Price holds: what its Territory says, and what of that the desk can hold.
 use Rattle.std.specs.Prelude.{ℕ, Bool, true, false, List, [], ◌∷◌, ◌++◌, Option, Some, None}
-use Rattle.std.specs.Prelude.{if◌then◌else◌, codes, is_some, map, option_map}
+use Rattle.std.specs.Prelude.{if◌then◌else◌, is_some, map, option_map}
 use Rattle.std.specs.Option.{option_map_or, option_or, unwrap_or}
 use Rattle.onix_outline.specs.Nodes.{Nodes}
 use Rattle.onix_message.specs.Supply.{supply_of}
 use Rattle.onix_message.specs.declared.parts.ProductSupply.{ProductSupply}
 use Rattle.onix_terms.specs.Territory.{countries_of, words_of, world_text}
-use Rattle.onix_mapping.specs.Elements.{Element, below_of, composites, element_view, first}
-use Rattle.onix_mapping.specs.Elements.{text_or_empty}
-use Rattle.onix_mapping.specs.Notes.{Note, Reason, foreign, note, wrong}
-use Rattle.onix_mapping.specs.Records.{first_some, said, term_said, unless}
+use Rattle.onix_mapping.specs.Elements.{Element, below_of, each_at, element_view, first}
+use Rattle.onix_mapping.specs.Elements.{text_at}
+use Rattle.onix_mapping.specs.Notes.{Note, Reason, Reasons, foreign, note, wrong}
+use Rattle.onix_mapping.specs.Records.{Fields, first_some, said, term_said, unless}
 use Rattle.onix_mapping.specs.Regions.{IsRenamed, countries_written, names_world, other_names}
 use Rattle.onix_mapping.specs.Regions.{other_regions, region_of_no_country}
 use Rattle.onix_mapping.specs.declared.notes.Foreign.{Foreign}
@@ -33,14 +33,14 @@ pub record Area : Type 0 where
 -- where a Market or a Price with these elements holds: its first Territory says it
 abbrev pub area_in : Nodes → Area
 area_in nodes =
-    let found = first (composites (codes "Territory") nodes) in
+    let found = first (each_at "Territory" nodes) in
     let below = below_of found in
     record {
       territory = option_map (λ c. c.element) found;
-      included = text_or_empty (codes "CountriesIncluded") below;
-      regions_included = text_or_empty (codes "RegionsIncluded") below;
-      excluded = text_or_empty (codes "CountriesExcluded") below;
-      regions_excluded = text_or_empty (codes "RegionsExcluded") below;
+      included = text_at "CountriesIncluded" below;
+      regions_included = text_at "RegionsIncluded" below;
+      excluded = text_at "CountriesExcluded" below;
+      regions_excluded = text_at "RegionsExcluded" below;
     }
 
 -- ---- what the desk cannot hold
@@ -49,64 +49,65 @@ abbrev pub is_empty : List ℕ → Bool
 is_empty [] = true
 is_empty (b ∷ text) = false
 
--- the first of the regions that are included, where neither a country nor the world is: without
--- them the territory would be the world
-abbrev pub region_alone : Area → Option (List ℕ)
-region_alone a =
-    if is_empty a.included
-    then (if names_world a.regions_included then None else first (words_of a.regions_included))
-    else None
-
--- why the desk cannot hold a territory, whatever is left out of it: it would be another one, and
--- not only a smaller one or one without whole countries
-abbrev pub unheld : Area → Option Reason
-unheld a =
-    option_or (option_map (foreign RegionAlone) (region_alone a))
-    (option_map (foreign RegionOfNoCountry) (region_of_no_country a.regions_excluded))
-
--- ---- what is written, and what is left out of it
-
--- CountriesIncluded, RegionsIncluded and CountriesExcluded, as the desk reads them: countries by
--- their codes, and of the regions WORLD alone
-abbrev pub area_fields : Area → List (List ℕ)
-area_fields a =
-    countries_written a.included ∷ world_text (names_world a.regions_included)
-    ∷ countries_written a.excluded ∷ []
-
 -- a note for each of some words
 abbrev pub word_notes : Element → Foreign → List (List ℕ) → List Note
 word_notes element why words = map (λ word. note element (foreign why word)) words
 
-abbrev pub area_notes : Area → Element → List Note
-area_notes a e =
-    word_notes e RegionIncluded (other_regions a.regions_included)
-    ++ (word_notes e RegionExcluded (other_regions a.regions_excluded)
-    ++ (word_notes e CountryName (other_names a.included)
-    ++ word_notes e CountryName (other_names a.excluded)))
+module _ (a : Area) where
+  -- the first of the regions that are included, where neither a country nor the world is: without
+  -- them the territory would be the world
+  abbrev pub region_alone : Option (List ℕ)
+  region_alone =
+      if is_empty a.included
+      then (if names_world a.regions_included then None else first (words_of a.regions_included))
+      else None
 
--- Notes on a territory that the desk can hold. Beside a country or the world a region that is
--- included is left out, and one that is excluded is a part of a country.
-abbrev pub territory_notes : Area → List Note
-territory_notes a = option_map_or (area_notes a) a.territory []
+  -- why the desk cannot hold a territory, whatever is left out of it: it would be another one, and
+  -- not only a smaller one or one without whole countries
+  abbrev pub unheld : Option Reason
+  unheld =
+      option_or (option_map (foreign RegionAlone) region_alone)
+      (option_map (foreign RegionOfNoCountry) (region_of_no_country a.regions_excluded))
 
--- the market of a territory, as the desk reads it
-abbrev pub market_of : Area → Option ProductSupply
-market_of a = said supply_of (area_fields a)
+  -- ---- what is written, and what is left out of it
 
--- why the desk does not take a territory, each where it does not
-abbrev pub area_reasons : Area → List (Option Reason)
-area_reasons a =
-    unless (is_some
-    (term_said countries_of (countries_written a.included))) CountriesIncluded a.included
-    ∷ unless (is_some
-    (term_said countries_of (countries_written a.excluded))) CountriesExcluded a.excluded
-    ∷ []
+  -- CountriesIncluded, RegionsIncluded and CountriesExcluded, as the desk reads them: countries by
+  -- their codes, and of the regions WORLD alone
+  abbrev pub area_fields : Fields
+  area_fields =
+      countries_written a.included ∷ world_text (names_world a.regions_included)
+      ∷ countries_written a.excluded ∷ []
 
--- why the desk does not take a territory, where it does not
-abbrev pub area_refusal : Area → Option Reason
-area_refusal a =
-    if is_some (market_of a) then None
-    else Some (unwrap_or (first_some (area_reasons a)) (wrong Territory []))
+  abbrev pub area_notes : Element → List Note
+  area_notes e =
+      word_notes e RegionIncluded (other_regions a.regions_included)
+      ++ (word_notes e RegionExcluded (other_regions a.regions_excluded)
+      ++ (word_notes e CountryName (other_names a.included)
+      ++ word_notes e CountryName (other_names a.excluded)))
+
+  -- Notes on a territory that the desk can hold. Beside a country or the world a region that is
+  -- included is left out, and one that is excluded is a part of a country.
+  abbrev pub territory_notes : List Note
+  territory_notes = option_map_or area_notes a.territory []
+
+  -- the market of a territory, as the desk reads it
+  abbrev pub market_of : Option ProductSupply
+  market_of = said supply_of area_fields
+
+  -- why the desk does not take a territory, each where it does not
+  abbrev pub area_reasons : Reasons
+  area_reasons =
+      unless (is_some (term_said countries_of (countries_written a.included)))
+      CountriesIncluded a.included
+      ∷ unless (is_some (term_said countries_of (countries_written a.excluded)))
+      CountriesExcluded a.excluded
+      ∷ []
+
+  -- why the desk does not take a territory, where it does not
+  abbrev pub area_refusal : Option Reason
+  area_refusal =
+      if is_some market_of then None
+      else Some (unwrap_or (first_some area_reasons) (wrong Territory []))
 
 -- ---- without where it lies in memory
 

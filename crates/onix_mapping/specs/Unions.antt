@@ -13,10 +13,6 @@ lies_in country t =
     not (list_any (bytes_eq country) t.excluded)
     && (t.world || list_any (bytes_eq country) t.included)
 
--- whether it lies in one of them
-abbrev pub lies_in_one : List Territory → List ℕ → Bool
-lies_in_one territories country = list_any (lies_in country) territories
-
 unfoldable pub letters : List ℕ
 letters = codes "ABCDEFGHIJKLMNOPQRSTUVWXYZ"
 
@@ -28,18 +24,6 @@ countries_from seconds first = filter_map (λ second. country_of (first ∷ seco
 unfoldable pub countries : List (List ℕ)
 countries = flat_map (countries_from letters) letters
 
--- the countries that lie in one of the territories, or those that lie in none
-abbrev pub is_wanted : List Territory → Bool → List ℕ → Bool
-is_wanted territories true country = lies_in_one territories country
-is_wanted territories false country = not (lies_in_one territories country)
-
-abbrev pub wanted : List Territory → Bool → List (List ℕ)
-wanted territories inside = filter (is_wanted territories inside) countries
-
--- whether one of them is the world, or the world without some countries
-abbrev pub has_world : List Territory → Bool
-has_world territories = list_any (λ t. t.world) territories
-
 -- whether the code of a country begins with this letter
 abbrev pub begins : ℕ → List ℕ → Bool
 begins first [] = false
@@ -49,15 +33,31 @@ begins first (b ∷ code) = first == b
 abbrev pub names : ℕ → Territory → Bool
 names first t = list_any (begins first) t.included || list_any (begins first) t.excluded
 
--- whether a country is wanted that no territory names
-abbrev pub wants_unnamed : List Territory → Bool → Bool
-wants_unnamed territories true = has_world territories
-wants_unnamed territories false = not (has_world territories)
+module _ (territories : List Territory) where
+  -- whether a country lies in one of them
+  abbrev pub lies_in_one : List ℕ → Bool
+  lies_in_one country = list_any (lies_in country) territories
 
--- whether a country with this first letter may be wanted
-abbrev pub may_be_wanted : List Territory → Bool → ℕ → Bool
-may_be_wanted territories inside first =
-    wants_unnamed territories inside || list_any (names first) territories
+  -- the countries that lie in one of the territories, or those that lie in none
+  abbrev pub is_wanted : Bool → List ℕ → Bool
+  is_wanted true country = lies_in_one country
+  is_wanted false country = not (lies_in_one country)
+
+  abbrev pub wanted : Bool → List (List ℕ)
+  wanted inside = filter (is_wanted inside) countries
+
+  -- whether one of them is the world, or the world without some countries
+  abbrev pub has_world : Bool
+  has_world = list_any (λ t. t.world) territories
+
+  -- whether a country is wanted that no territory names
+  abbrev pub wants_unnamed : Bool → Bool
+  wants_unnamed true = has_world
+  wants_unnamed false = not has_world
+
+  -- whether a country with this first letter may be wanted
+  abbrev pub may_be_wanted : Bool → ℕ → Bool
+  may_be_wanted inside first = wants_unnamed inside || list_any (names first) territories
 
 abbrev pub world_without : List (List ℕ) → Territory
 world_without outside = record { included = []; world = true; excluded = outside }

@@ -318,7 +318,7 @@ fn other_format<'a>(format: &'a [u8]) -> Reason<'a>
 // The days of the Date of a role that has one day.
 fn one_day<'a>(role: &'a [u8], depth: usize, lines: &'a [Line]) -> Result<Days, Reason<'a>>
     ensures { (nodes : Nodes) → line_views lines.now ≡ outline depth nodes
-        → days_read result ≡ one_day role.now nodes }
+        → days_read result ≡ one_day nodes role.now }
 {
     let date = date_in(depth, lines);
     let format = format_in(date, depth, lines);
@@ -334,7 +334,7 @@ fn one_day<'a>(role: &'a [u8], depth: usize, lines: &'a [Line]) -> Result<Days, 
 // The days of the Date of the role that has two.
 fn both_days<'a>(role: &'a [u8], depth: usize, lines: &'a [Line]) -> Result<Days, Reason<'a>>
     ensures { (nodes : Nodes) → line_views lines.now ≡ outline depth nodes
-        → days_read result ≡ both_days role.now nodes }
+        → days_read result ≡ both_days nodes role.now }
 {
     let date = date_in(depth, lines);
     let format = format_in(date, depth, lines);

@@ -11,7 +11,7 @@ ghost use Rattle.onix_mapping.specs.Elements.{Composite as Told, Tells, composit
 ghost use Rattle.onix_mapping.specs.Notes.{foreign, note_views, wrong};
 ghost use Rattle.onix_mapping.specs.Outcomes.{notes_below, outcome_notes, outcome_records};
 ghost use Rattle.onix_mapping.specs.PriceViews.{reason_read, text_view};
-ghost use Rattle.onix_mapping.specs.Prices.{amount_written, around_view, behind_digits, coded_in, cut_zeros, early_reasons, eight_fields, has_more_decimals, if_foreign, if_wrong, is_long_part, is_nothing, is_zero, late_reasons, license_in, long_amount, named, no_charge, old_elements, other_in, other_type, outcome_of, own_minimum, point_in, price_fields, price_outcome, reasons_against, refusal, right_days, unless_zeros};
+ghost use Rattle.onix_mapping.specs.Prices.{amount_written, around_view, behind_digits, cut_zeros, early_reasons, eight_fields, has_more_decimals, if_foreign, if_wrong, is_long_part, is_nothing, is_zero, late_reasons, long_amount, mark_in, named, no_charge, old_elements, other_in, other_type, outcome_of, own_minimum, point_in, price_fields, price_outcome, reasons_against, refusal, right_days, unless_zeros};
 ghost use Rattle.onix_mapping.specs.Records.{first_some, said, term_said};
 ghost use Rattle.onix_mapping.specs.Territories.{AreRenamed, area_in, area_view};
 ghost use Rattle.onix_mapping.specs.declared.notes.Wrong.TheVariants.{OldElement};
@@ -57,7 +57,7 @@ pub struct Around<'a, 'b> {
 // The text of an element, where it is another than 00.
 fn other_in<'a>(name: &[u8], depth: usize, lines: &'a [Line]) -> Option<&'a [u8]>
     ensures { (nodes : Nodes) → line_views lines.now ≡ outline depth nodes
-        → text_view result ≡ other_in name.now nodes }
+        → text_view result ≡ other_in nodes name.now }
 {
     match text_in(depth, name, lines) {
         Some(text) => if text == b"00".as_slice() {
@@ -90,13 +90,13 @@ fn other_type<'a>(
     None
 }
 
-// Whether there is a PriceCoded.
-fn coded_in(depth: usize, lines: &[Line]) -> Option<&'static [u8]>
+// Whether there is such a composite.
+fn mark_in(name: &[u8], depth: usize, lines: &[Line]) -> Option<&'static [u8]>
     requires { depth < 1000 }
     ensures { (nodes : Nodes) → line_views lines.now ≡ outline depth nodes
-        → text_view result ≡ coded_in nodes }
+        → text_view result ≡ mark_in nodes name.now }
 {
-    match first_composite(b"PriceCoded", depth, lines) {
+    match first_composite(name, depth, lines) {
         Some(_) => Some(b""),
         None => None,
     }
@@ -192,22 +192,10 @@ fn no_charge<'a>(amount: &'a [u8]) -> Option<&'a [u8]>
     if is_zero(amount) { Some(amount) } else { None }
 }
 
-// Whether there is an EpubLicense.
-fn license_in(depth: usize, lines: &[Line]) -> Option<&'static [u8]>
-    requires { depth < 1000 }
-    ensures { (nodes : Nodes) → line_views lines.now ≡ outline depth nodes
-        → text_view result ≡ license_in nodes }
-{
-    match first_composite(b"EpubLicense", depth, lines) {
-        Some(_) => Some(b""),
-        None => None,
-    }
-}
-
 // The name of an element, where it has a text.
 fn named(name: &'static [u8], depth: usize, lines: &[Line]) -> Option<&'static [u8]>
     ensures { (nodes : Nodes) → line_views lines.now ≡ outline depth nodes
-        → text_view result ≡ named name.now nodes }
+        → text_view result ≡ named nodes name.now }
 {
     match text_in(depth, name, lines) {
         Some(_) => Some(name),
@@ -338,12 +326,12 @@ fn early_reason<'a>(
         → reason_read result ≡ first_some (early_reasons nodes) }
 {
     let late = late_reason(area, wrong_date, depth, lines);
-    let license = because(Foreign::EpubLicense, license_in(depth, lines));
+    let license = because(Foreign::EpubLicense, mark_in(b"EpubLicense", depth, lines));
     let zone = because(
         Foreign::CurrencyZone,
         text_in(depth, b"CurrencyZone", lines),
     );
-    let coded = because(Foreign::PriceCoded, coded_in(depth, lines));
+    let coded = because(Foreign::PriceCoded, mark_in(b"PriceCoded", depth, lines));
     let constraint = because(
         Foreign::PriceConstraint,
         other_type(b"PriceConstraint", b"PriceConstraintType", depth, lines),
@@ -376,7 +364,7 @@ fn is_nothing(around: &Around<'_, '_>, depth: usize, lines: &[Line]) -> bool
 {
     around.is_unpriced
         && text_in(depth, b"PriceAmount", lines).is_none()
-        && coded_in(depth, lines).is_none()
+        && mark_in(b"PriceCoded", depth, lines).is_none()
 }
 
 // The text of a day, empty where there is none.

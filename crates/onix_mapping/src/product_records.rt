@@ -174,13 +174,13 @@ fn add_sound<'a>(
         ≡ standing_fate (reason_below opening.now preferred.now c.below)) }
     ensures records { (c : Told) → Tells product.entry depth c
         → identifiers.now.pairs ≡ right_pairs c.below
-        → OnOk result (records.new ≡ records.old ++ standing_records None
-        (reason_below opening.now preferred.now c.below) opening.now preferred.now c.below) }
+        → OnOk result (records.new ≡ records.old ++ standing_records opening.now
+        preferred.now None (reason_below opening.now preferred.now c.below) c.below) }
     ensures notes { (c : Told) → Tells product.entry depth c
         → identifiers.now.has_isbn ≡ has_isbn c.below
         → OnOk result (note_views notes.new.items ≡ note_views notes.old.items
-        ++ standing_notes None (reason_below opening.now preferred.now c.below)
-        opening.now preferred.now c) }
+        ++ standing_notes opening.now preferred.now None
+        (reason_below opening.now preferred.now c.below) c) }
 {
     let count = records.len();
     let lines = product.below;
@@ -219,14 +219,15 @@ fn add_standing<'a>(
         ≡ standing_fate (why_emptied opening.now preferred.now c.below)) }
     ensures records { (c : Told) → Tells product.entry depth c
         → identifiers.now.pairs ≡ right_pairs c.below
-        → OnOk result (records.new ≡ records.old ++ standing_records (own_reason c.below)
-        (reason_below opening.now preferred.now c.below) opening.now preferred.now c.below) }
+        → OnOk result (records.new ≡ records.old ++ standing_records opening.now
+        preferred.now (own_reason c.below) (reason_below opening.now preferred.now c.below)
+        c.below) }
     ensures notes { (c : Told) → Tells product.entry depth c
         → identifiers.now.pairs ≡ right_pairs c.below
         → identifiers.now.has_isbn ≡ has_isbn c.below
         → OnOk result (note_views notes.new.items ≡ note_views notes.old.items
-        ++ standing_notes (own_reason c.below) (reason_below opening.now preferred.now c.below)
-        opening.now preferred.now c) }
+        ++ standing_notes opening.now preferred.now (own_reason c.below)
+        (reason_below opening.now preferred.now c.below) c) }
 {
     match own_reason(&identifiers.pairs, depth, product.below) {
         Some(reason) => {

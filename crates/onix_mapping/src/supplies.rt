@@ -124,16 +124,16 @@ fn add_detailed<'a>(
     requires { depth < 998 }
     ensures reason { (nodes : Nodes) → line_views lines.now ≡ outline depth nodes
         → IfOk result (λ why. reason_read why ≡ outcome_reason
-        (by_markets (markets_outcome (markets_in nodes)) opening.now preferred.now
+        (by_markets opening.now preferred.now (markets_outcome (markets_in nodes))
         (details_in nodes))) }
     ensures records { (nodes : Nodes) → line_views lines.now ≡ outline depth nodes
         → OnOk result (records.new ≡ records.old ++ outcome_records
-        (by_markets (markets_outcome (markets_in nodes)) opening.now preferred.now
+        (by_markets opening.now preferred.now (markets_outcome (markets_in nodes))
         (details_in nodes))) }
     ensures notes { (nodes : Nodes) → line_views lines.now ≡ outline depth nodes
         → IfOk result (λ why. why ≡ None → note_views notes.new.items
         ≡ note_views notes.old.items ++ notes_below
-        (by_markets (markets_outcome (markets_in nodes)) opening.now preferred.now
+        (by_markets opening.now preferred.now (markets_outcome (markets_in nodes))
         (details_in nodes))) }
 {
     let count = records.len();

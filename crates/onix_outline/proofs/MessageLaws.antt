@@ -57,7 +57,7 @@ all_tokens (Some b) text tokens is document =
 -- ---- tokens that are refused
 
 place_of : (P : List Token → Token → Type 0) (bytes : Option (List ℕ)) (tokens : List Token) (place : Position) → OfText (BeginsAt first_place tokens) bytes → Finds P first_position tokens place
-    → IsPlaceOf P bytes place
+    → IsPlaceOf bytes P place
 place_of P bytes tokens place begins h = (h.before, h.token, h.behind, rw (sym h.parts) begins, h.holds, h.at)
 
 refuses : {T : Type 0} (after : T → List Line → T) (taker : T) (bytes : Option (List ℕ)) (tokens : List Token) → OfText (BeginsAt first_place tokens) bytes
@@ -228,7 +228,7 @@ pub record Reasons {T R : Type 0} (after : T → List Line → T) (bytes : Optio
   pub refused : IsErrOf r Refused → goes_on f ≡ false
 
 goes_at : {T : Type 0} (after : T → List Line → T) (bytes : Option (List ℕ)) (start f : Bounded T) (Limit : Bound)
-    → Goes after bytes start f Limit → (place : Position) × MeetsAt Limit bytes place
+    → Goes after bytes start f Limit → (place : Position) × MeetsAt bytes Limit place
 goes_at after bytes start f Limit w = (position_past first_position w.0, (w.0, w.1, refl))
 
 -- a document that was read while more was taken is refused for a reason

@@ -15,12 +15,6 @@ text_in name no_nodes = None
 text_in name (node n tag text below rest) =
     if bytes_eq n name && is_filled text then Some text else text_in name rest
 
--- what stands in each element of this name
-abbrev pub composites_in : List ℕ → Nodes → List Nodes
-composites_in name no_nodes = []
-composites_in name (node n tag text below rest) =
-    if bytes_eq n name then below ∷ composites_in name rest else composites_in name rest
-
 -- one of the elements, or of those in them, is a stranger
 abbrev pub has_stranger : Nodes → Bool
 has_stranger no_nodes = false

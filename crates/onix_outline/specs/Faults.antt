@@ -42,25 +42,6 @@ IsLargeAt = IsFirstAt (λ d p inside. first_large (nodes_in d [] p inside))
 abbrev pub IsManyAt : List Token → Position → Type 0
 IsManyAt = IsFirstAt (λ d p inside. first_with_many d [] p inside)
 
--- the text of the bytes that a reader has left, where it tells them, begins with tokens of which
--- this holds
-abbrev pub BeginsSo : (List Token → Type 0) → Option (List ℕ) → Type 0
-BeginsSo P bytes = (tokens : List Token) × OfText (BeginsAt first_place tokens) bytes × P tokens
-
--- it begins with tokens that end at this place, and of what follows there this holds, as that it
--- goes beyond a bound
-abbrev pub MeetsAt : Bound → Option (List ℕ) → Position → Type 0
-MeetsAt Limit bytes place =
-    (tokens : List Token) × OfText (Meets Limit first_place tokens) bytes
-    × (place ≡ position_past first_position tokens)
-
--- a place is that of a token of which, with the tokens before it, this holds
-abbrev pub IsPlaceOf : (List Token → Token → Type 0) → Option (List ℕ) → Position → Type 0
-IsPlaceOf P bytes place =
-    (before : List Token) × (token : Token) × (behind : List Token)
-    × OfText (BeginsAt first_place (before ++ token ∷ behind)) bytes
-    × P before token × (place ≡ position_past first_position before)
-
 -- the first tag, which is that of a refused root
 abbrev pub IsRefusedRoot : Wrong → List Token → Token → Type 0
 IsRefusedRoot wrong before token =
@@ -70,28 +51,46 @@ IsRefusedRoot wrong before token =
 abbrev pub IsUnknown : List Token → Token → Type 0
 IsUnknown before token = is_known token ≡ false
 
--- Why a message is refused, and what its place tells. Malformed: what the reader has left is no
--- document, and at the place no token that follows may stand, so that none begins with the tokens
--- before it and one more. No text: its bytes are none, and the place is behind some of its tokens.
--- Too deep, too long and with a large tag: at the place it goes beyond that bound. Unknown
--- encoding: its declaration names one that is none of those. Root, release, reference: at the place
--- stands the tag of another root or release, or a reference that stands for nothing. Too large,
--- many prefixes: there begins a Header or Product that goes beyond that bound, or stands the tag at
--- which the prefixes do. What comes of a failed read or of want of memory needs no reason; no other
--- document is refused.
-abbrev pub Explains : Option (List ℕ) → Fault → Position → Type 0
-Explains bytes (Document Malformed) place =
-    OfText IsNoDocument bytes × MeetsAt NoneMayStand bytes place
-Explains bytes (Document NotText) place =
-    OfText IsNoText bytes
-    × BeginsSo (λ tokens. place ≡ position_past first_position tokens) bytes
-Explains bytes (Document TooDeep) place = MeetsAt IsDeep bytes place
-Explains bytes (Document TooLong) place = MeetsAt IsLong bytes place
-Explains bytes (Document LargeTag) place = MeetsAt IsLarge bytes place
-Explains bytes (Document (UnknownEncoding name)) place = IfSome bytes (IsOfUnknown name)
-Explains bytes (Document Refused) place = ⊥
-Explains bytes (Document other) place = Unit {0}
-Explains bytes (Message wrong) place = IsPlaceOf (IsRefusedRoot wrong) bytes place
-Explains bytes Reference place = IsPlaceOf IsUnknown bytes place
-Explains bytes TooLarge place = BeginsSo (λ tokens. IsLargeAt tokens place) bytes
-Explains bytes ManyPrefixes place = BeginsSo (λ tokens. IsManyAt tokens place) bytes
+module _ (bytes : Option (List ℕ)) where
+  -- the text of the bytes that a reader has left, where it tells them, begins with tokens of which
+  -- this holds
+  abbrev pub BeginsSo : (List Token → Type 0) → Type 0
+  BeginsSo P = (tokens : List Token) × OfText (BeginsAt first_place tokens) bytes × P tokens
+
+  -- it begins with tokens that end at this place, and of what follows there this holds, as that it
+  -- goes beyond a bound
+  abbrev pub MeetsAt : Bound → Position → Type 0
+  MeetsAt Limit place =
+      (tokens : List Token) × OfText (Meets Limit first_place tokens) bytes
+      × (place ≡ position_past first_position tokens)
+
+  -- a place is that of a token of which, with the tokens before it, this holds
+  abbrev pub IsPlaceOf : (List Token → Token → Type 0) → Position → Type 0
+  IsPlaceOf P place =
+      (before : List Token) × (token : Token) × (behind : List Token)
+      × OfText (BeginsAt first_place (before ++ token ∷ behind)) bytes
+      × P before token × (place ≡ position_past first_position before)
+
+  -- Why a message is refused, and what its place tells. Malformed: what the reader has left is no
+  -- document, and at the place no token that follows may stand, so that none begins with the tokens
+  -- before it and one more. No text: its bytes are none, and the place is behind some of its
+  -- tokens. Too deep, too long and with a large tag: at the place it goes beyond that bound.
+  -- Unknown encoding: its declaration names one that is none of those. Root, release, reference: at
+  -- the place stands the tag of another root or release, or a reference that stands for nothing.
+  -- Too large, many prefixes: there begins a Header or Product that goes beyond that bound, or
+  -- stands the tag at which the prefixes do. What comes of a failed read or of want of memory needs
+  -- no reason; no other document is refused.
+  abbrev pub Explains : Fault → Position → Type 0
+  Explains (Document Malformed) place = OfText IsNoDocument bytes × MeetsAt NoneMayStand place
+  Explains (Document NotText) place =
+      OfText IsNoText bytes × BeginsSo (λ tokens. place ≡ position_past first_position tokens)
+  Explains (Document TooDeep) place = MeetsAt IsDeep place
+  Explains (Document TooLong) place = MeetsAt IsLong place
+  Explains (Document LargeTag) place = MeetsAt IsLarge place
+  Explains (Document (UnknownEncoding name)) place = IfSome bytes (IsOfUnknown name)
+  Explains (Document Refused) place = ⊥
+  Explains (Document other) place = Unit {0}
+  Explains (Message wrong) place = IsPlaceOf (IsRefusedRoot wrong) place
+  Explains Reference place = IsPlaceOf IsUnknown place
+  Explains TooLarge place = BeginsSo (λ tokens. IsLargeAt tokens place)
+  Explains ManyPrefixes place = BeginsSo (λ tokens. IsManyAt tokens place)

@@ -52,12 +52,6 @@ abbrev pub with_node : Option (List ℕ) → Tag → List ℕ → Nodes → Node
 with_node None tag text below rest = rest
 with_node (Some name) tag text below rest = node name tag text below rest
 
-abbrev pub leaf_nodes : Dialect → List Scope → Position → Token → Nodes → Nodes
-leaf_nodes d around p (empty name attributes space) rest =
-    with_node (counted d around name (bindings_of attributes)) (tag_of p attributes) [] no_nodes
-    rest
-leaf_nodes d around p other rest = rest
-
 -- where the content of an element stands
 abbrev pub content_place : Position → List ℕ → List Attribute → List ℕ → Position
 content_place p name attributes space = position_after p (spelling (start name attributes space))
@@ -72,16 +66,23 @@ abbrev pub within : Option (List ℕ) → List Binding → List Scope → List S
 within None bindings around = around
 within (Some name) bindings around = scope name bindings ∷ around
 
--- The elements that count of what stands from a place on below these elements, each only where all
--- around it count: the others are passed over with all below them.
-abbrev pub nodes_in : Dialect → List Scope → Position → Content → Nodes
-nodes_in d around p nothing = no_nodes
-nodes_in d around p (leaf token rest) =
-    leaf_nodes d around p token (nodes_in d around (position_after p (spelling token)) rest)
-nodes_in d around p (element name attributes space inside closing rest) =
-    let bindings = bindings_of attributes in
-    let found = counted d around name bindings in
-    let from = content_place p name attributes space in
-    with_node found (tag_of p attributes) (collapsed (direct_text inside))
-    (nodes_in d (within found bindings around) from inside)
-    (nodes_in d around (place_behind from inside name closing) rest)
+module _ (d : Dialect) where
+  abbrev pub leaf_nodes : List Scope → Position → Token → Nodes → Nodes
+  leaf_nodes around p (empty name attributes space) rest =
+      with_node (counted d around name (bindings_of attributes)) (tag_of p attributes) [] no_nodes
+      rest
+  leaf_nodes around p other rest = rest
+
+  -- The elements that count of what stands from a place on below these elements, each only where
+  -- all around it count: the others are passed over with all below them.
+  abbrev pub nodes_in : List Scope → Position → Content → Nodes
+  nodes_in around p nothing = no_nodes
+  nodes_in around p (leaf token rest) =
+      leaf_nodes around p token (nodes_in around (position_after p (spelling token)) rest)
+  nodes_in around p (element name attributes space inside closing rest) =
+      let bindings = bindings_of attributes in
+      let found = counted d around name bindings in
+      let from = content_place p name attributes space in
+      with_node found (tag_of p attributes) (collapsed (direct_text inside))
+      (nodes_in (within found bindings around) from inside)
+      (nodes_in around (place_behind from inside name closing) rest)

@@ -24,13 +24,14 @@ abbrev pub holding : List Binding → List Scope → List Binding
 holding root [] = root
 holding root (s ∷ around) = behind_tag s.bindings (holding root around)
 
--- those of them that stand for the root's address
-abbrev pub of_root : Dialect → List Scope → List Binding
-of_root d around = filter (λ b. bytes_eq b.address d.address) (holding d.bindings around)
+module _ (d : Dialect) (around : List Scope) where
+  -- those of them that stand for the root's address
+  abbrev pub of_root : List Binding
+  of_root = filter (λ b. bytes_eq b.address d.address) (holding d.bindings around)
 
--- there are more than 64
-abbrev pub are_many : Dialect → List Scope → Bool
-are_many d around = nat_lt 64 (length (of_root d around))
+  -- there are more than 64
+  abbrev pub are_many : Bool
+  are_many = nat_lt 64 (length of_root)
 
 abbrev pub is_declaring : List Binding → Bool
 is_declaring [] = false
@@ -48,21 +49,22 @@ abbrev pub if_counted : Option (List ℕ) → Option Position → Option Positio
 if_counted None place = None
 if_counted (Some name) place = place
 
-abbrev pub leaf_with_many : Dialect → List Scope → Position → Token → Option Position
-leaf_with_many d around p (empty name attributes space) =
-    place_if (has_many d around (bindings_of attributes)) p
-leaf_with_many d around p other = None
+module _ (d : Dialect) where
+  abbrev pub leaf_with_many : List Scope → Position → Token → Option Position
+  leaf_with_many around p (empty name attributes space) =
+      place_if (has_many d around (bindings_of attributes)) p
+  leaf_with_many around p other = None
 
--- where the first element stands at whose tag there are, of those around which all count
-abbrev pub first_with_many : Dialect → List Scope → Position → Content → Option Position
-first_with_many d around p nothing = None
-first_with_many d around p (leaf token rest) =
-    option_or (leaf_with_many d around p token)
-    (first_with_many d around (position_after p (spelling token)) rest)
-first_with_many d around p (element name attributes space inside closing rest) =
-    let bindings = bindings_of attributes in
-    let found = counted d around name bindings in
-    let from = content_place p name attributes space in
-    option_or (place_if (has_many d around bindings) p)
-    (option_or (if_counted found (first_with_many d (within found bindings around) from inside))
-    (first_with_many d around (place_behind from inside name closing) rest))
+  -- where the first element stands at whose tag there are, of those around which all count
+  abbrev pub first_with_many : List Scope → Position → Content → Option Position
+  first_with_many around p nothing = None
+  first_with_many around p (leaf token rest) =
+      option_or (leaf_with_many around p token)
+      (first_with_many around (position_after p (spelling token)) rest)
+  first_with_many around p (element name attributes space inside closing rest) =
+      let bindings = bindings_of attributes in
+      let found = counted d around name bindings in
+      let from = content_place p name attributes space in
+      option_or (place_if (has_many d around bindings) p)
+      (option_or (if_counted found (first_with_many (within found bindings around) from inside))
+      (first_with_many around (place_behind from inside name closing) rest))

@@ -10,7 +10,8 @@ use Rattle.xml_text.specs.declared.encodings.Held.TheVariants.{Nothing, Byte, Le
 use Rattle.xml_text.specs.declared.texts.Part.{Part}
 use Rattle.xml_text.specs.declared.texts.Part.TheVariants.{Whole, One, Two, Three}
 use Rattle.xml_text.specs.Documents.{IsEnding}
-use Rattle.xml_text.specs.Encodings.{byte_text, after_byte, held16, text16, ending16, held_behind, text_from, ending, decoded_from, decoded_rest, text_left}
+use Rattle.xml_text.specs.Encodings.{byte_text}
+use Rattle.xml_text.specs.private.Decoders.{after_byte, held16, text16, ending16, held_behind, text_from, ending, decoded_from, decoded_rest, text_left}
 use Rattle.xml_text.specs.Texts.{follow}
 
 held16-append : (e : Encoding) (h : Held) (xs ys : List ℕ) → held16 e h (xs ++ ys) ≡ held16 e (held16 e h xs) ys

@@ -22,4 +22,5 @@ pub mod ReadingLaws
 pub mod HeadLaws
 pub mod ValueLaws
 pub mod OneTreeLaws
+pub mod UnitLaws
 pub mod Utf16Laws

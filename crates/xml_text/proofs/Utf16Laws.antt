@@ -9,7 +9,9 @@ use Rattle.xml_text.specs.declared.encodings.Encoding.{Encoding}
 use Rattle.xml_text.specs.declared.encodings.Encoding.TheVariants.{Utf16Big, Utf16Little}
 use Rattle.xml_text.specs.declared.encodings.Held.{Held}
 use Rattle.xml_text.specs.declared.encodings.Held.TheVariants.{Nothing, Lead}
-use Rattle.xml_text.specs.Encodings.{unit_of, after_unit, after_pair, is_lead, is_trail, held16, text16, ending16, decoded}
+use Rattle.xml_text.specs.Encodings.{unit_of, is_lead, is_trail, decoded}
+use Rattle.xml_text.specs.private.Decoders.{after_unit, after_pair, held16, text16, ending16}
+use Rattle.xml_text.proofs.UnitLaws.{by_units}
 use Rattle.xml_text.specs.Utf16.{is_scalar, lead_of, trail_of, unit_bytes, char16, utf16}
 
 -- bytes that are read as a text, behind which nothing is held
@@ -151,11 +153,13 @@ all_read e each (c ∷ text) h =
 pub big_read : (text : List ℕ) → list_all is_scalar text ≡ true → decoded Utf16Big (utf16 Utf16Big text) ≡ flat_map encode_utf8 text
 big_read text h =
     let p = all_read Utf16Big big text h in
-    ap (λ (l : List ℕ). l ++ ending16 (held16 Utf16Big Nothing (utf16 Utf16Big text))) p.0
+    sym (by_units Utf16Big (utf16 Utf16Big text))
+    ∙ ap (λ (l : List ℕ). l ++ ending16 (held16 Utf16Big Nothing (utf16 Utf16Big text))) p.0
     ∙ ap (λ (k : Held). flat_map encode_utf8 text ++ ending16 k) p.1 ∙ append-nil (flat_map encode_utf8 text)
 
 pub little_read : (text : List ℕ) → list_all is_scalar text ≡ true → decoded Utf16Little (utf16 Utf16Little text) ≡ flat_map encode_utf8 text
 little_read text h =
     let p = all_read Utf16Little little text h in
-    ap (λ (l : List ℕ). l ++ ending16 (held16 Utf16Little Nothing (utf16 Utf16Little text))) p.0
+    sym (by_units Utf16Little (utf16 Utf16Little text))
+    ∙ ap (λ (l : List ℕ). l ++ ending16 (held16 Utf16Little Nothing (utf16 Utf16Little text))) p.0
     ∙ ap (λ (k : Held). flat_map encode_utf8 text ++ ending16 k) p.1 ∙ append-nil (flat_map encode_utf8 text)

@@ -1,17 +1,17 @@
 -- The encoding that a document says it has.
 use Rattle.std.specs.Prelude.{◌≡◌, ℕ, Bool, ◌||◌, ◌==◌, codes, List, [], ◌∷◌, Option, Some, None}
-use Rattle.std.specs.Prelude.{Ok, Err, ⊤, if◌then◌else◌, option_map, take, drop, unwrap_or}
+use Rattle.std.specs.Prelude.{Result, Ok, ⊤, if◌then◌else◌, option_map, take, drop, unwrap_or}
 use Rattle.std.specs.Char.{to_ascii_lowercase}
+use Rattle.std.specs.Result.{result_ok}
 use Rattle.std.specs.Str.{bytes_eq}
 use Rattle.xml_text.specs.declared.encodings.Encoding.{Encoding}
 use Rattle.xml_text.specs.declared.encodings.Encoding.TheVariants.{Utf8, Ascii, Latin1}
 use Rattle.xml_text.specs.declared.encodings.Encoding.TheVariants.{Latin9, Windows1252}
 use Rattle.xml_text.specs.declared.encodings.Encoding.TheVariants.{Utf16Big, Utf16Little}
-use Rattle.xml_text.specs.Distinct.{value_of}
 use Rattle.xml_text.specs.Encodings.{decoded}
-use Rattle.xml_text.specs.Grammar.{Attribute, begins}
-use Rattle.xml_text.specs.Reading.{attributes_at}
-use Rattle.xml_text.specs.Steps.{Step, ◌>>=◌, literal}
+use Rattle.xml_text.specs.declared.stop.Stop.{Stop}
+use Rattle.xml_text.specs.Grammar.{begins, declared_at}
+use Rattle.xml_text.specs.Steps.{◌>>=◌, literal}
 
 -- a name without its hyphens and low lines, in small letters
 abbrev pub plain_name : List ℕ → List ℕ
@@ -34,13 +34,16 @@ encoding_of name =
     then Some Windows1252
     else None
 
--- the value of the attribute `encoding` of a declaration at the front
+-- the encoding in a declaration at the front
+unfoldable pub encoding_in : List ℕ → Result (List ℕ) Stop
+encoding_in head = do
+  mark ← literal (codes "<?xml") head
+  version ← declared_at (codes "version") mark.1
+  encoding ← declared_at (codes "encoding") version.1
+  Ok encoding.0
+
 abbrev pub declared_name : List ℕ → Option (List ℕ)
-declared_name head = named_in (literal (codes "<?xml") head >>= λ x. attributes_at x.1)
-  where
-    named_in : Step (List Attribute) → Option (List ℕ)
-    named_in (Ok x) = value_of (codes "encoding") x.0
-    named_in (Err e) = None
+declared_name head = result_ok (encoding_in head)
 
 abbrev pub declared_or_empty : List ℕ → List ℕ
 declared_or_empty head = unwrap_or (declared_name head) []

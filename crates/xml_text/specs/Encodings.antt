@@ -1,14 +1,11 @@
 -- Encodings, and the text that bytes are in one.
 use Rattle.std.specs.Prelude.{ℕ, ◌+◌, ◌-◌, ◌*◌, Bool, ◌&&◌, ◌==◌, nat_lt, nat_le, List, [], ◌∷◌}
-use Rattle.std.specs.Prelude.{◌++◌, Option, if◌then◌else◌, option_map, encode_utf8, slice_index}
+use Rattle.std.specs.Prelude.{◌++◌, if◌then◌else◌, encode_utf8, slice_index}
 use Rattle.std.specs.List.{flat_map}
-use Rattle.std.specs.Io.KnownBytes.{prepend_known}
 use Rattle.xml_text.specs.declared.encodings.Encoding.{Encoding}
 use Rattle.xml_text.specs.declared.encodings.Encoding.TheVariants.{Utf8, Ascii, Latin1}
 use Rattle.xml_text.specs.declared.encodings.Encoding.TheVariants.{Latin9, Windows1252}
 use Rattle.xml_text.specs.declared.encodings.Encoding.TheVariants.{Utf16Big, Utf16Little}
-use Rattle.xml_text.specs.declared.encodings.Held.{Held}
-use Rattle.xml_text.specs.declared.encodings.Held.TheVariants.{Nothing, Byte, Lead, LeadByte}
 
 -- the code points of the bytes 128 to 159 of windows-1252; 0 where it has none
 abbrev pub windows_codes : List ℕ
@@ -51,6 +48,12 @@ abbrev pub unit_of : Encoding → ℕ → ℕ → ℕ
 unit_of Utf16Big a b = a * 256 + b
 unit_of other a b = b * 256 + a
 
+-- the units of bytes; half a unit is U+0000
+abbrev pub units_of : Encoding → List ℕ → List ℕ
+units_of encoding [] = []
+units_of encoding (a ∷ []) = 0 ∷ []
+units_of encoding (a ∷ b ∷ bytes) = unit_of encoding a b ∷ units_of encoding bytes
+
 -- the first unit of a surrogate pair, and the second
 abbrev pub is_lead : ℕ → Bool
 is_lead u = nat_le 55296 u && nat_lt u 56320
@@ -58,78 +61,26 @@ is_lead u = nat_le 55296 u && nat_lt u 56320
 abbrev pub is_trail : ℕ → Bool
 is_trail u = nat_le 56320 u && nat_lt u 57344
 
--- What is held behind a unit, and the text that it completes: a character, or the first unit of a
--- pair. A second one alone is U+0000.
-abbrev pub after_unit : ℕ → Held × List ℕ
-after_unit u =
-    if is_lead u then (Lead u, [])
-    else if is_trail u then (Nothing, 0 ∷ [])
-    else (Nothing, encode_utf8 u)
+-- the text of a pair, and of a unit that begins none: without its other half it is U+0000
+abbrev pub pair_text : ℕ → ℕ → List ℕ
+pair_text lead u =
+    if is_trail u then encode_utf8 (65536 + ((lead - 55296) * 1024 + (u - 56320))) else 0 ∷ []
 
--- The same behind the first unit of a pair: the character of the pair. Where no second unit
--- follows, U+0000.
-abbrev pub after_pair : ℕ → ℕ → Held × List ℕ
-after_pair lead u = (
-  Nothing,
-  if is_trail u then encode_utf8 (65536 + ((lead - 55296) * 1024 + (u - 56320))) else 0 ∷ [],
-)
+abbrev pub unit_text : ℕ → List ℕ
+unit_text u = if is_trail u then 0 ∷ [] else encode_utf8 u
 
--- the same behind a byte, of which two are a unit
-abbrev pub after_byte : Encoding → Held → ℕ → Held × List ℕ
-after_byte encoding Nothing b = (Byte b, [])
-after_byte encoding (Byte a) b = after_unit (unit_of encoding a b)
-after_byte encoding (Lead u) b = (LeadByte u b, [])
-after_byte encoding (LeadByte u a) b = after_pair u (unit_of encoding a b)
-
--- what is held behind bytes, and the text that they complete
-abbrev pub held16 : Encoding → Held → List ℕ → Held
-held16 encoding held [] = held
-held16 encoding held (b ∷ bytes) = held16 encoding (after_byte encoding held b).0 bytes
-
-abbrev pub text16 : Encoding → Held → List ℕ → List ℕ
-text16 encoding held [] = []
-text16 encoding held (b ∷ bytes) =
-    (after_byte encoding held b).1 ++ text16 encoding (after_byte encoding held b).0 bytes
-
--- at the end of a text nothing is held; what is held there is U+0000
-abbrev pub ending16 : Held → List ℕ
-ending16 Nothing = []
-ending16 other = 0 ∷ []
+-- the text of units
+abbrev pub units_text : List ℕ → List ℕ
+units_text [] = []
+units_text (u ∷ []) = if is_lead u then 0 ∷ [] else unit_text u
+units_text (u ∷ v ∷ units) =
+    if is_lead u then pair_text u v ++ units_text units else unit_text u ++ units_text (v ∷ units)
 
 -- ---- all encodings
 
--- what is held behind bytes, and the text that they complete
-abbrev pub held_behind : Encoding → Held → List ℕ → Held
-held_behind Utf16Big held bytes = held16 Utf16Big held bytes
-held_behind Utf16Little held bytes = held16 Utf16Little held bytes
-held_behind other held bytes = held
-
-abbrev pub text_from : Encoding → Held → List ℕ → List ℕ
-text_from Utf8 held bytes = bytes
-text_from Utf16Big held bytes = text16 Utf16Big held bytes
-text_from Utf16Little held bytes = text16 Utf16Little held bytes
-text_from other held bytes = flat_map (byte_text other) bytes
-
--- what the end of a text adds to it
-abbrev pub ending : Encoding → Held → List ℕ
-ending Utf16Big held = ending16 held
-ending Utf16Little held = ending16 held
-ending other held = []
-
--- the UTF-8 of a text that ends with these bytes, behind what is held
-abbrev pub decoded_from : Encoding → Held → List ℕ → List ℕ
-decoded_from Utf8 held bytes = bytes
-decoded_from encoding held bytes =
-    text_from encoding held bytes ++ ending encoding (held_behind encoding held bytes)
-
 -- the UTF-8 of a text whose bytes these are
 abbrev pub decoded : Encoding → List ℕ → List ℕ
-decoded encoding bytes = decoded_from encoding Nothing bytes
-
--- the same of the bytes that a reader has left, where it tells them
-abbrev pub decoded_rest : Encoding → Held → Option (List ℕ) → Option (List ℕ)
-decoded_rest encoding held rest = option_map (decoded_from encoding held) rest
-
--- the text of a head that was read before, and of what a reader has left
-abbrev pub text_left : Encoding → List ℕ → Option (List ℕ) → Option (List ℕ)
-text_left encoding head rest = decoded_rest encoding Nothing (prepend_known head rest)
+decoded Utf8 bytes = bytes
+decoded Utf16Big bytes = units_text (units_of Utf16Big bytes)
+decoded Utf16Little bytes = units_text (units_of Utf16Little bytes)
+decoded encoding bytes = flat_map (byte_text encoding) bytes

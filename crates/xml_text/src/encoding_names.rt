@@ -1,11 +1,13 @@
 //! The encoding that a document says it has.
 
 ghost use Rattle.std.specs.Prelude.{◌≡◌, ◌≤◌, ◌∷◌, [], IfSome, length, option_map};
-ghost use Rattle.xml_text.specs.EncodingNames.{is_alike, encoding_of, declared_name, declared_or_empty, named, marked, encoding_at};
+ghost use Rattle.xml_text.specs.EncodingNames.{is_alike, encoding_of, encoding_in, declared_name, declared_or_empty, named, marked, encoding_at};
+ghost use Rattle.xml_text.specs.Steps.{Gives};
 
-use crate::attributes::read_attributes;
 use crate::encodings::Encoding;
+use crate::instructions::declared;
 use crate::scan::literal;
+use crate::stop::Stop;
 
 // Whether the name without its hyphens and low lines, in small letters, is this one.
 fn is_alike(name: &[u8], plain: &[u8]) -> bool
@@ -49,15 +51,23 @@ fn encoding_of(name: &[u8]) -> Option<Encoding>
     }
 }
 
-// The name of an encoding in a declaration at the front.
+// The encoding in a declaration at the front.
+#[tactic(auto, unfolding(crate::specs::EncodingNames::encoding_in))]
+fn encoding_in(head: &[u8]) -> Result<&[u8], Stop>
+    ensures { Gives (λ n. n.now) result (encoding_in head.now) }
+{
+    let rest = literal(b"<?xml", head)?;
+    let (_, rest) = declared(b"version", rest)?;
+    let (name, _) = declared(b"encoding", rest)?;
+    Ok(name)
+}
+
+// The same, where there is one.
 fn declared_name(head: &[u8]) -> Option<&[u8]>
     ensures { option_map (λ n. n.now) result ≡ declared_name head.now }
 {
-    match literal("<?xml".as_bytes(), head) {
-        Ok(behind) => match read_attributes(behind) {
-            Ok((attributes, _)) => attributes.value_of("encoding".as_bytes()),
-            Err(_) => None,
-        },
+    match encoding_in(head) {
+        Ok(name) => Some(name),
         Err(_) => None,
     }
 }

@@ -2,7 +2,8 @@
 
 ghost use Rattle.std.specs.Prelude.{◌≡◌, ◌<◌, ◌≤◌, ◌++◌, OnOk, IfOk, encode_utf8, length, true};
 ghost use Rattle.std.specs.List.{flat_map, list_all};
-ghost use Rattle.xml_text.specs.Encodings.{windows_code, windows_codes, latin9_code, code_of, byte_text, unit_of, is_lead, is_trail, after_unit, after_pair, after_byte, held16, text16, held_behind, text_from, ending, ending16};
+ghost use Rattle.xml_text.specs.Encodings.{windows_code, windows_codes, latin9_code, code_of, byte_text, unit_of, is_lead, is_trail};
+ghost use Rattle.xml_text.specs.private.Decoders.{after_unit, after_pair, after_byte, held16, text16, held_behind, text_from, ending, ending16};
 ghost use Rattle.xml_text.specs.private.NameCharacters.{is_ascii};
 
 use std::alloc::AllocError;

@@ -1,90 +1,22 @@
 //! The named characters.
 
-ghost use Rattle.std.specs.Prelude.{◌≡◌, option_map};
-ghost use Rattle.xml_text.specs.HtmlNames.{capital_names, small_names, html_names};
+ghost use Rattle.std.specs.Prelude.{◌≡◌, map, option_map};
+ghost use Rattle.xml_text.specs.HtmlNames.{list_of, html_names};
 ghost use Rattle.xml_text.specs.References.{past_reference, word, listed, named_text, xml_entity};
 ghost use Rattle.xml_text.specs.Steps.{Gives};
 
-use crate::html_names::{
-    CAPITAL_A, CAPITAL_B, CAPITAL_C, CAPITAL_D, CAPITAL_E, CAPITAL_F, CAPITAL_G, CAPITAL_H,
-    CAPITAL_I, CAPITAL_J, CAPITAL_K, CAPITAL_L, CAPITAL_M, CAPITAL_N, CAPITAL_O, CAPITAL_P,
-    CAPITAL_Q, CAPITAL_R, CAPITAL_S, CAPITAL_T, CAPITAL_U, CAPITAL_V, CAPITAL_W, CAPITAL_X,
-    CAPITAL_Y, CAPITAL_Z, SMALL_A, SMALL_B, SMALL_C, SMALL_D, SMALL_E, SMALL_F, SMALL_G, SMALL_H,
-    SMALL_I, SMALL_J, SMALL_K, SMALL_L, SMALL_M, SMALL_N, SMALL_O, SMALL_P, SMALL_Q, SMALL_R,
-    SMALL_S, SMALL_T, SMALL_U, SMALL_V, SMALL_W, SMALL_X, SMALL_Y, SMALL_Z,
-};
+use crate::html_names::NAMES;
 use crate::scan::{byte, literal, until};
 use crate::stop::Stop;
 
-// The list of the names that begin with this capital letter.
-#[tactic(auto, unfolding(crate::specs::HtmlNames::capital_names))]
-fn capital_names(b: u8) -> &'static str
-    ensures { result.now ≡ capital_names b }
+// Of lists for the letters from A on that of one letter.
+#[tactic(auto, unfolding(crate::specs::HtmlNames::list_of))]
+fn list_of(lists: &[&'static str], b: u8) -> &'static str
+    ensures { result.now ≡ list_of (map (λ list. list.now) lists.now) b }
 {
-    match b {
-        b'A' => CAPITAL_A,
-        b'B' => CAPITAL_B,
-        b'C' => CAPITAL_C,
-        b'D' => CAPITAL_D,
-        b'E' => CAPITAL_E,
-        b'F' => CAPITAL_F,
-        b'G' => CAPITAL_G,
-        b'H' => CAPITAL_H,
-        b'I' => CAPITAL_I,
-        b'J' => CAPITAL_J,
-        b'K' => CAPITAL_K,
-        b'L' => CAPITAL_L,
-        b'M' => CAPITAL_M,
-        b'N' => CAPITAL_N,
-        b'O' => CAPITAL_O,
-        b'P' => CAPITAL_P,
-        b'Q' => CAPITAL_Q,
-        b'R' => CAPITAL_R,
-        b'S' => CAPITAL_S,
-        b'T' => CAPITAL_T,
-        b'U' => CAPITAL_U,
-        b'V' => CAPITAL_V,
-        b'W' => CAPITAL_W,
-        b'X' => CAPITAL_X,
-        b'Y' => CAPITAL_Y,
-        b'Z' => CAPITAL_Z,
-        _ => "",
-    }
-}
-
-// The same of a small letter.
-#[tactic(auto, unfolding(crate::specs::HtmlNames::small_names))]
-fn small_names(b: u8) -> &'static str
-    ensures { result.now ≡ small_names b }
-{
-    match b {
-        b'a' => SMALL_A,
-        b'b' => SMALL_B,
-        b'c' => SMALL_C,
-        b'd' => SMALL_D,
-        b'e' => SMALL_E,
-        b'f' => SMALL_F,
-        b'g' => SMALL_G,
-        b'h' => SMALL_H,
-        b'i' => SMALL_I,
-        b'j' => SMALL_J,
-        b'k' => SMALL_K,
-        b'l' => SMALL_L,
-        b'm' => SMALL_M,
-        b'n' => SMALL_N,
-        b'o' => SMALL_O,
-        b'p' => SMALL_P,
-        b'q' => SMALL_Q,
-        b'r' => SMALL_R,
-        b's' => SMALL_S,
-        b't' => SMALL_T,
-        b'u' => SMALL_U,
-        b'v' => SMALL_V,
-        b'w' => SMALL_W,
-        b'x' => SMALL_X,
-        b'y' => SMALL_Y,
-        b'z' => SMALL_Z,
-        _ => "",
+    match lists.get(b.saturating_sub(b'A') as usize) {
+        Some(list) => list,
+        None => "",
     }
 }
 
@@ -95,8 +27,7 @@ fn html_names(name: &[u8]) -> &'static [u8]
 {
     match name {
         [] => b"",
-        [b, ..] if *b <= 90 => capital_names(*b).as_bytes(),
-        [b, ..] => small_names(*b).as_bytes(),
+        [b, ..] => list_of(&NAMES, *b).as_bytes(),
     }
 }
 

@@ -49,9 +49,9 @@ pub(crate) fn is_instruction(body: &[u8]) -> bool
     !is_xml(name) && (is_name(name) && is_apart(behind))
 }
 
-// The value of an attribute of this name behind white space, and what is behind it.
+/// The value of an attribute of this name behind white space, and what is behind it.
 #[tactic(auto, unfolding(crate::specs::Grammar::declared_at))]
-fn declared<'a>(name: &[u8], bytes: &'a [u8]) -> Result<(&'a [u8], &'a [u8]), Stop>
+pub(crate) fn declared<'a>(name: &[u8], bytes: &'a [u8]) -> Result<(&'a [u8], &'a [u8]), Stop>
     ensures { Gives (λ x. (x.0.now, x.1.now)) result (declared_at name.now bytes.now) }
 {
     let (before, rest) = space(bytes)?;

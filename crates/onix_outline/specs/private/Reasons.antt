@@ -44,9 +44,9 @@ RefusesText bytes fault =
 abbrev pub IsReason : Option (List ℕ) → Fault → Type 0
 IsReason bytes (Document Malformed) = OfText IsNoDocument bytes
 IsReason bytes (Document NotText) = OfText IsNoText bytes
-IsReason bytes (Document TooDeep) = (place : Position) × MeetsAt IsDeep bytes place
-IsReason bytes (Document TooLong) = (place : Position) × MeetsAt IsLong bytes place
-IsReason bytes (Document LargeTag) = (place : Position) × MeetsAt IsLarge bytes place
+IsReason bytes (Document TooDeep) = (place : Position) × MeetsAt bytes IsDeep place
+IsReason bytes (Document TooLong) = (place : Position) × MeetsAt bytes IsLong place
+IsReason bytes (Document LargeTag) = (place : Position) × MeetsAt bytes IsLarge place
 IsReason bytes (Document (UnknownEncoding name)) = IfSome bytes (IsOfUnknown name)
 IsReason bytes (Document Read) = Unit {0}
 IsReason bytes (Document Memory) = Unit {0}
@@ -67,14 +67,14 @@ abbrev pub IsAt : Option (List ℕ) → Fault → Position → Type 0
 IsAt bytes (Document (UnknownEncoding name)) place = Unit {0}
 IsAt bytes (Document Read) place = Unit {0}
 IsAt bytes (Document Memory) place = Unit {0}
-IsAt bytes (Document TooDeep) place = MeetsAt IsDeep bytes place
-IsAt bytes (Document TooLong) place = MeetsAt IsLong bytes place
-IsAt bytes (Document LargeTag) place = MeetsAt IsLarge bytes place
-IsAt bytes (Document Malformed) place = MeetsAt NoneMayStand bytes place
+IsAt bytes (Document TooDeep) place = MeetsAt bytes IsDeep place
+IsAt bytes (Document TooLong) place = MeetsAt bytes IsLong place
+IsAt bytes (Document LargeTag) place = MeetsAt bytes IsLarge place
+IsAt bytes (Document Malformed) place = MeetsAt bytes NoneMayStand place
 IsAt bytes (Document NotText) place = IsBehind bytes place
 IsAt bytes (Document Refused) place = ⊥
-IsAt bytes (Message wrong) place = IsPlaceOf (IsRefusedRoot wrong) bytes place
-IsAt bytes Reference place = IsPlaceOf IsUnknown bytes place
+IsAt bytes (Message wrong) place = IsPlaceOf bytes (IsRefusedRoot wrong) place
+IsAt bytes Reference place = IsPlaceOf bytes IsUnknown place
 IsAt bytes TooLarge place =
     (tokens : List Token) × OfText (BeginsAt first_place tokens) bytes × IsLargeAt tokens place
 IsAt bytes ManyPrefixes place =

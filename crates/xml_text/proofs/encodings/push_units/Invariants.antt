@@ -1,5 +1,5 @@
 use Rattle.std.proofs.Common.{◌≡◌, ◌++◌, length}
-use Rattle.xml_text.specs.Encodings.{held16, text16}
+use Rattle.xml_text.specs.private.Decoders.{held16, text16}
 use Rattle.xml_text.proofs.encodings.push_units.Given as goal
 
 abbrev pub invariant-loop-rest : goal.invariant-loop-rest

@@ -1,6 +1,6 @@
 use Rattle.std.proofs.Common.{◌≡◌, ◌∙◌, ℕ, List, take, drop, take_at, length, refl, sym, ap, subst, arith}
 use Rattle.std.specs.Io.KnownBytes.{Consumes}
-use Rattle.xml_text.specs.Encodings.{ending, text_from}
+use Rattle.xml_text.specs.private.Decoders.{ending, text_from}
 use Rattle.xml_text.proofs.EncodingLaws.{read_bytes, read_end}
 use Rattle.xml_text.proofs.reading.refill.Goals as goal
 

@@ -1,5 +1,5 @@
 use Rattle.std.proofs.Common.{◌∙◌}
-use Rattle.xml_text.specs.Encodings.{ending}
+use Rattle.xml_text.specs.private.Decoders.{ending}
 use Rattle.xml_text.proofs.ReadingLaws.{kept}
 use Rattle.xml_text.proofs.reading.take_end.Goals as goal
 

@@ -57,7 +57,9 @@ def build(crate: str, words: list[str], to: Path, room: Path) -> None:
     try:
         opened = open_when_read(pipe, tried)
         if opened is None:
-            raise RuntimeError(said.read_text(encoding="utf-8", errors="replace").strip())
+            why = said.read_text(encoding="utf-8", errors="replace").strip()
+            # One that was killed has written nothing.
+            raise RuntimeError(why or f"rt try ended with status {tried.returncode} and wrote nothing")
         # `rt try` runs a program in a folder of its own, where it is the file `program`.
         (built,) = room.glob("*/*/program")
         shutil.copy2(built, to)

@@ -13,6 +13,7 @@ LAYERS = {
         [
             "desk_texts",
             "desk_batch",
+            "desk_export",
             "http_requests",
             "desk_http",
             "command_line",
@@ -39,7 +40,10 @@ LAYERS = {
         ],
     ),
     "Tables": ("a desk in a file", ["desk_tables", "catalogue_store", "desk_store"]),
-    "Rules": ("what is answered", ["price_rules", "catalogue_rules", "series_rules", "desk_memory"]),
+    "Rules": (
+        "what is answered",
+        ["price_rules", "catalogue_rules", "series_rules", "desk_listing", "desk_memory"],
+    ),
     "Words": ("what a message says", ["csv_records", "onix_terms", "onix_message"]),
 }
 

@@ -13,6 +13,7 @@ LAYERS = {
         [
             "desk_texts",
             "desk_batch",
+            "desk_export",
             "http_requests",
             "desk_http",
             "command_line",
@@ -31,7 +32,10 @@ LAYERS = {
         ["named_files", "xml_text", "onix_outline", "onix_mapping", "feed_tests", "onix_conversion", "onix_files"],
     ),
     "Tables": ("a desk in a file", ["desk_tables", "catalogue_store", "desk_store"]),
-    "Rules": ("what is answered", ["price_rules", "catalogue_rules", "series_rules", "desk_memory"]),
+    "Rules": (
+        "what is answered",
+        ["price_rules", "catalogue_rules", "series_rules", "desk_listing", "desk_memory"],
+    ),
     "Words": ("what a message says", ["csv_records", "onix_terms", "onix_message"]),
 }
 

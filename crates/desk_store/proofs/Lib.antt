@@ -28,6 +28,7 @@ pub mod Found
 pub mod Agreed
 pub mod QuestionRows
 pub mod GapRows
+pub mod ListedRows
 pub mod FirstForm
 pub mod FirstEntries
 pub mod NoMinimums

@@ -25,8 +25,8 @@ pub(crate) struct Stored {
     pub effect: Option<Effect>,
 }
 
-// What the tables have at a number, or `None`.
-fn stored_at<S: Alter>(
+/// What the tables have at a number, or `None`.
+pub(crate) fn stored_at<S: Alter>(
     work: &mut Work<'_, S>,
     series: &SeriesName,
     number: Number,

@@ -17,10 +17,12 @@ ghost use Rattle.series_rules.specs.Views.{LeavesOnly};
 ghost use Rattle.series_rules.specs.declared.requests.Request.{Request};
 
 use crate::committing::{ask_agree, ask_deliver, ask_waive};
+use crate::listing::{ask_agreements, ask_text};
 use crate::opening::{OpenFault, connect, prepare};
 use crate::questions::{ask_catalogue, ask_gaps, ask_offers};
 use catalogue_rules::catalogue::Catalogue;
 use csv_records::records::Records;
+use desk_listing::listing::ListedDesk;
 use desk_tables::rows::fault::fault_of;
 use desk_tables::rows::laws::same_trees_hold_the_same_rows;
 use desk_tables::tables::Tables;
@@ -29,6 +31,7 @@ use onix_terms::isbn13::Isbn13;
 use onix_terms::items::Items;
 use onix_terms::number::Number;
 use onix_terms::series_name::SeriesName;
+use onix_terms::text::Text;
 use price_rules::offer::Offer;
 use series_rules::answers::{AgreeAnswer, DeliveryAnswer, GapReport, WaiveAnswer};
 use series_rules::desk::Desk;
@@ -299,5 +302,15 @@ impl<S: Alter> Desk for DeskStore<S> {
 
     fn catalogue(&mut self, series: &SeriesName) -> Result<Option<Catalogue>, StoreFault> {
         ask_catalogue(self.alloc, &mut self.tables, series)
+    }
+}
+
+impl<S: Alter> ListedDesk for DeskStore<S> {
+    fn agreements(&mut self) -> Result<Items<Agreement>, StoreFault> {
+        ask_agreements(self.alloc, &mut self.tables)
+    }
+
+    fn text_at(&mut self, series: &SeriesName, number: Number) -> Result<Option<Text>, StoreFault> {
+        ask_text(&mut self.tables, series, number)
     }
 }

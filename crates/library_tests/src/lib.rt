@@ -12,6 +12,8 @@ mod desks;
 #[cfg(test)]
 mod disks;
 #[cfg(test)]
+mod exports;
+#[cfg(test)]
 mod files;
 #[cfg(test)]
 mod lists;

@@ -4,10 +4,10 @@
 use crate::cases::{expect, expect_bytes, found, made};
 use crate::tables::words::{is_whole, word};
 use csv_records::reading::RecordReader;
-use desk_texts::answer_text::write_answer;
-use desk_texts::request_rows::read_requests;
 use desk_http::reply_of;
 use desk_memory::MemoryDesk;
+use desk_texts::answer_text::write_answer;
+use desk_texts::request_rows::read_requests;
 use onix_message::StoreFault;
 use onix_terms::code::{Code2, Country, Currency};
 use onix_terms::day::Day;

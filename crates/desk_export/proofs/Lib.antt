@@ -1,0 +1,11 @@
+pub mod FieldLemmas
+pub mod FilledRecords
+pub mod MessageBack
+pub mod MapEntries
+pub mod ExportLaw
+pub mod ExportTexts
+pub mod WrittenRequests
+pub mod Waivers
+pub mod TakenTexts
+pub mod AskedDesks
+pub mod AppendedTexts

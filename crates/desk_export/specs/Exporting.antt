@@ -1,0 +1,46 @@
+-- What is asked of a desk and what is taken while it is exported.
+use Rattle.std.specs.Prelude.{◌≡◌, ◌+◌, ◌-◌, ◌++◌, ℕ, List, [], ◌∷◌, Option, Some, None, Result, Ok, OnOk, map, ⊤}
+use Rattle.onix_message.specs.declared.agreements.Agreement.{Agreement}
+use Rattle.series_rules.specs.Views.{DeskKind, Stays, View}
+use Rattle.series_rules.specs.declared.requests.Request.{Request}
+use Rattle.desk_export.specs.Exports.{requests_from}
+use Rattle.desk_export.specs.RequestRecords.{request_text}
+
+-- the texts of these requests
+abbrev pub texts_of : List Request → List (List ℕ)
+texts_of rs = map request_text rs
+
+-- these texts were taken, one after the other
+abbrev pub TakesAll : {T : Type 0} → (T → T → List ℕ → Type 0) → T → T → List (List ℕ) → Type 0
+TakesAll takes old new [] = new ≡ old
+TakesAll {T} takes old new (t ∷ ts) = (mid : T) × takes old mid t × TakesAll takes mid new ts
+
+-- A desk was asked questions alone: it stands for what it did, and nothing changed. With `Ok`,
+-- after each list for which it stood and of which that is so, the texts of these requests were
+-- taken
+pub record IsExported {A F T : Type 0} {k : DeskKind} (takes : T → T → List ℕ → Type 0)
+    (IsSo : List Request → Type 0) (requests : List Request → List Request) (old new : View k)
+    (from to : T) (result : Result A F) : Type 0 where
+  pub premise : new.sound → old.sound
+  pub left : (L : List Request) → old.stands_for L → new.sound → new.stands_for L
+  pub stays : new.sound → Stays old new
+  pub taken : (L : List Request) → old.stands_for L → new.sound → IsSo L
+      → OnOk result (TakesAll takes from to (texts_of (requests L)))
+
+-- the same, of what was done without a fault
+abbrev pub IsDone : {T : Type 0} {k : DeskKind} → (T → T → List ℕ → Type 0)
+    → (List Request → List Request) → View k → View k → T → T → Type 0
+IsDone takes requests old new from to =
+    IsExported {A = ⊤} {F = ⊤} takes (λ L. ⊤) requests old new from to (Ok tt)
+
+-- the number behind the greatest that has something, or else the first
+abbrev pub end_after : ℕ → Option ℕ → ℕ
+end_after first None = first
+end_after first (Some g) = g + 1
+
+-- what puts anew what stands at the numbers of a series from one on up to an end, without those of
+-- these ranges
+abbrev pub requests_between : List Request → Agreement → ℕ → List (ℕ × ℕ) → ℕ → List Request
+requests_between L a from [] end = requests_from L a from (end - from)
+requests_between L a from (p ∷ ps) end =
+    requests_from L a from (p.0 - from) ++ requests_between L a (p.1 + 1) ps end

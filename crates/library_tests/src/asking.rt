@@ -12,6 +12,7 @@ use price_rules::precedence::Precedence;
 use series_rules::desk::Desk;
 use sqlite::Alter;
 use std::alloc::Global;
+use std::io::{Read, Write};
 use std::process::Abort;
 
 /// How a request ended, as far as the tests tell the ways apart.
@@ -77,6 +78,30 @@ fn end_of_exchange(ended: Result<u16, HttpFault>, reply: &[u8]) -> End {
     }
 }
 
+// These promise nothing, so that what calls them carries none of what the libraries promise.
+
+/// Runs a batch.
+pub fn run<D: Desk, R: Read, W: Write>(
+    alloc: Global,
+    desk: &mut D,
+    rules: &Precedence,
+    reader: &mut R,
+    writer: &mut W,
+) -> Result<u64, BatchFault> {
+    run_batch(alloc, desk, rules, reader, writer)
+}
+
+/// Serves an exchange.
+pub fn serve<D: Desk, R: Read, W: Write>(
+    alloc: Global,
+    desk: &mut D,
+    rules: &Precedence,
+    reader: &mut R,
+    writer: &mut W,
+) -> Result<u16, HttpFault> {
+    serve_one(alloc, desk, rules, reader, writer)
+}
+
 fn batch<D: Desk>(
     alloc: Global,
     desk: &mut D,
@@ -84,7 +109,7 @@ fn batch<D: Desk>(
     text: &str,
     output: &mut Vec<u8>,
 ) -> End {
-    end_of_batch(run_batch(alloc, desk, rules, &mut text.as_bytes(), output))
+    end_of_batch(run(alloc, desk, rules, &mut text.as_bytes(), output))
 }
 
 // A line end is written behind the reply, as behind all that tests compare. That of a fault is no answer.
@@ -95,7 +120,7 @@ fn exchange<D: Desk>(
     text: &str,
     output: &mut Vec<u8>,
 ) -> End {
-    let served = serve_one(alloc, desk, rules, &mut text.as_bytes(), output);
+    let served = serve(alloc, desk, rules, &mut text.as_bytes(), output);
     match end_of_exchange(served, output.as_slice()) {
         End::Done if output.push(b'\n').is_err() => End::Memory,
         End::Done => End::Done,

@@ -43,12 +43,21 @@ pub struct Step<'a> {
     pub after: &'a str,
 }
 
+// What is wanted, and what is to be found after it, where the case before it has that.
+fn wanted_of<'a>(text: &'a str, before: &'a str) -> (&'a str, &'a str) {
+    match text.strip_suffix("-- as before\n") {
+        Some(wanted) => (wanted, before),
+        None => text.split_once("-- after\n").unwrap_or((text, "")),
+    }
+}
+
 // The case behind its `== `: a line with its name, what is given, a line `-- wanted`, what is wanted, and
-// where something is looked at after it, a line `-- after` and that.
-fn read_step(text: &str) -> Step<'_> {
+// where something is looked at after it, a line `-- after` and that, or a line `-- as before` where it is
+// what was found after the case before it.
+fn read_step<'a>(text: &'a str, before: &'a str) -> Step<'a> {
     let (name, rest) = text.split_once('\n').unwrap_or((text, ""));
     let (given, rest) = rest.split_once("-- wanted\n").unwrap_or((rest, ""));
-    let (wanted, after) = rest.split_once("-- after\n").unwrap_or((rest, ""));
+    let (wanted, after) = wanted_of(rest, before);
     Step {
         name,
         given,
@@ -69,12 +78,15 @@ pub fn add_steps<'a>(
     steps: &mut Vec<Step<'a>>,
 ) -> Result<(), AllocError> {
     let mut rest = text.strip_prefix("\n== ").unwrap_or("");
+    let mut before = "";
     for _ in 0..MOST_STEPS {
         let (step, more) = rest.split_once("\n== ").unwrap_or((rest, ""));
         if step.is_empty() {
             return Ok(());
         }
-        steps.push(read_step(step))?;
+        let step = read_step(step, before);
+        before = step.after;
+        steps.push(step)?;
         rest = more;
     }
     stop.panic("more cases than are read")

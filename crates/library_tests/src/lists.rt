@@ -4,7 +4,7 @@
 //!
 //! A list is a text of cases. The first says what is asked for a report, what is reported of a new desk, and
 //! the text of the rules that all requests are asked under; each other one is a request, with its answer and
-//! the report after it, where one is told.
+//! the report after it, where one is told: the report itself, or that it is as before.
 
 pub mod calls;
 pub mod changes;
@@ -20,7 +20,7 @@ pub mod three;
 pub mod versions;
 pub mod waivers;
 
-use crate::asking::expect_asked;
+use crate::asking::{End, expect_asked};
 use crate::cases::{Step, add_steps, expect};
 use crate::desks::TestDesk;
 use crate::refusals::Refusals;
@@ -28,12 +28,17 @@ use price_rules::precedence::{Precedence, PrecedenceFault};
 use std::alloc::Global;
 use std::process::Abort;
 
-// The rules, what is asked for a report, and the report from before a request.
-#[derive(Clone, Copy)]
-struct Between<'a> {
-    rules: &'a Precedence,
+// A desk that is asked, the rules, what is asked for a report, the report from before a request, and what was
+// answered last.
+#[derive(Drop)]
+struct Asked<'d, 'r, 'a, D: TestDesk> {
+    alloc: Global,
+    refusals: &'d mut Refusals,
+    desk: &'d mut D,
+    rules: &'r Precedence,
     report: &'a str,
     before: &'a str,
+    output: Vec<u8>,
 }
 
 // The rules of a text; where memory is refused they are read once more.
@@ -57,99 +62,79 @@ fn is_near(reported: &[u8], before: &str, after: &str) -> bool {
     reported == before.as_bytes() || reported == after.as_bytes()
 }
 
-// Ends the test unless a request that lacked memory left answers that begin as they are to be, and the
-// report from before it or the one after it.
-fn expect_near<D: TestDesk>(
-    alloc: Global,
-    stop: &impl Abort,
-    desk: &mut D,
-    between: Between<'_>,
-    step: Step<'_>,
-    output: &mut Vec<u8>,
-) {
-    let is_begun = step.wanted.as_bytes().starts_with(output.as_slice());
-    desk.ask(alloc, between.rules, between.report, output);
-    let is_near = is_near(output.as_slice(), between.before, step.after);
-    expect(stop, is_begun && is_near, step.name);
-}
-
-// Ends the test unless a request is answered as its step says.
-fn expect_answers<D: TestDesk>(
-    alloc: Global,
-    stop: &impl Abort,
-    refusals: &mut Refusals,
-    desk: &mut D,
-    between: Between<'_>,
-    step: Step<'_>,
-    output: &mut Vec<u8>,
-) {
-    let mut ended = desk.ask(alloc, between.rules, step.given, output);
-    if refusals.has_met(stop, ended) {
-        expect_near(alloc, stop, desk, between, step, output);
-        ended = desk.ask(alloc, between.rules, step.given, output);
+impl<'d, 'r, 'a, D: TestDesk> Asked<'d, 'r, 'a, D> {
+    fn ask(&mut self, request: &str) -> End {
+        self.desk
+            .ask(self.alloc, self.rules, request, &mut self.output)
     }
-    expect_asked(stop, ended, output.as_slice(), step.wanted, step.name);
-}
 
-// The same of the report after it.
-fn expect_report<D: TestDesk>(
-    alloc: Global,
-    stop: &impl Abort,
-    refusals: &mut Refusals,
-    desk: &mut D,
-    between: Between<'_>,
-    step: Step<'_>,
-    output: &mut Vec<u8>,
-) {
-    let before = step.after;
-    let between = Between { before, ..between };
-    let report = Step {
-        given: between.report,
-        wanted: step.after,
-        ..step
-    };
-    expect_answers(alloc, stop, refusals, desk, between, report, output);
-}
+    // Ends the test unless a request that lacked memory left answers that begin as they are to be, and the
+    // report from before it or the one after it.
+    fn expect_near(&mut self, stop: &impl Abort, wanted: &str, after: &str, name: &str) {
+        let is_begun = wanted.as_bytes().starts_with(self.output.as_slice());
+        self.ask(self.report);
+        let is_near = is_near(self.output.as_slice(), self.before, after);
+        expect(stop, is_begun && is_near, name);
+    }
 
-// Asks requests one after the other.
-fn expect_steps<'a, D: TestDesk>(
-    alloc: Global,
-    stop: &impl Abort,
-    refusals: &mut Refusals,
-    desk: &mut D,
-    mut between: Between<'a>,
-    steps: &[Step<'a>],
-) {
-    let mut output = Vec::new(alloc);
-    for step in steps {
-        expect_answers(alloc, stop, refusals, desk, between, *step, &mut output);
+    // Ends the test unless a request is answered so, with that report after it.
+    fn expect_answers(
+        &mut self,
+        stop: &impl Abort,
+        given: &str,
+        wanted: &str,
+        after: &str,
+        name: &str,
+    ) {
+        let mut ended = self.ask(given);
+        if self.refusals.has_met(stop, ended) {
+            self.expect_near(stop, wanted, after, name);
+            ended = self.ask(given);
+        }
+        expect_asked(stop, ended, self.output.as_slice(), wanted, name);
+    }
+
+    // The same of a request as its step says, and of the report after it.
+    fn expect_step(&mut self, stop: &impl Abort, step: &Step<'a>) {
+        self.expect_answers(stop, step.given, step.wanted, step.after, step.name);
+        self.before = step.after;
         if !step.after.is_empty() {
-            expect_report(alloc, stop, refusals, desk, between, *step, &mut output);
+            self.expect_answers(stop, self.report, step.after, step.after, step.name);
         }
-        if refusals.are_over() {
-            return;
+    }
+
+    // Asks requests one after the other.
+    fn expect_steps(&mut self, stop: &impl Abort, steps: &[Step<'a>]) {
+        for step in steps {
+            self.expect_step(stop, step);
+            if self.refusals.are_over() {
+                return;
+            }
         }
-        between.before = step.after;
     }
 }
 
 // The same under the rules of a list and between its reports.
-fn expect_requests<D: TestDesk>(
+fn expect_requests<'a, D: TestDesk>(
     alloc: Global,
     stop: &impl Abort,
-    refusals: &mut Refusals,
-    desk: &mut D,
-    told: Step<'_>,
-    requests: &[Step<'_>],
+    refusals: &'a mut Refusals,
+    desk: &'a mut D,
+    told: Step<'a>,
+    requests: &[Step<'a>],
 ) {
     let rules = rules_of(alloc, stop, refusals, told.after);
     let rules = refusals.own(stop, rules);
-    let between = Between {
+    let mut asked = Asked {
+        alloc,
+        refusals,
+        desk,
         rules: &rules,
         report: told.given,
         before: told.wanted,
+        output: Vec::new(alloc),
     };
-    expect_steps(alloc, stop, refusals, desk, between, requests);
+    asked.expect_steps(stop, requests);
 }
 
 /// Asks all requests of a list.

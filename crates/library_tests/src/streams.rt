@@ -1,10 +1,11 @@
 //! Inputs that come one byte a read, whose reads are counted, and outputs that take part of what is written
 //! and then nothing. No run of the program shows either; tests/program/broken_streams.py has streams that fail.
 
+use crate::asking::{run, serve};
 use crate::cases::{expect, expect_bytes, made};
 use csv_records::reading::RecordFault;
-use desk_batch::{BatchFault, run_batch};
-use desk_http::{HttpFault, serve_one};
+use desk_batch::BatchFault;
+use desk_http::HttpFault;
 use desk_memory::MemoryDesk;
 use price_rules::precedence::Precedence;
 use series_rules::desk::Desk;
@@ -70,7 +71,7 @@ fn expect_too_large<D: Desk>(alloc: Global, stop: &impl Abort, desk: &mut D, tex
         reads: 0,
     };
     let rules = Precedence::none(alloc);
-    let ended = run_batch(alloc, desk, &rules, &mut reader, &mut written);
+    let ended = run(alloc, desk, &rules, &mut reader, &mut written);
     let is_too_large = matches!(&ended, Err(BatchFault::Records(RecordFault::TooLarge)));
     expect(stop, is_too_large && written.is_empty(), "a byte more");
     let are_few = reader.reads <= MOST_READS_OF_A_BATCH;
@@ -114,7 +115,7 @@ fn expect_replied<D: Desk>(alloc: Global, stop: &impl Abort, desk: &mut D, input
         reads: 0,
     };
     let rules = Precedence::none(alloc);
-    let served = serve_one(alloc, desk, &rules, &mut reader, &mut written);
+    let served = serve(alloc, desk, &rules, &mut reader, &mut written);
     expect(stop, matches!(&served, Ok(422)), "the most of an input");
     expect_bytes(stop, written.as_slice(), MALFORMED.as_bytes(), "its reply");
     let are_few = reader.reads <= MOST_READS_OF_AN_EXCHANGE;
@@ -144,7 +145,7 @@ fn expect_batch_cut<D: Desk>(alloc: Global, stop: &impl Abort, desk: &mut D, tak
         written: Vec::new(alloc),
     };
     let rules = Precedence::none(alloc);
-    let ended = run_batch(alloc, desk, &rules, &mut BATCH.as_bytes(), &mut output);
+    let ended = run(alloc, desk, &rules, &mut BATCH.as_bytes(), &mut output);
     let wanted = answer_at(taken.len());
     let is_write = matches!(&ended, Err(BatchFault::Write { done }) if *done == wanted);
     expect(stop, is_write, "an output that takes nothing");
@@ -167,7 +168,7 @@ fn expect_reply_cut<D: Desk>(alloc: Global, stop: &impl Abort, desk: &mut D, tak
         written: Vec::new(alloc),
     };
     let rules = Precedence::none(alloc);
-    let served = serve_one(alloc, desk, &rules, &mut QUESTION.as_bytes(), &mut output);
+    let served = serve(alloc, desk, &rules, &mut QUESTION.as_bytes(), &mut output);
     let is_write = matches!(&served, Err(HttpFault::Write { status: 404 }));
     expect(stop, is_write, "a client that takes nothing");
     expect_bytes(stop, output.written.as_slice(), taken, "what it took");

@@ -86,8 +86,7 @@ version: none
 create
 -- wanted
 as told
--- after
-as told
+-- as before
 
 == the sample
 commit
@@ -101,8 +100,7 @@ put_price 1 1 1
 put_price 1 2 10
 -- wanted
 as told
--- after
-as told
+-- as before
 
 == the rows after it: the sample
 tables
@@ -126,16 +124,14 @@ offer_prices R1 1: 1; 10;
 offers_by_article 9781234567897: R1 1 1 10;
 -- wanted
 as told
--- after
-as told
+-- as before
 
 == put_series
 commit
 put_series south 1
 -- wanted
 as told
--- after
-as told
+-- as before
 
 == the rows after it: put_series
 tables
@@ -147,16 +143,14 @@ offer_rows: R1 1;
 price_rows: 1 1 1; 1 2 10;
 -- wanted
 as told
--- after
-as told
+-- as before
 
 == put_held
 commit
 put_held north 3 later
 -- wanted
 as told
--- after
-as told
+-- as before
 
 == the rows after it: put_held
 tables
@@ -168,16 +162,14 @@ offer_rows: R1 1;
 price_rows: 1 1 1; 1 2 10;
 -- wanted
 as told
--- after
-as told
+-- as before
 
 == put_applied
 commit
 put_applied north 1 1 2 3 4 5
 -- wanted
 as told
--- after
-as told
+-- as before
 
 == the rows after it: put_applied
 tables
@@ -189,16 +181,14 @@ offer_rows: R1 1;
 price_rows: 1 1 1; 1 2 10;
 -- wanted
 as told
--- after
-as told
+-- as before
 
 == add_record
 commit
 add_record north R2
 -- wanted
 as told
--- after
-as told
+-- as before
 
 == the rows after it: add_record
 tables
@@ -210,16 +200,14 @@ offer_rows: R1 1;
 price_rows: 1 1 1; 1 2 10;
 -- wanted
 as told
--- after
-as told
+-- as before
 
 == put_article
 commit
 put_article R2 1 15
 -- wanted
 as told
--- after
-as told
+-- as before
 
 == the rows after it: put_article
 tables
@@ -231,16 +219,14 @@ offer_rows: R1 1;
 price_rows: 1 1 1; 1 2 10;
 -- wanted
 as told
--- after
-as told
+-- as before
 
 == put_offer
 commit
 put_offer R2 1
 -- wanted
 as told
--- after
-as told
+-- as before
 
 == the rows after it: put_offer
 tables
@@ -252,16 +238,14 @@ offer_rows: R1 1; R2 1;
 price_rows: 1 1 1; 1 2 10;
 -- wanted
 as told
--- after
-as told
+-- as before
 
 == put_price
 commit
 put_price 1 3 100
 -- wanted
 as told
--- after
-as told
+-- as before
 
 == the rows after it: put_price
 tables
@@ -273,16 +257,14 @@ offer_rows: R1 1; R2 1;
 price_rows: 1 1 1; 1 2 10; 1 3 100;
 -- wanted
 as told
--- after
-as told
+-- as before
 
 == put_record of what is there
 commit
 put_record north R2
 -- wanted
 as told
--- after
-as told
+-- as before
 
 == the rows after it: put_record of what is there
 tables
@@ -294,16 +276,14 @@ offer_rows: R1 1; R2 1;
 price_rows: 1 1 1; 1 2 10; 1 3 100;
 -- wanted
 as told
--- after
-as told
+-- as before
 
 == delete_articles
 commit
 delete_articles north R2
 -- wanted
 as told
--- after
-as told
+-- as before
 
 == the rows after it: delete_articles
 tables
@@ -315,6 +295,5 @@ offer_rows: R1 1; R2 1;
 price_rows: 1 1 1; 1 2 10; 1 3 100;
 -- wanted
 as told
--- after
-as told
+-- as before
 ";

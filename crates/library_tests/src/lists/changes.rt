@@ -94,8 +94,5 @@ Price,,12.99,,,,,,
 EndMessage,5
 -- wanted
 applied,north,1,replaced=1,updated=0,deleted=0,unknown=0,ignored=0
--- after
-gaps,north,first=1,next=5,greatest=4,held=0,missing=0
-price,9781234567897,0
-catalogue,north,0
+-- as before
 ";

@@ -41,10 +41,7 @@ Price,,6.00,,,,,,
 EndMessage,5
 -- wanted
 refused,other-contents,north,3
--- after
-gaps,north,first=1,next=1,greatest=3,held=1,missing=1
-missing,1,2
-catalogue,north,0
+-- as before
 
 == 4 waits too
 Message,1,06,4012345000009,06,5012345678900,4,,,,
@@ -113,16 +110,5 @@ Price,,5,,,,,,
 EndMessage,5
 -- wanted
 applied,north,3,replaced=1,updated=0,deleted=0,unknown=0,ignored=0
--- after
-gaps,north,first=1,next=5,greatest=6,held=1,missing=1
-missing,5,5
-catalogue,north,2
-record,R1,15,9781234567897
-ProductSupply,GB IE,,
-SupplyDetail,04,06,4012345000009,North Books,21,
-Price,02,1.000,GBP,,WORLD,,,
-record,R3,15,9781234567897
-ProductSupply,GB IE,,
-SupplyDetail,04,06,4012345000009,North Books,21,
-Price,02,5.000,GBP,,WORLD,,,
+-- as before
 ";

@@ -52,6 +52,5 @@ offer_rows:
 price_rows:
 -- wanted
 as told
--- after
-as told
+-- as before
 ";

@@ -46,8 +46,7 @@ put_record north R4: unusable
 version: unusable
 -- wanted
 unusable
--- after
-as told
+-- as before
 
 == put_series south 4012345000009
 commit
@@ -57,8 +56,7 @@ put_record north R4: unusable
 version: unusable
 -- wanted
 unusable
--- after
-as told
+-- as before
 
 == put_held north 1
 commit
@@ -68,8 +66,7 @@ put_record north R4: unusable
 version: unusable
 -- wanted
 unusable
--- after
-as told
+-- as before
 
 == put_applied north 2
 commit
@@ -79,8 +76,7 @@ put_record north R4: unusable
 version: unusable
 -- wanted
 unusable
--- after
-as told
+-- as before
 
 == put_held west 1
 commit
@@ -90,8 +86,7 @@ put_record north R4: unusable
 version: unusable
 -- wanted
 unusable
--- after
-as told
+-- as before
 
 == put_applied west 1
 commit
@@ -101,8 +96,7 @@ put_record north R4: unusable
 version: unusable
 -- wanted
 unusable
--- after
-as told
+-- as before
 
 == create
 commit
@@ -112,8 +106,7 @@ put_record north R4: unusable
 version: unusable
 -- wanted
 unusable
--- after
-as told
+-- as before
 
 == migrate
 commit
@@ -123,8 +116,7 @@ put_record north R4: unusable
 version: unusable
 -- wanted
 unusable
--- after
-as told
+-- as before
 
 == put_record west R1
 commit
@@ -134,8 +126,7 @@ put_record north R4: unusable
 version: unusable
 -- wanted
 unusable
--- after
-as told
+-- as before
 
 == add_record north R1
 commit
@@ -145,8 +136,7 @@ put_record north R4: unusable
 version: unusable
 -- wanted
 unusable
--- after
-as told
+-- as before
 
 == add_record west R1
 commit
@@ -156,8 +146,7 @@ put_record north R4: unusable
 version: unusable
 -- wanted
 unusable
--- after
-as told
+-- as before
 
 == put_article R1 1 03
 commit
@@ -167,8 +156,7 @@ put_record north R4: unusable
 version: unusable
 -- wanted
 unusable
--- after
-as told
+-- as before
 
 == put_article R2 1 03
 commit
@@ -178,8 +166,7 @@ put_record north R4: unusable
 version: unusable
 -- wanted
 unusable
--- after
-as told
+-- as before
 
 == put_offer R1 1
 commit
@@ -189,8 +176,7 @@ put_record north R4: unusable
 version: unusable
 -- wanted
 unusable
--- after
-as told
+-- as before
 
 == put_offer R2 1
 commit
@@ -200,8 +186,7 @@ put_record north R4: unusable
 version: unusable
 -- wanted
 unusable
--- after
-as told
+-- as before
 
 == put_price 1 2 1
 commit
@@ -211,8 +196,7 @@ put_record north R4: unusable
 version: unusable
 -- wanted
 unusable
--- after
-as told
+-- as before
 
 == put_price 2 1 10
 commit
@@ -222,8 +206,7 @@ put_record north R4: unusable
 version: unusable
 -- wanted
 unusable
--- after
-as told
+-- as before
 
 == what is let go
 tables
@@ -233,14 +216,12 @@ delete_articles north R1
 article_rows:
 -- wanted
 as told
--- after
-as told
+-- as before
 
 == what is not there
 commit
 delete_articles north R2
 -- wanted
 as told
--- after
-as told
+-- as before
 ";

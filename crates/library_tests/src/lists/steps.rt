@@ -43,11 +43,7 @@ Message,1,06,4012345000009,06,5012345678900,3,,,,
 EndMessage,1
 -- wanted
 refused,other-contents,north,3
--- after
-gaps,north,first=1,next=1,greatest=3,held=1,missing=1
-missing,1,2
-price,9781234567897,0
-catalogue,north,0
+-- as before
 
 == 4 waits too
 Message,1,06,4012345000009,06,5012345678900,4,1,20250301,02,GBP
@@ -139,21 +135,7 @@ Product,R1,05,15,9781234567897
 EndMessage,2
 -- wanted
 applied,north,2,replaced=0,updated=0,deleted=1,unknown=0,ignored=0
--- after
-gaps,north,first=1,next=6,greatest=8,held=1,missing=1
-missing,6,7
-price,9781234567897,2
-offer,north,R3,1,21,3.000
-offer,north,R4,1,21,4.000
-catalogue,north,2
-record,R3,15,9781234567897
-ProductSupply,GB IE,,
-SupplyDetail,04,06,4012345000009,North Books,21,
-Price,02,3.000,GBP,,WORLD,,,
-record,R4,15,9781234567897
-ProductSupply,GB IE,,
-SupplyDetail,04,06,4012345000009,North Books,21,
-Price,02,4.000,GBP,,WORLD,,,
+-- as before
 
 == 6 updates and is applied alone
 Message,1,06,4012345000009,06,5012345678900,6,1,20250301,02,GBP
@@ -232,57 +214,18 @@ Price,,1,,,,,,
 EndMessage,5
 -- wanted
 applied,north,1,replaced=1,updated=0,deleted=0,unknown=0,ignored=0
--- after
-gaps,north,first=1,next=10,greatest=9,held=0,missing=0
-price,9781234567897,2
-offer,north,R3,1,21,7.000
-offer,north,R4,1,21,4.000
-catalogue,north,2
-record,R3,15,9781234567897
-ProductSupply,GB,,
-SupplyDetail,04,06,4012345000009,North Books,21,
-Price,02,7.000,GBP,,WORLD,,,
-record,R4,15,9781234567897
-ProductSupply,GB IE,,
-SupplyDetail,04,06,4012345000009,North Books,21,
-Price,02,4.000,GBP,,WORLD,,,
+-- as before
 
 == 7 again, which was waived
 Message,1,06,4012345000009,06,5012345678900,7,,,,
 EndMessage,1
 -- wanted
 refused,waived,north,7
--- after
-gaps,north,first=1,next=10,greatest=9,held=0,missing=0
-price,9781234567897,2
-offer,north,R3,1,21,7.000
-offer,north,R4,1,21,4.000
-catalogue,north,2
-record,R3,15,9781234567897
-ProductSupply,GB,,
-SupplyDetail,04,06,4012345000009,North Books,21,
-Price,02,7.000,GBP,,WORLD,,,
-record,R4,15,9781234567897
-ProductSupply,GB IE,,
-SupplyDetail,04,06,4012345000009,North Books,21,
-Price,02,4.000,GBP,,WORLD,,,
+-- as before
 
 == 9, which was had, is waived
 Waive,north,9
 -- wanted
 refused,had,north,9
--- after
-gaps,north,first=1,next=10,greatest=9,held=0,missing=0
-price,9781234567897,2
-offer,north,R3,1,21,7.000
-offer,north,R4,1,21,4.000
-catalogue,north,2
-record,R3,15,9781234567897
-ProductSupply,GB,,
-SupplyDetail,04,06,4012345000009,North Books,21,
-Price,02,7.000,GBP,,WORLD,,,
-record,R4,15,9781234567897
-ProductSupply,GB IE,,
-SupplyDetail,04,06,4012345000009,North Books,21,
-Price,02,4.000,GBP,,WORLD,,,
+-- as before
 ";

@@ -101,8 +101,7 @@ article_rows: R1 1 15; R2 1 15;
 offer_rows: R1 1; R2 1;
 -- wanted
 as told
--- after
-as told
+-- as before
 
 == the way to version 2, let go
 tables
@@ -116,29 +115,25 @@ put_price 1 2 10
 price_rows: 1 1 1; 1 2 10; 1 1 1;
 -- wanted
 as told
--- after
-as told
+-- as before
 
 == another version
 execute
 UPDATE meta SET amount = 7
 -- wanted
--- after
-as told
+-- as before
 
 == is not opened
 AskGaps,north
 -- wanted
 another version
--- after
-as told
+-- as before
 
 == nor migrated
 migrate
 -- wanted
 another version
--- after
-as told
+-- as before
 
 == and its rows stay
 tables
@@ -148,22 +143,19 @@ article_rows: R1 1 15; R2 1 15;
 offer_rows: R1 1; R2 1;
 -- wanted
 as told
--- after
-as told
+-- as before
 
 == version 1 again
 execute
 UPDATE meta SET amount = 1
 -- wanted
--- after
-as told
+-- as before
 
 == is migrated
 migrate
 -- wanted
 version 2
--- after
-as told
+-- as before
 
 == with its rows, once
 tables
@@ -175,15 +167,13 @@ price_rows: 1 1 1; 1 1 1;
 migrate: unusable
 -- wanted
 as told
--- after
-as told
+-- as before
 
 == and stays so
 migrate
 -- wanted
 version 2
--- after
-as told
+-- as before
 ";
 
 /// What the desk is asked then. Each request has the same answers when it is made again.

@@ -68,54 +68,26 @@ Price,02,3.000,GBP,,WORLD,,,
 Waive,north,2
 -- wanted
 waived,north,2
--- after
-gaps,north,first=1,next=4,greatest=5,held=1,missing=1
-missing,4,4
-catalogue,north,1
-record,R3,15,9781234567897
-ProductSupply,GB IE,,
-SupplyDetail,04,06,4012345000009,North Books,21,
-Price,02,3.000,GBP,,WORLD,,,
+-- as before
 
 == a message of 2
 Message,1,06,4012345000009,06,5012345678900,2,,,,
 EndMessage,1
 -- wanted
 refused,waived,north,2
--- after
-gaps,north,first=1,next=4,greatest=5,held=1,missing=1
-missing,4,4
-catalogue,north,1
-record,R3,15,9781234567897
-ProductSupply,GB IE,,
-SupplyDetail,04,06,4012345000009,North Books,21,
-Price,02,3.000,GBP,,WORLD,,,
+-- as before
 
 == 3, which was had
 Waive,north,3
 -- wanted
 refused,had,north,3
--- after
-gaps,north,first=1,next=4,greatest=5,held=1,missing=1
-missing,4,4
-catalogue,north,1
-record,R3,15,9781234567897
-ProductSupply,GB IE,,
-SupplyDetail,04,06,4012345000009,North Books,21,
-Price,02,3.000,GBP,,WORLD,,,
+-- as before
 
 == of a series that is not agreed
 Waive,west,1
 -- wanted
 refused,unknown-series
--- after
-gaps,north,first=1,next=4,greatest=5,held=1,missing=1
-missing,4,4
-catalogue,north,1
-record,R3,15,9781234567897
-ProductSupply,GB IE,,
-SupplyDetail,04,06,4012345000009,North Books,21,
-Price,02,3.000,GBP,,WORLD,,,
+-- as before
 
 == 4 goes on over 5
 Message,1,06,4012345000009,06,5012345678900,4,,,,

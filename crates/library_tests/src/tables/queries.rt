@@ -2,9 +2,10 @@
 
 use crate::tables::answers::{are_all, are_items, is_found};
 use crate::tables::sample::{offer, party, record};
-use crate::tables::words::{is_whole, isbn, name, number, word};
+use crate::tables::words::{is_whole, isbn, name, term, whole, word};
 use desk_tables::work::Work;
 use onix_message::StoreFault;
+use onix_terms::number::Number;
 use onix_terms::series_name::SeriesName;
 use sqlite::Alter;
 use std::alloc::Global;
@@ -35,15 +36,32 @@ fn series_by_parties<S: Alter>(
 fn ask_number<S: Alter>(
     work: &mut Work<'_, S>,
     north: &SeriesName,
+    at: Number,
     line: &str,
     wanted: &str,
 ) -> Result<bool, StoreFault> {
-    let at = number(word(line, 1))?;
     match word(line, 0) {
         "next_held" => is_found(work.next_held(north, at), wanted),
         "take_held" => is_found(work.take_held(north, at), wanted),
         _ => is_found(work.applied_at(north, at), wanted),
     }
+}
+
+// The same of each number from that of the line to its last, where it has two.
+fn ask_numbers<S: Alter>(
+    work: &mut Work<'_, S>,
+    north: &SeriesName,
+    line: &str,
+    wanted: &str,
+) -> Result<bool, StoreFault> {
+    let first = whole(word(line, 1))?;
+    for value in first..=whole(word(line, 2)).unwrap_or(first) {
+        let at = term(Number::from_value(value))?;
+        if !ask_number(work, north, at, line, wanted)? {
+            return Ok(false);
+        }
+    }
+    Ok(true)
 }
 
 // The calls that tell whether `north` has something.
@@ -154,7 +172,7 @@ pub fn ask<S: Alter>(
     wanted: &str,
 ) -> Option<Result<bool, StoreFault>> {
     Some(match word(line, 0) {
-        "next_held" | "take_held" | "applied_at" => ask_number(work, north, line, wanted),
+        "next_held" | "take_held" | "applied_at" => ask_numbers(work, north, line, wanted),
         "has_record" | "has_minimums" => has_some(work, north, line, wanted),
         "record_articles" | "record_offers" => ask_record(alloc, work, line, wanted),
         "offer_prices" | "offer_prices_without_minimums" => {

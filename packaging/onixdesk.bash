@@ -6,7 +6,7 @@ _onixdesk_command() {
     for ((at = 1; at < cword; at++)); do
         case ${words[at]} in
             --db | --rules | --batches) ((at++)) ;;
-            batch | convert | deliver | gaps | migrate | rules | serve | help) echo "${words[at]}"; return ;;
+            agreements | batch | convert | deliver | export | gaps | migrate | rules | serve | help) echo "${words[at]}"; return ;;
         esac
     done
 }
@@ -14,7 +14,7 @@ _onixdesk_command() {
 _onixdesk() {
     local cur prev words cword
     _init_completion || return
-    local command=$(_onixdesk_command) all="batch convert deliver gaps migrate rules serve help"
+    local command=$(_onixdesk_command) all="agreements batch convert deliver export gaps migrate rules serve help"
     case $command:$prev in
         :--db | :--rules | :--batches | serve:--batches) _filedir; return ;;
         serve:--port | serve:--requests) return ;;

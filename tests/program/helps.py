@@ -25,7 +25,7 @@ def helps(room: Room) -> Iterator[Outcome]:
         text = text.replace(b"Usage: onixdesk", b"Usage: " + os.fsencode(room.program.name))
         for asked in (words, ["help", *command]):
             yield Outcome(f"help: {' '.join(asked)}", room.run(*asked), Ran(0, text))
-    wanted = ["batch", "convert", "deliver", "gaps", "migrate", "rules", "serve"]
+    wanted = ["agreements", "batch", "convert", "deliver", "export", "gaps", "migrate", "rules", "serve"]
     yield Outcome("help: the commands whose help is compared", commands, wanted)
 
 

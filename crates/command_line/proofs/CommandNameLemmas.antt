@@ -4,12 +4,14 @@ use Rattle.std.proofs.lemmas.List.Elements.{All-nil, All-cons}
 use Rattle.clap.proofs.OnLiterals.{clap_on_literals}
 use Rattle.clap.specs.Simple.{Shape, built, entered, matches_of, names_of, subcommand_of}
 use Rattle.clap.specs.Walk.{Names, Row, Rule, Text, Walk, nothing_held, stop_after, walk_from, walked, walked_from}
-use Rattle.command_line.specs.Asked.{IsAction, IsTask, Reads, ReadsWords}
-use Rattle.command_line.specs.CommandLine.{batch_command, convert_command, deliver_command, gaps_command, migrate_command, onixdesk, rules_command, serve_command}
-use Rattle.command_line.specs.CommandNames.{NamesAreOfCommands, action_name, task_name}
+use Rattle.command_line.specs.Asked.{IsAction, IsListing, IsTask, Reads, ReadsWords}
+use Rattle.command_line.specs.CommandLine.{agreements_command, batch_command, convert_command, deliver_command, export_command, gaps_command, migrate_command, onixdesk, rules_command, serve_command}
+use Rattle.command_line.specs.CommandNames.{NamesAreOfCommands, action_name, listing_name, task_name}
 use Rattle.command_line.specs.declared.invocation.Action.{Action}
-use Rattle.command_line.specs.declared.invocation.Action.TheVariants.{CheckRules, Convert, InMemory, InFile, Migrate, Send}
+use Rattle.command_line.specs.declared.invocation.Action.TheVariants.{CheckRules, Convert, InMemory, InFile, Listed, Migrate, Send}
 use Rattle.command_line.specs.declared.invocation.Invocation.{Invocation}
+use Rattle.command_line.specs.declared.invocation.Listing.{Listing}
+use Rattle.command_line.specs.declared.invocation.Listing.TheVariants as listing
 use Rattle.command_line.specs.declared.invocation.Reading.TheVariants as reading
 use Rattle.command_line.specs.declared.invocation.Task.{Task}
 use Rattle.command_line.specs.declared.invocation.Task.TheVariants as task
@@ -21,9 +23,15 @@ task_named name own (task.Deliver files) is = sym is.0
 task_named name own (task.Gaps series) is = sym is.0
 task_named name own (task.Serve port requests batches) is = sym is.0
 
+listing_named : (name : Text) (own : List Row) (listed : Listing) → IsListing name own listed → listing_name listed ≡ name
+listing_named name own listing.Agreements is = sym is
+listing_named name own listing.Gaps is = sym is.0
+listing_named name own listing.Export is = sym is
+
 action_named : (top : List Row) (name : Text) (own : List Row) (action : Action) → IsAction top name own action → action_name action ≡ name
 action_named top name own (InMemory task) is = task_named name own task is.0
 action_named top name own (InFile db task) is = task_named name own task is.0
+action_named top name own (Listed db listed) is = listing_named name own listed is.0
 action_named top name own (Migrate db) is = sym is.0
 action_named top name own (Send socket) is = sym is.0
 action_named top name own (Convert conversion) is = sym is.0
@@ -71,6 +79,10 @@ named name met program rest asked is =
     read_as (matches_of onixdesk (program ∷ name ∷ rest)) name (subcommand_of onixdesk (program ∷ name ∷ rest)) asked
     (entered_as name (stop_after rules names (name ∷ rest)) met (met_first name rest met)) is
 
+agreements : IsMet (codes "agreements")
+unfolding clap_on_literals
+agreements = (refl, λ more. refl)
+
 batch : IsMet (codes "batch")
 unfolding clap_on_literals
 batch = (refl, λ more. refl)
@@ -82,6 +94,10 @@ convert = (refl, λ more. refl)
 deliver : IsMet (codes "deliver")
 unfolding clap_on_literals
 deliver = (refl, λ more. refl)
+
+export : IsMet (codes "export")
+unfolding clap_on_literals
+export = (refl, λ more. refl)
 
 gaps : IsMet (codes "gaps")
 unfolding clap_on_literals
@@ -115,18 +131,26 @@ from_migrate = migrate_command ∷ from_rules
 abbrev from_gaps : List Shape
 from_gaps = gaps_command ∷ from_migrate
 
+abbrev from_export : List Shape
+from_export = export_command ∷ from_gaps
+
 abbrev from_deliver : List Shape
-from_deliver = deliver_command ∷ from_gaps
+from_deliver = deliver_command ∷ from_export
 
 abbrev from_convert : List Shape
 from_convert = convert_command ∷ from_deliver
 
+abbrev from_batch : List Shape
+from_batch = batch_command ∷ from_convert
+
 pub names_are_of_commands : NamesAreOfCommands
 names_are_of_commands =
-    more batch_command from_convert (named (codes "batch") batch)
+    more agreements_command from_batch (named (codes "agreements") agreements)
+    (more batch_command from_convert (named (codes "batch") batch)
     (more convert_command from_deliver (named (codes "convert") convert)
-    (more deliver_command from_gaps (named (codes "deliver") deliver)
+    (more deliver_command from_export (named (codes "deliver") deliver)
+    (more export_command from_gaps (named (codes "export") export)
     (more gaps_command from_migrate (named (codes "gaps") gaps)
     (more migrate_command from_rules (named (codes "migrate") migrate)
     (more rules_command (serve_command ∷ []) (named (codes "rules") rules_met)
-    (more serve_command [] (named (codes "serve") serve) (All-nil IsNamed)))))))
+    (more serve_command [] (named (codes "serve") serve) (All-nil IsNamed)))))))))

@@ -7,9 +7,11 @@ use Rattle.command_line.specs.CommandLine.{onixdesk}
 use Rattle.command_line.specs.ConvertWords.{AsksFor, asked_view}
 use Rattle.command_line.specs.Words.{has_flag, number_in, text_in, texts_in}
 use Rattle.command_line.specs.declared.invocation.Action.{Action}
-use Rattle.command_line.specs.declared.invocation.Action.TheVariants.{CheckRules, Convert, InMemory, InFile, Migrate, Send}
+use Rattle.command_line.specs.declared.invocation.Action.TheVariants.{CheckRules, Convert, InMemory, InFile, Listed, Migrate, Send}
 use Rattle.command_line.specs.declared.invocation.Database.{Database}
 use Rattle.command_line.specs.declared.invocation.Invocation.{Invocation}
+use Rattle.command_line.specs.declared.invocation.Listing.{Listing}
+use Rattle.command_line.specs.declared.invocation.Listing.TheVariants as listing
 use Rattle.command_line.specs.declared.invocation.Reading.{Reading}
 use Rattle.command_line.specs.declared.invocation.Reading.TheVariants as reading
 use Rattle.command_line.specs.declared.invocation.Task.{Task}
@@ -31,6 +33,13 @@ IsTask name own (task.Serve port requests batches) =
     × (requests ≡ unwrap_or (number_in own (codes "requests")) 18446744073709551615)
     × (option_map (λ socket. socket.now) batches ≡ text_in own (codes "batches"))
 
+-- what the command `name` lists of a desk in a file
+abbrev pub IsListing : Text → List Row → Listing → Type 0
+IsListing name own listing.Agreements = name ≡ codes "agreements"
+IsListing name own listing.Gaps =
+    (name ≡ codes "gaps") × (text_in own (codes "name") ≡ None)
+IsListing name own listing.Export = name ≡ codes "export"
+
 -- the database file is that of `--db`, which `--existing` wants to be there; without `--db` there
 -- is none
 abbrev pub IsDatabase : List Row → Option Database → Type 0
@@ -45,6 +54,9 @@ IsAction top name own (InMemory task) =
     IsTask name own task × IsDatabase top None × (text_in top (codes "batches") ≡ None)
 IsAction top name own (InFile db task) =
     IsTask name own task × IsDatabase top (Some db) × (text_in top (codes "batches") ≡ None)
+IsAction top name own (Listed db listed) =
+    IsListing name own listed × IsDatabase top (Some db)
+    × (text_in top (codes "batches") ≡ None)
 IsAction top name own (Migrate db) =
     (name ≡ codes "migrate") × IsDatabase top (Some db) × (text_in top (codes "batches") ≡ None)
 IsAction top name own (Send socket) =
@@ -79,6 +91,8 @@ IsInvocation top name own asked =
 abbrev pub ReadsAs : List Row → Text → List Row → Reading → Type 0
 ReadsAs top name own (reading.Run asked) = IsInvocation top name own asked
 ReadsAs top name own reading.NoDatabase = (name ≡ codes "migrate") × IsDatabase top None
+ReadsAs top name own reading.NoDesk =
+    (listed : Listing) × IsListing name own listed × IsDatabase top None
 ReadsAs top name own reading.NoBatch =
     (bytes_eq name (codes "batch") ≡ false) × (is_some (text_in top (codes "batches")) ≡ true)
 ReadsAs top name own _ = ⊤

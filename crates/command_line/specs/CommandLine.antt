@@ -33,6 +33,10 @@ abbrev pub one_operand : Text → Rule
 one_operand name =
     record (new_rule name) { action = Some Set; value_names = 1; required = true }
 
+-- one operand, which may be left out
+abbrev pub free_operand : Text → Rule
+free_operand name = record (new_rule name) { action = Some Set; value_names = 1 }
+
 -- `least` operands or more
 abbrev pub some_operands : Text → ℕ → Rule
 some_operands name least = record (new_rule name) {
@@ -54,6 +58,10 @@ tied r = record r { is_free = false }
 -- the command of that name with these options and operands
 abbrev pub command_of : Text → List Rule → Shape
 command_of name words = record (new_shape name) { rules = words }
+
+-- agreements
+abbrev pub agreements_command : Shape
+agreements_command = command_of (codes "agreements") []
 
 -- batch
 abbrev pub batch_command : Shape
@@ -79,9 +87,13 @@ convert_command = command_of (codes "convert") (
 abbrev pub deliver_command : Shape
 deliver_command = command_of (codes "deliver") (needed (some_operands (codes "file") 1) ∷ [])
 
--- gaps NAME
+-- export
+abbrev pub export_command : Shape
+export_command = command_of (codes "export") []
+
+-- gaps [NAME]
 abbrev pub gaps_command : Shape
-gaps_command = command_of (codes "gaps") (one_operand (codes "name") ∷ [])
+gaps_command = command_of (codes "gaps") (free_operand (codes "name") ∷ [])
 
 -- migrate
 abbrev pub migrate_command : Shape
@@ -123,11 +135,11 @@ program_options =
     ∷ tied (text_option (codes "batches"))
     ∷ []
 
--- batch, convert, deliver, gaps, migrate, rules, serve
+-- agreements, batch, convert, deliver, export, gaps, migrate, rules, serve
 abbrev pub program_commands : List Shape
 program_commands =
-    batch_command ∷ convert_command ∷ deliver_command ∷ gaps_command ∷ migrate_command
-    ∷ rules_command ∷ serve_command ∷ []
+    agreements_command ∷ batch_command ∷ convert_command ∷ deliver_command ∷ export_command
+    ∷ gaps_command ∷ migrate_command ∷ rules_command ∷ serve_command ∷ []
 
 -- onixdesk [OPTIONS] COMMAND
 abbrev pub onixdesk : App

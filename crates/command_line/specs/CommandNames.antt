@@ -4,8 +4,10 @@ use Rattle.clap.specs.Walk.{Text}
 use Rattle.command_line.specs.Asked.{Reads}
 use Rattle.command_line.specs.CommandLine.{program_commands}
 use Rattle.command_line.specs.declared.invocation.Action.{Action}
-use Rattle.command_line.specs.declared.invocation.Action.TheVariants.{CheckRules, Convert, InMemory, InFile, Migrate, Send}
+use Rattle.command_line.specs.declared.invocation.Action.TheVariants.{CheckRules, Convert, InMemory, InFile, Listed, Migrate, Send}
 use Rattle.command_line.specs.declared.invocation.Invocation.{Invocation}
+use Rattle.command_line.specs.declared.invocation.Listing.{Listing}
+use Rattle.command_line.specs.declared.invocation.Listing.TheVariants as listing
 use Rattle.command_line.specs.declared.invocation.Reading.TheVariants as reading
 use Rattle.command_line.specs.declared.invocation.Task.{Task}
 use Rattle.command_line.specs.declared.invocation.Task.TheVariants as task
@@ -17,10 +19,17 @@ task_name (task.Deliver files) = codes "deliver"
 task_name (task.Gaps series) = codes "gaps"
 task_name (task.Serve port requests batches) = codes "serve"
 
+-- the name of the command that lists that
+abbrev pub listing_name : Listing → Text
+listing_name listing.Agreements = codes "agreements"
+listing_name listing.Gaps = codes "gaps"
+listing_name listing.Export = codes "export"
+
 -- the name of the command whose action it is
 abbrev pub action_name : Action → Text
 action_name (InMemory task) = task_name task
 action_name (InFile db task) = task_name task
+action_name (Listed db listed) = listing_name listed
 action_name (Migrate db) = codes "migrate"
 action_name (Send socket) = codes "batch"
 action_name (Convert conversion) = codes "convert"

@@ -2,7 +2,7 @@
 
 ghost use Rattle.std.specs.Prelude.{◌∷◌, ℕ, [], IfOk, codes};
 ghost use Rattle.clap.specs.Built.{AddsArg, AddsSubcommand};
-ghost use Rattle.command_line.specs.CommandLine.{AddsMade, IsCommand, IsProgram, IsWord, batch_command, convert_command, deliver_command, flag_option, gaps_command, migrate_command, needed, number_option, one_operand, onixdesk, program_of, program_options, rules_command, serve_command, short_option, some_operands, text_option, tied};
+ghost use Rattle.command_line.specs.CommandLine.{AddsMade, IsCommand, IsProgram, IsWord, agreements_command, batch_command, convert_command, deliver_command, export_command, flag_option, gaps_command, migrate_command, needed, number_option, one_operand, onixdesk, program_of, program_options, rules_command, serve_command, short_option, some_operands, text_option, tied};
 
 use clap::builder::ValueParser;
 use clap::{Arg, ArgAction, Command};
@@ -46,6 +46,16 @@ fn flag_option<'a>(alloc: Global, name: &'a str, help: &'a str) -> Arg<'a>
         .help(help)
 }
 
+fn agreements<'a>(alloc: Global) -> Command<'a>
+    ensures { IsCommand agreements_command result }
+{
+    Command::new(alloc, "agreements")
+        .about("Write the agreements of all series")
+        .long_about(
+            "Writes the agreements of all series, in the order of the bytes of their names, each as the record Agree that a batch takes. The database file is named before the command: onixdesk --db FILE agreements. The desk is only asked.",
+        )
+}
+
 fn batch<'a>(alloc: Global) -> Command<'a>
     ensures { IsCommand batch_command result }
 {
@@ -78,18 +88,27 @@ fn deliver<'a>(alloc: Global) -> Result<Command<'a>, AllocError>
         .arg(messages(alloc))
 }
 
+fn export<'a>(alloc: Global) -> Command<'a>
+    ensures { IsCommand export_command result }
+{
+    Command::new(alloc, "export")
+        .about("Write the desk as a batch that makes it again")
+        .long_about(
+            "Writes the desk as the batch that makes it again: for each series, in the order of the bytes of their names, its agreement, and then for each number in order the message or the waiver that stands there. A new desk that is given these requests answers every further request as this one does. The database file is named before the command: onixdesk --db FILE export. The desk is only asked. A message of more than 4,194,304 bytes is a fault, since no batch takes it.",
+        )
+}
+
 fn gaps<'a>(alloc: Global) -> Result<Command<'a>, AllocError>
     ensures { IfOk result (IsCommand gaps_command) }
 {
     let name = Arg::new(alloc, "name")
         .value_name("NAME")
-        .required(true)
         .action(ArgAction::Set)
-        .help("The name of the series");
+        .help("The name of the series; without it all series of the database file");
     Command::new(alloc, "gaps")
-        .about("Write which message numbers of a series are missing")
+        .about("Write which message numbers of a series, or of all, are missing")
         .long_about(
-            "Writes the first and the next number of a series, the greatest that has come, how many are held, and the ranges of numbers that are missing. A series that is not agreed, and a name that cannot be one, are answered refused,unknown-series with status 1.",
+            "Writes the first and the next number of a series, the greatest that has come, how many are held, and the ranges of numbers that are missing. A series that is not agreed, and a name that cannot be one, are answered refused,unknown-series with status 1. Without a NAME this is written of each series of the database file, in the order of the bytes of their names: onixdesk --db FILE gaps.",
         )
         .arg(name)
 }
@@ -393,9 +412,11 @@ fn with_options<'a>(alloc: Global) -> Result<Command<'a>, AllocError>
 pub fn program<'a>(alloc: Global) -> Result<Command<'a>, AllocError>
     ensures { IfOk result (IsProgram onixdesk) }
 {
-    let program = with_command(with_options(alloc)?, Ok(batch(alloc)))?;
+    let program = with_command(with_options(alloc)?, Ok(agreements(alloc)))?;
+    let program = with_command(program, Ok(batch(alloc)))?;
     let program = with_command(program, convert(alloc))?;
     let program = with_command(program, deliver(alloc))?;
+    let program = with_command(program, Ok(export(alloc)))?;
     let program = with_command(program, gaps(alloc))?;
     let program = with_command(program, Ok(migrate(alloc)))?;
     let program = with_command(program, rules_check(alloc))?;

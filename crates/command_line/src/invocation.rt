@@ -3,7 +3,7 @@
 ghost use Rattle.std.specs.Prelude.{◌≡◌, ◌∷◌, ℕ, List, None, Option, Some, IfOk, IfSome, codes, map, unwrap_or};
 ghost use Rattle.clap.specs.Simple.{subcommand_rows_of};
 ghost use Rattle.clap.specs.Walk.{Row, Text};
-ghost use Rattle.command_line.specs.Asked.{IsDatabase, IsTask, Reads, ReadsAs, ReadsWords};
+ghost use Rattle.command_line.specs.Asked.{IsDatabase, IsListing, IsTask, Reads, ReadsAs, ReadsWords};
 ghost use Rattle.command_line.specs.Words.{number_in, text_in, words_in};
 
 use crate::commands::program;
@@ -32,6 +32,17 @@ pub enum Task<'a> {
     },
 }
 
+/// What is listed of the desk in a file, which is only asked.
+#[derive(Clone, Copy)]
+pub enum Listing {
+    /// `agreements`: the agreements of all series.
+    Agreements,
+    /// `gaps` without a NAME: which numbers each series lacks.
+    Gaps,
+    /// `export`: the requests that make the desk again.
+    Export,
+}
+
 /// The database file of `--db`, and whether it has to be there, by `--existing`.
 #[derive(Clone, Copy)]
 pub struct Database<'a> {
@@ -46,6 +57,8 @@ pub enum Action<'a> {
     InMemory(Task<'a>),
     /// A command over the desk in this database file.
     InFile { db: Database<'a>, task: Task<'a> },
+    /// What the desk in this database file holds is listed.
+    Listed { db: Database<'a>, listing: Listing },
     /// `migrate`: the desk in this database file is brought to version 2.
     Migrate { db: Database<'a> },
     /// `--batches SOCKET batch`: the batch is sent to the desk that is open there.
@@ -73,6 +86,8 @@ pub enum Reading<'a> {
     Wrong(String),
     /// `migrate` without a database file.
     NoDatabase,
+    /// A command that lists what the desk in a file holds, without a database file.
+    NoDesk,
     /// `--batches` before another command than `batch`.
     NoBatch,
     /// Memory ran out.
@@ -169,8 +184,45 @@ fn database_of<'a>(matches: &ArgMatches<'a>) -> Option<Database<'a>>
     Some(Database { name, is_existing })
 }
 
-// What a command over a desk asks for.
-fn desk_reading<'a>(
+// What `gaps` without a NAME lists.
+fn gaps_listing(words: &ArgMatches<'_>) -> Option<Listing>
+    ensures { IfSome result (IsListing (codes "gaps") (words_in words.now)) }
+{
+    match text_in(words, "name") {
+        None => Some(Listing::Gaps),
+        Some(_) => None,
+    }
+}
+
+// What the command of that name lists, or none where it lists nothing.
+fn listing_of(name: &str, words: &ArgMatches<'_>) -> Option<Listing>
+    ensures { IfSome result (IsListing name.now (words_in words.now)) }
+{
+    match name {
+        "agreements" => Some(Listing::Agreements),
+        "export" => Some(Listing::Export),
+        "gaps" => gaps_listing(words),
+        _ => None,
+    }
+}
+
+// What a command asks for that lists what a desk holds.
+fn listing_reading<'a>(matches: &ArgMatches<'a>, listing: Listing) -> Reading<'a>
+    ensures { (name : Text) (own : List Row) → IsListing name own listing
+        → text_in (words_in matches.now) (codes "batches") ≡ None
+        → ReadsAs (words_in matches.now) name own result }
+{
+    match database_of(matches) {
+        Some(db) => Reading::Run(Invocation {
+            rules: text_in(matches, "rules"),
+            action: Action::Listed { db, listing },
+        }),
+        None => Reading::NoDesk,
+    }
+}
+
+// What a command asks for that has a task over a desk.
+fn task_reading<'a>(
     alloc: Global,
     matches: &ArgMatches<'a>,
     name: &str,
@@ -193,6 +245,22 @@ fn desk_reading<'a>(
             rules: text_in(matches, "rules"),
             action: Action::InMemory(task),
         }),
+    }
+}
+
+// What a command over a desk asks for.
+fn desk_reading<'a>(
+    alloc: Global,
+    matches: &ArgMatches<'a>,
+    name: &str,
+    words: &ArgMatches<'a>,
+) -> Reading<'a>
+    ensures { text_in (words_in matches.now) (codes "batches") ≡ None
+        → ReadsAs (words_in matches.now) name.now (words_in words.now) result }
+{
+    match listing_of(name, words) {
+        Some(listing) => listing_reading(matches, listing),
+        None => task_reading(alloc, matches, name, words),
     }
 }
 

@@ -83,7 +83,7 @@ closed_alone g c files copied M keeps = λ d may.
     let same : d ≡ (file_state c).committed.trees = ∥∥₁_elim (copied.left may.0 may.1).both (Trees-set _ _) (may.2.1 (file_state c).committed.trees) in
     rows_come d M (subst (λ x. AreRowsOf x M) (sym same) ((file_state c).committed, refl, (keeps copied.was_open).2))
 
-closed_comes : {D : Type 0} (g : Ghosts D) (c : Held (FileStore D g)) (files : Files D)
+pub closed_comes : {D : Type 0} (g : Ghosts D) (c : Held (FileStore D g)) (files : Files D)
     → (AreClean g files.log files.db → IsCopied c files × ((L : List Request) → KeepsRequests (file_state c) L → HoldRowsOf (image_of g files) L))
     → ComesOf (seen_in (file_state c)) (seen_files g files)
 closed_comes g c files closes = record {
@@ -93,7 +93,7 @@ closed_comes g c files closes = record {
   holds = λ sound d held. let copied = (closes sound).0 in subst (λ x. ∥ HoldsDatabase (image_of g files) x ∥₁) (held copied.was_open) copied.seen.both;
 }
 
-unclosed_comes : {D : Type 0} (g : Ghosts D) (c : Held (FileStore D g)) (store : FileStore D g) → IsClosed c store → ComesOf (seen_in (file_state c)) (seen_store store)
+pub unclosed_comes : {D : Type 0} (g : Ghosts D) (c : Held (FileStore D g)) (store : FileStore D g) → IsClosed c store → ComesOf (seen_in (file_state c)) (seen_store store)
 unclosed_comes g c store closes = record {
   premise = λ sound. omega (arith, closes.quiet.clean, sound);
   stands = λ sound M keeps. tt;

@@ -1,5 +1,6 @@
 pub mod MigrationEnd
 pub mod FileViews
 pub mod ConvertEnds
-pub mod FileEnds
 pub mod Closings
+pub mod ListingEnds
+pub mod FileEnds

@@ -8,7 +8,7 @@ ghost use Rattle.database_files.specs.Databases.{AreSettled};
 ghost use Rattle.desk_program.specs.FileEnds.{ActionEnds, AreRulesOf, FileEnds, InvocationEnds, IsUnruled, NewDeskEnds, RunEnds};
 ghost use Rattle.desk_program.specs.MigrationEnd.{MigrateEnds};
 
-use crate::{help, migrate};
+use crate::{help, listing, migrate};
 use command_line::invocation::{self, Action, Database, Invocation, Reading, Task};
 use database_files::databases::{Databases, open_database};
 use database_files::files::{FilesLeft, fault_of};
@@ -54,9 +54,9 @@ fn run_in_memory<F: NamedFiles, R: Read, W: Write, E: Write>(
     status
 }
 
-// Writes the line of files that could not be closed, unless the command ended by a fault, which has
-// its line.
-fn report_unclosed<E: Write>(status: u8, fault: &Fault, errors: &mut E) -> u8
+/// Writes the line of files that could not be closed, unless the command ended by a fault, which has
+/// its line.
+pub(crate) fn report_unclosed<E: Write>(status: u8, fault: &Fault, errors: &mut E) -> u8
     ensures { result ≡ 3 }
 {
     if status == 3 {
@@ -199,6 +199,9 @@ fn run_action<O: Databases, K: OpenDesks, F: NamedFiles, R: Read, W: Write, E: W
         Action::InFile { db, task } => run_in_file(
             rt, db, databases, precedence, task, files, input, output, errors,
         ),
+        Action::Listed { db, listing } => {
+            listing::list_file(rt, db, databases, *listing, output, errors)
+        }
         Action::Migrate { db } => migrate_file(rt, db, databases, output, errors),
         Action::Send { socket } => {
             let status = sending::run(rt, desks, socket, input, output, errors);
@@ -318,6 +321,11 @@ pub fn run<O: Databases, K: OpenDesks, F: NamedFiles, R: Read, W: Write, E: Writ
         }
         Reading::NoDatabase => {
             let status = help::print_wrong("onixdesk: migrate needs --db\n", errors);
+            (status, FilesLeft::Untouched(databases))
+        }
+        Reading::NoDesk => {
+            let text = "onixdesk: agreements, export and gaps without a NAME need --db\n";
+            let status = help::print_wrong(text, errors);
             (status, FilesLeft::Untouched(databases))
         }
         Reading::NoBatch => {

@@ -28,6 +28,9 @@ returns-in-Wrong-clause-end g c = (reading.Wrong c.in-Wrong.text, subst (Reads (
 pub returns-in-NoDatabase-clause-end : goal.returns-in-NoDatabase-clause-end
 returns-in-NoDatabase-clause-end g c = (reading.NoDatabase, subst (Reads (words_of c.args.words.now)) c.in-NoDatabase.is c.read.ensures, (c.print_wrong-status-in-NoDatabase.ensures, Appends-nil (g.W.Write.contents c.args.output.now), tt))
 
+pub returns-in-NoDesk-clause-end : goal.returns-in-NoDesk-clause-end
+returns-in-NoDesk-clause-end g c = (reading.NoDesk, subst (Reads (words_of c.args.words.now)) c.in-NoDesk.is c.read.ensures, (c.print_wrong-status-in-NoDesk.ensures, Appends-nil (g.W.Write.contents c.args.output.now), tt))
+
 pub returns-in-NoBatch-clause-end : goal.returns-in-NoBatch-clause-end
 returns-in-NoBatch-clause-end g c = (reading.NoBatch, subst (Reads (words_of c.args.words.now)) c.in-NoBatch.is c.read.ensures, (c.print_wrong-status-in-NoBatch.ensures, Appends-nil (g.W.Write.contents c.args.output.now), tt))
 

@@ -1,0 +1,12 @@
+use Rattle.std.proofs.KnownBytes.{Appends-nil}
+use Rattle.std.specs.Io.KnownBytes.{Appends}
+use Rattle.desk_program.proofs.ListingLemmas.{listing_unopened}
+use Rattle.desk_program.proofs.listing.list_file.Goals as goal
+
+pub returns-in-Ok-clause-end : goal.returns-in-Ok-clause-end
+returns-in-Ok-clause-end g c = c.list_over_files.ensures.end (g.O.Databases.held c.args.databases c.args.db.now.name.now) c.in-Ok.ensures.settled
+
+pub returns-in-Err-clause-end : goal.returns-in-Err-clause-end
+returns-in-Err-clause-end g c =
+    listing_unopened c.args.listing (Appends (g.W.Write.contents c.args.output.now) (g.W.Write.contents c.args.output.now)) g.O.File.Disk (g.O.Databases.held c.args.databases c.args.db.now.name.now) c.report.result
+    c.in-Err.none c.in-Err.ensures.none c.report.ensures (Appends-nil (g.W.Write.contents c.args.output.now))

@@ -1,0 +1,26 @@
+use Rattle.std.proofs.Common.{subst}
+use Rattle.std.proofs.KnownBytes.{Appends-nil}
+use Rattle.std.specs.Io.KnownBytes.{Appends}
+use Rattle.sqlite.specs.Files.{file_state}
+use Rattle.desk_store.specs.Openings.{MakesNothing}
+use Rattle.desk_store.specs.Seen.{seen_in}
+use Rattle.desk_program.proofs.ClosingLemmas.{opened_comes, spares_settled}
+use Rattle.desk_program.proofs.EndLemmas.{ComesTo}
+use Rattle.desk_program.proofs.ListingLemmas.{listing_closed}
+use Rattle.desk_program.specs.FileViews.{seen_image}
+use Rattle.desk_program.proofs.listing.list_over_files.Goals as goal
+
+pub returns-in-Ok-clause-end : goal.returns-in-Ok-clause-end
+returns-in-Ok-clause-end g c = λ image settled.
+    let opened = c.in-Ok.ensures in
+    let state = file_state c.in-Ok.desk.tables.connection in
+    let written = Appends (g.W.Write.contents c.args.output.now) (g.W.Write.contents c.list_and_close.new.output) in
+    listing_closed c.args.listing written g.D.Disk image (seen_in state) c.list_and_close.result.1 c.list_and_close.result.0
+    (subst (λ i. ComesTo (seen_image i) (seen_in state)) settled.0 (opened_comes _ state opened.stands opened.alone opened.taken)) c.list_and_close.ensures.end
+
+pub returns-in-Err-clause-end : goal.returns-in-Err-clause-end
+returns-in-Err-clause-end g c = λ image settled. (
+  c.report-status.ensures,
+  Appends-nil (g.W.Write.contents c.args.output.now),
+  λ clean. spares_settled g.D.Disk MakesNothing image c.args.database c.in-Err.left settled (c.in-Err.ensures.left clean),
+)

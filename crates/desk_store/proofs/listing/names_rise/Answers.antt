@@ -27,10 +27,10 @@ pub loop-k-preserved : goal.loop-k-preserved
 loop-k-preserved c = record {
   rise = λ j up.
       elim (cases_lt (j + 1) c.loop-k.k) [
-        inl earlier ↦ c.loop-k.invariant.rise j earlier
-      | inr to ↦
-          rises_at c.args.rows.now j c.loop-k.k c.index-rows-k.result c.index-rows-k-in-loop-k.result up to c.loop-k-test.true
-          (c.is_before.ensures.0 c.if-not-is_before.false)
+        | inl earlier ↦ c.loop-k.invariant.rise j earlier
+        | inr to ↦
+            rises_at c.args.rows.now j c.loop-k.k c.index-rows-k.result c.index-rows-k-in-loop-k.result up to c.loop-k-test.true
+            (c.is_before.ensures.0 c.if-not-is_before.false)
       ];
 }
 

@@ -43,8 +43,8 @@ fn call_of<'a>(rules: &'a Precedence, text: &'a str) -> Call<'a> {
     }
 }
 
-// What a call is made of.
-enum Opened<S: Alter> {
+/// What a call is made of.
+pub enum Opened<S: Alter> {
     Desk(DeskStore<S>),
     Connection(Connection<S>),
 }
@@ -107,9 +107,9 @@ fn act<S: Alter + Drop>(
     }
 }
 
-// The same of files. It stands alone: a function that calls what is generic over a store with that of
-// files is dear to prove.
-fn act_on_files<D: Disk + Drop>(
+/// Makes a call of files that are opened for it. It stands alone: a function that calls what is generic over
+/// a store with that of files is dear to prove.
+pub fn act_on_files<D: Disk + Drop>(
     alloc: Global,
     opened: Opened<FileStore<D>>,
     call: Call<'_>,

@@ -2,9 +2,10 @@
 //! uses the library: opened, asked and closed, and opened again. The program itself opens files that it is
 //! handed, under options of its own.
 
-use crate::asking::{ask_store, expect_asked};
+use crate::asking::expect_asked;
 use crate::cases::expect;
 use crate::disks::failing_files;
+use crate::files::{Call, Opened, act_on_files};
 use desk_store::{DeskStore, MigrateAnswer, migrate, migrate_files};
 use price_rules::precedence::Precedence;
 use sqlite::{FileStore, Files, Unknown};
@@ -15,21 +16,32 @@ use std::process::Abort;
 // In the folder that the test is run in.
 const PATH: &str = "shop.db";
 
+fn close<D: Disk + Drop>(stop: &impl Abort, opened: Opened<FileStore<D>>) -> Files<D> {
+    match opened {
+        Opened::Desk(desk) => match desk.close_files() {
+            Ok(files) => files,
+            Err(_) => stop.panic("a desk that does not close"),
+        },
+        Opened::Connection(connection) => {
+            drop(connection);
+            stop.panic("no desk")
+        }
+    }
+}
+
 fn ask_and_close<D: Disk + Drop>(
     alloc: Global,
     stop: &impl Abort,
-    mut desk: DeskStore<FileStore<D>>,
+    desk: DeskStore<FileStore<D>>,
     request: &str,
     answers: &str,
 ) -> Files<D> {
     let rules = Precedence::none(alloc);
     let mut output = Vec::new(alloc);
-    let ended = ask_store(alloc, &mut desk, &rules, request, &mut output);
+    let call = Call::Ask(&rules, request);
+    let (opened, ended) = act_on_files(alloc, Opened::Desk(desk), call, &mut output);
     expect_asked(stop, ended, output.as_slice(), answers, request);
-    match desk.close_files() {
-        Ok(files) => files,
-        Err(_) => stop.panic("a desk that does not close"),
-    }
+    close(stop, opened)
 }
 
 fn ask<S: Start>(rt: &HostRuntime, stop: &impl Abort, start: S, request: &str, answers: &str) {

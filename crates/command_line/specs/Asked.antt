@@ -19,54 +19,35 @@ use Rattle.command_line.specs.declared.invocation.Task.TheVariants as task
 
 -- ---- what a command asks for
 
--- the task is that of the command `name` over a desk. Own: its options and operands
-abbrev pub IsTask : Text → List Row → Task → Type 0
-IsTask name own task.Batch = name ≡ codes "batch"
-IsTask name own (task.Deliver files) =
-    (name ≡ codes "deliver")
-    × (texts_in own (codes "file") ≡ Some (map (λ file. file.now) files.items))
-IsTask name own (task.Gaps series) =
-    (name ≡ codes "gaps") × (text_in own (codes "name") ≡ Some series.now)
-IsTask name own (task.Serve port requests batches) =
-    (name ≡ codes "serve")
-    × (number_in own (codes "port") ≡ Some port)
-    × (requests ≡ unwrap_or (number_in own (codes "requests")) 18446744073709551615)
-    × (option_map (λ socket. socket.now) batches ≡ text_in own (codes "batches"))
+-- Own: the options and operands of the command `name`
+module _ (name : Text) (own : List Row) where
+  -- the task is that of the command over a desk
+  abbrev pub IsTask : Task → Type 0
+  IsTask task.Batch = name ≡ codes "batch"
+  IsTask (task.Deliver files) =
+      (name ≡ codes "deliver")
+      × (texts_in own (codes "file") ≡ Some (map (λ file. file.now) files.items))
+  IsTask (task.Gaps series) =
+      (name ≡ codes "gaps") × (text_in own (codes "name") ≡ Some series.now)
+  IsTask (task.Serve port requests batches) =
+      (name ≡ codes "serve") × (number_in own (codes "port") ≡ Some port)
+      × (requests ≡ unwrap_or (number_in own (codes "requests")) 18446744073709551615)
+      × (option_map (λ socket. socket.now) batches ≡ text_in own (codes "batches"))
 
--- what the command `name` lists of a desk in a file
-abbrev pub IsListing : Text → List Row → Listing → Type 0
-IsListing name own listing.Agreements = name ≡ codes "agreements"
-IsListing name own listing.Gaps =
-    (name ≡ codes "gaps") × (text_in own (codes "name") ≡ None)
-IsListing name own listing.Export = name ≡ codes "export"
+  -- what the command lists of a desk in a file
+  abbrev pub IsListing : Listing → Type 0
+  IsListing listing.Agreements = name ≡ codes "agreements"
+  IsListing listing.Gaps = (name ≡ codes "gaps") × (text_in own (codes "name") ≡ None)
+  IsListing listing.Export = name ≡ codes "export"
 
--- the database file is that of `--db`, which `--existing` wants to be there; without `--db` there
--- is none
-abbrev pub IsDatabase : List Row → Option Database → Type 0
-IsDatabase top None = text_in top (codes "db") ≡ None
-IsDatabase top (Some db) =
-    (text_in top (codes "db") ≡ Some db.name.now)
-    × (db.is_existing ≡ has_flag top (codes "existing"))
-
--- the action is that of the command `name`. Top: the options before it
-abbrev pub IsAction : List Row → Text → List Row → Action → Type 0
-IsAction top name own (InMemory task) =
-    IsTask name own task × IsDatabase top None × (text_in top (codes "batches") ≡ None)
-IsAction top name own (InFile db task) =
-    IsTask name own task × IsDatabase top (Some db) × (text_in top (codes "batches") ≡ None)
-IsAction top name own (Listed db listed) =
-    IsListing name own listed × IsDatabase top (Some db)
-    × (text_in top (codes "batches") ≡ None)
-IsAction top name own (Migrate db) =
-    (name ≡ codes "migrate") × IsDatabase top (Some db) × (text_in top (codes "batches") ≡ None)
-IsAction top name own (Send socket) =
-    (name ≡ codes "batch") × (text_in top (codes "batches") ≡ Some socket.now)
-IsAction top name own (Convert conversion) =
-    (name ≡ codes "convert") × AsksFor own (asked_view conversion)
-    × (text_in top (codes "batches") ≡ None)
-IsAction top name own (CheckRules file) =
-    (name ≡ codes "rules") × (text_in own (codes "file") ≡ Some file.now)
-    × (text_in top (codes "batches") ≡ None)
+module _ (top : List Row) where
+  -- the database file is that of `--db`, which `--existing` wants to be there; without `--db` there
+  -- is none
+  abbrev pub IsDatabase : Option Database → Type 0
+  IsDatabase None = text_in top (codes "db") ≡ None
+  IsDatabase (Some db) =
+      (text_in top (codes "db") ≡ Some db.name.now)
+      × (db.is_existing ≡ has_flag top (codes "existing"))
 
 -- the rules file under which an action is done, where that one is named: a desk that is open has its
 -- own rules, and a conversion and the reading of rules have none
@@ -76,34 +57,53 @@ rules_for (Convert conversion) named = None
 rules_for (CheckRules file) named = None
 rules_for _ named = named
 
--- the invocation is what the command `name` asks for
-abbrev pub IsInvocation : List Row → Text → List Row → Invocation → Type 0
-IsInvocation top name own asked =
-    IsAction top name own asked.action
-    × (option_map (λ file. file.now) asked.rules
-    ≡ rules_for asked.action (text_in top (codes "rules")))
+-- Top: the options before the command `name`
+module _ (top : List Row) (name : Text) (own : List Row) where
+  -- no desk is open
+  abbrev pub NoneIsOpen : Type 0
+  NoneIsOpen = text_in top (codes "batches") ≡ None
 
--- ---- how the words read
+  -- the action is that of the command
+  abbrev pub IsAction : Action → Type 0
+  IsAction (InMemory task) = IsTask name own task × IsDatabase top None × NoneIsOpen
+  IsAction (InFile db task) = IsTask name own task × IsDatabase top (Some db) × NoneIsOpen
+  IsAction (Listed db listed) = IsListing name own listed × IsDatabase top (Some db) × NoneIsOpen
+  IsAction (Migrate db) = (name ≡ codes "migrate") × IsDatabase top (Some db) × NoneIsOpen
+  IsAction (Send socket) =
+      (name ≡ codes "batch") × (text_in top (codes "batches") ≡ Some socket.now)
+  IsAction (Convert conversion) =
+      (name ≡ codes "convert") × AsksFor own (asked_view conversion) × NoneIsOpen
+  IsAction (CheckRules file) =
+      (name ≡ codes "rules") × (text_in own (codes "file") ≡ Some file.now) × NoneIsOpen
 
--- how a command reads, behind those options. Nothing is said of help, of a fault of the command
--- line
--- and of memory that ran out
-abbrev pub ReadsAs : List Row → Text → List Row → Reading → Type 0
-ReadsAs top name own (reading.Run asked) = IsInvocation top name own asked
-ReadsAs top name own reading.NoDatabase = (name ≡ codes "migrate") × IsDatabase top None
-ReadsAs top name own reading.NoDesk =
-    (listed : Listing) × IsListing name own listed × IsDatabase top None
-ReadsAs top name own reading.NoBatch =
-    (bytes_eq name (codes "batch") ≡ false) × (is_some (text_in top (codes "batches")) ≡ true)
-ReadsAs top name own _ = ⊤
+  -- the invocation is what the command asks for
+  abbrev pub IsInvocation : Invocation → Type 0
+  IsInvocation asked =
+      IsAction asked.action
+      × (option_map (λ file. file.now) asked.rules
+      ≡ rules_for asked.action (text_in top (codes "rules")))
 
--- how words read in which that command stands, or none
-abbrev pub ReadsWords : List Row → Option (Text × List Row) → Reading → Type 0
-ReadsWords top (Some command) reading = ReadsAs top command.0 command.1 reading
-ReadsWords top None (reading.Help text) = ⊤
-ReadsWords top None (reading.Wrong text) = ⊤
-ReadsWords top None reading.Memory = ⊤
-ReadsWords top None _ = ⊥
+  -- ---- how the words read
+
+  -- how the command reads. Nothing is said of help, of a fault of the command line and of memory
+  -- that ran out
+  abbrev pub ReadsAs : Reading → Type 0
+  ReadsAs (reading.Run asked) = IsInvocation asked
+  ReadsAs reading.NoDatabase = (name ≡ codes "migrate") × IsDatabase top None
+  ReadsAs reading.NoDesk =
+      (listed : Listing) × IsListing name own listed × IsDatabase top None
+  ReadsAs reading.NoBatch =
+      (bytes_eq name (codes "batch") ≡ false) × (is_some (text_in top (codes "batches")) ≡ true)
+  ReadsAs _ = ⊤
+
+module _ (top : List Row) where
+  -- how words read in which that command stands, or none
+  abbrev pub ReadsWords : Option (Text × List Row) → Reading → Type 0
+  ReadsWords (Some command) reading = ReadsAs top command.0 command.1 reading
+  ReadsWords None (reading.Help text) = ⊤
+  ReadsWords None (reading.Wrong text) = ⊤
+  ReadsWords None reading.Memory = ⊤
+  ReadsWords None _ = ⊥
 
 -- how these words read, of which the first is the program's name
 abbrev pub Reads : List Text → Reading → Type 0

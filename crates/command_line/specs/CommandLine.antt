@@ -1,4 +1,5 @@
 -- The command line of the program: its options, and its commands with the options and operands of each.
+use Prim.Native.String.{String}
 use Rattle.std.specs.Prelude.{◌≡◌, ◌∷◌, ℕ, true, false, List, [], Result, Some, IfOk, IsOkAnd, codes}
 use Rattle.clap.specs.Lexer.{usize_max}
 use Rattle.clap.specs.Simple.{App, Shape, app_of, new_rule, new_shape}
@@ -11,9 +12,13 @@ use Rattle.clap.specs.declared.builder.value_parser.ValueParser.TheVariants.{Uns
 
 -- ---- options and operands
 
+-- one operand, which may be left out
+abbrev pub free_operand : Text → Rule
+free_operand name = record (new_rule name) { action = Some Set; value_names = 1 }
+
 -- the option `--NAME TEXT`
 abbrev pub text_option : Text → Rule
-text_option name = record (new_rule name) { long = Some name; action = Some Set; value_names = 1 }
+text_option name = record (free_operand name) { long = Some name }
 
 -- the option `--NAME N`, a number from `least` to `most`
 abbrev pub number_option : Text → ℕ → ℕ → Rule
@@ -21,8 +26,7 @@ number_option name least most = record (text_option name) { parser = Some (Unsig
 
 -- the option `-X TEXT`, of that letter
 abbrev pub short_option : Text → ℕ → Rule
-short_option name letter =
-    record (new_rule name) { short = Some letter; action = Some Set; value_names = 1 }
+short_option name letter = record (free_operand name) { short = Some letter }
 
 -- the option `--NAME`, without a text
 abbrev pub flag_option : Text → Rule
@@ -30,12 +34,7 @@ flag_option name = record (new_rule name) { long = Some name; action = Some SetT
 
 -- one operand, which has to be there
 abbrev pub one_operand : Text → Rule
-one_operand name =
-    record (new_rule name) { action = Some Set; value_names = 1; required = true }
-
--- one operand, which may be left out
-abbrev pub free_operand : Text → Rule
-free_operand name = record (new_rule name) { action = Some Set; value_names = 1 }
+one_operand name = record (free_operand name) { required = true }
 
 -- `least` operands or more
 abbrev pub some_operands : Text → ℕ → Rule
@@ -56,21 +55,21 @@ tied r = record r { is_free = false }
 -- ---- the commands
 
 -- the command of that name with these options and operands
-abbrev pub command_of : Text → List Rule → Shape
-command_of name words = record (new_shape name) { rules = words }
+abbrev pub command_of : String → List Rule → Shape
+command_of name words = record (new_shape (codes name)) { rules = words }
 
 -- agreements
 abbrev pub agreements_command : Shape
-agreements_command = command_of (codes "agreements") []
+agreements_command = command_of "agreements" []
 
 -- batch
 abbrev pub batch_command : Shape
-batch_command = command_of (codes "batch") []
+batch_command = command_of "batch" []
 
 -- convert [--parts P] [--number N | --number-offset K] [--sender TYPE,VALUE] [--addressee TYPE,VALUE] [--id-type TT]
 -- [--wrong none|few|all] [-o FOLDER] [FILE..]
 abbrev pub convert_command : Shape
-convert_command = command_of (codes "convert") (
+convert_command = command_of "convert" (
     number_option (codes "parts") 1 9999
     ∷ tied (number_option (codes "number") 1 999999999)
     ∷ number_option (codes "number-offset") 0 999999998
@@ -80,37 +79,35 @@ convert_command = command_of (codes "convert") (
     ∷ text_option (codes "wrong")
     ∷ short_option (codes "folder") 111
     ∷ some_operands (codes "file") 0
-    ∷ []
-    )
+    ∷ [])
 
 -- deliver FILE..
 abbrev pub deliver_command : Shape
-deliver_command = command_of (codes "deliver") (needed (some_operands (codes "file") 1) ∷ [])
+deliver_command = command_of "deliver" (needed (some_operands (codes "file") 1) ∷ [])
 
 -- export
 abbrev pub export_command : Shape
-export_command = command_of (codes "export") []
+export_command = command_of "export" []
 
 -- gaps [NAME]
 abbrev pub gaps_command : Shape
-gaps_command = command_of (codes "gaps") (free_operand (codes "name") ∷ [])
+gaps_command = command_of "gaps" (free_operand (codes "name") ∷ [])
 
 -- migrate
 abbrev pub migrate_command : Shape
-migrate_command = command_of (codes "migrate") []
+migrate_command = command_of "migrate" []
 
 -- rules FILE
 abbrev pub rules_command : Shape
-rules_command = command_of (codes "rules") (one_operand (codes "file") ∷ [])
+rules_command = command_of "rules" (one_operand (codes "file") ∷ [])
 
 -- serve --port N [--batches SOCKET] [--requests K]
 abbrev pub serve_command : Shape
-serve_command = command_of (codes "serve") (
+serve_command = command_of "serve" (
     needed (number_option (codes "port") 1 65535)
     ∷ text_option (codes "batches")
     ∷ number_option (codes "requests") 1 1000000
-    ∷ []
-    )
+    ∷ [])
 
 -- ---- the program
 

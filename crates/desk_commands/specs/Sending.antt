@@ -1,48 +1,37 @@
 -- How the command `batch` ends that sends its batch to an open desk, whose answers it writes.
+use Prim.Native.String.{String}
 use Rattle.std.specs.Prelude.{◌≡◌, ◌-◌, ◌++◌, ◌∷◌, ◌||◌, ◌⊎◌, ℕ, Bool, false, List, [], Option, Result, Ok, Err, codes, length, if◌then◌else◌}
 use Rattle.std.specs.List.{list_any}
 use Rattle.std.specs.Str.{bytes_eq}
 use Rattle.csv_records.specs.RecordTexts.{records_of}
 use Rattle.csv_records.specs.Streams.{IsTold}
+use Rattle.desk_texts.specs.Pieces.{is_one_of}
+use Rattle.desk_texts.specs.Records.{Fields, Records}
 use Rattle.desk_texts.specs.Requests.{HasRecords, requests_of}
 use Rattle.program_lines.specs.declared.fault.Fault.{Fault}
 
 -- the names that begin the answer to a request that changes something, and a refusal
-abbrev pub is_name_of_change : List ℕ → Bool
-is_name_of_change name =
-    bytes_eq name (codes "agreed")
-    || bytes_eq name (codes "applied")
-    || bytes_eq name (codes "held")
-    || bytes_eq name (codes "waived")
-    || bytes_eq name (codes "refused")
+abbrev pub change_names : List String
+change_names = "agreed" ∷ "applied" ∷ "held" ∷ "waived" ∷ "refused" ∷ []
 
 -- the names that begin the answer to a question
-abbrev pub is_name_of_report : List ℕ → Bool
-is_name_of_report name =
-    bytes_eq name (codes "price")
-    || bytes_eq name (codes "choice")
-    || bytes_eq name (codes "calendar")
-    || bytes_eq name (codes "gaps")
-    || bytes_eq name (codes "catalogue")
+abbrev pub report_names : List String
+report_names = "price" ∷ "choice" ∷ "calendar" ∷ "gaps" ∷ "catalogue" ∷ []
 
 -- a record begins an answer
-abbrev pub begins_answer : List (List ℕ) → Bool
+abbrev pub begins_answer : Fields → Bool
 begins_answer [] = false
-begins_answer (name ∷ fields) = is_name_of_change name || is_name_of_report name
+begins_answer (name ∷ fields) = is_one_of change_names name || is_one_of report_names name
 
 -- a record begins a refusal
-abbrev pub begins_refusal : List (List ℕ) → Bool
+abbrev pub begins_refusal : Fields → Bool
 begins_refusal [] = false
 begins_refusal (name ∷ fields) = bytes_eq name (codes "refused")
 
 -- how many of so many requests have no answer among these records
-abbrev pub unanswered : ℕ → List (List (List ℕ)) → ℕ
+abbrev pub unanswered : ℕ → Records → ℕ
 unanswered asked [] = asked
 unanswered asked (row ∷ rows) = unanswered (if begins_answer row then asked - 1 else asked) rows
-
--- whether a record among these begins a refusal
-abbrev pub has_refusal : List (List (List ℕ)) → Bool
-has_refusal rows = list_any begins_refusal rows
 
 -- Each request of the batch of a text has an answer among those that came, which were written.
 -- Came: what comes of the desk, where that is known. Written: these bytes were written. Refused: an
@@ -53,7 +42,7 @@ pub record IsAnsweredThere (text : List ℕ) (came : Option (List ℕ)) (written
   pub answers : List ℕ
   pub are_told : IsTold came answers
   pub all_answered : unanswered (length (requests_of text)) (records_of answers) ≡ 0
-  pub refused_is : refused ≡ has_refusal (records_of answers)
+  pub refused_is : refused ≡ list_any begins_refusal (records_of answers)
   pub all_written : written answers
 
 -- what was written is a first part of what comes of the desk
@@ -70,7 +59,7 @@ SendFits text came written (Err f) = WritesCame came written
 abbrev pub TakesAnswers : ℕ → Option (List ℕ) → (List ℕ → Type 0) → Result Bool Fault → Type 0
 TakesAnswers asked came written (Ok refused) =
     (answers : List ℕ) × IsTold came answers × (unanswered asked (records_of answers) ≡ 0)
-    × (refused ≡ has_refusal (records_of answers)) × written answers
+    × (refused ≡ list_any begins_refusal (records_of answers)) × written answers
 TakesAnswers asked came written (Err f) = WritesCame came written
 
 -- how the command can end with this status: of the text of the input, sent as a batch, all is

@@ -28,12 +28,13 @@ ending_line (exchange (Ok status)) = decimal status ++ 10 ∷ []
 ending_line (batch text (Ok refused)) = codes "batch " ++ decimal refused ++ 10 ∷ []
 ending_line _ = codes "fault\n"
 
--- a connection of these steps can end so. Sent: what the client sent, where that is known. Replied:
--- these bytes were sent to it
-abbrev pub EndsAs : Option (List ℕ) → List Step → (List ℕ → Type 0) → Ending → Type 0
-EndsAs sent steps replied (exchange outcome) = Exchanges sent steps replied outcome
-EndsAs sent steps replied (batch text outcome) =
-    IsTold sent text × RunsBatch (λ all. all ≡ steps) replied text outcome
+-- Sent: what the client sent, where that is known. Replied: these bytes were sent to it
+module _ (sent : Option (List ℕ)) (steps : List Step) (replied : List ℕ → Type 0) where
+  -- a connection of these steps can end so
+  abbrev pub EndsAs : Ending → Type 0
+  EndsAs (exchange outcome) = Exchanges sent steps replied outcome
+  EndsAs (batch text outcome) =
+      IsTold sent text × RunsBatch (λ all. all ≡ steps) replied text outcome
 
 -- it was served by that protocol
 abbrev pub IsBy : Protocol → Ending → Type 0

@@ -3,11 +3,13 @@
 
 ghost use Rattle.std.specs.Prelude.{◌≡◌, ◌-◌, ◌||◌, ◌≤◌, if◌then◌else◌, IfOk, OnErr, length};
 ghost use Rattle.std.specs.Io.KnownBytes.{Appends};
+ghost use Rattle.std.specs.List.{list_any};
 ghost use Rattle.csv.specs.Records.{fields_of};
 ghost use Rattle.csv_records.specs.RecordTexts.{records_of};
 ghost use Rattle.csv_records.specs.Streams.{IsTold};
+ghost use Rattle.desk_texts.specs.Pieces.{is_one_of};
 ghost use Rattle.desk_texts.specs.Requests.{HasRecords, requests_of};
-ghost use Rattle.desk_commands.specs.Sending.{SendEnds, SendFits, TakesAnswers, WritesCame, begins_answer, begins_refusal, has_refusal, is_name_of_change, is_name_of_report, unanswered};
+ghost use Rattle.desk_commands.specs.Sending.{SendEnds, SendFits, TakesAnswers, WritesCame, begins_answer, begins_refusal, change_names, report_names, unanswered};
 
 use csv::StringRecord;
 use csv_records::reading::{LIMIT, RecordReader};
@@ -24,14 +26,14 @@ const CHUNK: usize = 4096;
 
 // Whether a name begins the answer to a request that changes something, or a refusal.
 fn is_change(name: &str) -> bool
-    ensures { result ≡ is_name_of_change name.now }
+    ensures { result ≡ is_one_of change_names name.now }
 {
     name == "agreed" || name == "applied" || name == "held" || name == "waived" || name == "refused"
 }
 
 // Whether a name begins the answer to a question.
 fn is_report(name: &str) -> bool
-    ensures { result ≡ is_name_of_report name.now }
+    ensures { result ≡ is_one_of report_names name.now }
 {
     name == "price"
         || name == "choice"
@@ -81,7 +83,7 @@ fn still_refused(refused: bool, from: &StringRecord) -> bool
 // How many of so many requests have no answer in a text, and whether one there is a refusal.
 fn look_over(alloc: Global, text: &str, asked: usize) -> Result<(usize, bool), AllocError>
     ensures { IfOk result (λ p. (p.0 ≡ unanswered asked (records_of text.now))
-        × (p.1 ≡ has_refusal (records_of text.now))) }
+        × (p.1 ≡ list_any begins_refusal (records_of text.now))) }
 {
     let mut reader = RecordReader::of_text(alloc, text);
     let mut record = StringRecord::new(alloc);

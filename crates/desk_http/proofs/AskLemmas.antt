@@ -13,7 +13,8 @@ use Rattle.http_requests.specs.declared.parts.Head.{Head}
 use Rattle.http_requests.specs.declared.refusal.Refusal.{Refusal}
 use Rattle.desk_http.specs.declared.exchange.Wanted.{Wanted}
 use Rattle.desk_http.specs.declared.exchange.Wanted.TheVariants.{Refused}
-use Rattle.desk_http.specs.Asks.{AsksFor, IfDecided, asks_of, most_behind, wanted_by, with_head, without_head}
+use Rattle.desk_http.specs.Asks.{AsksFor, IfDecided, asks_of, most_behind, wanted_by, without_head}
+use Rattle.desk_http.proofs.PathLemmas.{asks_by}
 use Rattle.desk_http.specs.Serves.{AreWanted, TakesWanted}
 use Rattle.http_requests.specs.Head.{HasHead, IsRefused}
 use Rattle.http_requests.specs.Steps.{Gives, IfRefused}
@@ -44,7 +45,7 @@ told (Err fault.Memory) asked P is p = tt
 pub asked_for : (r : Result Request InputFault) (text behind more : List ℕ) (h : RequestHead) → ReadsRequest text h behind → length text ≤ 16384
     → Gives r (asks_of h (behind ++ more)) → IfDecided r (AsksFor (text ++ more))
 asked_for r text behind more h reads fits gives =
-    told r (asks_of h (behind ++ more)) (AsksFor (text ++ more)) gives (with_head (head_of_more text more behind h reads fits))
+    told r (asks_of h (behind ++ more)) (AsksFor (text ++ more)) gives (asks_by (text ++ more) (behind ++ more) h (head_of_more text more behind h reads fits))
 
 -- where there is no head, an input asks for what it is refused with
 pub refused_at_head : (f : InputFault) (known : Option (List ℕ))

@@ -9,7 +9,8 @@ use Rattle.matchit.specs.Seek.{slash, same_text, or_else}
 use Rattle.std.specs.Prelude.{option_map}
 use Rattle.desk_http.specs.declared.routes.Route.{Route}
 use Rattle.desk_http.specs.Keys.{route_at, part_at, route_of_key, key_of, before_slash, from_slash, behind_part, article_tails, series_tails, message_rows, key_at}
-use Rattle.desk_http.specs.Place.{Place, messages, price, choice, calendar, gaps, catalogue, path_text, IsSegment, HasSegment, key_of_place, PlaceAt, IsPathOf, route_of, part_of}
+use Rattle.desk_http.specs.Paths.{IsSegment}
+use Rattle.desk_http.proofs.Places.{Place, messages, price, choice, calendar, gaps, catalogue, path_text, HasSegment, key_of_place, PlaceAt, IsPathOf, route_of, part_of}
 use Rattle.desk_http.proofs.WalkLemmas.{both_sides}
 
 sides : (part rest : List ℕ) → All (λ b. b ≢ 47) part

@@ -4,14 +4,14 @@ use Rattle.serde_json.specs.Data.{Data, array, string}
 use Rattle.serde_json.specs.View.{items_of}
 use Rattle.onix_message.specs.declared.effects.Effect.{Effect}
 use Rattle.series_rules.specs.declared.answers.AgreeAnswer.{AgreeAnswer}
-use Rattle.series_rules.specs.declared.answers.AgreeAnswer.TheVariants as agree
+use Rattle.series_rules.specs.declared.answers.AgreeAnswer.TheVariants.{Agreed, NameTaken, SeriesTaken}
 use Rattle.series_rules.specs.declared.answers.DeliveryAnswer.{DeliveryAnswer}
 use Rattle.series_rules.specs.declared.answers.DeliveryAnswer.TheVariants as delivery
 use Rattle.series_rules.specs.declared.answers.WaiveAnswer.{WaiveAnswer}
 use Rattle.series_rules.specs.declared.answers.WaiveAnswer.TheVariants as waiver
 use Rattle.series_rules.specs.declared.answers.GapReport.{GapReport}
 use Rattle.series_rules.specs.declared.answers.Answer.{Answer}
-use Rattle.series_rules.specs.declared.answers.Answer.TheVariants as answer
+use Rattle.series_rules.specs.declared.answers.Answer.TheVariants.{Agreement, BadRange, Calendar, Catalogue, Choice, Delivery, Gaps, Malformed, Price, UnknownSeries, Waiver}
 use Rattle.desk_http.specs.CatalogueJson.{catalogue}
 use Rattle.desk_http.specs.Json.{Fields, answered, count, count_or_null, list_of, refused}
 use Rattle.desk_http.specs.OfferJson.{calendar, choice, price}
@@ -41,11 +41,12 @@ number_refused reason series n = refused reason (numbered series n [])
 abbrev pub agreed : List ℕ → ℕ → Data
 agreed series first = answered "agreed" (("first", count first) ∷ ("series", string series) ∷ [])
 
--- the answer to an agreement of that name and first number
-abbrev pub agreement : List ℕ → ℕ → AgreeAnswer → Data
-agreement name first agree.Agreed = agreed name first
-agreement name first agree.NameTaken = not_agreed (codes "name-taken") name
-agreement name first (agree.SeriesTaken holder) = not_agreed (codes "series-taken") holder
+module _ (name : List ℕ) (first : ℕ) where
+  -- the answer to an agreement of that name and first number
+  abbrev pub agreement : AgreeAnswer → Data
+  agreement Agreed = agreed name first
+  agreement NameTaken = not_agreed (codes "name-taken") name
+  agreement (SeriesTaken holder) = not_agreed (codes "series-taken") holder
 
 -- a message is applied, with the five counts of its effect
 abbrev pub applied : List ℕ → ℕ → Effect → Data
@@ -73,12 +74,13 @@ delivered (delivery.Held series n next) = held series n next
 abbrev pub waived : List ℕ → ℕ → Data
 waived series n = answered "waived" (numbered series n [])
 
--- the answer to a waiver of that number
-abbrev pub waiver_answer : List ℕ → ℕ → WaiveAnswer → Data
-waiver_answer series n waiver.UnknownSeries = refused (codes "unknown-series") []
-waiver_answer series n (waiver.BeforeFirst first) = before_first series n first
-waiver_answer series n waiver.Had = number_refused (codes "had") series n
-waiver_answer series n waiver.Waived = waived series n
+module _ (series : List ℕ) (n : ℕ) where
+  -- the answer to a waiver of that number
+  abbrev pub waiver_answer : WaiveAnswer → Data
+  waiver_answer waiver.UnknownSeries = refused (codes "unknown-series") []
+  waiver_answer (waiver.BeforeFirst first) = before_first series n first
+  waiver_answer waiver.Had = number_refused (codes "had") series n
+  waiver_answer waiver.Waived = waived series n
 
 -- numbers that have nothing, by the first and the last of them
 abbrev pub missing : ℕ × ℕ → Data
@@ -94,14 +96,14 @@ gaps g = answered "gaps" (
 -- the JSON of an answer: an amount is a text with three decimals, a day a text YYYYMMDD, what is
 -- absent null
 abbrev pub answer_json : Answer → Data
-answer_json (answer.Agreement name first a) = agreement name first a
-answer_json (answer.Delivery a) = delivered a
-answer_json (answer.Waiver series n a) = waiver_answer series n a
-answer_json (answer.Price isbn offers) = price isbn offers
-answer_json (answer.Choice isbn c) = choice isbn c
-answer_json (answer.Calendar isbn offers) = calendar isbn offers
-answer_json answer.BadRange = refused (codes "bad-range") []
-answer_json (answer.Gaps report) = gaps report
-answer_json (answer.Catalogue series m) = catalogue series m
-answer_json answer.UnknownSeries = refused (codes "unknown-series") []
-answer_json (answer.Malformed row) = malformed row
+answer_json (Agreement name first a) = agreement name first a
+answer_json (Delivery a) = delivered a
+answer_json (Waiver series n a) = waiver_answer series n a
+answer_json (Price isbn offers) = price isbn offers
+answer_json (Choice isbn c) = choice isbn c
+answer_json (Calendar isbn offers) = calendar isbn offers
+answer_json BadRange = refused (codes "bad-range") []
+answer_json (Gaps report) = gaps report
+answer_json (Catalogue series m) = catalogue series m
+answer_json UnknownSeries = refused (codes "unknown-series") []
+answer_json (Malformed row) = malformed row

@@ -1,5 +1,5 @@
 -- The JSON of a catalogue, under the names that ONIX has for its parts.
-use Rattle.std.specs.Prelude.{ℕ, ℤ, List, [], ◌∷◌, Option, Some, None, codes, option_map}
+use Rattle.std.specs.Prelude.{ℕ, ℤ, List, [], ◌∷◌, Option, Some, None, option_map}
 use Rattle.serde_json.specs.Data.{Data, array, boolean, null, string}
 use Rattle.serde_json.specs.View.{items_of}
 use Rattle.onix_terms.specs.Amount.{amount_text}

@@ -15,23 +15,24 @@ pub record Reply : Type 0 where
 abbrev pub line_end : List ℕ
 line_end = 13 ∷ 10 ∷ []
 
+-- the statuses of replies, each with its reason phrase
+abbrev pub phrases : List (ℕ × String)
+phrases =
+    (200, "OK") ∷ (202, "Accepted") ∷ (400, "Bad Request") ∷ (404, "Not Found")
+    ∷ (405, "Method Not Allowed") ∷ (409, "Conflict") ∷ (411, "Length Required")
+    ∷ (413, "Content Too Large") ∷ (414, "URI Too Long") ∷ (422, "Unprocessable Content")
+    ∷ (431, "Request Header Fields Too Large") ∷ (501, "Not Implemented")
+    ∷ (503, "Service Unavailable") ∷ []
+
+-- the phrase beside a status, if it is one of these
+abbrev pub phrase_in : List (ℕ × String) → ℕ → List ℕ
+phrase_in [] status = []
+phrase_in ((known, phrase) ∷ more) status =
+    if status == known then codes phrase else phrase_in more status
+
 -- the reason phrase of a status
 abbrev pub phrase_of : ℕ → List ℕ
-phrase_of status =
-    if status == 200 then codes "OK"
-    else if status == 202 then codes "Accepted"
-    else if status == 400 then codes "Bad Request"
-    else if status == 404 then codes "Not Found"
-    else if status == 405 then codes "Method Not Allowed"
-    else if status == 409 then codes "Conflict"
-    else if status == 411 then codes "Length Required"
-    else if status == 413 then codes "Content Too Large"
-    else if status == 414 then codes "URI Too Long"
-    else if status == 422 then codes "Unprocessable Content"
-    else if status == 431 then codes "Request Header Fields Too Large"
-    else if status == 501 then codes "Not Implemented"
-    else if status == 503 then codes "Service Unavailable"
-    else []
+phrase_of status = phrase_in phrases status
 
 -- the Allow line, where a reply has one
 abbrev pub allow_line : Option (List ℕ) → List ℕ

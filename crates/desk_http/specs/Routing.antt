@@ -1,5 +1,5 @@
 -- The route that a head asks for.
-use Rattle.std.specs.Prelude.{ℕ, ◌==◌, List, nat_lt, length, bytes_eq, if◌then◌else◌, Result, Ok, Err, codes}
+use Rattle.std.specs.Prelude.{ℕ, ◌==◌, List, nat_lt, length, bytes_eq, if◌then◌else◌, Option, Result, Ok, Err, codes}
 use Rattle.std.specs.List.{after_first, before_first}
 use Rattle.httparse.specs.Grammar.{RequestHead}
 use Rattle.http_requests.specs.declared.refusal.Refusal.{Refusal}
@@ -36,13 +36,17 @@ route_by name r =
     if bytes_eq name (method_name (method_of r)) then Ok r
     else Err (refusal.MethodNotAllowed (method_of r))
 
+-- the route that a head asks for, whose path has this route, or none
+abbrev pub route_taken : Option Route → RequestHead → Result Route Refusal
+route_taken found h =
+    if nat_lt 0 (length (field_values (codes "transfer-encoding") h))
+    then Err refusal.TransferEncoding
+    else or_refuse refusal.NotFound found >>= route_by h.method
+
 -- the route of a path that is asked by the method of that name
 abbrev pub route_found : List ℕ → List ℕ → Result Route Refusal
 route_found path name = or_refuse refusal.NotFound (route_at path) >>= route_by name
 
 -- the route that a head asks for
 unfoldable pub route_asked : RequestHead → Result Route Refusal
-route_asked h =
-    if nat_lt 0 (length (field_values (codes "transfer-encoding") h))
-    then Err refusal.TransferEncoding
-    else route_found (path_of h.target) h.method
+route_asked h = route_taken (route_at (path_of h.target)) h

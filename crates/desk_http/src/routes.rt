@@ -3,7 +3,7 @@
 ghost use Rattle.std.specs.Prelude.{◌≡◌, ◌<◌, ◌==◌, [], ℕ, List, Some, OnOk};
 ghost use Rattle.std.specs.List.{after_first, before_first};
 ghost use Rattle.desk_http.specs.Keys.{part_at, route_at, segment_behind};
-ghost use Rattle.desk_http.specs.Place.{HasSegment, IsPathOf, Place, part_of, path_text, route_of};
+ghost use Rattle.desk_http.specs.Paths.{IsPathOf};
 ghost use Rattle.desk_http.specs.Table.{table, with_route};
 
 use matchit::{InsertError, Router};
@@ -100,12 +100,12 @@ pub fn part(route: Route, path: &str) -> &str
     }
 }
 
-/// Exactly the paths of the desk's places have a route, each its own.
-pub fn takes_places_alone()
-    ensures takes { (place : Place) → HasSegment place
-        → route_at (path_text place) ≡ Some (route_of place) }
-    ensures part { (place : Place) → HasSegment place
-        → part_at (route_of place) (path_text place) ≡ part_of place }
+/// Exactly the paths of the desk have a route, each its own.
+pub fn takes_paths_alone()
+    ensures takes { (path : List ℕ) (route : Route) (part : List ℕ) → IsPathOf path route part
+        → route_at path ≡ Some route }
+    ensures part { (path : List ℕ) (route : Route) (part : List ℕ) → IsPathOf path route part
+        → part_at route path ≡ part }
     ensures only { (path : List ℕ) (route : Route) → route_at path ≡ Some route
-        → (place : Place) × IsPathOf path place × (route_of place ≡ route) }
+        → (part : List ℕ) × IsPathOf path route part }
 {}

@@ -1,7 +1,8 @@
 -- Cutting records into pieces.
 use Rattle.std.specs.Prelude.{ℕ, List, [], ◌∷◌}
+use Rattle.desk_texts.specs.Records.{Records}
 
 -- a piece that is done, if it has a record
-abbrev pub closed : List (List (List ℕ)) → List (List (List (List ℕ)))
+abbrev pub closed : Records → List Records
 closed [] = []
 closed (row ∷ more) = (row ∷ more) ∷ []

@@ -1,3 +1,4 @@
+pub mod Records
 pub mod Pieces
 pub mod Closed
 pub mod RequestRows

@@ -2,7 +2,7 @@
 
 ghost use Rattle.std.specs.Prelude.{◌≡◌, ◌++◌, [], IfOk, OnOk};
 ghost use Rattle.csv.specs.Records.{fields_of};
-ghost use Rattle.desk_texts.specs.Pieces.{begins_request, is_question_name, is_request_name, pieces};
+ghost use Rattle.desk_texts.specs.Pieces.{begins_request, is_one_of, pieces, question_names, request_names};
 ghost use Rattle.desk_texts.specs.Closed.{closed};
 
 use csv::StringRecord;
@@ -13,7 +13,7 @@ use std::alloc::{AllocError, Global};
 
 // Whether a name is that of a question.
 fn is_question(name: &str) -> bool
-    ensures { result ≡ is_question_name name.now }
+    ensures { result ≡ is_one_of question_names name.now }
 {
     name == "AskPrice"
         || name == "AskChoice"
@@ -24,7 +24,7 @@ fn is_question(name: &str) -> bool
 
 // Whether a name begins a request.
 fn is_request(name: &str) -> bool
-    ensures { result ≡ is_request_name name.now }
+    ensures { result ≡ is_one_of request_names name.now }
 {
     name == "Agree" || name == "Message" || name == "Waive" || is_question(name)
 }

@@ -9,15 +9,16 @@ use Rattle.program_lines.specs.Printing.{PrintEnds}
 use Rattle.rules_file.specs.declared.rules.RulesFault.{RulesFault}
 use Rattle.rules_file.specs.declared.rules.RulesFault.TheVariants as rules_fault
 
--- how reading the rules of a text can end
-abbrev pub RulesFit : List ℕ → Result (List Rule) RulesFault → Type 0
-RulesFit text (Ok rules) = (length text ≤ limit) × IsUtf8 text × (precedence_of text ≡ Ok rules)
-RulesFit text (Err (rules_fault.Table fault.NotToml)) =
-    (limit < length text) ⊎ ((¬ (IsUtf8 text)) ⊎ (precedence_of text ≡ Err fault.NotToml))
-RulesFit text (Err (rules_fault.Table (fault.BadRule number))) =
-    (length text ≤ limit) × IsUtf8 text × (precedence_of text ≡ Err (fault.BadRule number))
-RulesFit text (Err (rules_fault.Table fault.Memory)) = ⊤
-RulesFit text (Err rules_fault.Unreadable) = ⊤
+module _ (text : List ℕ) where
+  -- how reading the rules of a text can end
+  abbrev pub RulesFit : Result (List Rule) RulesFault → Type 0
+  RulesFit (Ok rules) = (length text ≤ limit) × IsUtf8 text × (precedence_of text ≡ Ok rules)
+  RulesFit (Err (rules_fault.Table fault.NotToml)) =
+      (limit < length text) ⊎ ((¬ (IsUtf8 text)) ⊎ (precedence_of text ≡ Err fault.NotToml))
+  RulesFit (Err (rules_fault.Table (fault.BadRule number))) =
+      (length text ≤ limit) × IsUtf8 text × (precedence_of text ≡ Err (fault.BadRule number))
+  RulesFit (Err (rules_fault.Table fault.Memory)) = ⊤
+  RulesFit (Err rules_fault.Unreadable) = ⊤
 
 -- the exit status after a fault of reading the rules: 3 when out of memory, else 2
 abbrev pub status_of : RulesFault → ℕ
@@ -28,14 +29,16 @@ status_of _ = 2
 abbrev pub rules_line : ℕ → List ℕ
 rules_line count = codes "rules " ++ decimal count ++ 10 ∷ []
 
--- how the command `rules` can end by how its file reads: with the line of its rules; or with the
--- status of the fault, and nothing is written
-abbrev pub EndsReading : (List ℕ → Type 0) → Result (List Rule) RulesFault → ℕ → Type 0
-EndsReading written (Ok rules) status = PrintEnds 0 written (rules_line (length rules)) status
-EndsReading written (Err fault) status = (status ≡ status_of fault) × written []
+-- Written: these bytes were written
+module _ (written : List ℕ → Type 0) where
+  -- how the command `rules` can end by how its file reads: with the line of its rules; or with the
+  -- status of the fault, and nothing is written
+  abbrev pub EndsReading : Result (List Rule) RulesFault → ℕ → Type 0
+  EndsReading (Ok rules) status = PrintEnds 0 written (rules_line (length rules)) status
+  EndsReading (Err fault) status = (status ≡ status_of fault) × written []
 
--- how the command `rules` can end: as its file reads. No clause can say what a file of a name holds
-abbrev pub CheckEnds : (List ℕ → Type 0) → ℕ → Type 0
-CheckEnds written status =
-    (text : List ℕ) × (read : Result (List Rule) RulesFault) × RulesFit text read
-    × EndsReading written read status
+  -- how the command can end: as its file reads. No clause can say what a file of a name holds
+  abbrev pub CheckEnds : ℕ → Type 0
+  CheckEnds status =
+      (text : List ℕ) × (read : Result (List Rule) RulesFault) × RulesFit text read
+      × EndsReading read status

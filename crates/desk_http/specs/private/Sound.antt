@@ -1,5 +1,5 @@
 -- Data whose text reads as it, and the text of a list of such data.
-use Rattle.std.specs.Prelude.{◌≡◌, ◌∷◌, ◌++◌, ℕ, List, Some, codes, map}
+use Rattle.std.specs.Prelude.{◌≡◌, ◌∷◌, ℕ, List, Some, codes}
 use Rattle.std.specs.List.{flat_map}
 use Rattle.json.specs.Tree.{HasNumbers}
 use Rattle.serde_json.specs.Data.{Data, member, no_members, object, string}

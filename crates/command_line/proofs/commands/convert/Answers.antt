@@ -1,4 +1,4 @@
-use Rattle.std.proofs.Common.{◌∙◌, [], ap, codes}
+use Rattle.std.proofs.Common.{◌∙◌, [], ap}
 use Rattle.std.proofs.lemmas.Result.{IfOk-weaker}
 use Rattle.clap.specs.Simple.{app_of_fields}
 use Rattle.clap.specs.declared.builder.command.Command.{Command}
@@ -9,7 +9,7 @@ use Rattle.command_line.proofs.commands.convert.Goals as goal
 
 pub returns : goal.returns
 returns c =
-    let p0 : IsCommand (command_of (codes "convert") []) c.long_about.result = (
+    let p0 : IsCommand (command_of "convert" []) c.long_about.result = (
       ap app_of_fields c.long_about.ensures ∙ ap app_of_fields c.about.ensures ∙ c.new.ensures.app,
       ap (λ (f : Command-F Command). f.has_globals) c.long_about.ensures ∙ ap (λ (f : Command-F Command). f.has_globals) c.about.ensures ∙ c.new.ensures.local,
     ) in

@@ -1,6 +1,6 @@
 use Rattle.std.proofs.Common.{◌≡◌, ◌∷◌, ◌∙◌, [], ℕ, List, Some, None, false, ap, sym, refl}
 use Rattle.csv.specs.Records.{field_at}
-use Rattle.desk_texts.specs.Pieces.{begins_request, is_request_name}
+use Rattle.desk_texts.specs.Pieces.{begins_request, is_one_of, request_names}
 use Rattle.desk_texts.proofs.pieces.begins_piece.Goals as goal
 
 begins-nothing : (fields : List (List ℕ)) → field_at fields 0 ≡ None → false ≡ begins_request fields
@@ -8,10 +8,10 @@ unfolding field_at
 begins-nothing [] e = refl
 begins-nothing (name ∷ more) e = cc e
 
-begins-by : (fields : List (List ℕ)) (name : List ℕ) → field_at fields 0 ≡ Some name → is_request_name name ≡ begins_request fields
+begins-by : (fields : List (List ℕ)) (name : List ℕ) → field_at fields 0 ≡ Some name → is_one_of request_names name ≡ begins_request fields
 unfolding field_at
 begins-by [] name e = cc e
-begins-by (first ∷ more) name e = ap is_request_name (some-is (sym e))
+begins-by (first ∷ more) name e = ap (is_one_of request_names) (some-is (sym e))
   where
     some-is : Some name ≡ Some first → name ≡ first
     some-is q = cc q

@@ -1,7 +1,8 @@
 -- What the paths of the desk name.
-use Rattle.std.specs.Prelude.{◌≡◌, ◌≢◌, ℕ, ◌<◌, List, [], ◌++◌, length, All, codes, ⊤}
+use Rattle.std.specs.Prelude.{◌≡◌, ℕ, List, [], ◌++◌, codes, ⊤}
 use Rattle.desk_http.specs.declared.routes.Route.{Route}
 use Rattle.desk_http.specs.declared.routes.Route.TheVariants as r
+use Rattle.desk_http.specs.Paths.{IsSegment}
 
 -- a place, with the variable part of its path
 pub data Place : Type 0 where
@@ -16,11 +17,6 @@ path_text (choice isbn) = codes "/articles/" ++ (isbn ++ codes "/choice")
 path_text (calendar isbn) = codes "/articles/" ++ (isbn ++ codes "/calendar")
 path_text (gaps name) = codes "/series/" ++ (name ++ codes "/gaps")
 path_text (catalogue name) = codes "/series/" ++ (name ++ codes "/catalogue")
-
--- one segment that is not empty
-pub record IsSegment (part : List ℕ) : Type 0 where
-  pub some : 0 < length part
-  pub no_slash : All (λ b. b ≢ 47) part
 
 -- the part in a place's path is one segment that is not empty
 abbrev pub HasSegment : Place → Type 0

@@ -24,10 +24,10 @@ EndMessage,5
 Message,2,06,4012345000009,06,5012345678900,4,,,,
 EndMessage,1
 Waive,north,5
-Agree,East,15,E1,,,1
-Waive,East,1
+Agree,east,15,E1,,,1
+Waive,east,1
 Message,2,06,4012345000009,06,5012345678900,4,2,,,
-Product,R2,05
+Product,R2,05,15,9781234567897
 EndMessage,2
 Waive,south,6
 """
@@ -39,22 +39,22 @@ agreed,north,2
 applied,north,2,replaced=1,updated=0,deleted=0,unknown=0,ignored=0
 held,north,4,waiting-for=3
 waived,north,5
-agreed,East,1
-waived,East,1
+agreed,east,1
+waived,east,1
 refused,other-contents,north,4
 refused,before-first,south,6,7
 """
 
 # The same desk, series by series and number by number.
 EXPORT = b"""\
-Agree,East,15,E1,,,1
-Waive,East,1
+Agree,east,15,E1,,,1
+Waive,east,1
 Agree,north,06,4012345000009,06,5012345678900,2
 Message,2,06,4012345000009,06,5012345678900,2,1,,,
 Product,R1,03,15,9781234567897
 ProductSupply,GB IE,,
 SupplyDetail,04,06,4012345000009,"North, Books",21,
-Price,02,9.000,GBP,,,,,
+Price,02,9.000,GBP,,WORLD,,,
 EndMessage,5
 Message,2,06,4012345000009,06,5012345678900,4,1,,,
 EndMessage,1
@@ -64,8 +64,8 @@ Agree,south,06,4012345000016,,,7
 
 # What a new desk answers to that.
 AGAIN = b"""\
-agreed,East,1
-waived,East,1
+agreed,east,1
+waived,east,1
 agreed,north,2
 applied,north,2,replaced=1,updated=0,deleted=0,unknown=0,ignored=0
 held,north,4,waiting-for=3
@@ -74,13 +74,13 @@ agreed,south,7
 """
 
 AGREEMENTS = b"""\
-Agree,East,15,E1,,,1
+Agree,east,15,E1,,,1
 Agree,north,06,4012345000009,06,5012345678900,2
 Agree,south,06,4012345000016,,,7
 """
 
 GAPS = b"""\
-gaps,East,first=1,next=2,greatest=1,held=0,missing=0
+gaps,east,first=1,next=2,greatest=1,held=0,missing=0
 gaps,north,first=2,next=3,greatest=5,held=2,missing=1
 missing,3,3
 gaps,south,first=7,next=7,greatest=,held=0,missing=0
@@ -114,8 +114,8 @@ def again(room: Room) -> Iterator[Outcome]:
     wanted = Ran(
         0,
         b"applied,north,3,replaced=0,updated=0,deleted=0,unknown=0,ignored=0\n"
-        b"catalogue,north,5\nrecord,R1,15,9781234567897\nProductSupply,GB IE,,\n"
-        b'SupplyDetail,04,06,4012345000009,"North, Books",21,\nPrice,02,9.000,GBP,,,,,\n',
+        b"catalogue,north,1\nrecord,R1,15,9781234567897\nProductSupply,GB IE,,\n"
+        b'SupplyDetail,04,06,4012345000009,"North, Books",21,\nPrice,02,9.000,GBP,,WORLD,,,\n',
     )
     for database in (DATABASE, "again.db"):
         came = room.run("--db", database, "batch", given=late)
@@ -147,7 +147,7 @@ def too_large(room: Room) -> Iterator[Outcome]:
     """A message that comes with quotation marks outside of quotes is longer with them: here each product has 100
     of them in its reference, so that the message comes with less than 4,194,304 bytes and is written with more."""
     marks = '"' * 100
-    products = "".join(f"Product,R{place}{marks},05\n" for place in range(19_998))
+    products = "".join(f"Product,R{place}{marks},05,15,9781234567897\n" for place in range(19_998))
     agreement = "Agree,north,06,4012345000009,06,5012345678900,1\n"
     text = f"{agreement}Message,2,06,4012345000009,06,5012345678900,1,1,,,\n{products}EndMessage,19999\n".encode()
     yield Outcome("a message that is too large: as it comes", len(text) < 4_194_304, True)
@@ -160,7 +160,7 @@ def too_large(room: Room) -> Iterator[Outcome]:
 
 def message(number: int, products: int) -> bytes:
     """A message of form 2 that deletes so many records, of 200 bytes each."""
-    lines = "".join(f"Product,R{place:0>187},05\n" for place in range(products))
+    lines = "".join(f"Product,R{place:0>170},05,15,9781234567897\n" for place in range(products))
     opening = f"Message,2,06,4012345000009,06,5012345678900,{number},1,,,\n"
     return f"{opening}{lines}EndMessage,{products + 1}\n".encode()
 
@@ -191,7 +191,7 @@ def shell(room: Room, lines: list[str]) -> Ran:
     """Runs lines of a page at the desk of the room."""
     text = "\n".join(lines).replace("/var/lib/onixdesk/shop.db", DATABASE).replace("/shop.db", f"/{DATABASE}")
     program, copy = shlex.quote(str(room.program)), shlex.quote(str(ROOT / "bin/desk-copy"))
-    calls = f"onixdesk() {{ {program} \"$@\"; }}\ncopy() {{ {copy} \"$@\"; }}\n"
+    calls = f"onixdesk() {{ {program} \"$@\"; }}\ncopy() {{ {copy} \"$@\" >&2; }}\n"
     text = text.replace("desk-copy ", "copy ").replace("examples/parts.sh", shlex.quote(str(ROOT / "examples/parts.sh")))
     return room.call(["sh", "-e", "-c", calls + text])
 
@@ -209,14 +209,14 @@ def moved(room: Room) -> Iterator[Outcome]:
 
 
 CORRECTED = b"""\
-Agree,East,15,E1,,,1
-Waive,East,1
+Agree,east,15,E1,,,1
+Waive,east,1
 Agree,north,06,4012345000009,06,5012345678900,1
 Message,2,06,4012345000009,06,5012345678900,2,1,,,
 Product,R1,03,15,9781234567897
 ProductSupply,GB IE,,
 SupplyDetail,04,06,4012345000009,"North, Books",21,
-Price,02,9.000,GBP,,,,,
+Price,02,9.000,GBP,,WORLD,,,
 EndMessage,5
 Message,2,06,4012345000009,06,5012345678900,4,1,,,
 EndMessage,1
@@ -230,8 +230,8 @@ def corrected(room: Room) -> Iterator[Outcome]:
     lines = block("docs/MISTAKES.md", "desk-copy /var/lib/onixdesk/shop.db before")
     came = shell(room, lines[:-1])
     answers = b"""\
-agreed,East,1
-waived,East,1
+agreed,east,1
+waived,east,1
 agreed,north,1
 held,north,2,waiting-for=1
 held,north,4,waiting-for=1

@@ -23,7 +23,7 @@ Waive,north,5
 Message,2,06,4012345000009,06,5012345678900,4,,,,
 EndMessage,1
 Message,2,06,4012345000009,06,5012345678900,4,2,,,
-Product,R2,05
+Product,R2,05,15,9781234567897
 EndMessage,2
 Waive,south,6
 ";
@@ -33,7 +33,7 @@ Message,2,06,4012345000009,06,5012345678900,2,1,,,
 Product,R1,03,15,9781234567897
 ProductSupply,GB IE,,
 SupplyDetail,04,06,4012345000009,\"North, Books\",21,
-Price,02,9.000,GBP,,,,,
+Price,02,9.000,GBP,,WORLD,,,
 EndMessage,5
 Message,2,06,4012345000009,06,5012345678900,4,1,,,
 EndMessage,1

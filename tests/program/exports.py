@@ -114,7 +114,7 @@ def again(room: Room) -> Iterator[Outcome]:
     wanted = Ran(
         0,
         b"applied,north,3,replaced=0,updated=0,deleted=0,unknown=0,ignored=0\n"
-        b"catalogue,north,5\nrecord,R1,15,9781234567897\nProductSupply,GB IE,,\n"
+        b"catalogue,north,1\nrecord,R1,15,9781234567897\nProductSupply,GB IE,,\n"
         b'SupplyDetail,04,06,4012345000009,"North, Books",21,\nPrice,02,9.000,GBP,,WORLD,,,\n',
     )
     for database in (DATABASE, "again.db"):
@@ -191,7 +191,7 @@ def shell(room: Room, lines: list[str]) -> Ran:
     """Runs lines of a page at the desk of the room."""
     text = "\n".join(lines).replace("/var/lib/onixdesk/shop.db", DATABASE).replace("/shop.db", f"/{DATABASE}")
     program, copy = shlex.quote(str(room.program)), shlex.quote(str(ROOT / "bin/desk-copy"))
-    calls = f"onixdesk() {{ {program} \"$@\"; }}\ncopy() {{ {copy} \"$@\"; }}\n"
+    calls = f"onixdesk() {{ {program} \"$@\"; }}\ncopy() {{ {copy} \"$@\" >&2; }}\n"
     text = text.replace("desk-copy ", "copy ").replace("examples/parts.sh", shlex.quote(str(ROOT / "examples/parts.sh")))
     return room.call(["sh", "-e", "-c", calls + text])
 

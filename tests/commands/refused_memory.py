@@ -21,8 +21,7 @@ MEMORY = "stores::desks::desk_in_memory"
 TABLES = "stores::desks::tables_in_memory"
 FILES = "stores::desks::tables_in_files"
 
-# The first two go on to the end of their lists. Of the forty messages over files, where a run opens these four times,
-# every third request is refused; each one is over tables in memory, whose rows nothing reads.
+# The first two go on to the end of their lists.
 SWEEPS = [
     Sweep(MEMORY, "steps"),
     Sweep(TABLES, "three"),
@@ -33,7 +32,7 @@ SWEEPS = [
     Sweep(TABLES, "waivers", ends=True),
     Sweep(MEMORY, "drain", ends=True),
     Sweep(TABLES, "drain", ends=True),
-    Sweep(FILES, "rows", step=3, ends=True),
+    Sweep(FILES, "rows", ends=True),
     Sweep(FILES, "migration", ends=True),
 ]
 

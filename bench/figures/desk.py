@@ -21,7 +21,7 @@ class Desk:
     def text(self, name: str, pieces: Iterable[str]) -> Path:
         """A file of that name with a text."""
         path = self.folder / name
-        with open(path, "w", encoding="ascii") as file:
+        with open(path, "w", encoding="utf-8", newline="") as file:
             file.writelines(pieces)
         return path
 

@@ -11,7 +11,7 @@ use desk_program::help::print_wrong;
 use desk_program::program::run;
 use named_files::HostFiles;
 use program_lines::fault::{Fault, report};
-use sqlite::Unknown;
+use sqlite::Wary;
 use std::alloc::AllocError;
 use std::io::ErrorKind;
 use std::process::ExitCode;
@@ -26,7 +26,7 @@ fn run_words(rt: &HostRuntime, words: std::env::Args) -> Result<u8, AllocError>
     let (status, left) = run(
         rt,
         words.as_slice(),
-        Paths { start: Unknown },
+        Paths { start: Wary },
         &mut Sockets,
         &mut HostFiles::new(rt),
         &mut rt.stdin(),

@@ -155,7 +155,7 @@ def unread_deliveries(room: Room) -> Iterator[Outcome]:
 RECORDS, FULL = 10_000, 1024
 
 # How many of them another message changes.
-CHANGED = 20
+CHANGED = 10
 
 PRODUCTS = "".join(f"Product,R{number},03,15,9781234567897\n" for number in range(RECORDS))
 LARGE = f"Message,1,06,4012345000009,06,5012345678900,1,,,,\n{PRODUCTS}EndMessage,{RECORDS + 1}\n"

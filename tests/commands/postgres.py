@@ -36,7 +36,7 @@ def main() -> int:
         print(f"tests/postgres/run: {why}", file=sys.stderr)
         return 2
     # They need psycopg2.
-    from bench.figures.cluster import started
+    from tests.postgres.cluster import started
     from tests.postgres.groups import OverCluster, groups
 
     chosen = choice(given)

@@ -3,7 +3,7 @@
 from collections.abc import Callable, Iterator
 from functools import partial
 
-from bench.figures.cluster import Cluster
+from tests.postgres.cluster import Cluster
 from tests.postgres import questions, replicas, schemas, steps
 from tests.program.room import Group, Room
 from tests.running import Outcome

@@ -9,7 +9,7 @@ from functools import partial
 import psycopg2
 from psycopg2.extensions import cursor as Cursor
 
-from bench.figures.cluster import Cluster
+from tests.postgres.cluster import Cluster
 from tests.postgres.follower import follow, kind
 from bench.kills.seeds import RULES, Maker, agreements
 from tests.program.databases import DATABASE

@@ -4,7 +4,7 @@ import time
 from collections.abc import Iterator
 from functools import partial
 
-from bench.figures.cluster import Cluster
+from tests.postgres.cluster import Cluster
 from tests.postgres.follower import ask, execute, follow, in_file, in_postgres, kind, state_of
 from tests.postgres.questions import differences
 from bench.kills.seeds import RULES, Maker, agreements

@@ -5,7 +5,7 @@ import time
 from collections.abc import Iterator
 from functools import partial
 
-from bench.figures.cluster import Cluster
+from tests.postgres.cluster import Cluster
 from tests.postgres.follower import ask, execute, follow, in_postgres, kind, state_of
 from tests.postgres.steps import ASKED, deliver
 from tests.program.databases import DATABASE, execute as execute_in_file

@@ -11,7 +11,7 @@ from pathlib import Path
 
 import psycopg2
 
-from bench.figures.cluster import Cluster
+from tests.postgres.cluster import Cluster
 from tests.postgres.follower import Tables, execute, follow, in_file, in_postgres, kind, words_of
 from tests.program.databases import DATABASE
 from tests.program.messages import AGREEMENT, priced_by_number

@@ -19,7 +19,7 @@ from collections.abc import Callable, Iterator
 from functools import partial
 from pathlib import Path
 
-from tests.program import batches, convert_cases, sample_feeds
+from tests.program import batches, convert_cases, groups_of, sample_feeds
 from tests.program.room import Group
 from tests.running import PROGRAM, Cases, Counted, Outcome, count_all, run_side_by_side
 from tests.unproved import ENDED, build, run_try
@@ -69,7 +69,7 @@ def build_program() -> Iterator[Outcome]:
     yield Outcome("the program is built", to.is_file(), True)
 
 
-def cases_of(groups: list[Group]) -> Iterator[Outcome]:
+def cases_of(groups: list[Cases]) -> Iterator[Outcome]:
     for group in groups:
         yield from group.outcomes()
 
@@ -77,8 +77,8 @@ def cases_of(groups: list[Group]) -> Iterator[Outcome]:
 def program() -> Iterator[Outcome]:
     """One build, and what it answers. If there is no program, nothing is run."""
     yield from timed("the build of the program", build_program())
-    yield from timed("the batches", cases_of(batches.GROUPS))
-    yield from timed("the conversions", cases_of([*convert_cases.GROUPS, *sample_feeds.GROUPS]))
+    yield from timed("the batches", cases_of(groups_of(batches)))
+    yield from timed("the conversions", cases_of([*groups_of(convert_cases), *groups_of(sample_feeds)]))
 
 
 def tests_of_feeds() -> Iterator[Outcome]:

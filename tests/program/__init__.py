@@ -2,20 +2,37 @@
 
 What a case wants is taken from the desk's written rules, never from what the program wrote.
 
-A module of tests has a list `GROUPS`. A group is a generator function over a `Room`, a folder of its own in which
-the program is run, and yields one `Outcome` for each of its cases. Groups run side by side.
+A group is a generator function over a `Room`, a folder of its own in which the program is run, and yields one
+`Outcome` for each of its cases. In a module of tests each function over a room alone is one, and a list `GROUPS` has
+those that take more. Groups run side by side.
 """
 
 import importlib
+import inspect
 import pkgutil
 import unittest
+from collections.abc import Iterator
 from fnmatch import fnmatchcase
 from typing import Any
 
-from tests.running import Cases
+from tests.program.room import Group, Room
+from tests.running import Cases, Outcome
 
 # Begun first: one of its clients is waited for.
 FIRST = ["clients", "exchanges", "feed_examples", "hostile_feeds", "mutated_feeds"]
+
+
+def over_a_room(check: Any, module: Any) -> bool:
+    """Whether that is a function of the module that gives cases over a room alone."""
+    if not inspect.isfunction(check) or check.__module__ != module.__name__:
+        return False
+    return [*check.__annotations__.values()] == [Room, Iterator[Outcome]]
+
+
+def groups_of(module: Any) -> list[Cases]:
+    """The groups of a module, each function's by its name in words."""
+    checks = [check for check in vars(module).values() if over_a_room(check, module)]
+    return [*getattr(module, "GROUPS", []), *(Group(check.__name__.replace("_", " "), check) for check in checks)]
 
 
 def groups() -> list[Cases]:
@@ -23,7 +40,7 @@ def groups() -> list[Cases]:
     names = [module.name for module in pkgutil.iter_modules(__path__)]
     names.sort(key=lambda name: (FIRST.index(name) if name in FIRST else len(FIRST), name))
     modules: list[Any] = [importlib.import_module(f"{__name__}.{name}") for name in names]
-    return [group for module in modules for group in getattr(module, "GROUPS", [])]
+    return [group for module in modules for group in groups_of(module)]
 
 
 def load_tests(loader: unittest.TestLoader, _tests: object, _pattern: object) -> unittest.TestSuite:

@@ -8,7 +8,7 @@ from itertools import groupby
 from tests.running import Outcome
 from tools.drawing import picture
 from tools.drawing.crates import LAYERS, read_crates, upward
-from tests.program.room import Group, Room
+from tests.program.room import Room
 from tools.root import ROOT
 
 PAGE = ROOT / "docs/ARCHITECTURE.md"
@@ -98,11 +98,3 @@ def counts(room: Room) -> Iterator[Outcome]:
     for name, wanted in (("ARCHITECTURE", found), ("DECISIONS", [sums])):
         told = COUNT.findall((ROOT / f"docs/{name}.md").read_text(encoding="utf-8"))
         yield Outcome(f"docs/{name}.md: how many calls and files", [(int(c), int(f)) for c, f in told], wanted)
-
-
-GROUPS = [
-    Group("the picture of the crates", current),
-    Group("the layers of the crates", layers),
-    Group("the calls that docs/ARCHITECTURE.md names", walks),
-    Group("how many calls docs/ARCHITECTURE.md tells of", counts),
-]

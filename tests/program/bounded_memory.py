@@ -8,7 +8,7 @@ from collections.abc import Iterator
 from tests.program.databases import batch, gaps
 from tests.program.inboxes import WORDS, of_series
 from tests.program.messages import AGREEMENT, priced
-from tests.program.room import Group, Ran, Room
+from tests.program.room import Ran, Room
 from tests.program.serving import Serving, posted, serving
 from tests.running import Outcome
 
@@ -89,6 +89,3 @@ def want_of_memory(room: Room) -> Iterator[Outcome]:
     number = MESSAGES + 1
     line = f"gaps,north,first=1,next={number + 1},greatest={number},held=0,missing=0\n"
     yield Outcome("want of memory: nothing is lost", gaps(room), Ran(0, line.encode()))
-
-
-GROUPS = [Group("want of memory", want_of_memory)]

@@ -12,7 +12,7 @@ from tests.program.databases import DATABASE, batch, complaints
 from tests.program.exchange_cases import AGREEMENTS, APPLIED, DELIVERY, NO_NUMBERS
 from tests.program.messages import AGREED, applied
 from tests.program.open_desks import SOCKET, answered
-from tests.program.room import Group, Ran, Room
+from tests.program.room import Ran, Room
 from tests.program.serving import Exchange, connected, posted, serving
 from tests.running import Outcome
 from tools.words import Word
@@ -224,14 +224,3 @@ def a_fault_within_a_batch(room: Room) -> Iterator[Outcome]:
     wanted = ONE_APPLIED.output + b"gaps,south,first=1,next=1,greatest=,held=0,missing=0\n"
     yield Outcome("a batch with a fault: what is kept", batch(room, asked), Ran(0, wanted))
     yield Outcome("a batch with a fault: the tables", complaints(room), [])
-
-
-GROUPS = [
-    Group("batches cut off", cut_batches),
-    Group("batches that cannot be read to their ends", unread_batches),
-    Group("answers that are taken in part", written_in_parts),
-    Group("deliveries that cannot be read to their ends", unread_deliveries),
-    Group("full disks", full_disks),
-    Group("a file that cannot be closed", a_file_that_cannot_be_closed),
-    Group("a fault within a batch at an open desk", a_fault_within_a_batch),
-]

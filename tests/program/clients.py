@@ -12,7 +12,7 @@ from typing import NamedTuple
 from tests.program.commands import APPLIED, FIRST
 from tests.program.databases import DATABASE, batch
 from tests.program.messages import AGREED, AGREEMENT, bare
-from tests.program.room import UNREADABLE, Group, Ran, Room
+from tests.program.room import UNREADABLE, Ran, Room
 from tests.program.serving import HOST, TRIES, Exchange, Serving, connected, free_port, posted, receive, serving
 from tests.running import Outcome
 from tools.words import sought
@@ -155,13 +155,3 @@ def unwritten_lines(room: Room) -> Iterator[Outcome]:
         if came == wanted:
             break
     yield Outcome("a port whose lines cannot be written", came, wanted)
-
-
-GROUPS = [
-    Group("clients of a port", clients_of_a_port),
-    Group("clients that are gone before their turn", clients_that_are_gone),
-    Group("a port without a number of connections", served_until_it_is_stopped),
-    Group("bodies that do not come", bodies_that_do_not_come),
-    Group("a port that is taken", a_port_that_is_taken),
-    Group("a port whose lines cannot be written", unwritten_lines),
-]

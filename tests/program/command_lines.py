@@ -2,7 +2,7 @@
 
 from collections.abc import Iterator
 
-from tests.program.room import Group, Ran, Room
+from tests.program.room import Ran, Room
 from tests.running import Outcome
 
 # Name, words, status. With status 0 the program prints to standard output, else to standard error, and
@@ -82,6 +82,3 @@ def bad_words(room: Room) -> Iterator[Outcome]:
     came = room.run(b"\xff")
     wanted = Ran(2, b"", b"error: a word is not UTF-8\n")
     yield Outcome("command line: a word that is not UTF-8", came, wanted)
-
-
-GROUPS = [Group("command lines", lines), Group("the version", version), Group("bad words", bad_words)]

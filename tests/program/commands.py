@@ -143,9 +143,4 @@ def gaps_of_an_agreed_series(room: Room) -> Iterator[Outcome]:
     yield Outcome("the gaps of an agreed series", (agreed, gaps(room)), wanted)
 
 
-GROUPS = [
-    *(Group(case.name, partial(deliver, case)) for case in DELIVERIES),
-    Group("messages that are cut off", cut_off_behind_each_byte),
-    Group("commands without agreements", without_agreements),
-    Group("the gaps of an agreed series", gaps_of_an_agreed_series),
-]
+GROUPS = [Group(case.name, partial(deliver, case)) for case in DELIVERIES]

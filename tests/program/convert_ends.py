@@ -279,12 +279,8 @@ GROUPS = [
     Group("convert: files that are no message", partial(refused, [*feeds()])),
     Group("convert: files that end too early", partial(refused, ENDS)),
     Group("convert: numbers that are refused", partial(refused, NUMBERS)),
-    Group("convert: what cannot be read", unread),
-    Group("convert: a terminal", terminal),
     *(
         Group(f"convert: {number.name}", partial(stopped, number))
         for number in (signal.SIGTERM, signal.SIGINT, signal.SIGKILL)
     ),
-    Group("convert: two runs of one NAME", together),
-    Group("convert: strangers with hidden names", strangers),
 ]

@@ -165,10 +165,4 @@ def streams(room: Room) -> Iterator[Outcome]:
         yield Outcome(f"convert: {words}", (came.status, is_made), (status, True))
 
 
-GROUPS = [
-    *(Group(f"convert: {case.name}", partial(check, case)) for case in CASES),
-    Group("convert: bad words", bad_words),
-    Group("convert: words for a sender and for numbers", good_words),
-    Group("convert: encodings", encodings),
-    Group("convert: streams", streams),
-]
+GROUPS = [Group(f"convert: {case.name}", partial(check, case)) for case in CASES]

@@ -108,6 +108,4 @@ def before_parts(room: Room) -> Iterator[Outcome]:
 GROUPS = [
     *(Group(f"convert: {wrong} wrong products of {products}", partial(few, wrong, products, few_go, none_go))
       for wrong, products, few_go, none_go in COUNTS),
-    Group("convert: the notes before a refusal", others_notes),
-    Group("convert: wrong products and parts", before_parts),
 ]

@@ -11,7 +11,7 @@ from pathlib import Path
 from tests.program.conversions import said
 from tests.program.converter import convert
 from tests.program.converter_runs import BAD, FRAME, ONE, PRODUCT, WRONG, feed_of, message_of
-from tests.program.room import SECONDS, Group, Ran, Room
+from tests.program.room import SECONDS, Ran, Room
 from tests.running import Outcome
 from tools.words import Word
 
@@ -146,13 +146,3 @@ def came_meanwhile(room: Room) -> Iterator[Outcome]:
     yield Outcome("convert: a file that came meanwhile", (process.returncode, errors), wanted)
     found = names(room.path("out")), room.path("out/message.part-02.csv").read_bytes()
     yield Outcome("convert: a file that came meanwhile stays alone", found, (["message.part-02.csv"], b"other"))
-
-
-GROUPS = [
-    Group("convert: a full disk", full_disk),
-    Group("convert: a file that grows too large", largest_file),
-    Group("convert: standard error closed", closed_error),
-    Group("convert: long names", long_names),
-    Group("convert: links", links),
-    Group("convert: a file that comes meanwhile", came_meanwhile),
-]

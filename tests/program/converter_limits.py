@@ -6,7 +6,7 @@ from collections.abc import Iterator
 from tests.program.conversions import FRAMES, said
 from tests.program.converter import FEED, convert
 from tests.program.converter_runs import DETAIL, ISBN, PRICE, PRODUCT, feed_of, message_of, supplied
-from tests.program.room import Group, Ran, Room
+from tests.program.room import Ran, Room
 from tests.running import Outcome
 
 RECORDS = 20_000
@@ -181,14 +181,3 @@ def a_whole_product_in_the_next_part(room: Room) -> Iterator[Outcome]:
     )
     wanted = Ran(0, message_of(*names, number=1) + second.encode())
     yield Outcome("a whole product in the next part", came, wanted)
-
-
-GROUPS = [
-    Group("the records of a message", records),
-    Group("the bytes of a message", size),
-    Group("the records of a product", one_product),
-    Group("the identifiers of a product", many_identifiers),
-    Group("the bytes of a product", large_product),
-    Group("the prefixes of the root's namespace", prefixes),
-    Group("a whole product in the next part", a_whole_product_in_the_next_part),
-]

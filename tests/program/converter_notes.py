@@ -6,7 +6,7 @@ from string import ascii_uppercase
 
 from tests.program.conversions import FRAMES, SUPPLIER, said
 from tests.program.converter import FEED, convert, refused_lines
-from tests.program.room import Group, Ran, Room
+from tests.program.room import Ran, Room
 from tests.running import Outcome
 
 # The most lines of notes on a file, and the most bytes of a field.
@@ -155,14 +155,3 @@ def old_elements(room: Room) -> Iterator[Outcome]:
     counts = [f"Price left out: {name} of ONIX 2.1: {1 + (name == names[0])}" for name in names]
     summary = said([*counts, "5 notes, 1 product wrong"]).decode().splitlines()
     yield Outcome("elements of ONIX 2.1 in the summary", (came.status, came.errors.decode().splitlines()[5:]), (1, summary))
-
-
-GROUPS = [
-    Group("many notes", bounded),
-    Group("elements of ONIX 2.1 in the summary", old_elements),
-    Group("notes on products besides others", products_besides),
-    Group("notes on a refused file", refused),
-    Group("long lists of regions", regions),
-    Group("unions of many countries", unions),
-    Group("a long field of a Price", long_prices),
-]

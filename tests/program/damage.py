@@ -119,8 +119,4 @@ def most_offers(room: Room) -> Iterator[Outcome]:
     yield Outcome("20,001 offers", batch(room, asked), FAULT)
 
 
-GROUPS = [
-    *(Group(damage, partial(check, damage, repair, *QUESTIONS[name])) for damage, repair, name in CASES),
-    Group("an applied text that is none", an_applied_text_that_is_none),
-    Group("most offers", most_offers),
-]
+GROUPS = [Group(damage, partial(check, damage, repair, *QUESTIONS[name])) for damage, repair, name in CASES]

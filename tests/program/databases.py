@@ -219,12 +219,5 @@ def refused_migrations(room: Room) -> Iterator[Outcome]:
 
 GROUPS = [
     *(Group(case.name, partial(after_batches, case)) for case in read_file(FOLDER / "batches.txt")),
-    Group("forty messages backwards", forty_messages_backwards),
-    Group("a batch over an empty file", an_empty_file),
-    Group("a desk beside another table", beside_another_table),
     *(Group(sql, partial(is_refused, sql, line)) for sql, line in REFUSED),
-    Group("the database comes before the command", is_opened_first),
-    Group("rules come before the database", rules_come_first),
-    Group("migration of an empty file", migration_of_an_empty_file),
-    Group("refused migrations", refused_migrations),
 ]

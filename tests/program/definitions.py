@@ -2,7 +2,7 @@
 
 from collections.abc import Iterator
 
-from tests.program.room import Group, Room
+from tests.program.room import Room
 from tests.running import Outcome
 from tools.root import ROOT
 from tools.specs import page
@@ -32,6 +32,3 @@ def commented(room: Room) -> Iterator[Outcome]:
     lost = sorted(name for name in listed if remarks.get(name) and f"- `{name.word}`: " not in told)
     yield Outcome("definitions of public contracts that the page leaves out", lost, [])
     yield Outcome("definitions of public contracts are found", len(listed) > 0, True)
-
-
-GROUPS = [Group("the comments of what contracts cite", commented)]

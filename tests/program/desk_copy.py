@@ -16,7 +16,7 @@ from pathlib import Path
 from desk_copy import copying
 from tests.program.databases import DATABASE, batch, execute
 from tests.program.messages import AGREEMENT, priced_by_number
-from tests.program.room import Group, Ran, Room
+from tests.program.room import Ran, Room
 from tests.program.serving import HOST, Serving, posted, serving
 from tests.running import Outcome
 from tools.root import ROOT
@@ -338,15 +338,3 @@ def of_another_port(room: Room) -> Iterator[Outcome]:
         ran = copy(room, DATABASE, "copy")
         reply = desk.reply([f"GET /series/north/gaps HTTP/1.1\r\nHost: {HOST}\r\n\r\n".encode()])
         yield Outcome("a desk that was copied", (ran.status, reply[:15]), (0, b"HTTP/1.1 200 OK"))
-
-
-GROUPS = [
-    Group("copies of a desk that takes messages", under_messages),
-    Group("copies of a desk at rest", of_a_desk_at_rest),
-    Group("copies that are kept", kept),
-    Group("copies: refused", refused),
-    Group("copies: unsound", unsound),
-    Group("copies: always written", changed_all_the_while),
-    Group("copies: written meanwhile", written_meanwhile),
-    Group("copies: the desk goes on", of_another_port),
-]

@@ -11,7 +11,7 @@ from command_lines.ending import Fault
 from desk_follow.rules import BadRules, Rule, rules_of
 from desk_follow.source import TABLES, opened, references_of
 from tests.program.databases import DATABASE, batch
-from tests.program.room import Group, Ran, Room
+from tests.program.room import Ran, Room
 from tests.program.rules_files import files, said_by_desk
 from tests.running import Outcome
 from tools.root import ROOT
@@ -210,12 +210,3 @@ def refused(room: Room) -> Iterator[Outcome]:
             told_then,
             f"{DATABASE}: it is of version {told} of a desk's tables, in place of 2",
         )
-
-
-GROUPS = [
-    Group("desk-follow: precedence tables", precedence_tables),
-    Group("desk-follow: rows as lines", rows_as_lines),
-    Group("desk-follow: what is touched", what_is_touched),
-    Group("desk-follow: references", references),
-    Group("desk-follow: refused", refused),
-]

@@ -18,7 +18,7 @@ from desk_metrics.exposition import METRICS, Samples, escaped
 from tests.program.databases import batch
 from tests.program.inboxes import CONNECTIONS, MALFORMED, WORDS, Inbox
 from tests.program.messages import AGREEMENT, bare
-from tests.program.room import Group, Ran, Room
+from tests.program.room import Ran, Room
 from tests.program.serving import HOST, Serving, free_port, posted, serving
 from tests.running import Outcome
 from tools.root import ROOT
@@ -465,21 +465,3 @@ def units(_room: Room) -> Iterator[Outcome]:
     link = "ln -s /var/lib/onixdesk-metrics/onixdesk.prom /var/lib/prometheus/node-exporter/"
     for page in (PAGE, ROOT / "packaging/debian/onixdesk.README.Debian"):
         yield Outcome(f"{page.name}: where they are read", link in page.read_text(encoding="utf-8"), True)
-
-
-GROUPS = [
-    Group("metrics: of a desk", of_a_desk),
-    Group("metrics: of inboxes", of_inboxes),
-    Group("metrics: since when", since_when),
-    Group("metrics: no desk", no_desk),
-    Group("metrics: left out", left_out),
-    Group("metrics: strange reports", strange_reports),
-    Group("metrics: unread settings", unread_settings),
-    Group("metrics: replaced whole", replaced_whole),
-    Group("metrics: two runs", alone),
-    Group("metrics: refused", refused),
-    Group("metrics: values of labels", values_of_labels),
-    Group("metrics: names", names),
-    Group("metrics: by promtool", by_promtool),
-    Group("metrics: the units", units),
-]

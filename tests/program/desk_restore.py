@@ -14,7 +14,7 @@ from tests.program.databases import DATABASE, batch, gaps
 from tests.program.desk_copy import copy
 from tests.program.inbox_numbers import CONVERTER, unwritten
 from tests.program.inboxes import AGREEMENT, CONNECTIONS, WORDS, Inbox, gaps_of, script, within
-from tests.program.room import Group, Ran, Room
+from tests.program.room import Ran, Room
 from tests.program.serving import serving
 from tests.running import Outcome
 from tools.root import ROOT
@@ -266,15 +266,3 @@ def bad_words(room: Room) -> Iterator[Outcome]:
     for since in ("yesterday", "2026-11-27", ""):
         yield Outcome(f"again since {since!r}", Inbox(room, 1).run("--again", since).status, 2)
     yield Outcome("its help", room.call([ROOT / "bin/desk-restore", "--help"]).status, 0)
-
-
-GROUPS = [
-    Group("restores: in its place", in_its_place),
-    Group("restores: refused", copies_that_are_refused),
-    Group("restores: a desk that is open", a_desk_that_is_open),
-    Group("restores: what does not start", what_does_not_start),
-    Group("restores: of another user", of_another_user),
-    Group("restores: without systemd", without_systemd),
-    Group("restores: what came since", what_came_since),
-    Group("restores: bad words", bad_words),
-]

@@ -5,7 +5,7 @@ from collections.abc import Iterator
 
 from tests.program.databases import DATABASE, batch
 from tests.program.messages import AGREED, AGREEMENT, applied, bare, held, priced
-from tests.program.room import Group, Ran, Room
+from tests.program.room import Ran, Room
 from tests.running import Outcome
 
 # What a desk is asked first, and what it answers.
@@ -71,10 +71,3 @@ def two_hundred_numbers_backwards(room: Room) -> Iterator[Outcome]:
     }
     wanted = {"status": 0, "errors": b"", "alike": True, "last": last}
     yield Outcome("two hundred numbers backwards", came, wanted)
-
-
-GROUPS = [
-    Group("a desk in a file", over_a_file),
-    Group("a desk in memory", over_memory),
-    Group("two hundred numbers backwards", two_hundred_numbers_backwards),
-]

@@ -10,7 +10,7 @@ from collections.abc import Iterator
 
 from tests.program.databases import DATABASE, batch
 from tests.program.messages import AGREEMENT, applied
-from tests.program.room import SECONDS, UNREADABLE, Group, Ran, Room
+from tests.program.room import SECONDS, UNREADABLE, Ran, Room
 from tests.program.serving import HOST, free_port, got, receive, send
 from tests.running import Outcome
 
@@ -90,9 +90,3 @@ def a_database_comes_first(room: Room) -> Iterator[Outcome]:
             yield Outcome(f"a port that is taken, and a database: {name}", came, UNUSABLE)
         wanted = Ran(3, b"", b"onixdesk: port %d\n" % port)
         yield Outcome("a port that is taken, over a new file", room.run("--db", DATABASE, *words), wanted)
-
-
-GROUPS = [
-    Group("clients that come before the desk listens", wait_in_line),
-    Group("a database comes before its port", a_database_comes_first),
-]

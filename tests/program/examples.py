@@ -5,7 +5,7 @@ import shlex
 from collections.abc import Iterator
 
 from tests.program.messages import AGREEMENT, bare
-from tests.program.room import Group, Ran, Room
+from tests.program.room import Ran, Room
 from tests.program.serving import free_port, posted, serving
 from tests.running import Outcome
 from tools.root import ROOT
@@ -173,14 +173,3 @@ def gaps_by_night(room: Room) -> Iterator[Outcome]:
     line = b"onixdesk: storage: unusable\n"
     yield Outcome("gaps.sh: a mistyped file", found, Ran(2, b"", line + no_report))
     yield Outcome("gaps.sh: the mistyped file then", room.path("other.db").exists(), False)
-
-
-GROUPS = [
-    Group("the page of HTTP", page_of_http),
-    Group("the script of HTTP", script_of_http),
-    Group("the first batch", first_batch),
-    Group("the week of a shop", week),
-    Group("a desk in a file", desk_in_a_file),
-    Group("gaps by night", gaps_by_night),
-    Group("gaps without words", gaps_without_words),
-]

@@ -145,10 +145,4 @@ GROUPS = [
     Group("whole inputs", partial(all_replied, [*inputs("inputs")], BOTH_WAYS)),
     Group("inputs at the limits", partial(all_replied, [*inputs("limits")], [at_once])),
     Group("cut inputs", partial(all_replied, cut_inputs(), BOTH_WAYS)),
-    Group("most input", most_input),
-    Group("whole replies", whole_replies),
-    Group("a waived number", a_waived_number),
-    Group("exchanges with a desk in memory", a_desk_in_memory),
-    Group("open inputs", open_inputs),
-    Group("faults of storage", faults_of_storage),
 ]

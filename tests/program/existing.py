@@ -69,10 +69,4 @@ def an_empty_file_is_migrated(room: Room) -> Iterator[Outcome]:
     yield Outcome("an empty file that is there: migrate", came, Ran(0, b"migrated\n"))
 
 
-GROUPS = [
-    *(Group(f"missing: {command}", partial(is_missing, command)) for command in COMMANDS),
-    Group("a database that is a link to nothing", is_a_link_to_nothing),
-    Group("rules come before a missing database", rules_come_first),
-    Group("a database that is there", is_there),
-    Group("an empty file that is there", an_empty_file_is_migrated),
-]
+GROUPS = [Group(f"missing: {command}", partial(is_missing, command)) for command in COMMANDS]

@@ -6,7 +6,7 @@ from collections.abc import Iterator
 from tests.program.databases import DATABASE, all_rows, batch, execute
 from tests.program.desk_restore import restore
 from tests.program.examples import block
-from tests.program.room import UNREADABLE, Group, Ran, Room
+from tests.program.room import UNREADABLE, Ran, Room
 from tests.running import Outcome
 from tools.root import ROOT
 
@@ -246,15 +246,3 @@ agreed,south,7
     message = b"Message,2,06,4012345000009,06,5012345678900,5,1,,,\nEndMessage,1\n"
     came = batch(room, message)
     yield Outcome("a message whose waiver was taken out", came, Ran(0, b"held,north,5,waiting-for=1\n"))
-
-
-GROUPS = [
-    Group("exports: the lists of a desk", lists),
-    Group("exports: a desk is made again", again),
-    Group("exports: empty desks", empty_desks),
-    Group("exports: faults", faults),
-    Group("exports: a message that is too large", too_large),
-    Group("exports: parts", parts),
-    Group("exports: a desk is moved", moved),
-    Group("exports: a desk is corrected", corrected),
-]

@@ -4,7 +4,7 @@ import subprocess
 from collections.abc import Iterator
 
 from tests.program.examples import blocks, written
-from tests.program.room import SECONDS, Group, Room
+from tests.program.room import SECONDS, Room
 from tests.running import Outcome
 from tools.root import ROOT
 
@@ -29,6 +29,3 @@ def week(room: Room) -> Iterator[Outcome]:
             timeout=SECONDS,
         )
         yield Outcome(f"{README}: {command}", (done.returncode, done.stdout), (0, written(lines)))
-
-
-GROUPS = [Group("the week in XML", week)]

@@ -4,7 +4,7 @@ written by hand: clap's layout, and sentences that say what docs/FORMATS.md and 
 import os
 from collections.abc import Iterator
 
-from tests.program.room import Group, Ran, Room
+from tests.program.room import Ran, Room
 from tests.program.written_cases import TESTS, read_file
 from tests.running import Outcome
 
@@ -27,6 +27,3 @@ def helps(room: Room) -> Iterator[Outcome]:
             yield Outcome(f"help: {' '.join(asked)}", room.run(*asked), Ran(0, text))
     wanted = ["agreements", "batch", "convert", "deliver", "export", "gaps", "migrate", "rules", "serve"]
     yield Outcome("help: the commands whose help is compared", commands, wanted)
-
-
-GROUPS = [Group("help of each command", helps)]

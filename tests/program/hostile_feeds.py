@@ -160,5 +160,4 @@ def nothing_else_is_opened(room: Room) -> Iterator[Outcome]:
 GROUPS = [
     *(Group(case.name, partial(check, case, BOMB_SECONDS)) for case in read("bombs")),
     *(Group(case.name, partial(check, case, SECONDS)) for case in LARGE),
-    Group("addresses in a feed", nothing_else_is_opened),
 ]

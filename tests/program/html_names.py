@@ -4,7 +4,7 @@ import re
 from collections.abc import Iterator
 from html.entities import html5
 
-from tests.program.room import Group, Room
+from tests.program.room import Room
 from tests.running import Outcome
 from tools import html_names
 
@@ -32,6 +32,3 @@ def character_names(room: Room) -> Iterator[Outcome]:
     yield Outcome("what the lists have for each name of HTML", came, names)
     known = [name for text in found.values() for name in re.findall("&([A-Za-z0-9]+);", text)]
     yield Outcome("how many names they have", sorted(known), sorted(names))
-
-
-GROUPS = [Group("the named characters of HTML", character_names)]

@@ -520,28 +520,4 @@ def bad_calls(room: Room) -> Iterator[Outcome]:
         yield Outcome(f"inbox: called for {series!r}", found, (2, b"", True, False))
 
 
-GROUPS = [
-    Group("inbox: each kind of file", each_kind_of_file),
-    Group("inbox: what the converter takes", what_the_converter_takes),
-    Group("inbox: a feed that is refused", a_feed_that_is_refused),
-    Group("inbox: names that come again", names_that_come_again),
-    Group("inbox: words of the converter", words_of_the_converter),
-    Group("inbox: wrong products", wrong_products),
-    Group("inbox: what waits", what_waits),
-    Group("inbox: what is still written", what_is_still_written),
-    Group("inbox: what lies long", what_lies_long),
-    *(
-        Group(f"inbox: {change} meanwhile", partial(what_changes_meanwhile, change))
-        for change in CHANGING
-    ),
-    Group("inbox: conversions that do not end", conversions_that_do_not_end),
-    Group("inbox: very many notes", very_many_notes),
-    Group("inbox: other servers", other_servers),
-    Group("inbox: senders", senders),
-    Group("inbox: too large a message", too_large),
-    Group("inbox: two at once", two_at_once),
-    Group("inbox: bad settings", bad_settings),
-    Group("inbox: bad folders", bad_folders),
-    Group("inbox: no state", no_state),
-    Group("inbox: bad calls", bad_calls),
-]
+GROUPS = [Group(f"inbox: {change} meanwhile", partial(what_changes_meanwhile, change)) for change in CHANGING]

@@ -276,14 +276,4 @@ def usable_python() -> bool:
         return False
 
 
-GROUPS = [
-    Group("inbox: files that programs read", files_that_programs_read),
-    Group("inbox: no files", what_is_no_file),
-    Group("inbox: strange names", strange_names),
-    Group("inbox: long names", long_names),
-    *(Group(f"inbox: a file that becomes {what}", partial(swapped, what)) for what in SWAPS),
-    Group("inbox: replaced at the last moment", replaced_at_the_last_moment),
-    Group("inbox: a copy without room", no_room),
-    Group("inbox: rights", rights),
-    Group("inbox: as another user", as_another_user),
-]
+GROUPS = [Group(f"inbox: a file that becomes {what}", partial(swapped, what)) for what in SWAPS]

@@ -356,10 +356,4 @@ GROUPS = [
         Group(f"inbox: killed with next numbers, share {share}", partial(killed_with_next_numbers, share))
         for share in range(SHARES)
     ),
-    Group("inbox: next numbers", next_numbers),
-    Group("inbox: numbers of parts", numbers_of_parts),
-    Group("inbox: numbers after faults", numbers_after_faults),
-    Group("inbox: numbers that were cut", numbers_that_were_cut),
-    Group("inbox: numbers that others took", numbers_that_others_took),
-    Group("inbox: two states", two_states),
 ]

@@ -9,7 +9,7 @@ from collections.abc import Iterator
 from tests.program.converter_runs import message_of
 from tests.program.databases import batch
 from tests.program.inboxes import AGREEMENT, CONNECTIONS, WORDS, Inbox, ended, of_series, said, script, taken
-from tests.program.room import Group, Room
+from tests.program.room import Room
 from tests.program.serving import serving
 from tests.running import Outcome
 
@@ -115,12 +115,3 @@ def many_that_lie(room: Room) -> Iterator[Outcome]:
     long = "; it has been here for an hour"
     lines = [f"{line}{long}" for line in [*lines, *counts]]
     yield Outcome("inbox: many that lie long", inbox.run(), said(*lines, status=1))
-
-
-GROUPS = [
-    Group("inbox: refused before a copy", refused_before_a_copy),
-    Group("inbox: large and refused", large_and_refused),
-    Group("inbox: bytes that are done", bytes_that_are_done),
-    Group("inbox: a full state", a_full_state),
-    Group("inbox: many that lie", many_that_lie),
-]

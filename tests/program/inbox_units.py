@@ -6,7 +6,7 @@ from collections.abc import Iterator
 
 from onixdesk_inbox.desk import SECONDS as SECONDS_OF_A_POST
 from tests.program.inboxes import PROGRAM, within
-from tests.program.room import SECONDS, Group, Room
+from tests.program.room import SECONDS, Room
 from tests.running import Outcome
 from tools.root import ROOT
 from tools.words import sought
@@ -159,13 +159,3 @@ def version(room: Room) -> Iterator[Outcome]:
         page = ROOT.joinpath("packaging", name).read_text(encoding="utf-8")
         # The line that packaging/build gives the version.
         yield Outcome(f"the version of {name}", page.splitlines().count(".Os"), 1)
-
-
-GROUPS = [
-    Group("units: what is forbidden", what_is_forbidden),
-    Group("units: the memory of the desk", memory_of_the_desk),
-    Group("units: times", times),
-    Group("units: places", places),
-    Group("units: the example of settings", example_of_settings),
-    Group("units: the version", version),
-]

@@ -5,7 +5,7 @@ from collections.abc import Iterator
 
 from tests.program.databases import DATABASE, batch, gaps
 from tests.program.messages import AGREED, AGREEMENT, bare
-from tests.program.room import SECONDS, UNREADABLE, Group, Ran, Room
+from tests.program.room import SECONDS, UNREADABLE, Ran, Room
 from tests.running import Outcome
 
 OPENING = b"Message,1,06,4012345000009,06,5012345678900,1,,,,\n"
@@ -84,11 +84,3 @@ def broken_streams_over_a_file(room: Room) -> Iterator[Outcome]:
     came = room.run(*over_a_file, given=MESSAGES, is_full=True), gaps(room)
     wanted = Ran(3, b"", b"onixdesk: output\n"), report(b"next=2,greatest=1")
     yield Outcome("over a file: an output that takes nothing", came, wanted)
-
-
-GROUPS = [
-    Group("long and bad inputs", long_and_bad_inputs),
-    Group("an input that does not end", unended_input),
-    Group("broken input and output", broken_streams),
-    Group("broken input and output over a file", broken_streams_over_a_file),
-]

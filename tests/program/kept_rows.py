@@ -81,7 +81,5 @@ def migrated_unwritten(case: Case, room: Room) -> Iterator[Outcome]:
 
 GROUPS = [
     *(Group(f"rows behind {it.words}", partial(after_a_fault, it)) for it in FAULTS),
-    Group("rows behind a port that is taken", behind_a_taken_port),
-    Group("rows behind a socket in the way", behind_a_file_in_the_way),
     *(Group(f"rows behind migrate: {it.name}", partial(migrated_unwritten, it)) for it in CASES),
 ]

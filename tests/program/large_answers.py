@@ -6,7 +6,7 @@ from collections.abc import Iterator
 from tests.program.clients import GAPS, most_memory
 from tests.program.databases import DATABASE, batch
 from tests.program.messages import AGREED, AGREEMENT, applied
-from tests.program.room import Group, Ran, Room
+from tests.program.room import Ran, Room
 from tests.program.serving import serving
 from tests.running import Outcome
 
@@ -60,6 +60,3 @@ def of_one_article(room: Room) -> Iterator[Outcome]:
         yield Outcome("many offers: memory beyond twice the answer", max(taken - most, 0), 0)
         desk.reply([GAPS.input])
         yield Outcome("many offers: the lines", desk.ended(), desk.wanted(["200", "200", "200"]))
-
-
-GROUPS = [Group("many offers of one article", of_one_article)]

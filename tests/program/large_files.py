@@ -7,7 +7,7 @@ import subprocess
 from collections.abc import Iterator
 from io import FileIO
 
-from tests.program.room import SECONDS, Group, Room
+from tests.program.room import SECONDS, Room
 from tests.running import Outcome
 from tools.words import Word
 
@@ -57,6 +57,3 @@ def elsewhere(room: Room) -> Iterator[Outcome]:
     make_file(room, 100_000_000)
     came = room.run(*WORDS).errors.decode().splitlines()
     yield Outcome("a large file where standard error is no terminal", came, [UNUSABLE])
-
-
-GROUPS = [Group("large files on a terminal", on_a_terminal), Group("a large file elsewhere", elsewhere)]

@@ -6,7 +6,7 @@ import subprocess
 import time
 from collections.abc import Iterator
 
-from tests.program.room import SECONDS, UNREADABLE, Group, Ran, Room
+from tests.program.room import SECONDS, UNREADABLE, Ran, Room
 from tests.running import Outcome
 from tools.root import ROOT
 
@@ -254,12 +254,3 @@ def the_program_of_the_gate(room: Room) -> Iterator[Outcome]:
     yield Outcome("launcher: the program of the gate", launch(room, "help"), Ran(0, b"the program of the gate\n"))
     came = command(room, "tools/build", "onixdesk")
     yield Outcome("tools/build: other words", (came.status, b"tools/build adopt" in came.errors), (2, True))
-
-
-GROUPS = [
-    Group("a batch without a program", a_batch_without_a_program),
-    Group("a batch without an answer", without_an_answer),
-    Group("a built program", a_built_program),
-    Group("a program that is being built", a_program_that_is_being_built),
-    Group("the program of the gate", the_program_of_the_gate),
-]

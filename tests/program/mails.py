@@ -6,7 +6,7 @@ import subprocess
 from collections.abc import Iterator
 
 from tests.program.inboxes import script
-from tests.program.room import SECONDS, Group, Ran, Room
+from tests.program.room import SECONDS, Ran, Room
 from tests.running import Outcome
 from tools.root import ROOT
 
@@ -151,11 +151,3 @@ def lines_of_a_desk(room: Room) -> Iterator[Outcome]:
     process = subprocess.Popen([SERVE, program])
     process.send_signal(signal.SIGTERM)
     yield Outcome("a desk that is stopped", process.wait(SECONDS), -signal.SIGTERM)
-
-
-GROUPS = [
-    Group("mails: what is mailed", what_is_mailed),
-    Group("mails: from mail to mail", from_mail_to_mail),
-    Group("mails: what cannot be mailed", what_cannot_be_mailed),
-    Group("units: the lines of a desk", lines_of_a_desk),
-]

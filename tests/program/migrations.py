@@ -97,5 +97,4 @@ def tables_of_version_2(room: Room) -> Iterator[Outcome]:
 GROUPS = [
     *(Group(case.name, partial(check, case)) for case in CASES),
     *(Group(f"without an index: {case.name}", partial(without_index, case)) for case in CASES),
-    Group("the tables of version 2", tables_of_version_2),
 ]

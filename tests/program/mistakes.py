@@ -8,7 +8,7 @@ from tests.program.examples import block, written
 from tests.program.inbox_numbers import CONVERTER, unwritten
 from tests.program.inboxes import AGREEMENT as INBOX_AGREEMENT
 from tests.program.inboxes import CONNECTIONS, WORDS, Inbox, script
-from tests.program.room import Group, Ran, Room
+from tests.program.room import Ran, Room
 from tests.program.serving import serving
 from tests.running import Outcome
 
@@ -130,12 +130,3 @@ def a_wrong_feed(room: Room) -> Iterator[Outcome]:
     yield Outcome("the number of a wrong feed is waived", room.call(["sh", "-c", text]), Ran(0, b"waived,north,2\n"))
     inbox.put({"new.xml": unwritten("S", "new")})
     yield Outcome("a feed behind it", take(), ["onixdesk-inbox: new.xml: done: number 4 applied"])
-
-
-GROUPS = [
-    Group("mistakes: a mistyped sender", mistyped_sender),
-    Group("mistakes: a first number that is too low", first_number_too_low),
-    Group("mistakes: wrong numbers", wrong_numbers),
-    Group("mistakes: a wholesaler that is gone", a_wholesaler_that_is_gone),
-    Group("mistakes: a wrong feed", a_wrong_feed),
-]

@@ -5,7 +5,7 @@ from collections.abc import Iterator
 from functools import cache
 from pathlib import Path
 
-from tests.program.room import Group, Room
+from tests.program.room import Room
 from tests.running import Outcome
 from tools.root import ROOT
 
@@ -43,6 +43,3 @@ def places(room: Room) -> Iterator[Outcome]:
     mutants = (ROOT / "crates").glob("*/mutants/*")
     both = [path for path in mutants if path.parents[1].joinpath("must-fail", path.name).exists()]
     yield Outcome("edits that stand in both folders of a crate", both, [])
-
-
-GROUPS = [Group("the promises that edits break", promises), Group("where edits stand", places)]

@@ -153,7 +153,4 @@ def words_of(line: list[str]) -> Words:
     )
 
 
-GROUPS = [
-    Group("the oracle over the cases", agreed),
-    *(Group(f"mutations, share {share}", partial(check, share)) for share in range(len(WORDS))),
-]
+GROUPS = [Group(f"mutations, share {share}", partial(check, share)) for share in range(len(WORDS))]

@@ -7,7 +7,7 @@ from typing import NamedTuple
 from tests.program.conversions import FRAMES, SUPPLIER, Frame, within
 from tests.program.converter import FEED, convert
 from tests.program.examples import blocks
-from tests.program.room import Group, Room
+from tests.program.room import Room
 from tests.running import Outcome
 
 DOCUMENT = "docs/ONIX.md"
@@ -63,6 +63,3 @@ def each(room: Room) -> Iterator[Outcome]:
     yield Outcome(f"{DOCUMENT}: examples", len(found) >= 20, True)
     for example in found:
         yield Outcome(f"{DOCUMENT}: {example.xml[:60]}", shown(example, room), example.lines)
-
-
-GROUPS = [Group("the examples of docs/ONIX.md", each)]

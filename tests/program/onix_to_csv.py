@@ -11,7 +11,7 @@ from tests.program.databases import batch
 from tests.program.inboxes import AGREEMENT, WORDS, Inbox, numbered
 from tests.program.inboxes import said as said_by_inbox
 from tests.program.packed_feeds import packed
-from tests.program.room import Group, Ran, Room
+from tests.program.room import Ran, Room
 from tests.program.serving import serving
 from tests.running import Outcome
 from tools.root import ROOT
@@ -106,11 +106,3 @@ def inbox_of_a_shop(room: Room) -> Iterator[Outcome]:
         came = room.call(["shop/bin/onixdesk-inbox", *folders, "north"])
         lines = [f"{name}: done: number {number} applied" for number, name in enumerate(names, 1)]
         yield Outcome("inbox: of a shop without the package", came, said_by_inbox(*lines))
-
-
-GROUPS = [
-    Group("onix-to-csv: the other name", other_name),
-    Group("onix-to-csv: a packed file", packed_file),
-    Group("a pipe that ends early", pipe_that_ends_early),
-    Group("inbox: a shop without the package", inbox_of_a_shop),
-]

@@ -14,7 +14,7 @@ from typing import NamedTuple
 from tests.program.commands import APPLIED, FIRST
 from tests.program.databases import DATABASE, batch, gaps
 from tests.program.messages import AGREED, AGREEMENT, applied, bare
-from tests.program.room import SECONDS, UNREADABLE, Group, Ran, Room
+from tests.program.room import SECONDS, UNREADABLE, Ran, Room
 from tests.program.serving import Exchange, Serving, connected, free_port, receive, send, serving
 from tests.running import Outcome
 from tools.words import Word
@@ -264,16 +264,3 @@ def outputs_that_are_full(room: Room) -> Iterator[Outcome]:
         yield Outcome("a full output", came, Ran(3, b"", b"onixdesk: output\n"))
         yield Outcome("a full output: the desk", sent(room, QUESTION), Ran(0, NO_GAPS % (1, b"")))
         yield Outcome("a full output: the lines", desk.ended(), desk.wanted(["batch 0", "batch 0"]))
-
-
-GROUPS = [
-    Group("a client of the socket that stalls", a_client_that_stalls),
-    Group("batches to an open desk", batches_to_an_open_desk),
-    Group("a port and a socket in turn", in_turn),
-    Group("a client of the socket that is slow", a_client_that_is_slow),
-    Group("texts to the socket that are no batch", texts_that_are_none),
-    Group("whose the socket is", whose_it_is),
-    Group("sockets that are there", sockets_that_are_there),
-    Group("a desk killed amid a batch", killed_amid_a_batch),
-    Group("a batch whose answers go nowhere", outputs_that_are_full),
-]

@@ -5,7 +5,7 @@ import re
 import subprocess
 from collections.abc import Iterator
 
-from tests.program.room import Group, Room
+from tests.program.room import Room
 from tests.running import Outcome
 from tools.root import ROOT
 from tools.words import Word
@@ -89,10 +89,3 @@ def of_releases(_room: Room) -> Iterator[Outcome]:
         commits = in_the_repository("log", "--reverse", "--format=%H", f"-S## {number}, ", "--", "CHANGELOG.md")
         if named:
             yield Outcome(f"versions: the commit of {number}", named, commits.split("\n")[0])
-
-
-GROUPS = [
-    Group("versions: of the releases", of_releases),
-    Group("versions: by the changes", by_the_changes),
-    Group("versions: by a tag", by_a_tag),
-]

@@ -6,7 +6,7 @@ import sys
 from collections.abc import Iterator
 from pathlib import Path
 
-from tests.program.room import Group, Room
+from tests.program.room import Room
 from tests.running import Outcome
 from tools.root import ROOT
 
@@ -61,9 +61,3 @@ def planted(room: Room) -> Iterator[Outcome]:
     tree = ast.parse("import os.path\nfrom tools.root import ROOT\ndef f():\n    import bench.figures, sys\n    sys.path[0] = ''\n")
     yield Outcome("packages: imports that are found", imported(tree), {"os", "tools", "bench", "sys"})
     yield Outcome("packages: sys.path that is found", names_path(tree), True)
-
-
-GROUPS = [
-    Group("what packages import", imports),
-    Group("imports that are found", planted),
-]

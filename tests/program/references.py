@@ -4,7 +4,7 @@ import re
 from collections.abc import Iterator
 from pathlib import Path
 
-from tests.program.room import Group, Room
+from tests.program.room import Room
 from tests.running import Outcome
 from tools.specs.page import PAGE, crates
 from tools.root import ROOT
@@ -145,11 +145,3 @@ def told_twice(room: Room) -> Iterator[Outcome]:
     twice = {line: sorted(places) for line, places in where.items() if len(places) > 1}
     yield Outcome("sentences that stand twice in the documents", twice, {})
     yield Outcome("the documents have sentences", len(where) > 0, True)
-
-
-GROUPS = [
-    Group("the clauses that docs/PROOFS.md names", proofs),
-    Group("the sources that pages name", sources),
-    Group("the pages that README.md leads to", pages),
-    Group("the sentences of the documents", told_twice),
-]

@@ -8,7 +8,7 @@ from collections.abc import Iterator
 from pathlib import Path
 
 from tests.memory import sweep
-from tests.program.room import SECONDS, Group, Room
+from tests.program.room import SECONDS, Room
 from tests.running import Outcome
 from tools.words import Word
 
@@ -47,6 +47,3 @@ def by_each_compiler(room: Room) -> Iterator[Outcome]:
         came = (status, [*copies], any(end != ENDED for end in copies.values()))
         wanted = (ENDED, [str(1 + place) for place in range(len(copies))], True)
         yield Outcome(f"refused memory: by {' '.join(compiler)}", came, wanted)
-
-
-GROUPS = [Group("refused memory: by each compiler", by_each_compiler)]

@@ -3,7 +3,7 @@ line of a fault or nothing; the command `rules` says which line is wrong, and wh
 
 from collections.abc import Iterator
 
-from tests.program.room import UNREADABLE, Group, Ran, Room
+from tests.program.room import UNREADABLE, Ran, Room
 from tests.program.written_cases import TESTS, read_file, repeated, unescaped
 from tests.running import Outcome
 
@@ -86,12 +86,3 @@ def come_before_the_input(room: Room) -> Iterator[Outcome]:
     ]:
         came = room.run("--rules", file, "batch", given=UNREADABLE, is_full=True)
         yield Outcome(f"rules before the input: {file}", came, Ran(2, b"", line))
-
-
-GROUPS = [
-    Group("rules files", texts),
-    Group("rules files that are tried", tried),
-    Group("rules files that are no TOML", is_no_toml),
-    Group("rules files that cannot be tried", cannot_be_tried),
-    Group("rules come before the input", come_before_the_input),
-]

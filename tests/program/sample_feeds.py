@@ -6,7 +6,7 @@ from pathlib import Path
 
 from tests.program.converter import convert
 from tests.program.feed_writing import Place
-from tests.program.room import Group, Ran, Room
+from tests.program.room import Ran, Room
 from tests.running import Outcome
 from tools.words import Word
 
@@ -63,6 +63,3 @@ def delivered(room: Room) -> Iterator[Outcome]:
         b"applied,tidewater,42,replaced=2,updated=0,deleted=0,unknown=0,ignored=0\n",
     )
     yield Outcome("the samples, delivered", answers[1], (0, wanted))
-
-
-GROUPS = [Group("the samples, delivered", delivered)]

@@ -100,7 +100,4 @@ def numbered(parts: int, room: Room) -> Iterator[Outcome]:
         yield Outcome(f"numbered message {seed}, in {parts} parts", found, Ran(status, wanted))
 
 
-GROUPS = [
-    Group("large messages", large_messages),
-    *(Group(f"numbered messages, in {parts}", partial(numbered, parts)) for parts in (1, 100)),
-]
+GROUPS = [Group(f"numbered messages, in {parts}", partial(numbered, parts)) for parts in (1, 100)]

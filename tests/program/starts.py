@@ -7,7 +7,7 @@ import time
 from collections.abc import Iterator
 
 from tests.program.databases import DATABASE, batch
-from tests.program.room import SECONDS, Group, Ran, Room
+from tests.program.room import SECONDS, Ran, Room
 from tests.program.serving import HOST, free_port
 from tests.running import Outcome
 from tools.root import ROOT
@@ -105,6 +105,3 @@ def unit(_room: Room) -> Iterator[Outcome]:
     for name in names:
         text = (ROOT / "examples" / name).read_text(encoding="utf-8")
         yield Outcome(f"{name} waits for the desk", "\nAfter=onixdesk.service" in text, True)
-
-
-GROUPS = [Group("starts: a desk", for_a_desk), Group("starts: in vain", in_vain), Group("starts: the unit", unit)]

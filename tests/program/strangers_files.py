@@ -90,8 +90,4 @@ def is_begun(room: Room) -> Iterator[Outcome]:
     yield Outcome("one byte beside a log", came, Ran(0, AGREED))
 
 
-GROUPS = [
-    *(Group(f"no database: {name}", partial(is_refused, name, contents)) for name, contents in FILES.items()),
-    Group("one byte", is_one_byte),
-    Group("one byte beside a log", is_begun),
-]
+GROUPS = [Group(f"no database: {name}", partial(is_refused, name, contents)) for name, contents in FILES.items()]

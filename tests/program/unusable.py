@@ -6,7 +6,7 @@ from pathlib import Path
 from tests.program.databases import DATABASE, batch, execute
 from tests.program.examples import block
 from tests.program.inboxes import AGREEMENT, CONNECTIONS, WORDS
-from tests.program.room import Group, Ran, Room
+from tests.program.room import Ran, Room
 from tests.program.serving import serving
 from tests.running import Outcome
 from tools.root import ROOT
@@ -53,9 +53,3 @@ def who_owns_it(room: Room) -> Iterator[Outcome]:
     line = [line for line in told(room, DATABASE).splitlines() if line.endswith(f" {DATABASE}")]
     owner = Path(room.path(DATABASE)).owner()
     yield Outcome("unusable: whose it is", [each.split()[1] for each in line], [owner])
-
-
-GROUPS = [
-    Group("unusable: causes", causes),
-    Group("unusable: who owns it", who_owns_it),
-]

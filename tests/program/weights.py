@@ -3,7 +3,7 @@
 from collections.abc import Iterator
 
 from bench.commands.weight import part_named
-from tests.program.room import Group, Room
+from tests.program.room import Room
 from tests.running import Outcome
 from tools.root import ROOT
 
@@ -33,6 +33,3 @@ def a_run(room: Room) -> Iterator[Outcome]:
     yield Outcome("bench/weight: the status of what was run", came.status, 3)
     yield Outcome("bench/weight: the lines are kept", room.path("lines").read_bytes(), came.output)
     yield Outcome("bench/weight: what it saw", came.output.splitlines()[0], b"others: - = all else -")
-
-
-GROUPS = [Group("parts of the gate", parts), Group("what is weighed", a_run)]

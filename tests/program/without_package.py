@@ -7,7 +7,7 @@ from collections.abc import Iterator
 from pathlib import Path
 
 from tests.program.examples import block
-from tests.program.room import Group, Ran, Room
+from tests.program.room import Ran, Room
 from tests.running import Outcome
 from tools.root import ROOT
 
@@ -81,6 +81,3 @@ def without_the_package(room: Room) -> Iterator[Outcome]:
     beside = ["bin/desk-restore", "gaps.sh"]
     found = [name for name in beside if not is_there(root, f"/opt/onixdesk/{name}")]
     yield Outcome("without the package: what is run by hand", found, [])
-
-
-GROUPS = [Group("without the package", without_the_package)]

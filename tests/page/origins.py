@@ -1,23 +1,19 @@
 """What the web server lets through to the desk, and what another site makes a buyer's browser send."""
 
 import contextlib
-import functools
-import http.server
 import socket
 import ssl
-import threading
 import time
 from collections.abc import Iterator
 from pathlib import Path
 from string import Template
-from typing import Any
 from urllib.parse import urlsplit
 
 from tests.page.articles import ask
 from tests.page.browser import STRANGER, Browser, browsing
 from tests.page.site import NAME, Site
 from tests.page.week import ISBN, article, empty_message
-from tests.program.serving import HOST
+from tests.program.serving import HOST, StandIn, standing_in
 from tests.running import Outcome
 
 PRICE = f"/desk/articles/{ISBN}/price?day=20250410&country=GB&currency=GBP&type=02"
@@ -161,34 +157,18 @@ def slow_client(site: Site, browser: Browser) -> Iterator[Outcome]:
     yield Outcome("slow buyers are not at the desk", site.lines_since(before), ["200"])
 
 
-class Stranger(http.server.BaseHTTPRequestHandler):
-    """A site that is not the shop's."""
-
-    def __init__(self, text: str, *given: Any) -> None:
-        self.text = text
-        super().__init__(*given)
-
-    def do_GET(self) -> None:
-        self.send_response(200)
-        self.send_header("Content-Type", "text/html")
-        self.end_headers()
-        self.wfile.write(self.text.encode())
-
-    def log_message(self, *_: object) -> None:
-        pass
-
-
 @contextlib.contextmanager
 def strangers_site(text: str) -> Iterator[str]:
-    server = http.server.ThreadingHTTPServer((HOST, 0), functools.partial(Stranger, text))
-    thread = threading.Thread(target=server.serve_forever)
-    thread.start()
-    try:
-        yield f"http://{STRANGER}:{server.server_port}/"
-    finally:
-        server.shutdown()
-        thread.join()
-        server.server_close()
+    """A site that is not the shop's, with that text on each page."""
+
+    class Stranger(StandIn):
+        kind = "text/html"
+
+        def do_GET(self) -> None:
+            self.reply(200, text.encode())
+
+    with standing_in(Stranger) as port:
+        yield f"http://{STRANGER}:{port}/"
 
 
 def page(name: str, **given: str) -> str:

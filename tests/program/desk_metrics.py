@@ -1,6 +1,5 @@
 """What bin/desk-metrics writes of a desk, its series and its inboxes, and the rules for alerts beside it."""
 
-import http.server
 import json
 import os
 import re
@@ -19,7 +18,7 @@ from tests.program.databases import batch
 from tests.program.inboxes import CONNECTIONS, MALFORMED, WORDS, Inbox
 from tests.program.messages import AGREEMENT, bare
 from tests.program.room import Ran, Room
-from tests.program.serving import HOST, Serving, free_port, posted, serving
+from tests.program.serving import HOST, Serving, StandIn, free_port, posted, serving, standing_in
 from tests.running import Outcome
 from tools.root import ROOT
 from tools.words import Word
@@ -251,27 +250,18 @@ def left_out(room: Room) -> Iterator[Outcome]:
         yield Outcome("left out: a folder that is none", came, Ran(1, b"", line % b"refused" + line % b"done"))
 
 
-class Strange(http.server.BaseHTTPRequestHandler):
+class Strange(StandIn):
     """Another program that refuses a path as a desk does, and has numbers that are none."""
 
     def do_GET(self) -> None:
         none = b'{"answer":"refused","reason":"not-found"}'
-        status, body = (404, none) if self.path == "/" else (200, b'{"next":1e999,"greatest":1,"held":0,"missing":[]}')
-        self.send_response(status)
-        self.send_header("Content-Length", str(len(body)))
-        self.end_headers()
-        self.wfile.write(body)
-
-    def log_message(self, *_: object) -> None:
-        pass
+        self.reply(*((404, none) if self.path == "/" else (200, b'{"next":1e999,"greatest":1,"held":0,"missing":[]}')))
 
 
 def strange_reports(room: Room) -> Iterator[Outcome]:
-    with http.server.HTTPServer((HOST, 0), Strange) as server:
-        threading.Thread(target=server.serve_forever, daemon=True).start()
-        came = write(room, "--desk", at(server.server_port), "north")
-        server.shutdown()
-    line = f"desk-metrics: north: what answers at {at(server.server_port)} is no desk\n"
+    with standing_in(Strange) as port:
+        came = write(room, "--desk", at(port), "north")
+    line = f"desk-metrics: north: what answers at {at(port)} is no desk\n"
     yield Outcome("left out: a report without numbers", came, Ran(1, b"", line.encode()))
 
 

@@ -1,10 +1,8 @@
 """The inbox, over the desk at a socket: what it takes, what lies on, what it says, and its settings."""
 
 import gzip
-import http.server
 import json
 import os
-import threading
 import time
 from collections.abc import Iterator
 from functools import partial
@@ -30,7 +28,7 @@ from tests.program.inboxes import (
 from tests.program.messages import AGREED
 from tests.program.packed_feeds import packed
 from tests.program.room import SECONDS, Group, Ran, Room
-from tests.program.serving import free_port, serving
+from tests.program.serving import StandIn, free_port, serving, standing_in
 from tests.running import Outcome
 
 UNREAD_XML = b"<ONIXMessage release='2.1'/>"
@@ -344,22 +342,6 @@ def very_many_notes(room: Room) -> Iterator[Outcome]:
     yield Outcome("inbox: very many notes are kept", found, wanted)
 
 
-class Stranger(http.server.BaseHTTPRequestHandler):
-    """Another server than a desk."""
-
-    status, body = 200, b"hello"
-
-    def do_POST(self) -> None:
-        self.rfile.read(int(self.headers["Content-Length"]))
-        self.send_response(self.status)
-        self.send_header("Content-Length", str(len(self.body)))
-        self.end_headers()
-        self.wfile.write(self.body)
-
-    def log_message(self, *_: object) -> None:
-        pass
-
-
 STRANGE = [
     (200, b"hello"),
     (200, b"[]"),
@@ -377,17 +359,19 @@ def other_servers(room: Room) -> Iterator[Outcome]:
     """What is no answer of a desk takes no file, and reaches no terminal as it is."""
     files = {"b.csv": message_of(number=2)}
     for status, body in STRANGE:
-        handler = type("Handler", (Stranger,), {"status": status, "body": body})
-        with http.server.HTTPServer(("127.0.0.1", 0), handler) as server:
-            threading.Thread(target=server.serve_forever, daemon=True).start()
-            inbox = Inbox(room, server.server_port)
+
+        class Stranger(StandIn):
+            def do_POST(self) -> None:
+                self.posted()
+                self.reply(status, body)
+
+        with standing_in(Stranger) as port:
+            inbox = Inbox(room, port)
             inbox.put(files)
             text = f"{status} {body.decode(errors='backslashreplace')}".replace("\x1b", r"\x1b")
             shown = text if len(text) <= 300 else f"{text[:300]}.."
             wanted = said(f"b.csv: waiting: the desk answers {shown}")
-            found = inbox.run(), inbox.lying()
-            yield Outcome(f"inbox: a server that answers {text[:80]}", found, (wanted, files))
-            server.shutdown()
+            yield Outcome(f"inbox: a server that answers {text[:80]}", (inbox.run(), inbox.lying()), (wanted, files))
 
 
 def senders(room: Room) -> Iterator[Outcome]:

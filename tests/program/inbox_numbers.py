@@ -1,12 +1,10 @@
 """The inbox of a wholesaler whose feeds have no numbers, and inboxes that are killed before each of their steps."""
 
 import hashlib
-import http.server
 import json
 import os
 import shutil
 import signal
-import threading
 from collections.abc import Iterator
 from functools import partial
 from pathlib import Path
@@ -32,7 +30,7 @@ from tests.program.inboxes import (
     within,
 )
 from tests.program.room import Group, Ran, Room
-from tests.program.serving import serving
+from tests.program.serving import StandIn, serving, standing_in
 from tests.running import Outcome
 from tools.words import sought
 
@@ -91,40 +89,28 @@ def numbers_of_parts(room: Room) -> Iterator[Outcome]:
         yield Outcome("inbox: a series that is not agreed", strange.run(), wanted)
 
 
-class Failing(http.server.BaseHTTPRequestHandler):
+class Failing(StandIn):
     """A desk whose next number is 1, and that answers each message so."""
 
     status, body = 503, b'{"answer":"fault","reason":"disk"}'
-
-    def reply(self, status: int, body: bytes) -> None:
-        self.send_response(status)
-        self.send_header("Content-Length", str(len(body)))
-        self.end_headers()
-        self.wfile.write(body)
 
     def do_GET(self) -> None:
         self.reply(200, b'{"answer":"gaps","next":1}')
 
     def do_POST(self) -> None:
-        self.rfile.read(int(self.headers["Content-Length"]))
+        self.posted()
         self.reply(self.status, self.body)
-
-    def log_message(self, *_: object) -> None:
-        pass
 
 
 def run_at_a_failing_desk(inbox: Inbox, status: int, body: bytes) -> Ran:
     return run_at(inbox, type("Handler", (Failing,), {"status": status, "body": body}))
 
 
-def run_at(inbox: Inbox, handler: type[http.server.BaseHTTPRequestHandler]) -> Ran:
+def run_at(inbox: Inbox, handler: type[StandIn]) -> Ran:
     """A run at a desk that answers so."""
-    with http.server.HTTPServer(("127.0.0.1", 0), handler) as server:
-        threading.Thread(target=server.serve_forever, daemon=True).start()
-        inbox.set(NUMBER="next", DESK=f"http://127.0.0.1:{server.server_port}")
-        came = inbox.run()
-        server.shutdown()
-    return came
+    with standing_in(handler) as port:
+        inbox.set(NUMBER="next", DESK=f"http://127.0.0.1:{port}")
+        return inbox.run()
 
 
 def numbers_after_faults(room: Room) -> Iterator[Outcome]:
@@ -171,8 +157,7 @@ class Contested(Failing):
         self.reply(200, b'{"answer":"gaps","next":%d}' % (type(self).taken + 1))
 
     def do_POST(self) -> None:
-        message = self.rfile.read(int(self.headers["Content-Length"])).decode()
-        number = int(message.partition("\n")[0].split(",")[6])
+        number = int(self.posted().decode().partition("\n")[0].split(",")[6])
         if type(self).taken < self.lost:
             type(self).taken += 1
             self.reply(409, OTHER.format(number)[4:].encode())

@@ -1,8 +1,10 @@
-"""The desk over HTTP: a run of `serve`, and its clients."""
+"""The desk over HTTP: a run of `serve`, its clients, and what stands in for it."""
 
 import contextlib
+import http.server
 import socket
 import subprocess
+import threading
 from collections.abc import Iterator, Sequence
 from typing import NamedTuple
 
@@ -127,3 +129,37 @@ def serving(room: Room, words: list[str], connections: int | None, more: Sequenc
     finally:
         desk.process.kill()
         desk.process.communicate()
+
+
+class StandIn(http.server.BaseHTTPRequestHandler):
+    """A server that replies to GET and POST as those that are made of it say."""
+
+    kind = "application/json"
+
+    def reply(self, status: int, body: bytes) -> None:
+        self.send_response(status)
+        self.send_header("Content-Type", self.kind)
+        self.send_header("Content-Length", str(len(body)))
+        # Who asks may have left.
+        with contextlib.suppress(BrokenPipeError, ConnectionResetError):
+            self.end_headers()
+            self.wfile.write(body)
+
+    def posted(self) -> bytes:
+        return self.rfile.read(int(self.headers["Content-Length"]))
+
+    def log_message(self, *_: object) -> None:
+        pass
+
+
+@contextlib.contextmanager
+def standing_in(handler: type[StandIn], port: int = 0) -> Iterator[int]:
+    """A server that replies so, at the port that is given: this one, or one that no other program has."""
+    with http.server.ThreadingHTTPServer((HOST, port), handler) as server:
+        thread = threading.Thread(target=server.serve_forever)
+        thread.start()
+        try:
+            yield server.server_port
+        finally:
+            server.shutdown()
+            thread.join()

@@ -26,6 +26,7 @@ from tools.words import Word
 PROGRAM = ROOT / "bin/desk-metrics"
 EXAMPLES = ROOT / "examples/metrics"
 PAGE = ROOT / "docs/METRICS.md"
+CASES = ROOT / "tests/metrics"
 
 FILE = "metrics/onixdesk.prom"
 KEPT = "metrics/since.json"
@@ -68,35 +69,6 @@ def desk_with_gaps(room: Room) -> Iterator[Serving]:
         yield desk
 
 
-TEXT = """\
-# HELP onixdesk_up Whether the desk answered in time, 1 or 0.
-# TYPE onixdesk_up gauge
-onixdesk_up{{desk="{desk}"}} 1
-# HELP onixdesk_answer_duration_seconds How long the desk took to answer, with the time in which others were served.
-# TYPE onixdesk_answer_duration_seconds gauge
-onixdesk_answer_duration_seconds{{desk="{desk}"}} SECONDS
-# HELP onixdesk_series_next_number The least number of the series at which nothing stands.
-# TYPE onixdesk_series_next_number gauge
-onixdesk_series_next_number{{series="north"}} 2
-onixdesk_series_next_number{{series="south"}} 7
-# HELP onixdesk_series_greatest_number The greatest number of the series at which anything stands.
-# TYPE onixdesk_series_greatest_number gauge
-onixdesk_series_greatest_number{{series="north"}} 6
-# HELP onixdesk_series_held_messages How many numbers after the next one have a message or a waiver.
-# TYPE onixdesk_series_held_messages gauge
-onixdesk_series_held_messages{{series="north"}} 2
-onixdesk_series_held_messages{{series="south"}} 0
-# HELP onixdesk_series_missing_messages How many numbers of the series are missing.
-# TYPE onixdesk_series_missing_messages gauge
-onixdesk_series_missing_messages{{series="north"}} 3
-onixdesk_series_missing_messages{{series="south"}} 0
-# HELP onixdesk_series_next_number_change_timestamp_seconds When the next number was first seen to be this one.
-# TYPE onixdesk_series_next_number_change_timestamp_seconds gauge
-onixdesk_series_next_number_change_timestamp_seconds{{series="north"}} NOW
-onixdesk_series_next_number_change_timestamp_seconds{{series="south"}} NOW
-"""
-
-
 def of_a_desk(room: Room) -> Iterator[Outcome]:
     """Every byte of what is written of two series without inboxes."""
     with desk_with_gaps(room) as desk:
@@ -111,7 +83,7 @@ def of_a_desk(room: Room) -> Iterator[Outcome]:
         yield Outcome("metrics: since when", all(before <= each <= after for each in since), True)
         text = room.path(FILE).read_text(encoding="utf-8")
         text = re.sub(r"(_duration_seconds{.*} )\S+", r"\1SECONDS", re.sub(r"(_timestamp_seconds{.*} )\d+", r"\1NOW", text))
-        yield Outcome("metrics: every byte", text, TEXT.format(desk=at(desk)))
+        yield Outcome("metrics: every byte", text, CASES.joinpath("desk.prom").read_text().replace("DESK", at(desk)))
         modes = {path.name: path.stat().st_mode & 0o777 for path in room.path("metrics").iterdir()}
         yield Outcome("metrics: who may read them", modes, {"onixdesk.prom": 0o644, "since.json": 0o644})
 
@@ -380,63 +352,9 @@ def by_promtool(room: Room) -> Iterator[Outcome]:
     shutil.copy(EXAMPLES / "alerts.yml", room.path("alerts.yml"))
     checked = room.call(["promtool", "check", "rules", "alerts.yml"])
     yield Outcome("promtool: the rules", (checked.status, b"SUCCESS: 2 rules found" in checked.output), (0, True))
-    room.write("cases.yml", ALERTS)
+    shutil.copy(CASES / "alerts.yml", room.path("cases.yml"))
     tried = room.call(["promtool", "test", "rules", "cases.yml"])
     yield Outcome("promtool: when they fire", (tried.status, tried.output + tried.errors), (0, b"Unit Testing:  cases.yml\n  SUCCESS\n\n"))
-
-
-# A sample for each minute. The desk does not answer in the second hour, and the file is written for three hours. Of the
-# series one has had a gap since the tenth minute, one has none, and one has moved in the tenth hour.
-ALERTS = b"""\
-rule_files: [alerts.yml]
-evaluation_interval: 1m
-tests:
-  - interval: 1m
-    input_series:
-      - series: 'onixdesk_up{desk="d", instance="shop"}'
-        values: '1x60 0x60 1x2000'
-      - series: 'node_textfile_mtime_seconds{file="/var/lib/prometheus/node-exporter/onixdesk.prom", instance="shop"}'
-        values: '0+60x180 10800x2000'
-      - series: 'onixdesk_series_missing_messages{series="north", instance="shop"}'
-        values: '3x2000'
-      - series: 'onixdesk_series_next_number_change_timestamp_seconds{series="north", instance="shop"}'
-        values: '600x2000'
-      - series: 'onixdesk_series_missing_messages{series="south", instance="shop"}'
-        values: '0x2000'
-      - series: 'onixdesk_series_next_number_change_timestamp_seconds{series="south", instance="shop"}'
-        values: '600x2000'
-      - series: 'onixdesk_series_missing_messages{series="west", instance="shop"}'
-        values: '1x2000'
-      - series: 'onixdesk_series_next_number_change_timestamp_seconds{series="west", instance="shop"}'
-        values: '600x600 36060x2000'
-    alert_rule_test:
-      - {eval_time: 30m, alertname: OnixdeskSilent}
-      - {eval_time: 64m, alertname: OnixdeskSilent}
-      - eval_time: 90m
-        alertname: OnixdeskSilent
-        exp_alerts:
-          - exp_labels: {desk: d, instance: shop}
-            exp_annotations: {summary: "shop: the desk does not answer, or nobody has asked it for ten minutes"}
-      - {eval_time: 150m, alertname: OnixdeskSilent}
-      - eval_time: 240m
-        alertname: OnixdeskSilent
-        exp_alerts:
-          - exp_labels: {file: /var/lib/prometheus/node-exporter/onixdesk.prom, instance: shop}
-            exp_annotations: {summary: "shop: the desk does not answer, or nobody has asked it for ten minutes"}
-      - {eval_time: 24h, alertname: OnixdeskSeriesWaits}
-      - eval_time: 25h
-        alertname: OnixdeskSeriesWaits
-        exp_alerts:
-          - exp_labels: {series: north, instance: shop}
-            exp_annotations: {summary: "north: 3 messages have been missing for a day or more"}
-  - interval: 1m
-    input_series: []
-    alert_rule_test:
-      - eval_time: 30m
-        alertname: OnixdeskSilent
-        exp_alerts:
-          - exp_annotations: {summary: ": the desk does not answer, or nobody has asked it for ten minutes"}
-"""
 
 
 def units(_room: Room) -> Iterator[Outcome]:

@@ -7,86 +7,28 @@ from tests.program.databases import DATABASE, all_rows, batch, execute
 from tests.program.desk_restore import restore
 from tests.program.examples import block
 from tests.program.room import UNREADABLE, Ran, Room
+from tests.program.written_cases import TESTS
 from tests.running import Outcome
 from tools.root import ROOT
 
+FOLDER = TESTS / "exports"
+
+
+def text_of(name: str) -> bytes:
+    return FOLDER.joinpath(f"{name}.csv").read_bytes()
+
+
 # Three series, not in order of name: one with a message of form 1 whose defaults are filled in, one that is held
-# behind a gap and one that comes again, and a waiver; one whose first number is waived; one with nothing.
-REQUESTS = b"""\
-Agree,south,06,4012345000016,,,7
-Agree,north,06,4012345000009,06,5012345678900,2
-Message,1,06,4012345000009,06,5012345678900,2,3,20250301,02,GBP
-Product,R1,03,15,9781234567897
-ProductSupply,GB IE,,
-SupplyDetail,04,06,4012345000009,"North, Books",21,
-Price,,9,,,,,,
-EndMessage,5
-Message,2,06,4012345000009,06,5012345678900,4,,,,
-EndMessage,1
-Waive,north,5
-Agree,east,15,E1,,,1
-Waive,east,1
-Message,2,06,4012345000009,06,5012345678900,4,2,,,
-Product,R2,05,15,9781234567897
-EndMessage,2
-Waive,south,6
-"""
+# behind a gap and one that comes again, and a waiver; one whose first number is waived; one with nothing. The second
+# contents of number 4 and the number before the first are refused.
+REQUESTS, ANSWERS = text_of("requests"), text_of("answers")
 
-# What they are answered: the second contents of number 4 and the number before the first are refused.
-ANSWERS = b"""\
-agreed,south,7
-agreed,north,2
-applied,north,2,replaced=1,updated=0,deleted=0,unknown=0,ignored=0
-held,north,4,waiting-for=3
-waived,north,5
-agreed,east,1
-waived,east,1
-refused,other-contents,north,4
-refused,before-first,south,6,7
-"""
+# The same desk, series by series and number by number, and what a new desk answers to that.
+EXPORT, AGAIN = text_of("export"), text_of("answers-to-export")
 
-# The same desk, series by series and number by number.
-EXPORT = b"""\
-Agree,east,15,E1,,,1
-Waive,east,1
-Agree,north,06,4012345000009,06,5012345678900,2
-Message,2,06,4012345000009,06,5012345678900,2,1,,,
-Product,R1,03,15,9781234567897
-ProductSupply,GB IE,,
-SupplyDetail,04,06,4012345000009,"North, Books",21,
-Price,02,9.000,GBP,,WORLD,,,
-EndMessage,5
-Message,2,06,4012345000009,06,5012345678900,4,1,,,
-EndMessage,1
-Waive,north,5
-Agree,south,06,4012345000016,,,7
-"""
+GAPS = text_of("gaps")
 
-# What a new desk answers to that.
-AGAIN = b"""\
-agreed,east,1
-waived,east,1
-agreed,north,2
-applied,north,2,replaced=1,updated=0,deleted=0,unknown=0,ignored=0
-held,north,4,waiting-for=3
-waived,north,5
-agreed,south,7
-"""
-
-AGREEMENTS = b"""\
-Agree,east,15,E1,,,1
-Agree,north,06,4012345000009,06,5012345678900,2
-Agree,south,06,4012345000016,,,7
-"""
-
-GAPS = b"""\
-gaps,east,first=1,next=2,greatest=1,held=0,missing=0
-gaps,north,first=2,next=3,greatest=5,held=2,missing=1
-missing,3,3
-gaps,south,first=7,next=7,greatest=,held=0,missing=0
-"""
-
-LISTS = {"agreements": AGREEMENTS, "export": EXPORT, "gaps": GAPS}
+LISTS = {"agreements": text_of("agreements"), "export": EXPORT, "gaps": GAPS}
 
 
 def listed(room: Room, command: str, database: str = DATABASE) -> Ran:
@@ -208,22 +150,6 @@ def moved(room: Room) -> Iterator[Outcome]:
     yield Outcome("a desk that was moved in parts", listed(room, "export", "new.db"), Ran(0, EXPORT))
 
 
-CORRECTED = b"""\
-Agree,east,15,E1,,,1
-Waive,east,1
-Agree,north,06,4012345000009,06,5012345678900,1
-Message,2,06,4012345000009,06,5012345678900,2,1,,,
-Product,R1,03,15,9781234567897
-ProductSupply,GB IE,,
-SupplyDetail,04,06,4012345000009,"North, Books",21,
-Price,02,9.000,GBP,,WORLD,,,
-EndMessage,5
-Message,2,06,4012345000009,06,5012345678900,4,1,,,
-EndMessage,1
-Agree,south,06,4012345000016,,,7
-"""
-
-
 def corrected(room: Room) -> Iterator[Outcome]:
     """What docs/MISTAKES.md says: a first number and a waiver are corrected in the text of the desk."""
     batch(room, REQUESTS)
@@ -238,11 +164,11 @@ held,north,4,waiting-for=1
 agreed,south,7
 """
     yield Outcome("a desk is corrected", (came.status, came.output), (0, answers))
-    yield Outcome("the text that was corrected", room.path("corrected.csv").read_bytes(), CORRECTED)
+    yield Outcome("the text that was corrected", room.path("corrected.csv").read_bytes(), text_of("corrected"))
     program, *words = lines[-1].split()
     came = restore(room, *words, units="")
     yield Outcome("a desk that was corrected is put into place", (program, came.status), ("desk-restore", 0))
-    yield Outcome("a desk that was corrected", listed(room, "export"), Ran(0, CORRECTED))
+    yield Outcome("a desk that was corrected", listed(room, "export"), Ran(0, text_of("corrected")))
     message = b"Message,2,06,4012345000009,06,5012345678900,5,1,,,\nEndMessage,1\n"
     came = batch(room, message)
     yield Outcome("a message whose waiver was taken out", came, Ran(0, b"held,north,5,waiting-for=1\n"))

@@ -1,17 +1,12 @@
-"""Runs groups of cases side by side, all of them or those that are named, and counts the cases that failed.
-
-A group is a test of `unittest`, and each of its cases a subtest.
-"""
+"""Runs groups of cases side by side, all of them or those that are named, and counts the cases that failed."""
 
 import argparse
 import os
 import traceback
-import unittest
 from collections.abc import Callable, Iterable, Iterator
 from concurrent.futures import ThreadPoolExecutor
 from fnmatch import fnmatchcase
 from pathlib import Path
-from types import TracebackType
 from typing import Any, NamedTuple
 
 from tools.root import ROOT
@@ -31,11 +26,10 @@ class Outcome(NamedTuple):
     wanted: Any
 
 
-class Cases(unittest.TestCase):
+class Cases:
     """A group of cases, each of which may build on those before it: it has a name, and the module where it stands."""
 
     def __init__(self, name: str, module: str) -> None:
-        super().__init__("try_all")
         self.name = name
         self.module = module.rpartition(".")[2]
 
@@ -45,44 +39,23 @@ class Cases(unittest.TestCase):
     def outcomes(self) -> Iterator[Outcome]:
         raise NotImplementedError
 
-    def try_all(self) -> None:
-        for name, came, wanted in self.outcomes():
-            with self.subTest(name):
-                if came != wanted:
-                    self.fail(f"wanted {shown(wanted)}, came {shown(came)}")
-
 
 def shown(value: object) -> str:
     text = repr(value)
     return text if len(text) <= SHOWN else f"{text[:SHOWN]}.. ({len(text)} characters)"
 
 
-Raised = tuple[type[BaseException], BaseException, TracebackType] | tuple[None, None, None]
+class Counted:
+    """What came of groups: how many cases were tried, and a line for each that failed."""
 
-
-class Counted(unittest.TestResult):
-    """What came of groups: how many cases were tried, of those whose name has a text, and a line for each that
-    failed."""
-
-    def __init__(self, case: str = "") -> None:
-        super().__init__()
-        self.case = case
+    def __init__(self) -> None:
         self.count = 0
         self.lines: list[str] = []
 
-    def addSubTest(self, test: unittest.TestCase, subtest: Any, raised: Raised | None) -> None:
-        name = subtest._message
-        if self.case not in name:
-            return
+    def add(self, name: str, failure: str | None) -> None:
         self.count += 1
-        if raised:
-            self.lines.append(f"{name}: {raised[1]}")
-
-    def addError(self, test: unittest.TestCase, raised: Raised) -> None:
-        """A group that ended by an exception is a case that failed."""
-        self.count += 1
-        text = "".join(traceback.format_exception(raised[1])).strip()
-        self.lines.append(f"{test.id()}: wanted its cases to run, came {text}")
+        if failure is not None:
+            self.lines.append(f"{name}: {failure}")
 
 
 class Chosen(NamedTuple):
@@ -96,7 +69,7 @@ class Chosen(NamedTuple):
 
 
 def pattern_of(text: str) -> str:
-    """As for unittest's -k: a text without a wildcard stands anywhere in the name."""
+    """A text without a wildcard stands anywhere in the name."""
     return text if "*" in text else f"*{text}*"
 
 
@@ -127,10 +100,16 @@ def choice(given: argparse.Namespace) -> Chosen:
 
 
 def count_all(groups: Iterable[Cases], case: str = "") -> Counted:
-    """Tries groups one after the other."""
-    counted = Counted(case)
+    """Tries groups one after the other, of which the cases count whose name has a text. One that ends by an exception
+    is a case that failed."""
+    counted = Counted()
     for group in groups:
-        group.run(counted)
+        try:
+            for name, came, wanted in group.outcomes():
+                if case in name:
+                    counted.add(name, None if came == wanted else f"wanted {shown(wanted)}, came {shown(came)}")
+        except Exception:
+            counted.add(group.id(), f"wanted its cases to run, came {traceback.format_exc().strip()}")
     return counted
 
 

@@ -10,9 +10,7 @@ those that take more. Groups run side by side.
 import importlib
 import inspect
 import pkgutil
-import unittest
 from collections.abc import Iterator
-from fnmatch import fnmatchcase
 from typing import Any
 
 from tests.program.room import Group, Room
@@ -41,10 +39,3 @@ def groups() -> list[Cases]:
     names.sort(key=lambda name: (FIRST.index(name) if name in FIRST else len(FIRST), name))
     modules: list[Any] = [importlib.import_module(f"{__name__}.{name}") for name in names]
     return [group for module in modules for group in groups_of(module)]
-
-
-def load_tests(loader: unittest.TestLoader, _tests: object, _pattern: object) -> unittest.TestSuite:
-    """For `python -m unittest -k PATTERN tests.program`."""
-    patterns = loader.testNamePatterns or ["*"]
-    chosen = [group for group in groups() if any(fnmatchcase(group.id(), pattern) for pattern in patterns)]
-    return unittest.TestSuite(chosen)

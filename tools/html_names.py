@@ -1,4 +1,5 @@
-"""The named characters of HTML, as crates/xml_text/src/html_names.rt has them."""
+"""The named characters of HTML, as crates/xml_text/src/html_names.rt has them, from Python's table: tools/html-names
+writes that file."""
 
 import unicodedata
 from collections.abc import Iterator
@@ -65,3 +66,7 @@ def literal(first: str) -> str:
 def source() -> str:
     texts = [literal(chr(byte)) for byte in range(ord("A"), ord("z") + 1)]
     return f"{HEAD}pub(crate) const NAMES: [&str; {len(texts)}] = [\n{''.join(texts)}];\n"
+
+
+if __name__ == "__main__":
+    LISTS.write_text(source(), encoding="utf-8")

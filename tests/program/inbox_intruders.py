@@ -18,8 +18,6 @@ from tests.program.room import Group, Room
 from tests.program.serving import serving
 from tests.running import Outcome
 
-SECRET = b"of the shop alone"
-
 
 def files_that_programs_read(room: Room) -> Iterator[Outcome]:
     """What Python, curl and the shell read in a home is not read, where the folder is the home; no proxy of the

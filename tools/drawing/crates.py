@@ -1,6 +1,5 @@
 """The crates of crates.txt, in layers."""
 
-from collections.abc import Callable
 from dataclasses import dataclass
 from pathlib import Path
 
@@ -42,12 +41,11 @@ LAYERS = {
 
 @dataclass(frozen=True)
 class Crate:
-    """A crate: its layer, counted from the highest, its column, the crates that it stands on and through no other
-    of them, and what it takes of the toolchain."""
+    """A crate: its layer, counted from the highest, the crates that it stands on and through no other of them, and
+    what it takes of the toolchain."""
 
     name: str
     layer: int
-    column: int
     below: tuple[str, ...]
     taken: tuple[str, ...]
 
@@ -84,24 +82,13 @@ def layer_of(name: str) -> int:
     return found[0]
 
 
-def columns(stands_on: dict[str, list[str]]) -> Callable[[str], int]:
-    """How many crates of its own layer stand below each crate, one on the other."""
-
-    def column(name: str) -> int:
-        near = [other for other in direct(stands_on, name) if layer_of(other) == layer_of(name)]
-        return 1 + max(map(column, near), default=-1)
-
-    return column
-
-
 def read_crates(root: Path = ROOT) -> list[Crate]:
     """The crates, lowest first."""
     stands_on = read_lines((root / "crates.txt").read_text(encoding="utf-8"))
-    column = columns(stands_on)
     crates = []
     for name, below in stands_on.items():
         taken = families([other for other in below if other not in stands_on])
-        crates.append(Crate(name, layer_of(name), column(name), tuple(direct(stands_on, name)), tuple(taken)))
+        crates.append(Crate(name, layer_of(name), tuple(direct(stands_on, name)), tuple(taken)))
     return crates
 
 

@@ -1,6 +1,7 @@
 """docs/crates.svg: crates.txt and the layers, laid out by Graphviz; and what such a picture shows."""
 
 import subprocess
+import sys
 import textwrap
 from pathlib import Path
 from xml.etree import ElementTree
@@ -76,3 +77,10 @@ def wanted() -> tuple[dict[str, list[str]], set[tuple[str, str]]]:
     crates = read_crates()
     named = {crate.name: [f"layer{crate.layer}", *crate.taken] for crate in crates}
     return named, {(crate.name, other) for crate in crates for other in crate.below}
+
+
+if __name__ == "__main__":
+    try:
+        PICTURE.write_bytes(svg())
+    except FileNotFoundError:
+        sys.exit("tools/crates-picture: no dot, which Debian's graphviz has")

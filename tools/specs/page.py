@@ -1,4 +1,4 @@
-"""docs/DEFINITIONS.md, as the comments of specs/ have it."""
+"""docs/DEFINITIONS.md, as the comments of specs/ have it, which tools/definitions writes."""
 
 import re
 from pathlib import Path
@@ -81,3 +81,7 @@ def text(root: Path = ROOT) -> str:
         if told:
             lines += [f"## {name}", "", *told]
     return "\n".join([INTRODUCTION, *lines[:-1], ""])
+
+
+if __name__ == "__main__":
+    PAGE.write_text(text(), encoding="utf-8")

@@ -1,1 +1,0 @@
-"""The commands of this folder, a module for each: `tools/NAME` starts it."""

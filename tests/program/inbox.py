@@ -29,6 +29,7 @@ from tests.program.messages import AGREED
 from tests.program.packed_feeds import packed
 from tests.program.room import SECONDS, Group, Ran, Room
 from tests.program.serving import StandIn, free_port, serving, standing_in
+from tests.program.written_cases import TESTS, read_file, unescaped
 from tests.running import Outcome
 
 UNREAD_XML = b"<ONIXMessage release='2.1'/>"
@@ -426,42 +427,12 @@ def two_at_once(room: Room) -> Iterator[Outcome]:
         yield Outcome("inbox: three at once, the desk", desk.ended(), desk.wanted(["200"] * count))
 
 
-BAD_SETTINGS = {
-    "NUMBR=next": "1: no line of the form NAME=VALUE, NAME being one of DESK, WORDS, NUMBER, SENDER,"
-    " UNCHANGED_SECONDS, CONVERSION_SECONDS, STATE_BYTES",
-    "# words\n\nnext": "3: no line of the form NAME=VALUE, NAME being one of DESK, WORDS, NUMBER, SENDER,"
-    " UNCHANGED_SECONDS, CONVERSION_SECONDS, STATE_BYTES",
-    "NUMBER=Next": "1: NUMBER is own or next",
-    "NUMBER=own\nNUMBER=own": "2: NUMBER is there twice",
-    "DESK=https://127.0.0.1:8080": "1: DESK is http://HOST:PORT",
-    "DESK=http://127.0.0.1": "1: DESK is http://HOST:PORT",
-    "DESK=http://127.0.0.1:8080/desk": "1: DESK is http://HOST:PORT",
-    "WORDS=-o out": "1: -o is no word of WORDS: the inbox gives it, or leaves it out",
-    "WORDS=--number=5": "1: --number=5 is no word of WORDS: the inbox gives it, or leaves it out",
-    "WORDS='--parts": "1: No closing quotation",
-    "WORDS=/etc/passwd": "1: /etc/passwd is no word of WORDS: the inbox gives it, or leaves it out",
-    "WORDS=--parts 4 feed.xml": "1: feed.xml is no word of WORDS: the inbox gives it, or leaves it out",
-    "WORDS=--parts=4 -": "1: - is no word of WORDS: the inbox gives it, or leaves it out",
-    "WORDS=-- x": "1: -- is no word of WORDS: the inbox gives it, or leaves it out",
-    "WORDS=--parts 4 # four": "1: a remark has a line of its own, which begins with #",
-    "SENDER=4012345000009": "1: SENDER is TYPE,VALUE with a TYPE of two digits, or any",
-    "SENDER=06,4012345000009 # North": "1: a remark has a line of its own, which begins with #",
-    "SENDER=": "1: SENDER is TYPE,VALUE with a TYPE of two digits, or any",
-    "DESK=http://127.0.0.1:8080": " SENDER is missing: the sender that messages must have, or any",
-    "UNCHANGED_SECONDS=1.5": "1: seconds are one to six digits",
-    "CONVERSION_SECONDS=0": "1: in no second nothing is done",
-    "STATE_BYTES=10G": "1: bytes are one to fifteen digits, the first of them not 0",
-    "STATE_BYTES=0": "1: bytes are one to fifteen digits, the first of them not 0",
-    "SENDER=any\nWORDS=--number-offset 3\nNUMBER=next": " NUMBER=next and --number-offset do not go together",
-}
-
-
 def bad_settings(room: Room) -> Iterator[Outcome]:
     inbox = Inbox(room, 1)
-    for text, why in BAD_SETTINGS.items():
-        room.write("settings.conf", text.encode())
-        wanted = said(f"settings.conf:{why}", status=2)
-        yield Outcome(f"inbox: the settings {text!r}", (inbox.run(), inbox.state.exists()), (wanted, False))
+    for settings, why, _ in read_file(TESTS / "refusals/settings.txt"):
+        room.write("settings.conf", unescaped(settings))
+        wanted = said(f"settings.conf:{why}".rstrip("\n"), status=2)
+        yield Outcome(f"inbox: the settings {settings}", (inbox.run(), inbox.state.exists()), (wanted, False))
     room.path("settings.conf").unlink()
     wanted = said("settings.conf: No such file or directory", status=2)
     yield Outcome("inbox: no settings", inbox.run(), wanted)

@@ -29,31 +29,6 @@ FILES = {
 # What is proved: the program's crates, without their wrong bodies and without what was built of them.
 PROVED = ["HANDLES", "crates.txt", "crates/high/specs/High.antt", "crates/low/src/lib.rt", SOURCE]
 
-# `rt ci` ends as the file `fails` says, waits for the file `go` where there is one `waits`, and makes a program that
-# writes its words and its input and ends with status 1. `rt try` writes its words, the rules and its input, and then
-# what the file `said` has.
-RT = """\
-#!/bin/sh
-echo "rt $*" >>"$ROOM/calls"
-case $1 in
-    version) echo "a toolchain" ;;
-    ci)
-        find * -type f | LC_ALL=C sort >"$ROOM/proved"
-        echo "rt: low proved"
-        [ -e "$ROOM/fails" ] && { echo "$PWD/crates/low/src/lib.rt: a goal is left"; exit 1; }
-        while [ -e "$ROOM/waits" ]; do sleep 0.1; done
-        mkdir crates/onixdesk/out
-        printf '#!/bin/sh\\necho "ran $*"\\ncat\\nexit 1\\n' >crates/onixdesk/out/onixdesk
-        chmod +x crates/onixdesk/out/onixdesk ;;
-    try)
-        [ "$2" = --data ] && cat "${3#rules.toml=}" && shift 3 && set -- try "$@"
-        echo "in ${PWD#"$ROOM/"}: $*"
-        cat
-        cat "$ROOM/said" >&2
-        exit "$(cat "$ROOM/status")" ;;
-esac
-"""
-
 # What `rt try` says of a program that has ended: the program's line, and two of its own.
 SAID = "onixdesk: a line of the program\ninterpreter: no-answer: a call\nrun=ended status=0 runners=1 proved=no\n"
 
@@ -92,11 +67,11 @@ def lay_out(room: Room) -> None:
     """Makes the repository in the room."""
     for name in ("tools", "bin"):
         shutil.copytree(ROOT / name, room.path(name))
-    files = {**FILES, "tools/rt": RT, "said": SAID, "status": "0"}
+    files = {**FILES, "said": SAID, "status": "0"}
     for name, text in files.items():
         room.path(name).parent.mkdir(parents=True, exist_ok=True)
         room.path(name).write_text(text)
-    room.path("tools/rt").chmod(0o755)
+    shutil.copy(ROOT / "tests/launcher/rt", room.path("tools/rt"))
     room.path("tmp").mkdir()
 
 

@@ -5,10 +5,11 @@ from functools import partial
 
 from tests.postgres.cluster import Cluster
 from tests.postgres import questions, replicas, schemas, steps
+from tests.program import checks_of
 from tests.program.room import Group, Room
 from tests.running import Outcome
 
-MODULES = [steps, questions, schemas, replicas]
+MODULES = [steps, schemas, replicas]
 
 
 class OverCluster(Group):
@@ -25,4 +26,7 @@ class OverCluster(Group):
 
 
 def groups() -> list[OverCluster]:
-    return [OverCluster(module.__name__, name, check) for module in MODULES for name, check in module.GROUPS]
+    """One for each function over the cluster and a room, and one for each seed of questions."""
+    checks = [(module, *each) for module in MODULES for each in checks_of(module, Cluster, Room)]
+    checks += [(questions, *each) for each in questions.GROUPS]
+    return [OverCluster(module.__name__, name, check) for module, name, check in checks]

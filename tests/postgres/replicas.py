@@ -44,6 +44,3 @@ def of_a_desk(cluster: Cluster, room: Room) -> Iterator[Outcome]:
         yield Outcome("replica: answers", differences(room, replica, questions)[:2], [])
         state = state_of(partial(execute, replica, "DELETE FROM desk.price"))
         yield Outcome("replica: nobody writes there", state, "25006")
-
-
-GROUPS = [("a replica", of_a_desk)]

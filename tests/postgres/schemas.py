@@ -154,13 +154,3 @@ def moment(cluster: Cluster, room: Room) -> Iterator[Outcome]:
         room.write("rules.toml", text)
         follow(room, database, "--rules", "rules.toml")
         yield Outcome(f"chosen by {text!r}", [series for series, _ in ask(database, choice)], wanted)
-
-
-GROUPS = [
-    ("schemas of others", of_others),
-    ("elsewhere", elsewhere),
-    ("depended on", depended_on),
-    ("readers' role", role_of_readers),
-    ("faults", faults),
-    ("the moment", moment),
-]

@@ -189,12 +189,3 @@ def several_series(cluster: Cluster, room: Room) -> Iterator[Outcome]:
     ran = follow(room, database, "--compare")
     line = b"desk-follow: price: 29 rows, which are not those in the database\n"
     yield Outcome("a changed price is told", (ran.status, ran.errors), (1, line))
-
-
-GROUPS = [
-    ("killed", killed_all_along),
-    ("two at once", two_at_once),
-    ("readers", readers),
-    ("a snapshot of before", snapshot_of_before),
-    ("several series", several_series),
-]

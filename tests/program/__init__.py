@@ -10,7 +10,7 @@ those that take more. Groups run side by side.
 import importlib
 import inspect
 import pkgutil
-from collections.abc import Iterator
+from collections.abc import Callable, Iterator
 from typing import Any
 
 from tests.program.room import Group, Room
@@ -20,17 +20,18 @@ from tests.running import Cases, Outcome
 FIRST = ["clients", "exchanges", "feed_examples", "hostile_feeds", "mutated_feeds"]
 
 
-def over_a_room(check: Any, module: Any) -> bool:
-    """Whether that is a function of the module that gives cases over a room alone."""
-    if not inspect.isfunction(check) or check.__module__ != module.__name__:
-        return False
-    return [*check.__annotations__.values()] == [Room, Iterator[Outcome]]
+def checks_of(module: Any, *over: type) -> list[tuple[str, Callable[..., Iterator[Outcome]]]]:
+    """The functions of a module that give cases over values of just these types, each by its name in words."""
+    return [
+        (name.replace("_", " "), check)
+        for name, check in vars(module).items()
+        if inspect.isfunction(check) and check.__module__ == module.__name__
+        and [*check.__annotations__.values()] == [*over, Iterator[Outcome]]
+    ]
 
 
 def groups_of(module: Any) -> list[Cases]:
-    """The groups of a module, each function's by its name in words."""
-    checks = [check for check in vars(module).values() if over_a_room(check, module)]
-    return [*getattr(module, "GROUPS", []), *(Group(check.__name__.replace("_", " "), check) for check in checks)]
+    return [*getattr(module, "GROUPS", []), *(Group(name, check) for name, check in checks_of(module, Room))]
 
 
 def groups() -> list[Cases]:

@@ -19,7 +19,7 @@ MAY_IMPORT: dict[str, set[str]] = {
     "lib/onixdesk_inbox": {"command_lines"},
     "lib/desk_metrics": {"command_lines", "onixdesk_inbox"},
     "tools": set(),
-    "bench": {"desk_copy", "desk_follow", "psycopg2", "tools"},
+    "bench": {"tools"},
     # The tests of the page drive a browser.
     "tests": {
         "bench", "command_lines", "desk_copy", "desk_follow", "desk_metrics", "desk_restore", "onixdesk_inbox", "psycopg2",

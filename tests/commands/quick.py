@@ -1,21 +1,24 @@
-"""Tries what needs no proof, from nothing and in minutes: the lints; each batch of tests/batches, each conversion of
-tests/conversions and the samples of tests/feeds, by one build of the program without any proof; and the tests of the
-crates that stand on no database.
+"""Tries what needs no proof, from nothing and in minutes: the lints; the tests of the crates that stand on no database;
+and, by one build of the program without any proof, each batch of tests/batches over a desk in memory, the longest of
+each file there over one in a database file, each conversion of tests/conversions and the samples of tests/feeds.
 
     tests/quick
 
-For each part a line says how long it took, and for each case that failed there is one. The last line is
+What needs no program is tried while it is built, side by side where there are processors for it. For each part a line
+says when it began and ended, and for each case that failed there is one. The last line is
 `quick: N cases, M failed`. Status 0; 1 where a case failed; 2 where there is no toolchain.
 
 The program that it built is left as crates/onixdesk/out/onixdesk.unproved, which tests/run takes as PROGRAM.
 """
 
+import os
 import shutil
 import subprocess
 import sys
 import tempfile
+import threading
 import time
-from collections.abc import Callable, Iterator
+from collections.abc import Callable, Iterator, Sequence
 from functools import partial
 from pathlib import Path
 
@@ -26,6 +29,7 @@ from tests.unproved import ENDED, build, run_try
 from tools.root import ROOT
 
 CRATE = "onixdesk"
+BUILT = PROGRAM.with_name(f"{PROGRAM.name}.unproved")
 
 # With the name of a file the program reads it, and needs nothing else.
 READING = ["convert"]
@@ -36,8 +40,13 @@ TESTS_OF_FEEDS = "feed_tests"
 # A crate that stands on one of these libraries takes minutes to be built.
 DATABASE = "sqlite"
 
+# A crate that is built takes a processor, and up to 2 GB.
+MOST = 4
 
-class Part(Cases):
+BEGAN = time.monotonic()
+
+
+class Step(Cases):
     """Cases that are tried one after the other."""
 
     def __init__(self, name: str, check: Callable[[], Iterator[Outcome]]) -> None:
@@ -48,11 +57,33 @@ class Part(Cases):
         yield from self.check()
 
 
-def timed(name: str, outcomes: Iterator[Outcome]) -> Iterator[Outcome]:
-    """These cases, after which a line says how long they took."""
-    begun = time.monotonic()
-    yield from outcomes
-    print(f"quick: {name}: {time.monotonic() - begun:.0f} s", flush=True)
+class Part:
+    """Groups that are tried side by side, after all of another part; if that built no program, none is tried."""
+
+    def __init__(self, name: str, groups: Sequence[Cases], after: "Part | None" = None) -> None:
+        self.name = name
+        self.groups = groups
+        self.after = after
+        self.began = 0.0
+        self.left = len(groups)
+        self.lock = threading.Lock()
+        self.ended = threading.Event()
+
+    def run(self, group: Cases) -> Counted:
+        if self.after:
+            self.after.ended.wait()
+        with self.lock:
+            self.began = self.began or time.monotonic()
+        counted = count_all([group] if not self.after or BUILT.is_file() else [])
+        with self.lock:
+            self.left -= 1
+            if self.left == 0:
+                print(f"quick: {self.name}: {self.began - BEGAN:.0f} to {time.monotonic() - BEGAN:.0f} s", flush=True)
+                self.ended.set()
+        return counted
+
+    def lanes(self) -> list[Callable[[], Counted]]:
+        return [partial(self.run, group) for group in self.groups]
 
 
 def lints() -> Iterator[Outcome]:
@@ -61,24 +92,12 @@ def lints() -> Iterator[Outcome]:
 
 def build_program() -> Iterator[Outcome]:
     """Builds the program, without any proof, which the groups of tests/program run from then on."""
-    to = PROGRAM.with_name(f"{PROGRAM.name}.unproved")
-    to.parent.mkdir(exist_ok=True)
+    Group.program = BUILT
+    BUILT.parent.mkdir(exist_ok=True)
+    BUILT.unlink(missing_ok=True)
     with tempfile.TemporaryDirectory(prefix="onixdesk-") as folder:
-        build(CRATE, READING, to, Path(folder))
-    Group.program = to
-    yield Outcome("the program is built", to.is_file(), True)
-
-
-def cases_of(groups: list[Cases]) -> Iterator[Outcome]:
-    for group in groups:
-        yield from group.outcomes()
-
-
-def program() -> Iterator[Outcome]:
-    """One build, and what it answers. If there is no program, nothing is run."""
-    yield from timed("the build of the program", build_program())
-    yield from timed("the batches", cases_of(groups_of(batches)))
-    yield from timed("the conversions", cases_of([*groups_of(convert_cases), *groups_of(sample_feeds)]))
+        build(CRATE, READING, BUILT, Path(folder))
+    yield Outcome("the program is built", BUILT.is_file(), True)
 
 
 def tests_of_feeds() -> Iterator[Outcome]:
@@ -105,25 +124,34 @@ def with_tests(crate: str) -> bool:
     return any("#[test]" in path.read_text(encoding="utf-8") for path in sources)
 
 
-def tests_of_crates() -> Iterator[Outcome]:
-    yield from tests_of_feeds()
-    for crate in filter(with_tests, without_database()):
-        done = run_try(crate, "--test")
-        yield Outcome(f"the tests of {crate}", (done.returncode, done.stderr if done.returncode else b""), (0, b""))
+def tests_of(crate: str) -> Iterator[Outcome]:
+    done = run_try(crate, "--test")
+    yield Outcome(f"the tests of {crate}", (done.returncode, done.stderr if done.returncode else b""), (0, b""))
 
 
-def sources() -> Iterator[Outcome]:
-    yield from timed("the lints", lints())
-    yield from timed("the tests of crates", tests_of_crates())
+def parts() -> list[Part]:
+    """What takes longest begins first, and what needs the program comes last."""
+    crates = [Step(crate, partial(tests_of, crate)) for crate in without_database() if with_tests(crate)]
+    # A desk in a file takes two seconds to be opened, since this program has its checks and no optimizations.
+    longest = [max(cases, key=lambda case: len(case.batch)) for cases in batches.FILES]
+    in_turn = batches.groups(batches.in_a_file, longest) + batches.groups(batches.in_memory, batches.CASES)
+    program = Part("the build of the program", [Step(CRATE, build_program)])
+    return [
+        program,
+        Part("the lints", [Step("lints", lints)]),
+        Part("the tests of crates", [Step(TESTS_OF_FEEDS, tests_of_feeds), *crates]),
+        Part("the samples", groups_of(sample_feeds), program),
+        Part("the batches", in_turn, program),
+        Part("the conversions", groups_of(convert_cases), program),
+    ]
 
 
 def main() -> int:
     if not shutil.which("rt"):
         print("tests/quick: the Rattle toolchain's command 'rt' is not on the PATH", file=sys.stderr)
         return 2
-    parts = [Part("the program", program), Part("the sources", sources)]
-    lanes: list[Callable[[], Counted]] = [partial(count_all, [part]) for part in parts]
-    return run_side_by_side("quick", lanes)
+    lanes = [lane for part in parts() for lane in part.lanes()]
+    return run_side_by_side("quick", lanes, min(MOST, max(2, len(os.sched_getaffinity(0)))))
 
 
 if __name__ == "__main__":

@@ -4,7 +4,7 @@ They stand in tests/batches (`written_cases`): the text of a case is the batch, 
 Before its batch a case may have the text of a rules file, and then a part `batch`. Those in escaped.txt have escapes.
 """
 
-from collections.abc import Iterator
+from collections.abc import Callable, Iterator
 from functools import partial
 from pathlib import Path
 from typing import NamedTuple
@@ -25,6 +25,9 @@ class Case(NamedTuple):
     rules: bytes | None = None
 
 
+Check = Callable[[Case, Room], Iterator[Outcome]]
+
+
 def case_of(path: Path, written: Written) -> Case:
     head, answers = written.parts[-1]
     texts = [written.text, *(text for _, text in written.parts[:-1])]
@@ -33,18 +36,30 @@ def case_of(path: Path, written: Written) -> Case:
     return Case(written.name, batch, status, answers.encode(), *rules)
 
 
-def check(case: Case, room: Room) -> Iterator[Outcome]:
-    words = []
-    if case.rules is not None:
-        room.write("rules.toml", case.rules)
-        words = ["--rules", "rules.toml"]
-    wanted = Ran(case.status, case.answers)
-    came = room.run(*words, "batch", given=case.batch)
-    yield Outcome(f"in memory: {case.name}", came, wanted)
-    came = room.run("--db", DATABASE, *words, "batch", given=case.batch)
-    yield Outcome(f"in a file: {case.name}", (came, complaints(room)), (wanted, []))
+def words(case: Case, room: Room) -> list[str]:
+    """The words for its rules."""
+    if case.rules is None:
+        return []
+    room.write("rules.toml", case.rules)
+    return ["--rules", "rules.toml"]
 
 
-CASES = [case_of(path, each) for path in sorted(FOLDER.glob("*.txt")) for each in read_file(path)]
+def in_memory(case: Case, room: Room) -> Iterator[Outcome]:
+    came = room.run(*words(case, room), "batch", given=case.batch)
+    yield Outcome(f"in memory: {case.name}", came, Ran(case.status, case.answers))
 
-GROUPS = [Group(case.name, partial(check, case)) for case in CASES]
+
+def in_a_file(case: Case, room: Room) -> Iterator[Outcome]:
+    came = room.run("--db", DATABASE, *words(case, room), "batch", given=case.batch)
+    yield Outcome(f"in a file: {case.name}", (came, complaints(room)), (Ran(case.status, case.answers), []))
+
+
+def groups(check: Check, cases: list[Case]) -> list[Group]:
+    return [Group(case.name, partial(check, case)) for case in cases]
+
+
+# The cases of each file.
+FILES = [[case_of(path, each) for each in read_file(path)] for path in sorted(FOLDER.glob("*.txt"))]
+CASES = [case for cases in FILES for case in cases]
+
+GROUPS = [*groups(in_memory, CASES), *groups(in_a_file, CASES)]

@@ -10,7 +10,7 @@ build: ## proves and builds the program, crates/onixdesk/out/onixdesk
 	@tools/build
 
 # From nothing. The last line is 'quick: N cases, M failed'.
-quick: ## in minutes and without any proof: the lints, all batches and conversions, the tests of crates
+quick: ## in minutes and without any proof: the lints, all batches and conversions, the tests of the feeds' crates
 	@tests/quick
 
 # Every proof, the edits that the prover must refuse, the tests of the libraries, and the program as two compilers

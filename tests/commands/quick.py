@@ -1,5 +1,5 @@
-"""Tries what needs no proof, from nothing and in minutes: the lints; the tests of the crates that stand on no database;
-and, by one build of the program without any proof, each batch of tests/batches over a desk in memory, the longest of
+"""Tries what needs no proof, from nothing and in minutes: the lints; the tests of the crates of feeds (feed_tests); and,
+by one build of the program without any proof, each batch of tests/batches over a desk in memory, the longest of
 each file there over one in a database file, each conversion of tests/conversions and the samples of tests/feeds.
 
     tests/quick
@@ -37,10 +37,7 @@ READING = ["convert"]
 # A program that tests crates by the parts of the file beside it.
 TESTS_OF_FEEDS = "feed_tests"
 
-# A crate that stands on one of these libraries takes minutes to be built.
-DATABASE = "sqlite"
-
-# A crate that is built takes a processor, and up to 2 GB.
+# A program that is built takes a processor, and up to 2 GB.
 MOST = 4
 
 BEGAN = time.monotonic()
@@ -108,30 +105,8 @@ def tests_of_feeds() -> Iterator[Outcome]:
     yield Outcome(TESTS_OF_FEEDS, came, (0, True, (folder / "stdout").read_bytes()))
 
 
-def without_database() -> list[str]:
-    """The crates that do not stand on a database, in their order."""
-    found: list[str] = []
-    for line in (ROOT / "crates.txt").read_text(encoding="utf-8").splitlines():
-        name, _, libraries = line.partition("#")[0].partition(":")
-        ours = {each for each in libraries.split() if (ROOT / "crates" / each).is_dir()}
-        if name and DATABASE not in libraries and ours <= {*found}:
-            found.append(name.split()[0])
-    return found
-
-
-def with_tests(crate: str) -> bool:
-    sources = ROOT.glob(f"crates/{crate}/src/**/*.rt")
-    return any("#[test]" in path.read_text(encoding="utf-8") for path in sources)
-
-
-def tests_of(crate: str) -> Iterator[Outcome]:
-    done = run_try(crate, "--test")
-    yield Outcome(f"the tests of {crate}", (done.returncode, done.stderr if done.returncode else b""), (0, b""))
-
-
 def parts() -> list[Part]:
     """What takes longest begins first, and what needs the program comes last."""
-    crates = [Step(crate, partial(tests_of, crate)) for crate in without_database() if with_tests(crate)]
     # A desk in a file takes two seconds to be opened, since this program has its checks and no optimizations.
     longest = [max(cases, key=lambda case: len(case.batch)) for cases in batches.FILES]
     in_turn = batches.groups(batches.in_a_file, longest) + batches.groups(batches.in_memory, batches.CASES)
@@ -139,7 +114,7 @@ def parts() -> list[Part]:
     return [
         program,
         Part("the lints", [Step("lints", lints)]),
-        Part("the tests of crates", [Step(TESTS_OF_FEEDS, tests_of_feeds), *crates]),
+        Part("the tests of feeds", [Step(TESTS_OF_FEEDS, tests_of_feeds)]),
         Part("the samples", groups_of(sample_feeds), program),
         Part("the batches", in_turn, program),
         Part("the conversions", groups_of(convert_cases), program),

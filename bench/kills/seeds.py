@@ -1,5 +1,6 @@
 """Seeded desks and questions: few articles, many offers and prices that cover one another, all kinds of texts."""
 
+from pathlib import Path
 from random import Random
 
 COUNTRIES = ["GB", "IE", "FR"]
@@ -11,27 +12,7 @@ SERIES = {"north": "4012345000009", "south": 'S,"1"', "west-2": "\\N", "0": "本
 REFERENCES = ["R1", "R2", "a,b", 'say "hi"', "\\.", "\\N", "null", " spaced ", "Bücher", "本屋 𝄞", "'; --", "%s"]
 FIRST = {"north": 1, "south": 7, "west-2": 999_999_970, "0": 1}
 
-# Earlier rules admit dearer offers than later ones.
-RULES = """\
-[[rule]]
-series = "south"
-codes = ["20", "31"]
-max = "12.990"
-[[rule]]
-series = "*"
-codes = ["21"]
-[[rule]]
-series = "west-2"
-codes = ["10", "20", "21", "31"]
-max = "13"
-[[rule]]
-series = "*"
-codes = ["10", "20"]
-max = "7.5"
-[[rule]]
-series = "*"
-codes = ["31", "20", "10"]
-"""
+RULES = Path(__file__).with_name("rules.toml").read_text(encoding="utf-8")
 
 # The days are those around the turn of a year, and the first and the last ones.
 DAYS = ([f"2024123{day}" for day in (0, 1)] + [f"2025010{day}" for day in range(1, 8)] + ["00010101", "99991231"])

@@ -19,33 +19,7 @@ UNITS = {
 }
 
 # What none of them needs, by the names that systemd.exec(5) and systemd.resource-control(5) have for it.
-FORBIDDEN = """
-CapabilityBoundingSet=
-Environment=HOME=/nonexistent
-IPAddressAllow=localhost
-IPAddressDeny=any
-LockPersonality=yes
-MemoryDenyWriteExecute=yes
-NoNewPrivileges=yes
-PrivateDevices=yes
-PrivateTmp=yes
-ProtectClock=yes
-ProtectControlGroups=yes
-ProtectHome=yes
-ProtectHostname=yes
-ProtectKernelLogs=yes
-ProtectKernelModules=yes
-ProtectKernelTunables=yes
-ProtectProc=invisible
-ProtectSystem=strict
-RestrictNamespaces=yes
-RestrictRealtime=yes
-RestrictSUIDSGID=yes
-SystemCallArchitectures=native
-SystemCallFilter=@system-service
-SystemCallFilter=~@privileged @resources
-UMask=0077
-""".split("\n")[1:-1]
+FORBIDDEN = ROOT.joinpath("tests/units/forbidden.conf").read_text(encoding="utf-8").splitlines()
 
 # How each reaches others: the desk has a socket of the file system beside its port.
 FAMILIES = {"the desk": "AF_INET AF_UNIX", "an inbox": "AF_INET", "the metrics": "AF_INET"}

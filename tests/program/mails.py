@@ -1,6 +1,7 @@
 """What the mails say of the units, with a journal and a mail server that stand in, and the lines that `serve` is left
 in the journal."""
 
+import shutil
 import signal
 import subprocess
 from collections.abc import Iterator
@@ -13,30 +14,12 @@ from tools.root import ROOT
 MAIL = ROOT / "examples/mail/mail.sh"
 SERVE = ROOT / "examples/serve.sh"
 
-# A journal of lines `PRIORITY TEXT`, whose cursors are their numbers, asked as systemd 252 is.
-JOURNAL = """\
-first=1 most=7 skips=0 shows=0
-for word; do
-    case $word in
-    --cursor=*) first=${word#*=} ;;
-    --after-cursor=*) first=${word#*=} skips=1 ;;
-    --priority=err) most=3 ;;
-    --show-cursor) shows=1 ;;
-    esac
-done
-echo "$*" >>"$ROOM/calls"
-awk -v first="$first" -v most="$most" -v skips="$skips" -v shows="$shows" '
-    NR < first || $1 > most { next }
-    !skips { print substr($0, 3) }
-    { skips = 0; last = NR }
-    END { if (shows && last) print "-- cursor: " last }' "$ROOM/journal\""""
-
 
 def make_room(room: Room) -> None:
     room.path("state").mkdir(exist_ok=True)
     room.path("bin").mkdir(exist_ok=True)
     room.write("journal", b"")
-    script(room, "bin/journalctl", JOURNAL)
+    shutil.copy(ROOT / "tests/mails/journalctl", room.path("bin"))
     make_server(room)
 
 

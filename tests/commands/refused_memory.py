@@ -2,14 +2,16 @@
 calendars, exchanges and waivers over the desk in memory and over tables, to forty messages that are applied at once,
 over files with the rows of their tables, and to a migration.
 
-    tests/refused-memory [PROGRAM]
+    tests/refused-memory [-k TEXT] [PROGRAM]
+    bench/refused_memory [-k TEXT] [PROGRAM]
 
 PROGRAM is that of the tests of the libraries, crates/library_tests/out/library_tests_tests where none is
-named, and is then refused where a source has changed since it was built. The last line is
+named, and is then refused where a source has changed since it was built. The second tries what takes too long for
+the gate. With -k only the tests are tried that have the text in their names. The last line is
 `memory: N requests refused, M runs failed`. Status 0; 1 where a run failed; 2 where there is no such program.
-bench/refused_memory has the longer tests.
 """
 
+import argparse
 import os
 import sys
 from pathlib import Path
@@ -37,16 +39,38 @@ SWEEPS = [
 ]
 
 
-def main(words: list[str]) -> int:
-    program = Path(words[0] if words else PROGRAM).resolve()
+# Each run to the end of its list. The longer ones by every so many requests, so that they end in minutes.
+LONGER = [
+    Sweep(MEMORY, "questions"),
+    Sweep(MEMORY, "exchanges"),
+    Sweep(MEMORY, "drain"),
+    Sweep(TABLES, "steps", step=3),
+    Sweep(TABLES, "questions", step=3),
+    Sweep(TABLES, "exchanges", step=7),
+    Sweep(TABLES, "drain", step=31),
+    Sweep("stores::desks::desk_in_files", "steps", step=499),
+    Sweep("stores::desks::desk_in_files", "drain", step=97),
+    Sweep(FILES, "calls", step=29),
+    Sweep(FILES, "refused", step=101),
+    Sweep(FILES, "versions", step=101),
+]
+
+
+def main() -> int:
+    parser = argparse.ArgumentParser(description=__doc__, formatter_class=argparse.RawDescriptionHelpFormatter)
+    parser.add_argument("--longer", action="store_true", help=argparse.SUPPRESS)
+    parser.add_argument("-k", metavar="TEXT", default="", dest="text")
+    parser.add_argument("program", metavar="PROGRAM", type=Path, nargs="?")
+    given = parser.parse_args()
+    program = (given.program or PROGRAM).resolve()
     if not os.access(program, os.X_OK):
         print(f"tests/refused-memory: no program {program}; make test builds it", file=sys.stderr)
         return 2
-    if not words and is_stale(program):
+    if not given.program and is_stale(program):
         print(f"tests/refused-memory: a source has changed since {program} was built", file=sys.stderr)
         return 2
-    return report(program, SWEEPS)
+    return report(program, [sweep for sweep in (LONGER if given.longer else SWEEPS) if given.text in sweep.name()])
 
 
 if __name__ == "__main__":
-    sys.exit(main(sys.argv[1:]))
+    sys.exit(main())

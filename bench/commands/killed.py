@@ -17,7 +17,7 @@ from collections import Counter
 from pathlib import Path
 from random import Random
 
-from bench.figures.program import proved_program
+from bench.figures.desk import proved_program
 from bench.kills.desk import Desk, KillFault
 from bench.kills.portions import portion
 from bench.kills.requests import Maker

@@ -12,8 +12,7 @@ import tempfile
 from pathlib import Path
 
 from bench.figures import counted, in_files, in_memory
-from bench.figures.desk import Desk
-from bench.figures.program import proved_program
+from bench.figures.desk import Desk, proved_program
 from bench.figures.runs import BenchmarkFault
 
 FIGURES = {

@@ -13,9 +13,8 @@ import sys
 from pathlib import Path
 
 from bench.figures import sizes, tools
-from bench.figures.desk import Desk
+from bench.figures.desk import Desk, proved_program
 from bench.figures.growing import Growing, planned
-from bench.figures.program import proved_program
 from bench.figures.runs import BenchmarkFault
 
 

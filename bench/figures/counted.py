@@ -4,8 +4,7 @@ from collections.abc import Iterator
 
 from bench.figures import in_files, in_memory, tools
 from bench.figures.desk import Desk
-from bench.figures.figure import Figure
-from bench.figures.runs import Run, instructions_of
+from bench.figures.runs import Figure, Run, instructions_of
 
 UNIT = "thousand instructions"
 

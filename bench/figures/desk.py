@@ -1,13 +1,21 @@
 """The program as it is measured: its batches over a database file or over a desk in memory."""
 
+import subprocess
 from collections.abc import Iterable
 from pathlib import Path
 
 from bench.figures.runs import NOTHING, Run, beyond, usage_of
+from tools.root import ROOT
 from tools.words import Word
 
 # Of a batch that has a refusal among its answers.
 REFUSED = 1
+
+
+def proved_program() -> Path:
+    """The proved program, built where it must be."""
+    subprocess.run([ROOT / "tools/build"], check=True)
+    return ROOT / "crates/onixdesk/out/onixdesk"
 
 
 class Desk:

@@ -12,8 +12,7 @@ from typing import NamedTuple
 
 from bench.figures import texts, tools
 from bench.figures.desk import Desk
-from bench.figures.figure import Figure
-from bench.figures.runs import BenchmarkFault, Run, beyond, least, least_of_each, usage_of
+from bench.figures.runs import BenchmarkFault, Figure, Run, beyond, least, least_of_each, usage_of
 from tools.words import Row, Word
 
 TABLES = ("series", "record", "article", "offer", "price", "price_minimum", "applied")

@@ -6,8 +6,7 @@ from pathlib import Path
 
 from bench.figures import texts, tools
 from bench.figures.desk import REFUSED, Desk
-from bench.figures.figure import Figure
-from bench.figures.runs import BenchmarkFault, Run, beyond, kilobytes_of, least_of_each, usage_of
+from bench.figures.runs import BenchmarkFault, Figure, Run, beyond, kilobytes_of, least_of_each, usage_of
 
 # How often the answer to a catalogue question is written.
 ANSWERS = 40

@@ -1,4 +1,4 @@
-"""Runs of programs, and what a run took of the processor and of memory."""
+"""Runs of programs, what a run took of the processor and of memory, and figures: what is set to what."""
 
 import os
 import resource
@@ -19,6 +19,29 @@ COLLECTED = r"Collected : (\d+)"
 
 class BenchmarkFault(Exception):
     """A run that did not do what is measured."""
+
+
+class Figure(NamedTuple):
+    """What is set to what, both in the unit, and its two measures."""
+
+    words: str
+    one: int
+    other: int
+    unit: str = "microseconds"
+
+    def line(self) -> str:
+        """The words, the ratio, and what it was made of."""
+        return f"{self.words}: {self.one / self.other:.2f} ({self.one:,} to {self.other:,} {self.unit})"
+
+
+class Taken(NamedTuple):
+    """Nanoseconds of the processor, the system's share included, and by the clock."""
+
+    processor: int
+    clock: int
+
+    def since(self, began: "Taken") -> "Taken":
+        return Taken(self.processor - began.processor, self.clock - began.clock)
 
 
 class Run(NamedTuple):

@@ -7,8 +7,7 @@ import time
 from collections.abc import Sequence
 from pathlib import Path
 
-from bench.figures.runs import BenchmarkFault
-from bench.figures.taken import Taken
+from bench.figures.runs import BenchmarkFault, Taken
 from tools.words import Word, sought
 
 HOST = "127.0.0.1"

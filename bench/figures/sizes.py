@@ -3,7 +3,8 @@
 from collections.abc import Iterator
 from typing import NamedTuple
 
-from bench.figures.figure import Figure
+from bench.figures.runs import Figure
+
 
 PROCESSOR = "nanoseconds of the processor"
 CLOCK = "nanoseconds by the clock"

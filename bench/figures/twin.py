@@ -7,8 +7,7 @@ from contextlib import closing
 from pathlib import Path
 
 from bench.figures import articles, tables
-from bench.figures.runs import BenchmarkFault
-from bench.figures.taken import Taken
+from bench.figures.runs import BenchmarkFault, Taken
 from tools.words import Row
 
 # As a desk keeps its own: a log that is synced at each commit, 2,000 pages in memory, foreign keys.

@@ -5,7 +5,6 @@ from typing import NamedTuple
 
 from bench.figures.runs import Figure
 
-
 PROCESSOR = "nanoseconds of the processor"
 CLOCK = "nanoseconds by the clock"
 

@@ -3,51 +3,10 @@
 from collections.abc import Iterator
 
 from tests.program.room import Ran, Room
+from tests.program.written_cases import TESTS, read_file
 from tests.running import Outcome
 
-# Name, words, status. With status 0 the program prints to standard output, else to standard error, and
-# in clap's words, not as a fault of its own.
-LINES = [
-    ("a database behind the command", "batch --db shop.db", 2),
-    ("a database without a name", "--db", 2),
-    ("a repeated database", "--db shop.db --db shop.db batch", 2),
-    ("no command", "", 2),
-    ("an unknown command", "frobnicate", 2),
-    ("a word too many", "batch first.csv", 2),
-    ("help", "--help", 0),
-    ("the version", "--version", 0),
-    ("help on a command", "batch --help", 0),
-    ("the command help", "help", 0),
-    ("the command help on a command", "help serve", 0),
-    ("the command help on an unknown command", "help frobnicate", 2),
-    ("help on deliver", "deliver --help", 0),
-    ("no file to deliver", "deliver", 2),
-    ("a word behind agreements", "--db shop.db agreements north", 2),
-    ("a word behind export", "--db shop.db export shop.csv", 2),
-    ("a word behind migrate", "--db shop.db migrate now", 2),
-    ("two series", "gaps north south", 2),
-    ("no rules file to read", "rules", 2),
-    ("two rules files to read", "rules first.toml second.toml", 2),
-    ("help on rules", "rules --help", 0),
-    ("no port", "serve --requests 1", 2),
-    ("port 0", "serve --port 0 --requests 1", 2),
-    ("port 65536", "serve --port 65536 --requests 1", 2),
-    ("a port that is a name", "serve --port http --requests 1", 2),
-    ("no requests", "serve --port 8080 --requests 0", 2),
-    ("1,000,001 requests", "serve --port 8080 --requests 1000001", 2),
-    ("no number behind --requests", "serve --port 8080 --requests", 2),
-    ("an existing database that is not named", "--existing batch", 2),
-    ("no database of a migration, existing", "--existing migrate", 2),
-    ("a database without a name, existing", "--existing --db", 2),
-    ("an existing database behind the command", "--db shop.db batch --existing", 2),
-    ("help with an existing database that is not there", "--db shop.db --existing --help", 0),
-    ("a rules file without a command", "--rules absent.toml", 2),
-    ("rules without a file", "--rules", 2),
-    ("a repeated rules file", "--rules absent.toml --rules absent.toml batch", 2),
-    ("a rules file after the command", "batch --rules absent.toml", 2),
-    ("an unknown command after a rules file that is not there", "--rules absent.toml frobnicate", 2),
-    ("help after a rules file that is not there", "--rules absent.toml --help", 0),
-]
+REFUSED, HELP = (case.text.split("\n") for case in read_file(TESTS / "refusals/commands.txt"))
 
 
 def seen(ran: Ran) -> dict[str, int | bool]:
@@ -62,10 +21,11 @@ def seen(ran: Ran) -> dict[str, int | bool]:
 
 
 def lines(room: Room) -> Iterator[Outcome]:
-    for name, words, status in LINES:
-        is_help = status == 0
-        wanted = {"status": status, "printed": is_help, "complained": not is_help, "in its own words": False}
-        yield Outcome(f"command line: {name}", seen(room.run(*words.split())), wanted)
+    """The program prints to standard output with status 0, else to standard error, and not as a fault of its own."""
+    for status, lines in (2, ["", *filter(None, REFUSED)]), (0, [*filter(None, HELP)]):
+        wanted = {"status": status, "printed": status == 0, "complained": status != 0, "in its own words": False}
+        for words in lines:
+            yield Outcome(f"command line: {words}", seen(room.run(*words.split())), wanted)
     # No database file was made.
     yield Outcome("command line: the folder then", list(room.folder.iterdir()), [])
 

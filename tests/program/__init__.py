@@ -17,7 +17,7 @@ from tests.program.room import Group, Room
 from tests.running import Cases, Outcome
 
 # Begun first: one of its clients is waited for.
-FIRST = ["clients", "exchanges", "feed_examples", "hostile_feeds", "mutated_feeds"]
+FIRST = ["clients", "exchanges", "examples", "hostile_feeds", "mutated_feeds"]
 
 
 def checks_of(module: Any, *over: type) -> list[tuple[str, Callable[..., Iterator[Outcome]]]]:

@@ -53,6 +53,24 @@ def week(room: Room) -> Iterator[Outcome]:
     yield Outcome("examples/shop/README.md: the week", came, Ran(1, written(answers)))
 
 
+# The week in XML: its commands, and what they write.
+OF_FEEDS = "examples/shop/onix/README.md"
+
+
+def like_the_repository(room: Room) -> None:
+    """The folder of the room with what the commands name, of which bin/onixdesk is the program that is tested."""
+    room.path("bin").mkdir()
+    room.path("bin/onixdesk").symlink_to(room.program)
+    room.path("examples").symlink_to(ROOT / "examples")
+
+
+def week_in_xml(room: Room) -> Iterator[Outcome]:
+    like_the_repository(room)
+    for command, *lines in blocks(OF_FEEDS):
+        came = room.call(["sh", "-c", f"exec 2>&1; {command}"])
+        yield Outcome(f"{OF_FEEDS}: {command}", came, Ran(0, written(lines)))
+
+
 def commands(lines: list[str]) -> list[tuple[list[str], list[str]]]:
     """The words of each command of a block behind its program, and the lines that follow it."""
     found: list[tuple[list[str], list[str]]] = []

@@ -24,6 +24,8 @@ LINES = [
     ("no file to deliver", "deliver", 2),
     ("a word behind agreements", "--db shop.db agreements north", 2),
     ("a word behind export", "--db shop.db export shop.csv", 2),
+    ("no folder behind -o of export", "--db shop.db export -o", 2),
+    ("two folders of export", "--db shop.db export -o one -o two", 2),
     ("a word behind migrate", "--db shop.db migrate now", 2),
     ("two series", "gaps north south", 2),
     ("no rules file to read", "rules", 2),

@@ -1,10 +1,10 @@
 -- Texts of requests that fill parts.
-use Rattle.std.proofs.Common.{◌≡◌, ◌≤◌, ◌+◌, ◌++◌, ◌∷◌, ◌∙◌, [], ℕ, List, Bool, true, false, Result, Ok, Err, OnOk, inl, inr, refl, sym, ap, subst, arith, append_assoc, append-nil, length, map}
+use Rattle.std.proofs.Common.{◌≡◌, ◌≤◌, ◌+◌, ◌++◌, ◌∷◌, ◌∙◌, [], ℕ, List, Bool, true, false, Result, Ok, Err, OnOk, inl, inr, refl, sym, ap, subst, arith, append_assoc, append-nil, length, length-append, map}
 use Rattle.std.specs.Prelude.{nat_le}
 use Rattle.std.specs.List.{AllByRecursion, flat_map}
 use Rattle.std.proofs.lemmas.Bool.Decides.{nat_tests}
 use Rattle.std.proofs.lemmas.Grind.{flat_map-append}
-use Rattle.std.proofs.lemmas.List.{length-append, map-append}
+use Rattle.std.proofs.lemmas.List.{map-append}
 use Rattle.csv_records.specs.RecordTexts.{limit}
 use Rattle.named_files.specs.Holdings.{told_text}
 use Rattle.series_rules.specs.declared.requests.Request.{Request}

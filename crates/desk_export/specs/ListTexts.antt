@@ -33,11 +33,12 @@ listed_text listed.Agreements L = agreements_text L
 listed_text listed.Gaps L = reports_text L
 listed_text listed.Requests L = batch_text (export_of L)
 
--- the texts that it is made of: those of one series, and those of all, in order of name
+-- the texts of what is listed of a series
 abbrev pub series_texts : Listed → List Request → Agreement → List (List ℕ)
 series_texts listed.Agreements L a = request_text (Agree a) ∷ []
 series_texts listed.Gaps L a = report_text L a ∷ []
 series_texts listed.Requests L a = texts_of (series_requests L a)
 
+-- those of all series, in order of name
 abbrev pub listed_texts : Listed → List Request → List (List ℕ)
 listed_texts what L = flat_map (series_texts what L) (agreements_by_name L)

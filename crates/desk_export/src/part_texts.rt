@@ -100,10 +100,10 @@ impl<'a, F: NamedFiles> TakesTexts for PartTexts<'a, F> {
 
     fn take(&mut self, text: &str) -> Result<(), FileFault> {
         self.make_room(text)?;
-        if !self.has_room(text) {
-            return Err(FileFault::new(self.alloc, self.folder, "a request is too large"));
+        if self.has_room(text) {
+            self.part.extend_from_slice(text.as_bytes())?;
+            return Ok(());
         }
-        self.part.extend_from_slice(text.as_bytes())?;
-        Ok(())
+        Err(FileFault::new(self.alloc, self.folder, "a request is too large"))
     }
 }

@@ -11,7 +11,7 @@ ghost use Rattle.desk_export.specs.Exports.{export_of};
 ghost use Rattle.desk_export.specs.ListTexts.{listed_text};
 ghost use Rattle.desk_export.specs.PartTexts.{AreInFolder, MayBeInFolder};
 ghost use Rattle.database_files.specs.Databases.{AreSettled};
-ghost use Rattle.desk_program.specs.ListingEnds.{FileListingEnds, ListingEnds, ListsAndCloses, SparesFiles};
+ghost use Rattle.desk_program.specs.ListingEnds.{FileListingEnds, IsListed, ListingEnds, ListsAndCloses, SparesFiles};
 
 use crate::program::report_unclosed;
 use command_line::invocation::{Database, Listing};
@@ -112,6 +112,29 @@ fn write_folder<D: ListedDesk, F: NamedFiles, E: Write>(
     }
 }
 
+// Exports a desk, into a folder where one is named. Gives 0, or 3 after a fault, which is reported.
+fn run_export<D: ListedDesk, F: NamedFiles, W: Write, E: Write>(
+    alloc: Global,
+    desk: &mut D,
+    folder: Option<&str>,
+    files: &mut F,
+    output: &mut W,
+    errors: &mut E,
+) -> u8
+    ensures status { (result ≡ 0) ⊎ (result ≡ 3) }
+    ensures spares { SparesFiles (Appends (W.contents output.old) (W.contents output.new))
+        F.is_told (F.holds files.old) (F.holds files.new) (Listing.Export folder.entry) }
+    ensures end { IsAsked (D.seen desk.old) (D.seen desk.new) (λ L. IsListed
+        (Appends (W.contents output.old) (W.contents output.new))
+        F.is_told (F.holds files.old) (F.holds files.new) (Listing.Export folder.entry)
+        L result) }
+{
+    match folder {
+        None => write_listing(alloc, desk, Listed::Requests, output, errors),
+        Some(folder) => write_folder(alloc, desk, folder, files, errors),
+    }
+}
+
 // Lists what a desk holds. Gives 0, or 3 after a fault, which is reported.
 fn run<D: ListedDesk, F: NamedFiles, W: Write, E: Write>(
     alloc: Global,
@@ -131,12 +154,7 @@ fn run<D: ListedDesk, F: NamedFiles, W: Write, E: Write>(
     match listing {
         Listing::Agreements => write_listing(alloc, desk, Listed::Agreements, output, errors),
         Listing::Gaps => write_listing(alloc, desk, Listed::Gaps, output, errors),
-        Listing::Export { folder: None } => {
-            write_listing(alloc, desk, Listed::Requests, output, errors)
-        }
-        Listing::Export {
-            folder: Some(folder),
-        } => write_folder(alloc, desk, folder, files, errors),
+        Listing::Export { folder } => run_export(alloc, desk, folder, files, output, errors),
     }
 }
 

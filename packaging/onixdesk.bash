@@ -20,10 +20,11 @@ _onixdesk() {
         serve:--port | serve:--requests) return ;;
         convert:--parts | convert:--number | convert:--number-offset | convert:--sender | convert:--addressee | convert:--id-type) return ;;
         convert:--wrong) COMPREPLY=($(compgen -W "none few all" -- "$cur")); return ;;
-        convert:-o) _filedir -d; return ;;
+        convert:-o | export:-o) _filedir -d; return ;;
     esac
     case $command:$cur in
         convert:-*) COMPREPLY=($(compgen -W "--parts --number --number-offset --sender --addressee --id-type --wrong -o --help" -- "$cur")) ;;
+        export:*) COMPREPLY=($(compgen -W "-o --help" -- "$cur")) ;;
         serve:*) COMPREPLY=($(compgen -W "--port --batches --requests --help" -- "$cur")) ;;
         help:*) COMPREPLY=($(compgen -W "$all" -- "$cur")) ;;
         :-*) COMPREPLY=($(compgen -W "--db --existing --rules --batches --help --version" -- "$cur")) ;;

@@ -26,7 +26,7 @@ task_named name own (task.Serve port requests batches) is = sym is.0
 listing_named : (name : Text) (own : List Row) (listed : Listing) → IsListing name own listed → listing_name listed ≡ name
 listing_named name own listing.Agreements is = sym is
 listing_named name own listing.Gaps is = sym is.0
-listing_named name own listing.Export is = sym is
+listing_named name own (listing.Export folder) is = sym is.0
 
 action_named : (top : List Row) (name : Text) (own : List Row) (action : Action) → IsAction top name own action → action_name action ≡ name
 action_named top name own (InMemory task) is = task_named name own task is.0

@@ -85,9 +85,9 @@ convert_command = command_of "convert" (
 abbrev pub deliver_command : Shape
 deliver_command = command_of "deliver" (needed (some_operands (codes "file") 1) ∷ [])
 
--- export
+-- export [-o FOLDER]
 abbrev pub export_command : Shape
-export_command = command_of "export" []
+export_command = command_of "export" (short_option (codes "folder") 111 ∷ [])
 
 -- gaps [NAME]
 abbrev pub gaps_command : Shape

@@ -88,14 +88,35 @@ fn deliver<'a>(alloc: Global) -> Result<Command<'a>, AllocError>
         .arg(messages(alloc))
 }
 
-fn export<'a>(alloc: Global) -> Command<'a>
-    ensures { IsCommand export_command result }
+// The option `-o FOLDER`.
+fn folder_option<'a>(alloc: Global, help: &'a str) -> Arg<'a>
+    ensures { IsWord (short_option (codes "folder") 111) result }
+{
+    Arg::new(alloc, "folder")
+        .short('o')
+        .value_name("FOLDER")
+        .action(ArgAction::Set)
+        .help(help)
+}
+
+fn export_folder<'a>(alloc: Global) -> Arg<'a>
+    ensures { IsWord (short_option (codes "folder") 111) result }
+{
+    folder_option(
+        alloc,
+        "Write the desk into FOLDER, as the files 1.csv, 2.csv and so on, each of which a batch takes, in place of standard output",
+    )
+}
+
+fn export<'a>(alloc: Global) -> Result<Command<'a>, AllocError>
+    ensures { IfOk result (IsCommand export_command) }
 {
     Command::new(alloc, "export")
         .about("Write the desk as a batch that makes it again")
         .long_about(
-            "Writes the desk as the batch that makes it again: for each series, in the order of the bytes of their names, its agreement, and then for each number in order the message or the waiver that stands there. A new desk that is given these requests answers every further request as this one does. The database file is named before the command: onixdesk --db FILE export. The desk is only asked. A message of more than 4,194,304 bytes is a fault, since no batch takes it.",
+            "Writes the desk as the batch that makes it again: for each series, in the order of the bytes of their names, its agreement, and then for each number in order the message or the waiver that stands there. A new desk that is given these requests answers every further request as this one does. The database file is named before the command: onixdesk --db FILE export. The desk is only asked. A message of more than 4,194,304 bytes is a fault, since no batch takes it. A batch has at most so many bytes; with -o a larger desk is cut between requests into files that are batches, and a new desk is given them in the order of their numbers. A file that is there is never written over, which is a fault unless it has the same bytes.",
         )
+        .arg(export_folder(alloc))
 }
 
 fn gaps<'a>(alloc: Global) -> Result<Command<'a>, AllocError>
@@ -277,11 +298,10 @@ fn wrong<'a>(alloc: Global) -> Arg<'a>
 fn folder<'a>(alloc: Global) -> Arg<'a>
     ensures { IsWord (short_option (codes "folder") 111) result }
 {
-    Arg::new(alloc, "folder")
-        .short('o')
-        .value_name("FOLDER")
-        .action(ArgAction::Set)
-        .help("Write each message into a file of its own in FOLDER, in place of standard output")
+    folder_option(
+        alloc,
+        "Write each message into a file of its own in FOLDER, in place of standard output",
+    )
 }
 
 fn feeds<'a>(alloc: Global) -> Arg<'a>
@@ -416,7 +436,7 @@ pub fn program<'a>(alloc: Global) -> Result<Command<'a>, AllocError>
     let program = with_command(program, Ok(batch(alloc)))?;
     let program = with_command(program, convert(alloc))?;
     let program = with_command(program, deliver(alloc))?;
-    let program = with_command(program, Ok(export(alloc)))?;
+    let program = with_command(program, export(alloc))?;
     let program = with_command(program, gaps(alloc))?;
     let program = with_command(program, Ok(migrate(alloc)))?;
     let program = with_command(program, rules_check(alloc))?;

@@ -34,13 +34,14 @@ pub enum Task<'a> {
 
 /// What is listed of the desk in a file, which is only asked.
 #[derive(Clone, Copy)]
-pub enum Listing {
+pub enum Listing<'a> {
     /// `agreements`: the agreements of all series.
     Agreements,
     /// `gaps` without a NAME: which numbers each series lacks.
     Gaps,
-    /// `export`: the requests that make the desk again.
-    Export,
+    /// `export [-o FOLDER]`: the requests that make the desk again, as files of a folder or as one
+    /// text.
+    Export { folder: Option<&'a str> },
 }
 
 /// The database file of `--db`, and whether it has to be there, by `--existing`.
@@ -58,7 +59,10 @@ pub enum Action<'a> {
     /// A command over the desk in this database file.
     InFile { db: Database<'a>, task: Task<'a> },
     /// What the desk in this database file holds is listed.
-    Listed { db: Database<'a>, listing: Listing },
+    Listed {
+        db: Database<'a>,
+        listing: Listing<'a>,
+    },
     /// `migrate`: the desk in this database file is brought to version 2.
     Migrate { db: Database<'a> },
     /// `--batches SOCKET batch`: the batch is sent to the desk that is open there.
@@ -185,7 +189,7 @@ fn database_of<'a>(matches: &ArgMatches<'a>) -> Option<Database<'a>>
 }
 
 // What `gaps` without a NAME lists.
-fn gaps_listing(words: &ArgMatches<'_>) -> Option<Listing>
+fn gaps_listing<'a>(words: &ArgMatches<'a>) -> Option<Listing<'a>>
     ensures { IfSome result (IsListing (codes "gaps") (words_in words.now)) }
 {
     match text_in(words, "name") {
@@ -195,19 +199,21 @@ fn gaps_listing(words: &ArgMatches<'_>) -> Option<Listing>
 }
 
 // What the command of that name lists, or none where it lists nothing.
-fn listing_of(name: &str, words: &ArgMatches<'_>) -> Option<Listing>
+fn listing_of<'a>(name: &str, words: &ArgMatches<'a>) -> Option<Listing<'a>>
     ensures { IfSome result (IsListing name.now (words_in words.now)) }
 {
     match name {
         "agreements" => Some(Listing::Agreements),
-        "export" => Some(Listing::Export),
+        "export" => Some(Listing::Export {
+            folder: text_in(words, "folder"),
+        }),
         "gaps" => gaps_listing(words),
         _ => None,
     }
 }
 
 // What a command asks for that lists what a desk holds.
-fn listing_reading<'a>(matches: &ArgMatches<'a>, listing: Listing) -> Reading<'a>
+fn listing_reading<'a>(matches: &ArgMatches<'a>, listing: Listing<'a>) -> Reading<'a>
     ensures { (name : Text) (own : List Row) → IsListing name own listing
         → text_in (words_in matches.now) (codes "batches") ≡ None
         → ReadsAs (words_in matches.now) name own result }

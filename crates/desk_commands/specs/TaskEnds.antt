@@ -1,5 +1,5 @@
 -- How each command over a desk ends: what was asked of the desk, and what was written.
-use Rattle.std.specs.Prelude.{◌≡◌, ◌≤◌, ◌++◌, ◌∷◌, ℕ, All, Bool, List, [], Option, Some, None, Result, Ok, Err, is_some, length, map, nat_eq, nat_lt, if◌then◌else◌}
+use Rattle.std.specs.Prelude.{◌≡◌, ◌≤◌, ◌⊎◌, ◌++◌, ◌∷◌, ℕ, All, Bool, List, [], Option, Some, None, Result, Ok, Err, is_some, length, map, nat_eq, nat_lt, if◌then◌else◌}
 use Rattle.std.specs.List.{flat_map}
 use Rattle.csv_records.specs.Streams.{IsTold}
 use Rattle.named_files.specs.Holdings.{Holdings}
@@ -62,24 +62,25 @@ module _ (asked : List Step → Type 0) (written : List ℕ → Type 0) where
       Talks asked written (AskGaps series ∷ []) (λ steps stop. status ≡ talk_status steps stop)
   GapsEnds None status = asked [] × PrintEnds 1 written (text_of UnknownSeries) status
 
-  -- serving so many clients: the lines of those that were served are written; with 0 they are all.
-  -- Coming: what the clients send, where that is known. Speaks: by what a client is served that is
-  -- read so
+  -- serving so many clients: the lines of those that were served are written; with 0 they are all,
+  -- and else it is 3. Coming: what the clients send, where that is known. Speaks: by what a client
+  -- is served that is read so
   abbrev pub ConnectionsServed : {R : Type 0} → (R → Protocol) → Bool
       → Option (List (List ℕ)) → ℕ → ℕ → Type 0
   ConnectionsServed speaks batches coming count status =
       (served : List Connection) × AreFirst coming served × All (λ c. IsOf speaks c.ending) served
       × ConnectionsEnd asked batches count served
       × WritesLines written served
-      × (status ≡ 0 → (length served ≡ count) × written (lines_of served))
+      × (((status ≡ 0) × (length served ≡ count) × written (lines_of served)) ⊎ (status ≡ 3))
 
   -- `serve` of so many connections at that port, and at a socket where batches are taken: their
-  -- lines are written, behind the one of the port; with 0 they are all
+  -- lines are written, behind the one of the port; with 0 they are all, or else it is 3
   abbrev pub ServeEnds : Bool → ℕ → ℕ → ℕ → Type 0
   ServeEnds batches port count status =
       (served : List Connection) × ConnectionsEnd asked batches count served
       × WritesServed written port served
-      × (status ≡ 0 → (length served ≡ count) × written (listening_line port ++ lines_of served))
+      × (((status ≡ 0) × (length served ≡ count)
+      × written (listening_line port ++ lines_of served)) ⊎ (status ≡ 3))
 
   -- how a command can end with this status
   abbrev pub TaskEnds : Task → Holdings → Option (List ℕ) → ℕ → Type 0

@@ -5,7 +5,7 @@ use Rattle.onix_message.specs.declared.faults.StoreFault.{StoreFault}
 use Rattle.series_rules.specs.Views.{DeskKind, Tells, View}
 use Rattle.series_rules.specs.declared.requests.Request.{Request}
 use Rattle.desk_export.specs.Asking.{IsAsked}
-use Rattle.desk_export.specs.Exporting.{IsExported, TakesAll, texts_of}
+use Rattle.desk_export.specs.Exporting.{IsTaken, TakesAll}
 use Rattle.desk_export.proofs.TakenTexts.{stays_then}
 
 -- nothing was asked
@@ -31,7 +31,7 @@ module _ {k : DeskKind} {old new : View k} where
   pub asked_told : {A : Type 0} {answer : List Request → A} {Q : List Request → Type 0} (r : Result A StoreFault) → Tells answer old new r → ((L : List Request) → IfOk r (λ a. a ≡ answer L) → Q L) → IsAsked old new Q
   asked_told r tells means = record { premise = tells.premise; left = tells.left; stays = tells.stays; so = λ L stands sound. means L (tells.ok L stands sound) }
 
-  -- an export asks
-  pub asked_export : {A F T : Type 0} {takes : T → T → List ℕ → Type 0} {requests : List Request → List Request} {from to : T} {Q : List Request → Type 0} (r : Result A F)
-      → IsExported takes (λ L. ⊤) requests old new from to r → ((L : List Request) → OnOk r (TakesAll takes from to (texts_of (requests L))) → Q L) → IsAsked old new Q
-  asked_export r exported means = record { premise = exported.premise; left = exported.left; stays = exported.stays; so = λ L stands sound. means L (exported.taken L stands sound tt) }
+  -- a list asks
+  pub asked_list : {A F T : Type 0} {takes : T → T → List ℕ → Type 0} {texts : List Request → List (List ℕ)} {from to : T} {Q : List Request → Type 0} (r : Result A F)
+      → IsTaken takes (λ L. ⊤) texts old new from to r → ((L : List Request) → OnOk r (TakesAll takes from to (texts L)) → Q L) → IsAsked old new Q
+  asked_list r exported means = record { premise = exported.premise; left = exported.left; stays = exported.stays; so = λ L stands sound. means L (exported.taken L stands sound tt) }

@@ -7,7 +7,6 @@ use Rattle.std.specs.FinMap.{entries}
 use Rattle.std.specs.List.{flat_map}
 use Rattle.std.proofs.lemmas.Grind.{flat_map-append}
 use Rattle.std.proofs.lemmas.List.{map-append}
-use Rattle.std.proofs.lemmas.List.Folds.{flat_map-map}
 use Rattle.csv_records.proofs.CutFacts.{take-get}
 use Rattle.onix_message.specs.declared.agreements.Agreement.{Agreement}
 use Rattle.series_rules.proofs.AgreementLemmas.{named_has_name}
@@ -24,8 +23,8 @@ use Rattle.series_rules.specs.declared.answers.GapReport.{GapReport}
 use Rattle.series_rules.specs.declared.requests.Request.{Request}
 use Rattle.series_rules.specs.declared.requests.Request.TheVariants.{Agree}
 use Rattle.desk_listing.specs.Listing.{agreements_by_name}
-use Rattle.desk_export.specs.Exporting.{IsDone, IsExported, TakesAll, end_after, requests_between, texts_of}
-use Rattle.desk_export.specs.Exports.{export_of, requests_at, requests_from, series_requests}
+use Rattle.desk_export.specs.Exporting.{IsDone, IsTaken, TakesAll, end_after, requests_between, texts_of}
+use Rattle.desk_export.specs.Exports.{requests_at, requests_from, series_requests}
 use Rattle.desk_export.specs.RequestRecords.{request_text}
 use Rattle.desk_export.proofs.MapEntries.{get_in}
 
@@ -36,8 +35,12 @@ module _ {T : Type 0} (takes : T → T → List ℕ → Type 0) where
   takes_then a b c [] us none more = subst (λ x. TakesAll takes x c us) none more
   takes_then a b c (t ∷ ts) us (mid, first, rest) more = (mid, first, takes_then mid b c ts us rest more)
 
-texts_append : (xs ys : List Request) → texts_of (xs ++ ys) ≡ texts_of xs ++ texts_of ys
+pub texts_append : (xs ys : List Request) → texts_of (xs ++ ys) ≡ texts_of xs ++ texts_of ys
 texts_append xs ys = map-append request_text xs ys
+
+-- the texts of requests that are those of two lists
+pub texts_joined : (all xs ys : List Request) → all ≡ xs ++ ys → texts_of all ≡ texts_of xs ++ texts_of ys
+texts_joined all xs ys e = ap texts_of e ∙ texts_append xs ys
 
 on_ok : {A F : Type 0} {P Q : Type 0} (r : Result A F) → (P → Q) → OnOk r P → OnOk r Q
 on_ok (Ok a) f p = f p
@@ -50,10 +53,10 @@ stays_then old mid new one two = λ x. (λ held. (two x).0 ((one x).0 held), λ 
 
 module _ {T : Type 0} {k : DeskKind} {takes : T → T → List ℕ → Type 0} where
   -- one step after another
-  pub exported_then : {A B F G : Type 0} {IsSo IsNext IsAll : List Request → Type 0} {some more all : List Request → List Request} {old mid new : View k} {from between to : T} (a : A) (r : Result B G)
-      → IsExported {A = A} {F = F} takes IsSo some old mid from between (Ok a) → IsExported takes IsNext more mid new between to r
+  pub exported_then : {A B F G : Type 0} {IsSo IsNext IsAll : List Request → Type 0} {some more all : List Request → List (List ℕ)} {old mid new : View k} {from between to : T} (a : A) (r : Result B G)
+      → IsTaken {A = A} {F = F} takes IsSo some old mid from between (Ok a) → IsTaken takes IsNext more mid new between to r
       → ((L : List Request) → old.stands_for L → mid.sound → IsAll L → IsSo L × IsNext L × (all L ≡ some L ++ more L))
-      → IsExported takes IsAll all old new from to r
+      → IsTaken takes IsAll all old new from to r
   exported_then {some = some} {more = more} {all = all} {old = old} {mid = mid} {new = new} {from = from} {between = between} {to = to} a r one two join = record {
     premise = λ sound. one.premise (two.premise sound);
     left = λ L stands sound. two.left L (one.left L stands (two.premise sound)) sound;
@@ -61,7 +64,7 @@ module _ {T : Type 0} {k : DeskKind} {takes : T → T → List ℕ → Type 0} w
     taken = λ L stands sound is.
         let early = two.premise sound in
         let j = join L stands early is in
-        on_ok r (λ taken. subst (TakesAll takes from to) (sym (ap texts_of j.2 ∙ texts_append (some L) (more L))) (takes_then takes from between to (texts_of (some L)) (texts_of (more L)) (one.taken L stands early j.0) taken))
+        on_ok r (λ taken. subst (TakesAll takes from to) (sym j.2) (takes_then takes from between to (some L) (more L) (one.taken L stands early j.0) taken))
         (two.taken L (one.left L stands early) sound j.1);
   }
 
@@ -71,18 +74,18 @@ nothing_done takes v t = record { premise = λ sound. sound; left = λ L stands 
 
 -- what was done is done, whatever was answered
 module _ {T : Type 0} {k : DeskKind} {takes : T → T → List ℕ → Type 0} where
-  pub same_done : {A B F G : Type 0} {IsSo : List Request → Type 0} {some : List Request → List Request} {old new : View k} {from to : T} (a : A) (b : B)
-      → IsExported {A = A} {F = F} takes IsSo some old new from to (Ok a) → IsExported {A = B} {F = G} takes IsSo some old new from to (Ok b)
+  pub same_done : {A B F G : Type 0} {IsSo : List Request → Type 0} {some : List Request → List (List ℕ)} {old new : View k} {from to : T} (a : A) (b : B)
+      → IsTaken {A = A} {F = F} takes IsSo some old new from to (Ok a) → IsTaken {A = B} {F = G} takes IsSo some old new from to (Ok b)
   same_done a b one = record { premise = one.premise; left = one.left; stays = one.stays; taken = λ L stands sound is. one.taken L stands sound is }
 
-  -- the same requests in other words
-  pub exported_as : {A F : Type 0} {IsSo IsAll : List Request → Type 0} {some all : List Request → List Request} {old new : View k} {from to : T} (r : Result A F)
-      → IsExported takes IsSo some old new from to r → ((L : List Request) → IsAll L → IsSo L × (all L ≡ some L)) → IsExported takes IsAll all old new from to r
+  -- the same texts in other words
+  pub exported_as : {A F : Type 0} {IsSo IsAll : List Request → Type 0} {some all : List Request → List (List ℕ)} {old new : View k} {from to : T} (r : Result A F)
+      → IsTaken takes IsSo some old new from to r → ((L : List Request) → IsAll L → IsSo L × (all L ≡ some L)) → IsTaken takes IsAll all old new from to r
   exported_as {from = from} {to = to} r one same = record {
     premise = one.premise;
     left = one.left;
     stays = one.stays;
-    taken = λ L stands sound is. let j = same L is in on_ok r (λ taken. subst (λ rs. TakesAll takes from to (texts_of rs)) (sym j.1) taken) (one.taken L stands sound j.0);
+    taken = λ L stands sound is. let j = same L is in on_ok r (λ taken. subst (TakesAll takes from to) (sym j.1) taken) (one.taken L stands sound j.0);
   }
 
 -- ---- numbers in a row
@@ -191,8 +194,8 @@ report_is L a report agreed told = let both : Some report ≡ Some (gaps_of L a)
 module _ {T : Type 0} {k : DeskKind} {takes : T → T → List ℕ → Type 0} where
   pub series_exported : {A F : Type 0} {old mid new : View k} {from between to : T} (true_ : GapsAreTrue) (a : Agreement) (report : GapReport) (r : Result A F)
       → Tells (λ L. gaps_answer L a.name) old mid (Ok (Some report)) → takes from between (request_text (Agree a))
-      → IsExported takes (λ L. ⊤) (λ L. requests_between L a report.first report.missing (end_after report.first report.greatest)) mid new between to r
-      → IsExported takes (λ L. named (agreements_of L) a.name ≡ Some a) (λ L. series_requests L a) old new from to r
+      → IsTaken takes (λ L. ⊤) (λ L. texts_of (requests_between L a report.first report.missing (end_after report.first report.greatest))) mid new between to r
+      → IsTaken takes (λ L. named (agreements_of L) a.name ≡ Some a) (λ L. texts_of (series_requests L a)) old new from to r
   series_exported {old = old} {mid = mid} {new = new} {from = from} {between = between} {to = to} true_ a report r tells agreement held = record {
     premise = λ sound. tells.premise (held.premise sound);
     left = λ L stands sound. held.left L (tells.left L stands (held.premise sound)) sound;
@@ -225,15 +228,11 @@ listed_named L i a e =
     let own : named (agreements_of L) x.1.name ≡ Some x.1 = ap (named (agreements_of L)) (named_has_name (agreements_of L) x.0 x.1 found) ∙ found in
     subst (λ (b : Agreement). named (agreements_of L) b.name ≡ Some b) there.2 own
 
-series_more : (L : List Request) (i : ℕ) (a : Agreement) (as' : List Agreement) → slice_get as' i ≡ Some a → flat_map (series_requests L) (take (i + 1) as') ≡ flat_map (series_requests L) (take i as') ++ series_requests L a
-series_more L i a as' at =
-    ap (flat_map (series_requests L)) (take-get as' i a at)
-    ∙ flat_map-append (series_requests L) (take i as') (a ∷ [])
-    ∙ ap (λ rs. flat_map (series_requests L) (take i as') ++ rs) (append-nil (series_requests L a))
-
--- the export goes over the agreements in the order of their names
-pub export_listed : (L : List Request) → flat_map (series_requests L) (agreements_by_name L) ≡ export_of L
-export_listed L = flat_map-map (series_requests L) (λ (e : List ℕ × Agreement). e.1) (entries (by_name (agreements_of L)))
+texts_more : (each : Agreement → List (List ℕ)) (i : ℕ) (a : Agreement) (as' : List Agreement) → slice_get as' i ≡ Some a → flat_map each (take (i + 1) as') ≡ flat_map each (take i as') ++ each a
+texts_more each i a as' at =
+    ap (flat_map each) (take-get as' i a at)
+    ∙ flat_map-append each (take i as') (a ∷ [])
+    ∙ ap (λ texts. flat_map each (take i as') ++ texts) (append-nil (each a))
 
 pub take_whole : {X : Type 0} (xs : List X) (n : ℕ) → length xs ≤ n → take n xs ≡ xs
 take_whole [] zero le = refl
@@ -241,30 +240,52 @@ take_whole [] (suc n) le = refl
 take_whole (x ∷ xs) zero le = absurd (omega (arith, le))
 take_whole (x ∷ xs) (suc n) le = ap (λ l. x ∷ l) (take_whole xs n (omega (arith, le)))
 
-module _ {T : Type 0} {k : DeskKind} {takes : T → T → List ℕ → Type 0} where
+module _ {T : Type 0} {k : DeskKind} {takes : T → T → List ℕ → Type 0} (each : List Request → Agreement → List (List ℕ)) where
   -- one series more
-  pub more_exported : {A B C F G H : Type 0} {old mid new : View k} {from between to : T} (agreements : List Agreement) (i : ℕ) (a : Agreement) (x : A) (y : B) (z : C)
-      → IsExported {A = A} {F = F} takes (λ L. ⊤) (λ L. flat_map (series_requests L) (take i (agreements_by_name L))) old mid from between (Ok x)
+  pub more_listed : {A B C F G H : Type 0} {old mid new : View k} {from between to : T} (agreements : List Agreement) (i : ℕ) (a : Agreement) (x : A) (y : B) (z : C)
+      → IsTaken {A = A} {F = F} takes (λ L. ⊤) (λ L. flat_map (each L) (take i (agreements_by_name L))) old mid from between (Ok x)
       → ((L : List Request) → old.stands_for L → mid.sound → agreements ≡ agreements_by_name L)
-      → IsExported {A = B} {F = G} takes (λ L. named (agreements_of L) a.name ≡ Some a) (λ L. series_requests L a) mid new between to (Ok y)
+      → IsTaken {A = B} {F = G} takes (λ L. named (agreements_of L) a.name ≡ Some a) (λ L. each L a) mid new between to (Ok y)
       → slice_get agreements i ≡ Some a
-      → IsExported {A = C} {F = H} takes (λ L. ⊤) (λ L. flat_map (series_requests L) (take (i + 1) (agreements_by_name L))) old new from to (Ok z)
-  more_exported agreements i a x y z so_far listed step at =
+      → IsTaken {A = C} {F = H} takes (λ L. ⊤) (λ L. flat_map (each L) (take (i + 1) (agreements_by_name L))) old new from to (Ok z)
+  more_listed agreements i a x y z so_far listed step at =
       exported_then x (Ok z) so_far (same_done y z step) (λ L stands sound is.
       let there : slice_get (agreements_by_name L) i ≡ Some a = ap (λ as'. slice_get as' i) (sym (listed L stands sound)) ∙ at in
-      (tt, listed_named L i a there, series_more L i a (agreements_by_name L) there))
+      (tt, listed_named L i a there, texts_more (each L) i a (agreements_by_name L) there))
 
   -- all of them
-  pub all_exported : {A B F G : Type 0} {old new : View k} {from to : T} (agreements : List Agreement) (i : ℕ) (x : A) (y : B)
-      → IsExported {A = A} {F = F} takes (λ L. ⊤) (λ L. flat_map (series_requests L) (take i (agreements_by_name L))) old new from to (Ok x)
+  pub all_listed : {A B F G : Type 0} {old new : View k} {from to : T} (agreements : List Agreement) (i : ℕ) (x : A) (y : B)
+      → IsTaken {A = A} {F = F} takes (λ L. ⊤) (λ L. flat_map (each L) (take i (agreements_by_name L))) old new from to (Ok x)
       → ((L : List Request) → old.stands_for L → new.sound → agreements ≡ agreements_by_name L)
       → length agreements ≤ i
-      → IsExported {A = B} {F = G} takes (λ L. ⊤) export_of old new from to (Ok y)
-  all_exported {from = from} {to = to} agreements i x y done listed le = record {
+      → IsTaken {A = B} {F = G} takes (λ L. ⊤) (λ L. flat_map (each L) (agreements_by_name L)) old new from to (Ok y)
+  all_listed {from = from} {to = to} agreements i x y done listed le = record {
     premise = done.premise;
     left = done.left;
     stays = done.stays;
     taken = λ L stands sound is.
         let whole : take i (agreements_by_name L) ≡ agreements_by_name L = ap (take i) (sym (listed L stands sound)) ∙ take_whole agreements i le ∙ listed L stands sound in
-        subst (λ rs. TakesAll takes from to (texts_of rs)) (ap (flat_map (series_requests L)) whole ∙ export_listed L) (done.taken L stands sound tt);
+        subst (TakesAll takes from to) (ap (flat_map (each L)) whole) (done.taken L stands sound tt);
+  }
+
+module _ {T : Type 0} {k : DeskKind} {takes : T → T → List ℕ → Type 0} where
+  -- a text was handed on, and no desk asked
+  pub one_taken : {A F : Type 0} {IsSo : List Request → Type 0} (desk : View k) {from to : T} (text : List ℕ) (r : Result A F)
+      → OnOk r (takes from to text) → IsTaken takes IsSo (λ L. text ∷ []) desk desk from to r
+  one_taken desk {to = to} text r one = record {
+    premise = λ sound. sound;
+    left = λ L stands sound. stands;
+    stays = λ sound x. (λ held. held, λ may. may);
+    taken = λ L stands sound is. on_ok r (λ taken. (to, taken, refl)) one;
+  }
+
+  -- what a desk tells was handed on
+  pub told_taken : {A B F : Type 0} {answer : List Request → B} {IsSo : List Request → Type 0} {old new : View k} {from to : T} (text : List Request → List ℕ) (b : B) (r : Result A F)
+      → Tells answer old new (Ok b) → ((L : List Request) → IsSo L → b ≡ answer L → OnOk r (takes from to (text L)))
+      → IsTaken takes IsSo (λ L. text L ∷ []) old new from to r
+  told_taken {to = to} text b r tells one = record {
+    premise = tells.premise;
+    left = tells.left;
+    stays = tells.stays;
+    taken = λ L stands sound is. on_ok r (λ taken. (to, taken, refl)) (one L is (tells.ok L stands sound));
   }

@@ -1,4 +1,4 @@
--- What is asked of a desk and what is taken while it is exported.
+-- What is asked of a desk and what is taken while it is listed.
 use Rattle.std.specs.Prelude.{◌≡◌, ◌+◌, ◌-◌, ◌++◌, ℕ, List, [], ◌∷◌, Option, Some, None, Result, Ok, OnOk, map, ⊤}
 use Rattle.onix_message.specs.declared.agreements.Agreement.{Agreement}
 use Rattle.series_rules.specs.Views.{DeskKind, Stays, View}
@@ -16,22 +16,21 @@ TakesAll takes old new [] = new ≡ old
 TakesAll {T} takes old new (t ∷ ts) = (mid : T) × takes old mid t × TakesAll takes mid new ts
 
 -- A desk was asked questions alone: it stands for what it did, and nothing changed. With `Ok`,
--- after each list for which it stood and of which that is so, the texts of these requests were
--- taken
-pub record IsExported {A F T : Type 0} {k : DeskKind} (takes : T → T → List ℕ → Type 0)
-    (IsSo : List Request → Type 0) (requests : List Request → List Request) (old new : View k)
+-- after each list for which it stood and of which that is so, these texts were taken
+pub record IsTaken {A F T : Type 0} {k : DeskKind} (takes : T → T → List ℕ → Type 0)
+    (IsSo : List Request → Type 0) (texts : List Request → List (List ℕ)) (old new : View k)
     (from to : T) (result : Result A F) : Type 0 where
   pub premise : new.sound → old.sound
   pub left : (L : List Request) → old.stands_for L → new.sound → new.stands_for L
   pub stays : new.sound → Stays old new
   pub taken : (L : List Request) → old.stands_for L → new.sound → IsSo L
-      → OnOk result (TakesAll takes from to (texts_of (requests L)))
+      → OnOk result (TakesAll takes from to (texts L))
 
 -- the same, of what was done without a fault
 abbrev pub IsDone : {T : Type 0} {k : DeskKind} → (T → T → List ℕ → Type 0)
-    → (List Request → List Request) → View k → View k → T → T → Type 0
-IsDone takes requests old new from to =
-    IsExported {A = ⊤} {F = ⊤} takes (λ L. ⊤) requests old new from to (Ok tt)
+    → (List Request → List (List ℕ)) → View k → View k → T → T → Type 0
+IsDone takes texts old new from to =
+    IsTaken {A = ⊤} {F = ⊤} takes (λ L. ⊤) texts old new from to (Ok tt)
 
 -- the number behind the greatest that has something, or else the first
 abbrev pub end_after : ℕ → Option ℕ → ℕ

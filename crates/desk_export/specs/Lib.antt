@@ -5,3 +5,4 @@ pub mod RequestTexts
 pub mod Exporting
 pub mod Asking
 pub mod ListTexts
+pub mod PartTexts

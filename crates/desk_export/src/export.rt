@@ -1,10 +1,12 @@
-//! Exports: what stands in a desk, as the requests that make it again.
+//! What stands in a series, as the requests that make it again.
 
 ghost use Rattle.std.specs.Prelude.{◌≡◌, ◌-◌, ◌∷◌, [], OnOk, Some, ⊤};
-ghost use Rattle.desk_export.specs.Exporting.{IsExported, end_after, requests_between};
-ghost use Rattle.desk_export.specs.Exports.{export_of, requests_at, requests_from, series_requests};
+ghost use Rattle.desk_export.specs.Exporting.{IsTaken, end_after, requests_between, texts_of};
+ghost use Rattle.desk_export.specs.Exports.{requests_at, requests_from, series_requests};
+ghost use Rattle.desk_export.specs.RequestRecords.{request_text};
 ghost use Rattle.series_rules.specs.Agreements.{agreements_of, named};
 ghost use Rattle.series_rules.specs.Firsts.{first_at};
+ghost use Rattle.series_rules.specs.declared.requests.Request.{Request};
 
 use crate::request_text::{write_agreement, write_standing};
 use crate::taking::TakesTexts;
@@ -17,7 +19,7 @@ use series_rules::answers::GapReport;
 use series_rules::laws::gaps_are_true;
 use std::alloc::{AllocError, Global};
 
-/// Why a desk was not exported to its end.
+/// Why a desk was not listed to its end.
 #[derive(Drop)]
 pub enum ExportFault<F> {
     /// The store failed.
@@ -36,8 +38,11 @@ impl<F> From<AllocError> for ExportFault<F> {
     }
 }
 
-// Hands a text on.
-fn take_text<T: TakesTexts>(taker: &mut T, text: &str) -> Result<(), ExportFault<T::Fault>>
+/// Hands a text on.
+pub(crate) fn take_text<T: TakesTexts>(
+    taker: &mut T,
+    text: &str,
+) -> Result<(), ExportFault<T::Fault>>
     ensures { OnOk result (T.takes taker.old taker.new text.now) }
 {
     match taker.take(text) {
@@ -54,8 +59,8 @@ fn export_number<D: ListedDesk, T: TakesTexts>(
     number: Number,
     taker: &mut T,
 ) -> Result<(), ExportFault<T::Fault>>
-    ensures { IsExported T.takes (λ L. ⊤)
-        (λ L. requests_at agreement.now number (first_at L agreement.now.name number))
+    ensures { IsTaken T.takes (λ L. ⊤) (λ L. texts_of
+        (requests_at agreement.now number (first_at L agreement.now.name number)))
         (D.seen desk.old) (D.seen desk.new) taker.old taker.new result }
 {
     let stored = match desk.text_at(&agreement.name, number) {
@@ -84,7 +89,8 @@ fn export_range<D: ListedDesk, T: TakesTexts>(
     end: u32,
     taker: &mut T,
 ) -> Result<(), ExportFault<T::Fault>>
-    ensures { IsExported T.takes (λ L. ⊤) (λ L. requests_from L agreement.now from (end - from))
+    ensures { IsTaken T.takes (λ L. ⊤)
+        (λ L. texts_of (requests_from L agreement.now from (end - from)))
         (D.seen desk.old) (D.seen desk.new) taker.old taker.new result }
 {
     for n in from..end {
@@ -114,9 +120,9 @@ fn export_held<D: ListedDesk, T: TakesTexts>(
     report: &GapReport,
     taker: &mut T,
 ) -> Result<(), ExportFault<T::Fault>>
-    ensures { IsExported T.takes (λ L. ⊤)
-        (λ L. requests_between L agreement.now report.now.first report.now.missing
-        (end_after report.now.first report.now.greatest))
+    ensures { IsTaken T.takes (λ L. ⊤)
+        (λ L. texts_of (requests_between L agreement.now report.now.first report.now.missing
+        (end_after report.now.first report.now.greatest)))
         (D.seen desk.old) (D.seen desk.new) taker.old taker.new result }
 {
     let end = end_of(report);
@@ -129,16 +135,29 @@ fn export_held<D: ListedDesk, T: TakesTexts>(
     export_range(alloc, desk, agreement, from, end, taker)
 }
 
-// Exports an agreed series: its agreement, and then what stands at each number, in order.
-fn export_series<D: ListedDesk, T: TakesTexts>(
+/// Hands on the request for an agreement.
+pub(crate) fn take_agreement<T: TakesTexts>(
+    alloc: Global,
+    agreement: &Agreement,
+    taker: &mut T,
+) -> Result<(), ExportFault<T::Fault>>
+    ensures { OnOk result
+        (T.takes taker.old taker.new (request_text (Request.Agree agreement.now))) }
+{
+    let text = write_agreement(alloc, agreement)?;
+    take_text(taker, text.as_str())
+}
+
+/// Exports an agreed series: its agreement, and then what stands at each number, in order.
+pub(crate) fn export_series<D: ListedDesk, T: TakesTexts>(
     alloc: Global,
     desk: &mut D,
     agreement: &Agreement,
     taker: &mut T,
 ) -> Result<(), ExportFault<T::Fault>>
-    ensures { IsExported T.takes
+    ensures { IsTaken T.takes
         (λ L. named (agreements_of L) agreement.now.name ≡ Some agreement.now)
-        (λ L. series_requests L agreement.now)
+        (λ L. texts_of (series_requests L agreement.now))
         (D.seen desk.old) (D.seen desk.new) taker.old taker.new result }
 {
     gaps_are_true();
@@ -148,30 +167,6 @@ fn export_series<D: ListedDesk, T: TakesTexts>(
         Ok(None) => return Err(ExportFault::Store(StoreFault::Unusable)),
         Err(fault) => return Err(ExportFault::Store(fault)),
     };
-    let text = write_agreement(alloc, agreement)?;
-    take_text(taker, text.as_str())?;
+    take_agreement(alloc, agreement, taker)?;
     export_held(alloc, desk, agreement, &report, taker)
-}
-
-/// Exports a desk: hands the texts of the requests that make it again to a taker, one after the
-/// other, with one message at a time in memory. For each series in order of name they are its
-/// agreement, and then for each number in order the message or the waiver that stands there. The
-/// desk is only asked.
-pub fn export_desk<D: ListedDesk, T: TakesTexts>(
-    alloc: Global,
-    desk: &mut D,
-    taker: &mut T,
-) -> Result<(), ExportFault<T::Fault>>
-    ensures { IsExported T.takes (λ L. ⊤) export_of
-        (D.seen desk.old) (D.seen desk.new) taker.old taker.new result }
-{
-    let agreements = match desk.agreements() {
-        Ok(agreements) => agreements,
-        Err(fault) => return Err(ExportFault::Store(fault)),
-    };
-    let listed = agreements.as_slice();
-    for agreement in listed {
-        export_series(alloc, desk, agreement, taker)?;
-    }
-    Ok(())
 }

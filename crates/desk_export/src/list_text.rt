@@ -1,17 +1,16 @@
-//! What a desk lists, as text: its agreements, which numbers its series lack, and all that it holds.
+//! What a desk lists, as text: its agreements, which numbers its series lack, and all that it
+//! holds.
 
-ghost use Rattle.std.specs.Prelude.{◌≡◌, OnOk, Some};
+ghost use Rattle.std.specs.Prelude.{◌≡◌, ◌∷◌, [], OnOk, Some, ⊤};
 ghost use Rattle.std.specs.Io.KnownBytes.{Appends};
 ghost use Rattle.series_rules.specs.Agreements.{agreements_of, named};
-ghost use Rattle.desk_listing.specs.Listing.{agreements_by_name};
 ghost use Rattle.desk_export.specs.Asking.{IsAsked};
-ghost use Rattle.desk_export.specs.Exports.{export_of};
-ghost use Rattle.desk_export.specs.ListTexts.{agree_text, agreements_text, report_text, reports_text};
-ghost use Rattle.desk_export.specs.RequestTexts.{batch_text};
+ghost use Rattle.desk_export.specs.Exporting.{IsTaken};
+ghost use Rattle.desk_export.specs.ListTexts.{listed_text, listed_texts, report_text, series_texts};
 
-use crate::export::{ExportFault, export_desk};
-use crate::request_text::write_agreement;
-use csv_records::streams::{WriteFault, write_whole};
+use crate::export::{ExportFault, export_series, take_agreement, take_text};
+use crate::taking::TakesTexts;
+use csv_records::streams::WriteFault;
 use desk_listing::listing::ListedDesk;
 use desk_texts::answer_text::write_answer;
 use onix_message::{Agreement, StoreFault};
@@ -19,62 +18,29 @@ use series_rules::answers::Answer;
 use std::alloc::Global;
 use std::io::Write;
 
-// Writes a text.
-fn write_text<W: Write>(writer: &mut W, text: &str) -> Result<(), ExportFault<WriteFault>>
-    ensures { OnOk result
-        (Appends (W.contents writer.old) (W.contents writer.new) text.now) }
-{
-    match write_whole(writer, text.as_bytes()) {
-        Ok(()) => Ok(()),
-        Err(fault) => Err(ExportFault::Taking(fault)),
-    }
+/// What is listed of each series of a desk.
+#[derive(Clone, Copy)]
+pub enum Listed {
+    /// Its agreement, as the request of a batch.
+    Agreements,
+    /// The report on which numbers it lacks.
+    Gaps,
+    /// The requests that make it again: its agreement, and then for each number in order the
+    /// message or the waiver that stands there.
+    Requests,
 }
 
-// Writes these agreements.
-fn write_each<W: Write>(
-    alloc: Global,
-    agreements: &[Agreement],
-    writer: &mut W,
-) -> Result<(), ExportFault<WriteFault>>
-    ensures { OnOk result (Appends (W.contents writer.old) (W.contents writer.new)
-        (agree_text agreements.now)) }
-{
-    for agreement in agreements {
-        let text = write_agreement(alloc, agreement)?;
-        write_text(writer, text.as_str())?;
-    }
-    Ok(())
-}
-
-/// Writes the agreements of a desk, in order of name, each as the request of a batch. The desk is
-/// only asked.
-pub fn write_agreements<D: ListedDesk, W: Write>(
-    alloc: Global,
-    desk: &mut D,
-    writer: &mut W,
-) -> Result<(), ExportFault<WriteFault>>
-    ensures { IsAsked (D.seen desk.old) (D.seen desk.new)
-        (λ L. OnOk result (Appends (W.contents writer.old) (W.contents writer.new)
-        (agreements_text L))) }
-{
-    let agreements = match desk.agreements() {
-        Ok(agreements) => agreements,
-        Err(fault) => return Err(ExportFault::Store(fault)),
-    };
-    write_each(alloc, agreements.as_slice(), writer)
-}
-
-// Writes which numbers an agreed series lacks.
-fn write_report<D: ListedDesk, W: Write>(
+// Hands on which numbers an agreed series lacks.
+fn list_gaps<D: ListedDesk, T: TakesTexts>(
     alloc: Global,
     desk: &mut D,
     agreement: &Agreement,
-    writer: &mut W,
-) -> Result<(), ExportFault<WriteFault>>
-    ensures { IsAsked (D.seen desk.old) (D.seen desk.new)
-        (λ L. named (agreements_of L) agreement.now.name ≡ Some agreement.now
-        → OnOk result (Appends (W.contents writer.old) (W.contents writer.new)
-        (report_text L agreement.now))) }
+    taker: &mut T,
+) -> Result<(), ExportFault<T::Fault>>
+    ensures { IsTaken T.takes
+        (λ L. named (agreements_of L) agreement.now.name ≡ Some agreement.now)
+        (λ L. report_text L agreement.now ∷ [])
+        (D.seen desk.old) (D.seen desk.new) taker.old taker.new result }
 {
     let report = match desk.gaps(&agreement.name) {
         Ok(Some(report)) => report,
@@ -83,55 +49,61 @@ fn write_report<D: ListedDesk, W: Write>(
         Err(fault) => return Err(ExportFault::Store(fault)),
     };
     let text = write_answer(alloc, &Answer::Gaps(report))?;
-    write_text(writer, text.as_str())
+    take_text(taker, text.as_str())
 }
 
-// Writes which numbers these series lack.
-fn write_reports<D: ListedDesk, W: Write>(
+// Hands on what is listed of an agreed series.
+fn list_series<D: ListedDesk, T: TakesTexts>(
     alloc: Global,
     desk: &mut D,
-    agreements: &[Agreement],
-    writer: &mut W,
-) -> Result<(), ExportFault<WriteFault>>
-    ensures { IsAsked (D.seen desk.old) (D.seen desk.new)
-        (λ L. agreements.now ≡ agreements_by_name L
-        → OnOk result (Appends (W.contents writer.old) (W.contents writer.new)
-        (reports_text L))) }
+    listed: Listed,
+    agreement: &Agreement,
+    taker: &mut T,
+) -> Result<(), ExportFault<T::Fault>>
+    ensures { IsTaken T.takes
+        (λ L. named (agreements_of L) agreement.now.name ≡ Some agreement.now)
+        (λ L. series_texts listed L agreement.now)
+        (D.seen desk.old) (D.seen desk.new) taker.old taker.new result }
 {
-    for agreement in agreements {
-        write_report(alloc, desk, agreement, writer)?;
+    match listed {
+        Listed::Agreements => take_agreement(alloc, agreement, taker),
+        Listed::Gaps => list_gaps(alloc, desk, agreement, taker),
+        Listed::Requests => export_series(alloc, desk, agreement, taker),
     }
-    Ok(())
 }
 
-/// Writes which numbers the series of a desk lack: the report of each, in order of name. The desk is
-/// only asked.
-pub fn write_gaps<D: ListedDesk, W: Write>(
+/// Lists a desk: hands what is listed of each series, in order of name, to a taker, one text after
+/// the other, with one message at a time in memory. The desk is only asked.
+pub fn list_desk<D: ListedDesk, T: TakesTexts>(
     alloc: Global,
     desk: &mut D,
-    writer: &mut W,
-) -> Result<(), ExportFault<WriteFault>>
-    ensures { IsAsked (D.seen desk.old) (D.seen desk.new)
-        (λ L. OnOk result (Appends (W.contents writer.old) (W.contents writer.new)
-        (reports_text L))) }
+    listed: Listed,
+    taker: &mut T,
+) -> Result<(), ExportFault<T::Fault>>
+    ensures { IsTaken T.takes (λ L. ⊤) (listed_texts listed)
+        (D.seen desk.old) (D.seen desk.new) taker.old taker.new result }
 {
     let agreements = match desk.agreements() {
         Ok(agreements) => agreements,
         Err(fault) => return Err(ExportFault::Store(fault)),
     };
-    write_reports(alloc, desk, agreements.as_slice(), writer)
+    let all = agreements.as_slice();
+    for agreement in all {
+        list_series(alloc, desk, listed, agreement, taker)?;
+    }
+    Ok(())
 }
 
-/// Writes the export of a desk: the requests that make it again, one after the other. The desk is
-/// only asked.
-pub fn write_export<D: ListedDesk, W: Write>(
+/// Writes what is listed of each series of a desk, in order of name. The desk is only asked.
+pub fn write_list<D: ListedDesk, W: Write>(
     alloc: Global,
     desk: &mut D,
+    listed: Listed,
     writer: &mut W,
 ) -> Result<(), ExportFault<WriteFault>>
     ensures { IsAsked (D.seen desk.old) (D.seen desk.new)
         (λ L. OnOk result (Appends (W.contents writer.old) (W.contents writer.new)
-        (batch_text (export_of L)))) }
+        (listed_text listed L))) }
 {
-    export_desk(alloc, desk, writer)
+    list_desk(alloc, desk, listed, writer)
 }

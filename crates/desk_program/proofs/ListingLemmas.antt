@@ -1,5 +1,5 @@
 -- How a command ends that lists what a desk in two files holds.
-use Rattle.std.proofs.Common.{◌≡◌, ◌⊎◌, ℕ, List, [], inl, inr, subst, sym}
+use Rattle.std.proofs.Common.{◌≡◌, ◌⊎◌, ℕ, Bool, List, [], inl, inr, subst, sym}
 use Rattle.sqlite_disk.specs.declared.Disk.{Ghosts}
 use Rattle.sqlite_wal.specs.Recovery.{Image}
 use Rattle.series_rules.specs.Views.{DeskKind, LeavesOnly, View}
@@ -7,6 +7,7 @@ use Rattle.series_rules.specs.declared.requests.Request.{Request}
 use Rattle.desk_export.specs.Asking.{IsAsked}
 use Rattle.desk_store.specs.Seen.{in_tables, seen_in}
 use Rattle.sqlite.specs.Files.{file_state}
+use Rattle.named_files.specs.Holdings.{Holdings}
 use Rattle.command_line.specs.declared.invocation.Listing.{Listing}
 use Rattle.desk_program.proofs.ClosingLemmas.{closed_comes, unclosed_comes}
 use Rattle.desk_program.proofs.EndLemmas.{ComesOf, ComesTo}
@@ -43,15 +44,15 @@ module _ {k : DeskKind} (old first last new : View k) (IsSo : List Request → T
     so = λ L held sound. asked.so L (begins.stands (opened sound) L held) (ended sound);
   }
 
-module _ (listing : Listing) (written : List ℕ → Type 0) where
-  ends_between : {k : DeskKind} (old first last new : View k) (status : ℕ) → ComesTo old first → ComesOf last new → ListingEnds listing written first last status → ListingEnds listing written old new status
+module _ (written : List ℕ → Type 0) (is_told : Bool) (before after : Holdings) (listing : Listing) where
+  ends_between : {k : DeskKind} (old first last new : View k) (status : ℕ) → ComesTo old first → ComesOf last new → ListingEnds written is_told before after listing first last status → ListingEnds written is_told before after listing old new status
   ends_between old first last new status begins comes end = (asked_between old first last new _ begins comes end.0, end.1)
 
   -- over a desk whose files were then closed, as over what these were before they were opened
-  pub listing_closed : {O U D : Type 0} (g : Ghosts D) (image : Image) (was : View in_tables) (left : FilesLeft O U D g) (status : ℕ) → ComesTo (seen_image image) was → ListsAndCloses listing written was status left
-      → FileListingEnds listing written image status left
+  pub listing_closed : {O U D : Type 0} (g : Ghosts D) (image : Image) (was : View in_tables) (left : FilesLeft O U D g) (status : ℕ) → ComesTo (seen_image image) was → ListsAndCloses written is_told before after listing was status left
+      → FileListingEnds written is_told before after listing image status left
   listing_closed g image was (Closed files) status begins (own, c, (same, closes), end) = (
-    subst (ListingEnds listing written (seen_image image) (seen_files g files)) (sym same)
+    subst (ListingEnds written is_told before after listing (seen_image image) (seen_files g files)) (sym same)
         (ends_between (seen_image image) was (seen_in (file_state c)) (seen_files g files) own begins (closed_comes g c files closes) end),
     λ clean. let copied = (closes clean).0 in ((file_state c).committed.trees, copied.seen, copied.left),
   )
@@ -62,7 +63,7 @@ module _ (listing : Listing) (written : List ℕ → Type 0) where
   listing_closed g image was (Untouched databases) status begins (own, c, closes, end) = absurd closes
 
   -- there are no files
-  pub listing_unopened : {O U D : Type 0} (g : Ghosts D) (image : Image) (status : ℕ) (left : FilesLeft O U D g) → HasNoFiles left → status ≡ 3 → written [] → FileListingEnds listing written image status left
+  pub listing_unopened : {O U D : Type 0} (g : Ghosts D) (image : Image) (status : ℕ) (left : FilesLeft O U D g) → HasNoFiles left → status ≡ 3 → written [] → FileListingEnds written is_told before after listing image status left
   listing_unopened g image status (Untouched databases) none three nothing = (three, nothing)
   listing_unopened g image status (NotOpened files) none three nothing = (three, nothing)
   listing_unopened g image status (Unopened files) none three nothing = absurd none

@@ -13,7 +13,7 @@ use Rattle.command_line.specs.Asked.{Reads}
 use Rattle.desk_program.specs.ConvertEnds.{ConvertEnds}
 use Rattle.desk_program.specs.FileViews.{seen_files, seen_image, seen_store}
 use Rattle.database_files.specs.Leftovers.{IsUntouched, LeavesUndone}
-use Rattle.desk_program.specs.ListingEnds.{FileListingEnds}
+use Rattle.desk_program.specs.ListingEnds.{FileListingEnds, SparesFiles}
 use Rattle.desk_program.specs.MigrationEnd.{MigrateEnds}
 use Rattle.program_lines.specs.Printing.{PrintEnds}
 use Rattle.rules_file.specs.RulesFile.{CheckEnds, RulesFit, status_of}
@@ -85,7 +85,8 @@ module _ {M : Type 0} {k : DeskKind} (seen : M → View k) {O U D : Type 0} {g :
   ActionEnds rules (InFile db task) status left =
       FileEnds rules written task before told (held db.name.now) status left
   ActionEnds rules (Listed db listing) status left =
-      FileListingEnds listing written (held db.name.now) status left
+      SparesFiles written is_told before after listing
+      × FileListingEnds written is_told before after listing (held db.name.now) status left
   ActionEnds rules (Migrate db) status left = MigrateEnds (held db.name.now) written status left
   ActionEnds rules (Send socket) status left =
       IsUntouched left × SendEnds told (answers socket.now) written status

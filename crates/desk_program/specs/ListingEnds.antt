@@ -1,5 +1,5 @@
 -- How a command ends that lists what a desk in two files holds.
-use Rattle.std.specs.Prelude.{◌≡◌, ◌⊎◌, ℕ, List}
+use Rattle.std.specs.Prelude.{◌≡◌, ◌⊎◌, ℕ, Bool, true, List, [], Some, None}
 use Rattle.sqlite.specs.Files.{file_state}
 use Rattle.sqlite.specs.Held.{Held}
 use Rattle.sqlite_disk.specs.declared.Disk.{Ghosts}
@@ -11,7 +11,10 @@ use Rattle.series_rules.specs.declared.requests.Request.{Request}
 use Rattle.desk_export.specs.Asking.{IsAsked}
 use Rattle.desk_export.specs.Exports.{export_of}
 use Rattle.desk_export.specs.ListTexts.{agreements_text, reports_text}
+use Rattle.desk_export.specs.PartTexts.{AreInFolder, MayBeInFolder}
 use Rattle.desk_export.specs.RequestTexts.{batch_text}
+use Rattle.named_files.specs.Holdings.{Holdings, MayName}
+use Rattle.named_files.specs.PartFiles.{files_of, numbered}
 use Rattle.desk_store.specs.ClosedFiles.{HoldOneDatabase}
 use Rattle.desk_store.specs.Openings.{MakesNothing}
 use Rattle.desk_store.specs.Seen.{in_tables, seen_in}
@@ -23,37 +26,47 @@ use Rattle.database_files.specs.Leftovers.{LeavesUndone}
 use Rattle.database_files.specs.declared.files.FilesLeft.{FilesLeft}
 use Rattle.database_files.specs.declared.files.FilesLeft.TheVariants.{Closed, Unclosed}
 
--- the text of what is listed, after a list of requests
-abbrev pub listed_text : Listing → List Request → List ℕ
-listed_text Agreements L = agreements_text L
-listed_text Gaps L = reports_text L
-listed_text Export L = batch_text (export_of L)
+-- Written: these bytes were written. Is told: whether it is told what files hold; before, after:
+-- what names hold
+module _ (written : List ℕ → Type 0) (is_told : Bool) (before after : Holdings) where
+  -- with 0 the text of what is listed after a list of requests was written, or is in the files of a
+  -- folder, of which with 3 some may be there
+  abbrev pub IsListed : Listing → List Request → ℕ → Type 0
+  IsListed Agreements L status = status ≡ 0 → written (agreements_text L)
+  IsListed Gaps L status = status ≡ 0 → written (reports_text L)
+  IsListed (Export None) L status = status ≡ 0 → written (batch_text (export_of L))
+  IsListed (Export (Some folder)) L status = is_told ≡ true
+      → (status ≡ 0 → AreInFolder folder.now (export_of L) before after)
+      × MayBeInFolder folder.now (export_of L) before after
 
--- Written: these bytes were written
-module _ (listing : Listing) (written : List ℕ → Type 0) where
-  -- the command ended over a desk that was only asked: with 0 that text was written, after each list
-  -- for which the desk stood, and else the status is 3
-  abbrev pub ListingEnds : {k : DeskKind} → View k → View k → ℕ → Type 0
-  ListingEnds old new status =
-      IsAsked old new (λ L. status ≡ 0 → written (listed_text listing L))
-      × ((status ≡ 0) ⊎ (status ≡ 3))
+  -- of what names held nothing is lost, and nothing is new but files of that folder
+  abbrev pub SparesFiles : Listing → Type 0
+  SparesFiles (Export (Some folder)) = written [] × (is_told ≡ true → (texts : List (List ℕ))
+      × MayName (files_of (numbered folder.now) texts) before after)
+  SparesFiles other = after ≡ before
+
+  -- the command ended over a desk that was only asked: with 0 that is listed, after each list for
+  -- which the desk stood, and else the status is 3
+  abbrev pub ListingEnds : {k : DeskKind} → Listing → View k → View k → ℕ → Type 0
+  ListingEnds listing old new status =
+      IsAsked old new (λ L. IsListed listing L status) × ((status ≡ 0) ⊎ (status ≡ 3))
 
   -- How it can end over the desk in two files that held `image`. What these hold is what they held:
   -- closed, they hold one database, and so a crash leaves them; where they could not be closed, the
   -- status is 3 in the place of its own. Else the desk was not opened: the status is 3, and nothing
   -- is written
-  abbrev pub FileListingEnds : {O U D : Type 0} → {g : Ghosts D} → Image → ℕ → FilesLeft O U D g
-      → Type 0
-  FileListingEnds {g = g} image status (Closed files) =
-      ListingEnds (seen_image image) (seen_files g files) status
+  abbrev pub FileListingEnds : {O U D : Type 0} → {g : Ghosts D} → Listing → Image → ℕ
+      → FilesLeft O U D g → Type 0
+  FileListingEnds {g = g} listing image status (Closed files) =
+      ListingEnds listing (seen_image image) (seen_files g files) status
       × (AreClean g files.log files.db → HoldOneDatabase g files)
-  FileListingEnds image status (Unclosed store) =
-      (status ≡ 3) × (own : ℕ) × ListingEnds (seen_image image) (seen_store store) own
-  FileListingEnds image status left = LeavesUndone image MakesNothing written status left
+  FileListingEnds listing image status (Unclosed store) =
+      (status ≡ 3) × (own : ℕ) × ListingEnds listing (seen_image image) (seen_store store) own
+  FileListingEnds listing image status left = LeavesUndone image MakesNothing written status left
 
   -- the same of a desk that was opened as `was`, over a connection that was then closed
-  abbrev pub ListsAndCloses : {O U D : Type 0} → {g : Ghosts D} → View in_tables → ℕ
+  abbrev pub ListsAndCloses : {O U D : Type 0} → {g : Ghosts D} → Listing → View in_tables → ℕ
       → FilesLeft O U D g → Type 0
-  ListsAndCloses {D = D} {g = g} was status left =
+  ListsAndCloses {D = D} {g = g} listing was status left =
       (own : ℕ) × (c : Held (FileStore D g)) × Closes own c status left
-      × ListingEnds was (seen_in (file_state c)) own
+      × ListingEnds listing was (seen_in (file_state c)) own

@@ -200,7 +200,7 @@ fn run_action<O: Databases, K: OpenDesks, F: NamedFiles, R: Read, W: Write, E: W
             rt, db, databases, precedence, task, files, input, output, errors,
         ),
         Action::Listed { db, listing } => {
-            listing::list_file(rt, db, databases, *listing, output, errors)
+            listing::list_file(rt, db, databases, *listing, files, output, errors)
         }
         Action::Migrate { db } => migrate_file(rt, db, databases, output, errors),
         Action::Send { socket } => {
@@ -232,7 +232,8 @@ fn rules_of(rt: &HostRuntime, name: Option<&str>) -> Result<Precedence, RulesFau
 
 /// Does what a command line asks, under the rules of a file or under none. `databases` has the
 /// database file that it may name, `desks` the open desk, and `files` opens FILEs and makes those
-/// of `convert`. Gives the exit status, and what is left of the two files of the database.
+/// of `convert` and `export`. Gives the exit status, and what is left of the two files of the
+/// database.
 ///
 /// Each list of requests that the files held, with those that took effect, is what they hold then;
 /// what is written is of their answers; and a crash leaves just that.
@@ -280,7 +281,7 @@ pub fn run_invocation<O: Databases, K: OpenDesks, F: NamedFiles, R: Read, W: Wri
 /// storage, a file, input, output, the port or the socket, or when out of memory. The command line
 /// is judged first, then the rules file, then what the command itself meets. `databases` has the
 /// database file that the words may name, `desks` the open desk, and `files` opens FILEs and makes
-/// those of `convert`; beside the status comes what is left of the database's files.
+/// those of `convert` and `export`; beside the status comes what is left of the database's files.
 pub fn run<O: Databases, K: OpenDesks, F: NamedFiles, R: Read, W: Write, E: Write>(
     rt: &HostRuntime,
     words: &[&str],

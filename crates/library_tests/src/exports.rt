@@ -2,7 +2,7 @@
 
 use crate::cases::{expect, expect_bytes, made};
 use desk_batch::run_batch;
-use desk_export::list_text::{write_agreements, write_export, write_gaps};
+use desk_export::list_text::{Listed, write_list};
 use desk_listing::listing::ListedDesk;
 use desk_store::DeskStore;
 use price_rules::precedence::Precedence;
@@ -50,6 +50,21 @@ missing,3,3
 gaps,south,first=7,next=7,greatest=,held=0,missing=0
 ";
 
+// What is listed of a desk is that.
+fn expect_list<D: ListedDesk>(
+    alloc: Global,
+    stop: &impl Abort,
+    desk: &mut D,
+    listed: Listed,
+    wanted: &str,
+    case: &str,
+) {
+    let mut text = Vec::new(alloc);
+    let ended = write_list(alloc, desk, listed, &mut text);
+    expect(stop, ended.is_ok(), case);
+    expect_bytes(stop, text.as_slice(), wanted.as_bytes(), case);
+}
+
 // A desk that was given these requests is listed as that.
 fn expect_lists<D: ListedDesk>(
     alloc: Global,
@@ -63,18 +78,9 @@ fn expect_lists<D: ListedDesk>(
     let mut input = requests.as_bytes();
     let ended = run_batch(alloc, desk, &rules, &mut input, &mut answers);
     expect(stop, ended.is_ok(), case);
-    let mut text = Vec::new(alloc);
-    let ended = write_export(alloc, desk, &mut text);
-    expect(stop, ended.is_ok(), case);
-    expect_bytes(stop, text.as_slice(), EXPORT.as_bytes(), case);
-    let mut text = Vec::new(alloc);
-    let ended = write_agreements(alloc, desk, &mut text);
-    expect(stop, ended.is_ok(), case);
-    expect_bytes(stop, text.as_slice(), AGREEMENTS.as_bytes(), case);
-    let mut text = Vec::new(alloc);
-    let ended = write_gaps(alloc, desk, &mut text);
-    expect(stop, ended.is_ok(), case);
-    expect_bytes(stop, text.as_slice(), GAPS.as_bytes(), case);
+    expect_list(alloc, stop, desk, Listed::Requests, EXPORT, case);
+    expect_list(alloc, stop, desk, Listed::Agreements, AGREEMENTS, case);
+    expect_list(alloc, stop, desk, Listed::Gaps, GAPS, case);
 }
 
 #[test]

@@ -1,21 +1,32 @@
--- The files of the parts of a message.
+-- The files of parts.
 use Rattle.std.specs.Prelude.{ℕ, List, [], ◌∷◌, string_bytes, suc}
 use Rattle.named_files.specs.Holdings.{NamedText, named}
-use Rattle.named_files.specs.Names.{part_name, path_in}
+use Rattle.named_files.specs.Names.{number_name, part_name, path_in}
+use Rattle.named_files.specs.declared.targets.PartNames.{PartNames}
+use Rattle.named_files.specs.declared.targets.PartNames.TheVariants.{Numbers, OfMessage}
 use Rattle.named_files.specs.declared.targets.Target.{Target}
 
--- where the parts of a message go: a folder, the NAME of the message, and in how many parts it is
+-- where parts go: a folder, and the name of the file of the part of each number
 pub record Place : Type 0 where
   pub folder : List ℕ
-  pub name : List ℕ
-  pub parts : ℕ
+  pub file_name : ℕ → List ℕ
 
+-- that of a message of this NAME in so many parts
 abbrev pub place : List ℕ → List ℕ → ℕ → Place
-place folder name parts = record { folder = folder; name = name; parts = parts }
+place folder name parts =
+    record { folder = folder; file_name = λ number. part_name name number parts }
+
+-- that of parts which have their numbers as names
+abbrev pub numbered : List ℕ → Place
+numbered folder = record { folder = folder; file_name = number_name }
+
+abbrev pub place_by : List ℕ → PartNames → Place
+place_by folder (OfMessage name parts) = place folder name.now parts
+place_by folder Numbers = numbered folder
 
 -- the path of the part of a number, from 1
 abbrev pub path_of : Place → ℕ → List ℕ
-path_of place number = path_in place.folder (part_name place.name number place.parts)
+path_of place number = path_in place.folder (place.file_name number)
 
 -- the files of parts with these texts, of which the first has that number
 abbrev pub files_from : Place → ℕ → List (List ℕ) → List NamedText
@@ -23,7 +34,7 @@ files_from place number [] = []
 files_from place number (text ∷ texts) =
     named (path_of place number) text ∷ files_from place (suc number) texts
 
--- The files of the parts of a message.
+-- The files of parts with these texts.
 abbrev pub files_of : Place → List (List ℕ) → List NamedText
 files_of place texts = files_from place 1 texts
 

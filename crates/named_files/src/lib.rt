@@ -23,4 +23,4 @@ pub use host::{HiddenFile, HostFiles};
 pub use names::{STANDARD_INPUT, is_packed, name_of};
 pub use part_files::{MadeFiles, PartFiles};
 pub use spool::Spool;
-pub use targets::Target;
+pub use targets::{PartNames, Target};

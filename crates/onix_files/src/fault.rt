@@ -28,7 +28,7 @@ fn line_of(alloc: Global, fault: &FileFault) -> Result<String, AllocError> {
 }
 
 /// Writes the line of a fault. One that cannot be written is lost: there is nowhere left to say so.
-pub(crate) fn write_fault<E: Write>(alloc: Global, fault: &FileFault, errors: &mut E) {
+pub fn write_fault<E: Write>(alloc: Global, fault: &FileFault, errors: &mut E) {
     let line = line_of(alloc, fault);
     let text = match &line {
         Ok(line) => line.as_str(),

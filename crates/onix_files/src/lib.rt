@@ -22,4 +22,5 @@ mod words;
 
 pub use converting::{Run, convert_files};
 pub use ended::Ended;
+pub use fault::write_fault;
 pub use named_files::STANDARD_INPUT;

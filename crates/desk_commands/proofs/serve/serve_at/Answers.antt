@@ -1,4 +1,4 @@
-use Rattle.std.proofs.Common.{inr, refl}
+use Rattle.std.proofs.Common.{inl, inr, refl}
 use Rattle.std.proofs.KnownBytes.{Appends-trans}
 use Rattle.std.specs.Io.KnownBytes.{Appends}
 use Rattle.series_rules.specs.Steps.{Asked}
@@ -13,7 +13,10 @@ returns-in-Ok-clause-end g c =
       ended.0,
       ended.3,
       inr (lines_behind _ _ _ (listening_line c.args.number) ended.0 c.in-Ok.ensures ended.4),
-      λ zero. ((ended.5 zero).0, Appends-trans _ _ _ _ _ c.in-Ok.ensures (ended.5 zero).1),
+      elim ended.5 [
+        | inl done ↦ inl (done.0, done.1, Appends-trans _ _ _ _ _ c.in-Ok.ensures done.2)
+        | inr three ↦ inr three
+      ],
     )
 
 pub returns-in-Err-clause-end : goal.returns-in-Err-clause-end

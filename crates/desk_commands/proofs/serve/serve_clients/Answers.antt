@@ -61,7 +61,7 @@ returns-in-Err-clause-end g c =
         one_more_asked seen rules c.args.desk.now c.serving.desk c.serve_next.new.desk inv.served one inv.asked it.were_asked,
       ),
       cut_line _ _ _ inv.served one inv.lines it.line,
-      λ zero. absurd (omega (arith, zero, c.report.ensures)),
+      inr c.report.ensures,
     ))
     (λ nobody. (
       inv.served,
@@ -73,7 +73,7 @@ returns-in-Err-clause-end g c =
         subst (λ d. Asked seen rules c.args.desk.now d (steps_of inv.served)) (sym nobody.1) inv.asked,
       ),
       whole_lines _ _ inv.served (subst (Appends _ _) (append-nil (lines_of inv.served)) (Appends-trans _ _ _ _ _ inv.lines nobody.2)),
-      λ zero. absurd (omega (arith, zero, c.report.ensures)),
+      inr c.report.ensures,
     ))
     c.in-Err.ensures
 
@@ -86,5 +86,5 @@ returns-clause-end g c =
       inv.each,
       (omega (arith, all), inv.all, inv.asked),
       whole_lines _ _ inv.served inv.lines,
-      λ zero. (all, inv.lines),
+      inl (refl, all, inv.lines),
     )

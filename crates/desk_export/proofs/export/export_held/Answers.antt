@@ -2,7 +2,7 @@ use Rattle.std.proofs.Common.{◌≡◌, ◌-◌, ◌+◌, ◌++◌, ◌∷◌, 
 use Rattle.std.proofs.lemmas.List.{drop_all, drop_more}
 use Rattle.desk_export.specs.Exporting.{end_after, requests_between}
 use Rattle.desk_export.specs.Exports.{requests_from}
-use Rattle.desk_export.proofs.TakenTexts.{exported_then, held_more, nothing_done, same_done}
+use Rattle.desk_export.proofs.TakenTexts.{exported_then, held_more, nothing_done, same_done, texts_append, texts_joined}
 use Rattle.desk_export.proofs.export.export_held.Goals as goal
 
 pub loop-range-init : goal.loop-range-init
@@ -29,7 +29,7 @@ loop-range-preserved g c =
     record {
       some = λ L. inv.some L ++ requests_from L a from (c.value.result - from);
       split = λ L. held_more L a from end c.value.result c.value-from-in-loop-range.result p (drop i missing) (drop (i + 1) missing) (inv.some L) _ (inv.split L) left c.value.ensures.value c.value-from-in-loop-range.ensures.value;
-      exported = exported_then tt (Ok tt) inv.exported (same_done _ tt c.in_ok-export_range.ensures) (λ L stands sound is. (tt, tt, refl));
+      exported = exported_then tt (Ok tt) inv.exported (same_done _ tt c.in_ok-export_range.ensures) (λ L stands sound is. (tt, tt, texts_append (inv.some L) (requests_from L a from (c.value.result - from))));
     }
 
 pub returns : goal.returns
@@ -45,8 +45,8 @@ returns g c =
     (λ L stands sound is. (
       tt,
       tt,
-      ap (λ ps. requests_between L a first ps (end_after first c.args.report.now.greatest)) (sym c.as_slice-missing.ensures)
+      texts_joined _ (inv.some L) (requests_from L a from (end - from)) (ap (λ ps. requests_between L a first ps (end_after first c.args.report.now.greatest)) (sym c.as_slice-missing.ensures)
           ∙ ap (λ e. requests_between L a first missing e) (sym c.end_of-end.ensures)
           ∙ inv.split L
-          ∙ ap (λ ps. inv.some L ++ requests_between L a from ps end) none,
+          ∙ ap (λ ps. inv.some L ++ requests_between L a from ps end) none),
     ))

@@ -1,6 +1,6 @@
 use Rattle.std.proofs.Common.{◌≡◌, ◌++◌, List, drop}
 use Rattle.series_rules.specs.declared.requests.Request.{Request}
-use Rattle.desk_export.specs.Exporting.{IsDone, requests_between}
+use Rattle.desk_export.specs.Exporting.{IsDone, requests_between, texts_of}
 use Rattle.desk_export.proofs.export.export_held.Given as goal
 
 -- some of the requests were exported, and the others are left
@@ -8,5 +8,5 @@ abbrev pub invariant-loop-range : goal.invariant-loop-range
 invariant-loop-range g l = record {
   some : List Request → List Request;
   split : (L : List Request) → requests_between L l.agreement l.report.first l.missing l.end ≡ some L ++ requests_between L l.agreement l.from (drop l.range-index l.missing) l.end;
-  exported : IsDone g.T.TakesTexts.takes some (g.D.Desk.seen l.fn.desk) (g.D.Desk.seen l.desk) l.fn.taker l.taker;
+  exported : IsDone g.T.TakesTexts.takes (λ L. texts_of (some L)) (g.D.Desk.seen l.fn.desk) (g.D.Desk.seen l.desk) l.fn.taker l.taker;
 }

@@ -1,4 +1,3 @@
-use Rattle.std.proofs.Common.{◌∙◌, subst}
 use Rattle.desk_export.proofs.TakenTexts.{series_exported}
 use Rattle.desk_export.proofs.export.export_series.Goals as goal
 
@@ -6,5 +5,5 @@ pub returns : goal.returns
 returns g c =
     series_exported c.gaps_are_true.ensures c.args.agreement.now c.in-Ok-Some.report c.export_held.result
     (rw c.in-Ok-Some.field-0-is at c.in-Ok-Some.ensures)
-    (subst (g.T.TakesTexts.takes c.args.taker.now c.take_text.new.taker) (c.as_str.ensures.value ∙ c.in_ok-text.ensures) c.in_ok-take_text.ensures)
+    c.in_ok-take_agreement.ensures
     c.export_held.ensures

@@ -8,5 +8,5 @@ returns-in-Ok-clause-end g c = c.list_over_files.ensures.end (g.O.Databases.held
 
 pub returns-in-Err-clause-end : goal.returns-in-Err-clause-end
 returns-in-Err-clause-end g c =
-    listing_unopened c.args.listing (Appends (g.W.Write.contents c.args.output.now) (g.W.Write.contents c.args.output.now)) g.O.File.Disk (g.O.Databases.held c.args.databases c.args.db.now.name.now) c.report.result
+    listing_unopened (Appends (g.W.Write.contents c.args.output.now) (g.W.Write.contents c.args.output.now)) g.F.NamedFiles.is_told (g.F.NamedFiles.holds c.args.files.now) (g.F.NamedFiles.holds c.args.files.now) c.args.listing g.O.File.Disk (g.O.Databases.held c.args.databases c.args.db.now.name.now) c.report.result
     c.in-Err.none c.in-Err.ensures.none c.report.ensures (Appends-nil (g.W.Write.contents c.args.output.now))

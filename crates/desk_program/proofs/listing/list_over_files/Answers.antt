@@ -15,7 +15,7 @@ returns-in-Ok-clause-end g c = λ image settled.
     let opened = c.in-Ok.ensures in
     let state = file_state c.in-Ok.desk.tables.connection in
     let written = Appends (g.W.Write.contents c.args.output.now) (g.W.Write.contents c.list_and_close.new.output) in
-    listing_closed c.args.listing written g.D.Disk image (seen_in state) c.list_and_close.result.1 c.list_and_close.result.0
+    listing_closed written g.F.NamedFiles.is_told (g.F.NamedFiles.holds c.args.files.now) (g.F.NamedFiles.holds c.list_and_close.new.files) c.args.listing g.D.Disk image (seen_in state) c.list_and_close.result.1 c.list_and_close.result.0
     (subst (λ i. ComesTo (seen_image i) (seen_in state)) settled.0 (opened_comes _ state opened.stands opened.alone opened.taken)) c.list_and_close.ensures.end
 
 pub returns-in-Err-clause-end : goal.returns-in-Err-clause-end

@@ -1,10 +1,9 @@
+use Rattle.std.proofs.Common.{arith}
+use Rattle.desk_export.proofs.AskedDesks.{asked_as}
 use Rattle.desk_program.proofs.listing.write_listing.Goals as goal
 
-pub returns-in-Agreements : goal.returns-in-Agreements
-returns-in-Agreements g c = rw c.in-Agreements.is c.write_agreements.ensures
+pub returns-in-Ok-clause-end : goal.returns-in-Ok-clause-end
+returns-in-Ok-clause-end g c = asked_as c.in-Ok.ensures (λ L whole zero. whole)
 
-pub returns-in-Gaps : goal.returns-in-Gaps
-returns-in-Gaps g c = rw c.in-Gaps.is c.write_gaps.ensures
-
-pub returns-in-Export : goal.returns-in-Export
-returns-in-Export g c = rw c.in-Export.is c.write_export.ensures
+pub returns-in-Err-clause-end : goal.returns-in-Err-clause-end
+returns-in-Err-clause-end g c = asked_as c.in-Err.ensures (λ L whole zero. absurd (omega (arith, zero, c.report_listing.ensures)))

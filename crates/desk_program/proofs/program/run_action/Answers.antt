@@ -11,7 +11,7 @@ pub returns-in-InFile-clause-end : goal.returns-in-InFile-clause-end
 returns-in-InFile-clause-end g c = rw c.in-InFile.is c.run_in_file.ensures.end
 
 pub returns-in-Listed-clause-end : goal.returns-in-Listed-clause-end
-returns-in-Listed-clause-end g c = rw c.in-Listed.is c.list_file.ensures.end
+returns-in-Listed-clause-end g c = rw c.in-Listed.is (c.list_file.ensures.spares, c.list_file.ensures.end)
 
 pub returns-in-Migrate-clause-end : goal.returns-in-Migrate-clause-end
 returns-in-Migrate-clause-end g c = rw c.in-Migrate.is c.migrate_file.ensures.end

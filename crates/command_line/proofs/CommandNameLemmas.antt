@@ -5,7 +5,7 @@ use Rattle.clap.proofs.OnLiterals.{clap_on_literals}
 use Rattle.clap.specs.Simple.{Shape, built, entered, matches_of, names_of, subcommand_of}
 use Rattle.clap.specs.Walk.{Names, Row, Rule, Text, Walk, nothing_held, stop_after, walk_from, walked, walked_from}
 use Rattle.command_line.specs.Asked.{IsAction, IsListing, IsTask, Reads, ReadsWords}
-use Rattle.command_line.specs.CommandLine.{agreements_command, batch_command, convert_command, deliver_command, export_command, gaps_command, migrate_command, onixdesk, rules_command, serve_command}
+use Rattle.command_line.specs.CommandLine.{command_of, convert_command, export_command, free_operand, needed, onixdesk, serve_command, some_operands}
 use Rattle.command_line.specs.CommandNames.{NamesAreOfCommands, action_name, listing_name, task_name}
 use Rattle.command_line.specs.declared.invocation.Action.{Action}
 use Rattle.command_line.specs.declared.invocation.Action.TheVariants.{CheckRules, Convert, InMemory, InFile, Listed, Migrate, Send}
@@ -123,34 +123,34 @@ more : (command : Shape) (commands : List Shape) → IsNamed command → All IsN
 more = All-cons IsNamed
 
 abbrev from_rules : List Shape
-from_rules = rules_command ∷ serve_command ∷ []
+from_rules = command_of "rules" (needed (free_operand (codes "file")) ∷ []) ∷ serve_command ∷ []
 
 abbrev from_migrate : List Shape
-from_migrate = migrate_command ∷ from_rules
+from_migrate = command_of "migrate" [] ∷ from_rules
 
 abbrev from_gaps : List Shape
-from_gaps = gaps_command ∷ from_migrate
+from_gaps = command_of "gaps" (free_operand (codes "name") ∷ []) ∷ from_migrate
 
 abbrev from_export : List Shape
 from_export = export_command ∷ from_gaps
 
 abbrev from_deliver : List Shape
-from_deliver = deliver_command ∷ from_export
+from_deliver = command_of "deliver" (needed (some_operands (codes "file") 1) ∷ []) ∷ from_export
 
 abbrev from_convert : List Shape
 from_convert = convert_command ∷ from_deliver
 
 abbrev from_batch : List Shape
-from_batch = batch_command ∷ from_convert
+from_batch = command_of "batch" [] ∷ from_convert
 
 pub names_are_of_commands : NamesAreOfCommands
 names_are_of_commands =
-    more agreements_command from_batch (named (codes "agreements") agreements)
-    (more batch_command from_convert (named (codes "batch") batch)
-    (more convert_command from_deliver (named (codes "convert") convert)
-    (more deliver_command from_export (named (codes "deliver") deliver)
-    (more export_command from_gaps (named (codes "export") export)
-    (more gaps_command from_migrate (named (codes "gaps") gaps)
-    (more migrate_command from_rules (named (codes "migrate") migrate)
-    (more rules_command (serve_command ∷ []) (named (codes "rules") rules_met)
-    (more serve_command [] (named (codes "serve") serve) (All-nil IsNamed)))))))))
+    more _ from_batch (named (codes "agreements") agreements)
+    (more _ from_convert (named (codes "batch") batch)
+    (more _ from_deliver (named (codes "convert") convert)
+    (more _ from_export (named (codes "deliver") deliver)
+    (more _ from_gaps (named (codes "export") export)
+    (more _ from_migrate (named (codes "gaps") gaps)
+    (more _ from_rules (named (codes "migrate") migrate)
+    (more _ (serve_command ∷ []) (named (codes "rules") rules_met)
+    (more _ [] (named (codes "serve") serve) (All-nil IsNamed)))))))))

@@ -51,8 +51,8 @@ module _ (top : List Row) where
       (text_in top (codes "db") ≡ Some db.name.now)
       × (db.is_existing ≡ has_flag top (codes "existing"))
 
--- the rules file under which an action is done, where that one is named: a desk that is open has its
--- own rules, and a conversion and the reading of rules have none
+-- the rules file under which an action is done, where that one is named: a desk that is open has
+-- its own rules, and a conversion and the reading of rules have none
 abbrev pub rules_for : Action → Option Text → Option Text
 rules_for (Send socket) named = None
 rules_for (Convert conversion) named = None
@@ -95,7 +95,8 @@ module _ (top : List Row) (name : Text) (own : List Row) where
   ReadsAs reading.NoDesk =
       (listed : Listing) × IsListing name own listed × IsDatabase top None
   ReadsAs reading.NoBatch =
-      (bytes_eq name (codes "batch") ≡ false) × (is_some (text_in top (codes "batches")) ≡ true)
+      (bytes_eq name (codes "batch") ≡ false)
+      × (is_some (text_in top (codes "batches")) ≡ true)
   ReadsAs _ = ⊤
 
 module _ (top : List Row) where

@@ -1,4 +1,5 @@
--- The command line of the program: its options, and its commands with the options and operands of each.
+-- The command line of the program: its options, and its commands with the options and operands of
+-- each.
 use Prim.Native.String.{String}
 use Rattle.std.specs.Prelude.{◌≡◌, ◌∷◌, ℕ, true, false, List, [], Result, Some, IfOk, IsOkAnd, codes}
 use Rattle.clap.specs.Lexer.{usize_max}
@@ -32,10 +33,6 @@ short_option name letter = record (free_operand name) { short = Some letter }
 abbrev pub flag_option : Text → Rule
 flag_option name = record (new_rule name) { long = Some name; action = Some SetTrue }
 
--- one operand, which has to be there
-abbrev pub one_operand : Text → Rule
-one_operand name = record (free_operand name) { required = true }
-
 -- `least` operands or more
 abbrev pub some_operands : Text → ℕ → Rule
 some_operands name least = record (new_rule name) {
@@ -58,16 +55,8 @@ tied r = record r { is_free = false }
 abbrev pub command_of : String → List Rule → Shape
 command_of name words = record (new_shape (codes name)) { rules = words }
 
--- agreements
-abbrev pub agreements_command : Shape
-agreements_command = command_of "agreements" []
-
--- batch
-abbrev pub batch_command : Shape
-batch_command = command_of "batch" []
-
--- convert [--parts P] [--number N | --number-offset K] [--sender TYPE,VALUE] [--addressee TYPE,VALUE] [--id-type TT]
--- [--wrong none|few|all] [-o FOLDER] [FILE..]
+-- convert [--parts P] [--number N | --number-offset K] [--sender TYPE,VALUE]
+-- [--addressee TYPE,VALUE] [--id-type TT] [--wrong none|few|all] [-o FOLDER] [FILE..]
 abbrev pub convert_command : Shape
 convert_command = command_of "convert" (
     number_option (codes "parts") 1 9999
@@ -81,25 +70,9 @@ convert_command = command_of "convert" (
     ∷ some_operands (codes "file") 0
     ∷ [])
 
--- deliver FILE..
-abbrev pub deliver_command : Shape
-deliver_command = command_of "deliver" (needed (some_operands (codes "file") 1) ∷ [])
-
 -- export [-o FOLDER]
 abbrev pub export_command : Shape
 export_command = command_of "export" (short_option (codes "folder") 111 ∷ [])
-
--- gaps [NAME]
-abbrev pub gaps_command : Shape
-gaps_command = command_of "gaps" (free_operand (codes "name") ∷ [])
-
--- migrate
-abbrev pub migrate_command : Shape
-migrate_command = command_of "migrate" []
-
--- rules FILE
-abbrev pub rules_command : Shape
-rules_command = command_of "rules" (one_operand (codes "file") ∷ [])
 
 -- serve --port N [--batches SOCKET] [--requests K]
 abbrev pub serve_command : Shape
@@ -111,18 +84,6 @@ serve_command = command_of "serve" (
 
 -- ---- the program
 
--- the program with these options and commands
-abbrev pub program_of : List Rule → List Shape → App
-program_of words commands = record {
-  top = record (new_shape (codes "onixdesk")) {
-    rules = words;
-    is_leaf = is_empty commands;
-    has_version = true;
-    subcommand_required = true;
-  };
-  subs = commands;
-}
-
 -- [--db FILE [--existing]] [--rules FILE] [--batches SOCKET]
 abbrev pub program_options : List Rule
 program_options =
@@ -132,17 +93,41 @@ program_options =
     ∷ tied (text_option (codes "batches"))
     ∷ []
 
--- agreements, batch, convert, deliver, export, gaps, migrate, rules, serve
+-- agreements, batch, convert, deliver FILE.., export [-o FOLDER], gaps [NAME], migrate, rules FILE,
+-- serve
 abbrev pub program_commands : List Shape
 program_commands =
-    agreements_command ∷ batch_command ∷ convert_command ∷ deliver_command ∷ export_command
-    ∷ gaps_command ∷ migrate_command ∷ rules_command ∷ serve_command ∷ []
+    command_of "agreements" []
+    ∷ command_of "batch" []
+    ∷ convert_command
+    ∷ command_of "deliver" (needed (some_operands (codes "file") 1) ∷ [])
+    ∷ export_command
+    ∷ command_of "gaps" (free_operand (codes "name") ∷ [])
+    ∷ command_of "migrate" []
+    ∷ command_of "rules" (needed (free_operand (codes "file")) ∷ [])
+    ∷ serve_command
+    ∷ []
 
 -- onixdesk [OPTIONS] COMMAND
 abbrev pub onixdesk : App
-onixdesk = program_of program_options program_commands
+onixdesk = record {
+  top = record (new_shape (codes "onixdesk")) {
+    rules = program_options;
+    is_leaf = false;
+    has_version = true;
+    subcommand_required = true;
+  };
+  subs = program_commands;
+}
 
 -- ---- what is built is that
+
+-- the program while it has these options and commands alone
+abbrev pub program_of : List Rule → List Shape → App
+program_of words commands = record {
+  top = record onixdesk.top { rules = words; is_leaf = is_empty commands };
+  subs = commands;
+}
 
 -- the option or operand is that, of its own command alone
 abbrev pub IsWord : Rule → Arg → Type 0
@@ -156,6 +141,9 @@ IsProgram a c = (app_of c ≡ a) × ((fields_of c).has_globals ≡ false)
 abbrev pub IsCommand : Shape → Command → Type 0
 IsCommand s c = IsProgram (record { top = s; subs = [] }) c
 
--- where a program is the result, the option or command is there, and is added to the program before it
-abbrev pub AddsMade : {A E : Type 0} → (Command → A → Command → Type 0) → Command → Result A E → Result Command E → Type 0
-AddsMade adds program part result = IfOk result (λ made. IsOkAnd part (λ part. adds program part made))
+-- where a program is the result, the option or command is there, and is added to the program before
+-- it
+abbrev pub AddsMade : {A E : Type 0} → (Command → A → Command → Type 0) → Command
+    → Result A E → Result Command E → Type 0
+AddsMade adds program part result =
+    IfOk result (λ made. IsOkAnd part (λ part. adds program part made))

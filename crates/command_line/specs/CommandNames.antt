@@ -35,7 +35,9 @@ action_name (Send socket) = codes "batch"
 action_name (Convert conversion) = codes "convert"
 action_name (CheckRules file) = codes "rules"
 
--- where the word behind the program's name is a command's, what is run is of that command, whatever words follow
+-- where the word behind the program's name is a command's, what is run is of that command, whatever
+-- words follow
 abbrev pub NamesAreOfCommands : Type 0
 NamesAreOfCommands = All (λ command. (program : Text) (rest : List Text) (asked : Invocation)
-    → Reads (program ∷ command.name ∷ rest) (reading.Run asked) → action_name asked.action ≡ command.name) program_commands
+    → Reads (program ∷ command.name ∷ rest) (reading.Run asked)
+    → action_name asked.action ≡ command.name) program_commands

@@ -55,13 +55,14 @@ allowed_of word =
     else None
 
 -- what the word of an option is read as, or the default where it has none
-abbrev pub word_or : {A : Type 0} → (List ℕ → Option A) → A → List Row → List ℕ → Option A
+abbrev pub word_or : {A : Type 0} → (List ℕ → Option A) → A → List Row → List ℕ
+    → Option A
 word_or read default own name = option_map_or read (text_in own name) (Some default)
 
 -- what the word of an option is read as, if it has one
-abbrev pub word_as : {A : Type 0} → (List ℕ → Option A) → List Row → List ℕ → Option (Option A)
-word_as read own name =
-    option_map_or (λ word. option_map Some (read word)) (text_in own name) (Some None)
+abbrev pub word_as : {A : Type 0} → (List ℕ → Option A) → List Row → List ℕ
+    → Option (Option A)
+word_as read = word_or (λ word. option_map Some (read word)) None
 
 -- the FILEs that are named, or standard input
 abbrev pub files_named : List Row → List (List ℕ)
@@ -81,7 +82,8 @@ AreOptions own o =
 
 -- several FILEs need a folder, and no number is for all of them
 abbrev pub AreForFiles : Asked → Type 0
-AreForFiles a = 1 < length a.files → (is_some a.folder ≡ true) × (a.options.choices.number ≡ None)
+AreForFiles a =
+    1 < length a.files → (is_some a.folder ≡ true) × (a.options.choices.number ≡ None)
 
 -- What the options and operands ask for.
 abbrev pub AsksFor : List Row → Asked → Type 0
@@ -92,7 +94,8 @@ AsksFor own a =
     × AreForFiles a
 
 -- this is the word of an option, and it is not read
-abbrev pub IsUnread : {A : Type 0} → (List ℕ → Option A) → List Row → List ℕ → List ℕ → Type 0
+abbrev pub IsUnread : {A : Type 0} → (List ℕ → Option A) → List Row → List ℕ → List ℕ
+    → Type 0
 IsUnread read own name word = (text_in own name ≡ Some word) × (read word ≡ None)
 
 -- this is the word of that option, and breaks its rule

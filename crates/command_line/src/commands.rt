@@ -2,7 +2,7 @@
 
 ghost use Rattle.std.specs.Prelude.{◌∷◌, ℕ, [], IfOk, codes};
 ghost use Rattle.clap.specs.Built.{AddsArg, AddsSubcommand};
-ghost use Rattle.command_line.specs.CommandLine.{AddsMade, IsCommand, IsProgram, IsWord, agreements_command, batch_command, convert_command, deliver_command, export_command, flag_option, gaps_command, migrate_command, needed, number_option, one_operand, onixdesk, program_of, program_options, rules_command, serve_command, short_option, some_operands, text_option, tied};
+ghost use Rattle.command_line.specs.CommandLine.{AddsMade, IsCommand, IsProgram, IsWord, command_of, convert_command, export_command, flag_option, free_operand, needed, number_option, onixdesk, program_of, program_options, serve_command, short_option, some_operands, text_option, tied};
 
 use clap::builder::ValueParser;
 use clap::{Arg, ArgAction, Command};
@@ -47,7 +47,7 @@ fn flag_option<'a>(alloc: Global, name: &'a str, help: &'a str) -> Arg<'a>
 }
 
 fn agreements<'a>(alloc: Global) -> Command<'a>
-    ensures { IsCommand agreements_command result }
+    ensures { IsCommand (command_of "agreements" []) result }
 {
     Command::new(alloc, "agreements")
         .about("Write the agreements of all series")
@@ -57,7 +57,7 @@ fn agreements<'a>(alloc: Global) -> Command<'a>
 }
 
 fn batch<'a>(alloc: Global) -> Command<'a>
-    ensures { IsCommand batch_command result }
+    ensures { IsCommand (command_of "batch" []) result }
 {
     Command::new(alloc, "batch")
         .about("Read requests from standard input, write their answers to standard output")
@@ -78,7 +78,8 @@ fn messages<'a>(alloc: Global) -> Arg<'a>
 }
 
 fn deliver<'a>(alloc: Global) -> Result<Command<'a>, AllocError>
-    ensures { IfOk result (IsCommand deliver_command) }
+    ensures { IfOk result
+        (IsCommand (command_of "deliver" (needed (some_operands (codes "file") 1) ∷ []))) }
 {
     Command::new(alloc, "deliver")
         .about("Deliver the message of each file, write the answer to each")
@@ -120,7 +121,7 @@ fn export<'a>(alloc: Global) -> Result<Command<'a>, AllocError>
 }
 
 fn gaps<'a>(alloc: Global) -> Result<Command<'a>, AllocError>
-    ensures { IfOk result (IsCommand gaps_command) }
+    ensures { IfOk result (IsCommand (command_of "gaps" (free_operand (codes "name") ∷ []))) }
 {
     let name = Arg::new(alloc, "name")
         .value_name("NAME")
@@ -186,7 +187,7 @@ fn serve<'a>(alloc: Global) -> Result<Command<'a>, AllocError>
 }
 
 fn migrate<'a>(alloc: Global) -> Command<'a>
-    ensures { IsCommand migrate_command result }
+    ensures { IsCommand (command_of "migrate" []) result }
 {
     Command::new(alloc, "migrate")
         .about("Bring a database file of an earlier version to the one that this program keeps")
@@ -196,7 +197,8 @@ fn migrate<'a>(alloc: Global) -> Command<'a>
 }
 
 fn rules_check<'a>(alloc: Global) -> Result<Command<'a>, AllocError>
-    ensures { IfOk result (IsCommand rules_command) }
+    ensures { IfOk result
+        (IsCommand (command_of "rules" (needed (free_operand (codes "file")) ∷ []))) }
 {
     let file = Arg::new(alloc, "file")
         .value_name("FILE")

@@ -25,8 +25,8 @@ HasNoFiles _ = ⊥
 -- files are left that could not be opened or migrated, a crash leaves what is said of these. Made:
 -- what may be made of rows that were found
 abbrev pub LeavesUndone : {O U D : Type 0} → {g : Ghosts D} → Image
-    → (Database → DeskRows → Database → Type 0) → (List ℕ → Type 0) → ℕ → FilesLeft O U D g
-    → Type 0
+    → (Database → DeskRows → Database → Type 0) → (List ℕ → Type 0) → ℕ
+    → FilesLeft O U D g → Type 0
 LeavesUndone {g = g} image made written status (Unopened left) =
     (status ≡ 3) × written []
     × (IsCleanLeft left → KeepsFiles {g = g} (AreSettled g image) made image left)

@@ -18,7 +18,8 @@ use Rattle.desk_batch.specs.Talks.{Stop, Talk, Talks, cut, ended, failed, unsaid
 use Rattle.desk_batch.specs.declared.batch.RequestFault.{RequestFault}
 use Rattle.desk_batch.specs.declared.batch.RequestFault.TheVariants as request_fault
 use Rattle.desk_commands.specs.Deliveries.{Delivers, IsUnasked, ReadFits, TellsTexts, delivery_of}
-use Rattle.desk_commands.specs.TaskEnds.{DeliverEnds, talk_status}
+use Rattle.desk_commands.proofs.TalkEnds.{deliveries_end, talk_status}
+use Rattle.desk_commands.specs.TaskEnds.{DeliverEnds}
 use Rattle.desk_commands.specs.declared.deliver.DeliveryFault.{DeliveryFault}
 use Rattle.desk_commands.specs.declared.deliver.DeliveryFault.TheVariants as fault
 
@@ -91,7 +92,7 @@ module _ {D : Type 0} {k : DeskKind} (seen : D → View k) (rules : List Rule) (
       omega (arith, less),
       have,
       tells,
-      record {
+      deliveries_end (Asked seen rules old new) (Appends was holds) (map delivery_of texts) (nat_lt (length texts) (length names)) status record {
         steps = steps;
         text = text;
         stop = ended;
@@ -112,8 +113,9 @@ module _ {D : Type 0} {k : DeskKind} (seen : D → View k) (rules : List Rule) (
       omega (arith, less, length-append texts (file ∷ [])),
       All-push HasRecords texts file have is.0,
       more,
-      one_file file (stop_of f) (RequestGives (Err f)) _ is.1 (stop_is f is.1.steps is.1.stop is.1.result_is)
-          (three_by (nat_lt (length (texts ++ file ∷ [])) (length names)) status (talk_status (steps ++ is.1.steps) (stop_of f)) three (stop_status f (steps ++ is.1.steps))),
+      deliveries_end (Asked seen rules old new) (Appends was holds) (map delivery_of (texts ++ file ∷ [])) (nat_lt (length (texts ++ file ∷ [])) (length names)) status
+          (one_file file (stop_of f) (RequestGives (Err f)) _ is.1 (stop_is f is.1.steps is.1.stop is.1.result_is)
+          (three_by (nat_lt (length (texts ++ file ∷ [])) (length names)) status (talk_status (steps ++ is.1.steps) (stop_of f)) three (stop_status f (steps ++ is.1.steps)))),
     )
 
 -- a file that could not be opened was not asked

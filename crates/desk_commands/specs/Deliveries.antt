@@ -49,7 +49,7 @@ IsFirstInput names i =
 -- that is the input what that tells of its bytes
 pub record TellsTexts (holds : Holdings) (told : Option (List ℕ)) (names texts : List (List ℕ))
     : Type 0 where
-  pub held : (i : ℕ) (name text : List ℕ) → slice_get names i ≡ Some name → name ≢ codes "-"
-      → slice_get texts i ≡ Some text → IsTold (holds name) text
-  pub input : (i : ℕ) (text : List ℕ) → IsFirstInput names i → slice_get texts i ≡ Some text
-      → IsTold told text
+  pub held : (i : ℕ) (name text : List ℕ) → slice_get names i ≡ Some name
+      → name ≢ codes "-" → slice_get texts i ≡ Some text → IsTold (holds name) text
+  pub input : (i : ℕ) (text : List ℕ) → IsFirstInput names i
+      → slice_get texts i ≡ Some text → IsTold told text

@@ -1,48 +1,37 @@
 -- How the command `batch` ends that sends its batch to an open desk, whose answers it writes.
 use Prim.Native.String.{String}
-use Rattle.std.specs.Prelude.{◌≡◌, ◌-◌, ◌++◌, ◌∷◌, ◌||◌, ◌⊎◌, ℕ, Bool, false, List, [], Option, Result, Ok, Err, codes, length, if◌then◌else◌}
+use Rattle.std.specs.Prelude.{◌≡◌, ◌-◌, ◌++◌, ◌∷◌, ◌⊎◌, ℕ, Bool, List, [], Option, Result, Ok, Err, length, if◌then◌else◌}
 use Rattle.std.specs.List.{list_any}
-use Rattle.std.specs.Str.{bytes_eq}
 use Rattle.csv_records.specs.RecordTexts.{records_of}
 use Rattle.csv_records.specs.Streams.{IsTold}
-use Rattle.desk_texts.specs.Pieces.{is_one_of}
-use Rattle.desk_texts.specs.Records.{Fields, Records}
+use Rattle.desk_texts.specs.Records.{Records, begins_with}
 use Rattle.desk_texts.specs.Requests.{HasRecords, requests_of}
 use Rattle.program_lines.specs.declared.fault.Fault.{Fault}
-
--- the names that begin the answer to a request that changes something, and a refusal
-abbrev pub change_names : List String
-change_names = "agreed" ∷ "applied" ∷ "held" ∷ "waived" ∷ "refused" ∷ []
 
 -- the names that begin the answer to a question
 abbrev pub report_names : List String
 report_names = "price" ∷ "choice" ∷ "calendar" ∷ "gaps" ∷ "catalogue" ∷ []
 
--- a record begins an answer
-abbrev pub begins_answer : Fields → Bool
-begins_answer [] = false
-begins_answer (name ∷ fields) = is_one_of change_names name || is_one_of report_names name
-
--- a record begins a refusal
-abbrev pub begins_refusal : Fields → Bool
-begins_refusal [] = false
-begins_refusal (name ∷ fields) = bytes_eq name (codes "refused")
+-- the names that begin an answer
+abbrev pub answer_names : List String
+answer_names = "agreed" ∷ "applied" ∷ "held" ∷ "waived" ∷ "refused" ∷ report_names
 
 -- how many of so many requests have no answer among these records
 abbrev pub unanswered : ℕ → Records → ℕ
 unanswered asked [] = asked
-unanswered asked (row ∷ rows) = unanswered (if begins_answer row then asked - 1 else asked) rows
+unanswered asked (row ∷ rows) =
+    unanswered (if begins_with answer_names row then asked - 1 else asked) rows
 
 -- Each request of the batch of a text has an answer among those that came, which were written.
 -- Came: what comes of the desk, where that is known. Written: these bytes were written. Refused: an
 -- answer is a refusal
-pub record IsAnsweredThere (text : List ℕ) (came : Option (List ℕ)) (written : List ℕ → Type 0)
-    (refused : Bool) : Type 0 where
+pub record IsAnsweredThere (text : List ℕ) (came : Option (List ℕ))
+    (written : List ℕ → Type 0) (refused : Bool) : Type 0 where
   pub has_records : HasRecords text
   pub answers : List ℕ
   pub are_told : IsTold came answers
   pub all_answered : unanswered (length (requests_of text)) (records_of answers) ≡ 0
-  pub refused_is : refused ≡ list_any begins_refusal (records_of answers)
+  pub refused_is : refused ≡ list_any (begins_with ("refused" ∷ [])) (records_of answers)
   pub all_written : written answers
 
 -- what was written is a first part of what comes of the desk
@@ -51,22 +40,26 @@ WritesCame came written = (some rest : List ℕ) × IsTold came (some ++ rest) �
 
 -- how sending the batch of a text can end: with all answers written, and whether one is a refusal;
 -- or with a first part of what came
-abbrev pub SendFits : List ℕ → Option (List ℕ) → (List ℕ → Type 0) → Result Bool Fault → Type 0
+abbrev pub SendFits : List ℕ → Option (List ℕ) → (List ℕ → Type 0) → Result Bool Fault
+    → Type 0
 SendFits text came written (Ok refused) = IsAnsweredThere text came written refused
 SendFits text came written (Err f) = WritesCame came written
 
 -- how taking the answers to so many requests can end
-abbrev pub TakesAnswers : ℕ → Option (List ℕ) → (List ℕ → Type 0) → Result Bool Fault → Type 0
+abbrev pub TakesAnswers : ℕ → Option (List ℕ) → (List ℕ → Type 0) → Result Bool Fault
+    → Type 0
 TakesAnswers asked came written (Ok refused) =
     (answers : List ℕ) × IsTold came answers × (unanswered asked (records_of answers) ≡ 0)
-    × (refused ≡ list_any begins_refusal (records_of answers)) × written answers
+    × (refused ≡ list_any (begins_with ("refused" ∷ [])) (records_of answers))
+    × written answers
 TakesAnswers asked came written (Err f) = WritesCame came written
 
 -- how the command can end with this status: of the text of the input, sent as a batch, all is
 -- answered, with 0, or 1 for a refusal; or a fault ended it, with 3, and a first part of the
 -- answers is written. Told: what the input tells of its bytes. Answers: what comes of the desk once
 -- it was sent a text, where that is known
-abbrev pub SendEnds : Option (List ℕ) → (List ℕ → Option (List ℕ)) → (List ℕ → Type 0) → ℕ → Type 0
+abbrev pub SendEnds : Option (List ℕ) → (List ℕ → Option (List ℕ)) → (List ℕ → Type 0) → ℕ
+    → Type 0
 SendEnds told answers written status =
     (text : List ℕ) × IsTold told text
     × (((refused : Bool) × IsAnsweredThere text (answers text) written refused

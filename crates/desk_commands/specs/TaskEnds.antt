@@ -6,11 +6,12 @@ use Rattle.named_files.specs.Holdings.{Holdings}
 use Rattle.onix_terms.specs.SeriesName.{series_name_of}
 use Rattle.series_rules.specs.Steps.{Step}
 use Rattle.series_rules.specs.declared.answers.Answer.TheVariants.{UnknownSeries}
+use Rattle.series_rules.specs.declared.requests.Request.{Request}
 use Rattle.series_rules.specs.declared.requests.Request.TheVariants.{AskGaps}
 use Rattle.desk_texts.specs.AnswerText.{text_of}
-use Rattle.desk_batch.specs.Batch.{RunsBatch}
+use Rattle.desk_batch.specs.Batch.{BatchGives, RunsBatch}
 use Rattle.desk_texts.specs.Requests.{HasRecords}
-use Rattle.desk_batch.specs.Talks.{Stop, Talks, ended, refusals_in}
+use Rattle.desk_batch.specs.Talks.{Talks}
 use Rattle.desk_batch.specs.declared.batch.BatchFault.{BatchFault}
 use Rattle.desk_commands.specs.ServedClients.{AreFirst, IsOf}
 use Rattle.desk_commands.specs.Connections.{Connection, IsServed, WritesLines, WritesServed, lines_of}
@@ -21,12 +22,7 @@ use Rattle.desk_clients.specs.declared.clients.Protocol.{Protocol}
 use Rattle.command_line.specs.declared.invocation.Task.{Task}
 use Rattle.command_line.specs.declared.invocation.Task.TheVariants as task
 
--- the status of a talk: 0, or 1 where an answer is a refusal, or 3 where it did not come to its end
-abbrev pub talk_status : List Step → Stop → ℕ
-talk_status steps ended = if nat_eq (refusals_in steps) 0 then 0 else 1
-talk_status steps _ = 3
-
--- the status of a batch: 0, or 1 where an answer is a refusal, or 3 before its end
+-- the status of requests that were asked: 0, or 1 where an answer is a refusal, or 3 before the end
 abbrev pub batch_status : Result ℕ BatchFault → ℕ
 batch_status (Ok refused) = if nat_eq refused 0 then 0 else 1
 batch_status (Err f) = 3
@@ -35,31 +31,37 @@ batch_status (Err f) = 3
 -- their order. Batches: whether these are taken
 abbrev pub ConnectionsEnd : (List Step → Type 0) → Bool → ℕ → List Connection → Type 0
 ConnectionsEnd asked batches count served =
-    (length served ≤ count) × All (IsServed batches) served × asked (flat_map (λ c. c.steps) served)
+    (length served ≤ count) × All (IsServed batches) served
+    × asked (flat_map (λ c. c.steps) served)
 
 -- Asked: the desk was asked these steps. Written: these bytes were written. In what follows, told
 -- is what the input tells of its bytes
 module _ (asked : List Step → Type 0) (written : List ℕ → Type 0) where
+  -- these requests were asked, and this is the status of what that gave
+  abbrev pub RequestsEnd : List Request → ℕ → Type 0
+  RequestsEnd rs status =
+      (result : Result ℕ BatchFault) × Talks asked written rs (BatchGives result)
+      × (status ≡ batch_status result)
+
   -- `batch`: there is a text, that of the input, of which a batch ended so
   abbrev pub BatchEnds : Option (List ℕ) → ℕ → Type 0
   BatchEnds told status =
       (text : List ℕ) × (result : Result ℕ BatchFault) × IsTold told text
       × RunsBatch asked written text result × (status ≡ batch_status result)
 
-  -- `deliver`: the first of the files that are named have texts with records, and there was a talk
-  -- of their deliveries; where there are other files it is 3. Holds: what names hold
+  -- `deliver`: the first of the files that are named have texts with records, whose deliveries were
+  -- asked; where there are other files the status is 3. Holds: what names hold
   abbrev pub DeliverEnds : Holdings → Option (List ℕ) → List (List ℕ) → ℕ → Type 0
   DeliverEnds holds told names status =
       (texts : List (List ℕ)) × (length texts ≤ length names) × All HasRecords texts
       × TellsTexts holds told names texts
-      × Talks asked written (map delivery_of texts) (λ steps stop.
-      status ≡ (if nat_lt (length texts) (length names) then 3 else talk_status steps stop))
+      × (own : ℕ) × RequestsEnd (map delivery_of texts) own
+      × (status ≡ (if nat_lt (length texts) (length names) then 3 else own))
 
-  -- `gaps`: there was a talk of the one question; or the name can be no series's, and that it is
-  -- unknown was written with 1, or a first part of that with 3
+  -- `gaps`: the one question was asked; or the name can be no series's, and that it is unknown was
+  -- written with 1, or a first part of that with 3
   abbrev pub GapsEnds : Option (List ℕ) → ℕ → Type 0
-  GapsEnds (Some series) status =
-      Talks asked written (AskGaps series ∷ []) (λ steps stop. status ≡ talk_status steps stop)
+  GapsEnds (Some series) status = RequestsEnd (AskGaps series ∷ []) status
   GapsEnds None status = asked [] × PrintEnds 1 written (text_of UnknownSeries) status
 
   -- serving so many clients: the lines of those that were served are written; with 0 they are all,
@@ -68,7 +70,8 @@ module _ (asked : List Step → Type 0) (written : List ℕ → Type 0) where
   abbrev pub ConnectionsServed : {R : Type 0} → (R → Protocol) → Bool
       → Option (List (List ℕ)) → ℕ → ℕ → Type 0
   ConnectionsServed speaks batches coming count status =
-      (served : List Connection) × AreFirst coming served × All (λ c. IsOf speaks c.ending) served
+      (served : List Connection) × AreFirst coming served
+      × All (λ c. IsOf speaks c.ending) served
       × ConnectionsEnd asked batches count served
       × WritesLines written served
       × (((status ≡ 0) × (length served ≡ count) × written (lines_of served)) ⊎ (status ≡ 3))

@@ -1,15 +1,15 @@
 //! The command `batch` with `--batches`: the batch of standard input is sent to a desk that is
 //! open, and its answers come to standard output. Nothing of a desk is opened here.
 
-ghost use Rattle.std.specs.Prelude.{◌≡◌, ◌-◌, ◌||◌, ◌≤◌, if◌then◌else◌, IfOk, OnErr, length};
+ghost use Rattle.std.specs.Prelude.{◌≡◌, ◌-◌, ◌∷◌, ◌||◌, ◌≤◌, [], if◌then◌else◌, IfOk, OnErr, length};
 ghost use Rattle.std.specs.Io.KnownBytes.{Appends};
 ghost use Rattle.std.specs.List.{list_any};
 ghost use Rattle.csv.specs.Records.{fields_of};
 ghost use Rattle.csv_records.specs.RecordTexts.{records_of};
 ghost use Rattle.csv_records.specs.Streams.{IsTold};
-ghost use Rattle.desk_texts.specs.Pieces.{is_one_of};
+ghost use Rattle.desk_texts.specs.Records.{begins_with, is_one_of};
 ghost use Rattle.desk_texts.specs.Requests.{HasRecords, requests_of};
-ghost use Rattle.desk_commands.specs.Sending.{SendEnds, SendFits, TakesAnswers, WritesCame, begins_answer, begins_refusal, change_names, report_names, unanswered};
+ghost use Rattle.desk_commands.specs.Sending.{SendEnds, SendFits, TakesAnswers, WritesCame, answer_names, report_names, unanswered};
 
 use csv::StringRecord;
 use csv_records::reading::{LIMIT, RecordReader};
@@ -24,13 +24,6 @@ use std::rt::HostRuntime;
 // How many bytes are taken at once.
 const CHUNK: usize = 4096;
 
-// Whether a name begins the answer to a request that changes something, or a refusal.
-fn is_change(name: &str) -> bool
-    ensures { result ≡ is_one_of change_names name.now }
-{
-    name == "agreed" || name == "applied" || name == "held" || name == "waived" || name == "refused"
-}
-
 // Whether a name begins the answer to a question.
 fn is_report(name: &str) -> bool
     ensures { result ≡ is_one_of report_names name.now }
@@ -42,19 +35,31 @@ fn is_report(name: &str) -> bool
         || name == "catalogue"
 }
 
+// Whether a name begins an answer.
+fn is_answer_name(name: &str) -> bool
+    ensures { result ≡ is_one_of answer_names name.now }
+{
+    name == "agreed"
+        || name == "applied"
+        || name == "held"
+        || name == "waived"
+        || name == "refused"
+        || is_report(name)
+}
+
 // Whether a record begins an answer.
 fn is_answer(from: &StringRecord) -> bool
-    ensures { result ≡ begins_answer (fields_of from.now) }
+    ensures { result ≡ begins_with answer_names (fields_of from.now) }
 {
     match from.get(0) {
         None => false,
-        Some(name) => is_change(name) || is_report(name),
+        Some(name) => is_answer_name(name),
     }
 }
 
 // Whether a record begins a refusal.
 fn is_refusal(from: &StringRecord) -> bool
-    ensures { result ≡ begins_refusal (fields_of from.now) }
+    ensures { result ≡ begins_with ("refused" ∷ []) (fields_of from.now) }
 {
     match from.get(0) {
         None => false,
@@ -64,7 +69,8 @@ fn is_refusal(from: &StringRecord) -> bool
 
 // How many answers lack, of so many, with this record.
 fn still_missing(missing: usize, from: &StringRecord) -> usize
-    ensures { result ≡ (if begins_answer (fields_of from.now) then missing - 1 else missing) }
+    ensures { result ≡ (if begins_with answer_names (fields_of from.now)
+        then missing - 1 else missing) }
 {
     if is_answer(from) {
         missing.saturating_sub(1)
@@ -75,7 +81,7 @@ fn still_missing(missing: usize, from: &StringRecord) -> usize
 
 // Whether one is a refusal, of this record and those before.
 fn still_refused(refused: bool, from: &StringRecord) -> bool
-    ensures { result ≡ (refused || begins_refusal (fields_of from.now)) }
+    ensures { result ≡ (refused || begins_with ("refused" ∷ []) (fields_of from.now)) }
 {
     refused || is_refusal(from)
 }
@@ -83,7 +89,7 @@ fn still_refused(refused: bool, from: &StringRecord) -> bool
 // How many of so many requests have no answer in a text, and whether one there is a refusal.
 fn look_over(alloc: Global, text: &str, asked: usize) -> Result<(usize, bool), AllocError>
     ensures { IfOk result (λ p. (p.0 ≡ unanswered asked (records_of text.now))
-        × (p.1 ≡ list_any begins_refusal (records_of text.now))) }
+        × (p.1 ≡ list_any (begins_with ("refused" ∷ [])) (records_of text.now))) }
 {
     let mut reader = RecordReader::of_text(alloc, text);
     let mut record = StringRecord::new(alloc);

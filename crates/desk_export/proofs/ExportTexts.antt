@@ -40,7 +40,8 @@ use Rattle.series_rules.specs.declared.requests.Request.TheVariants.{Agree, Deli
 use Rattle.series_rules.specs.declared.requests.Standing.{Standing}
 use Rattle.series_rules.specs.declared.requests.Standing.TheVariants.{Message, Waived}
 use Rattle.desk_texts.specs.Requests.{requests_of}
-use Rattle.desk_texts.specs.Pieces.{begins_request, pieces}
+use Rattle.desk_texts.specs.Pieces.{pieces, request_names}
+use Rattle.desk_texts.specs.Records.{begins_with}
 use Rattle.desk_texts.specs.RequestRows.{alone, request_of}
 use Rattle.desk_export.specs.RequestRecords.{agree_record, request_records, waive_record}
 use Rattle.desk_export.specs.RequestTexts.{after_batches, CanBeWritten, ExportIsRead, batch_text}
@@ -55,8 +56,8 @@ record IsPiece (r : Request) : Type 0 where
   first : Record
   more : List Record
   split : request_records r ≡ first ∷ more
-  begins : begins_request first ≡ true
-  one : list_all (λ x. not (begins_request x)) more ≡ true
+  begins : begins_with request_names first ≡ true
+  one : list_all (λ x. not (begins_with request_names x)) more ≡ true
   again : request_of (first ∷ more) ≡ r
   filled : AllFilled (first ∷ more)
   unmarked : (rest : List Record) → strip_bom (records_text ((first ∷ more) ++ rest)) ≡ records_text ((first ∷ more) ++ rest)
@@ -91,7 +92,7 @@ pieces_append (x ∷ xs) ys h g = (h.0, pieces_append xs ys h.1 g)
 -- ---- a message is one piece
 
 abbrev is_plain : Record → Bool
-is_plain r = not (begins_request r)
+is_plain r = not (begins_with request_names r)
 
 all_flat : {X : Type 0} (f : X → List Record) → ((x : X) → list_all is_plain (f x) ≡ true) → (xs : List X) → list_all is_plain (flat_map f xs) ≡ true
 all_flat f each [] = refl

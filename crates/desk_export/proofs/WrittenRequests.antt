@@ -16,7 +16,8 @@ use Rattle.series_rules.specs.declared.requests.Request.{Request}
 use Rattle.series_rules.specs.declared.requests.Request.TheVariants as request
 use Rattle.desk_texts.specs.Requests.{requests_of}
 use Rattle.desk_texts.specs.Pieces.{pieces}
-use Rattle.desk_texts.specs.RequestRows.{agreement_from, agreement_of, alone, begins_message, calendar_question_of, named_request, price_question_of, question_of, request_of, row_request, series_of, waiver_of}
+use Rattle.desk_texts.specs.RequestRows.{agreement_of, alone, calendar_asked, prices_asked, question_forms, request_by, request_forms, request_of, row_request, series_of, waiver_of}
+use Rattle.desk_texts.specs.Records.{begins_with}
 use Rattle.desk_export.specs.RequestRecords.{agree_record, waive_record}
 use Rattle.desk_export.specs.RequestTexts.{CanBeWritten}
 
@@ -35,18 +36,18 @@ choose : (t : Bool) (x y : Option Request) (r : Request) → (x ≡ Some r → C
 choose true x y r f g e = f e
 choose false x y r f g e = g e
 
-question_written : (name : List ℕ) (fields : Fields) (r : Request) → question_of name fields ≡ Some r → CanBeWritten r
+question_written : (name : List ℕ) (fields : Fields) (r : Request) → request_by question_forms name fields ≡ Some r → CanBeWritten r
 question_written name fields r =
-    choose (bytes_eq name (codes "AskPrice")) _ _ r (made _ (price_question_of fields) (λ x. tt) r)
-    (choose (bytes_eq name (codes "AskChoice")) _ _ r (made _ (price_question_of fields) (λ x. tt) r)
-    (choose (bytes_eq name (codes "AskCalendar")) _ _ r (made _ (calendar_question_of fields) (λ x. tt) r)
+    choose (bytes_eq name (codes "AskPrice")) _ _ r (made _ (prices_asked fields) (λ x. tt) r)
+    (choose (bytes_eq name (codes "AskChoice")) _ _ r (made _ (prices_asked fields) (λ x. tt) r)
+    (choose (bytes_eq name (codes "AskCalendar")) _ _ r (made _ (calendar_asked fields) (λ x. tt) r)
     (choose (bytes_eq name (codes "AskGaps")) _ _ r (made request.AskGaps (series_of fields) (λ x. tt) r)
     (choose (bytes_eq name (codes "AskCatalogue")) _ _ r (made request.AskCatalogue (series_of fields) (λ x. tt) r)
     (λ e. absurd cc)))))
 
 module _ (w : NumberLaws) (names : NameLaw) where
   agreement_again : (name sender_type sender_value to_type to_value first : List ℕ) (a : Agreement) → list_all is_clean (name ∷ sender_type ∷ sender_value ∷ to_type ∷ to_value ∷ first ∷ []) ≡ true
-      → agreement_from name sender_type sender_value to_type to_value first ≡ Some a → row_request (agree_record a) ≡ Some (request.Agree a)
+      → agreement_of (name ∷ sender_type ∷ sender_value ∷ to_type ∷ to_value ∷ first ∷ []) ≡ Some a → row_request (agree_record a) ≡ Some (request.Agree a)
   unfolding agreement_of
   agreement_again name st sv to_type to_value first a clean e =
       let (n, reads_n, e1) = bind-some (series_name_of name) _ a e in
@@ -70,11 +71,11 @@ module _ (w : NumberLaws) (names : NameLaw) where
       ∙ ap (λ (x : List ℕ). codes "Agree" ∷ name ∷ st ∷ x ∷ (party_fields d ++ decimal f ∷ [])) p.1
       ∙ ap (λ (x : Fields). codes "Agree" ∷ name ∷ st ∷ sv ∷ (x ++ decimal f ∷ [])) q in
       let row_clean : list_all is_clean row ≡ true = and_from _ _ c0.0 (and_from _ _ c1.0 (and_from _ _ c2.0 (and_from _ _ c3.0 (and_from _ _ c4.0 (and_from _ _ (digits-clean (decimal f) f (w.digits f range.1)) refl))))) in
-      let says : agreement_from name st sv to_type to_value (decimal f) ≡ Some (record { name = n; sender = s; addressee = d; first = f }) =
+      let says : agreement_of (name ∷ st ∷ sv ∷ to_type ∷ to_value ∷ decimal f ∷ []) ≡ Some (record { name = n; sender = s; addressee = d; first = f }) =
       bind-at _ n _ reads_n ∙ bind-at _ f _ (w.number f range.0 range.1) ∙ bind-at _ s _ reads_s ∙ bind-at _ d _ reads_d in
       let again : row_request (codes "Agree" ∷ n ∷ s.id_type ∷ s.id_value ∷ (party_fields d ++ decimal f ∷ [])) ≡ Some (request.Agree (record { name = n; sender = s; addressee = d; first = f })) =
       ap row_request is_row
-      ∙ ap (λ (b : Bool). if b then option_map request.Agree (agreement_from name st sv to_type to_value (decimal f)) else None) row_clean
+      ∙ ap (λ (b : Bool). if b then option_map request.Agree (agreement_of (name ∷ st ∷ sv ∷ to_type ∷ to_value ∷ decimal f ∷ [])) else None) row_clean
       ∙ ap (option_map request.Agree) says in
       rw (← same) again
 
@@ -109,7 +110,7 @@ module _ (w : NumberLaws) (names : NameLaw) where
       rw (← same) again
   waiver_written (x ∷ y ∷ z ∷ more) r clean e = absurd cc
 
-  named_written : (name : List ℕ) (fields : Fields) (r : Request) → list_all is_clean fields ≡ true → named_request name fields ≡ Some r → CanBeWritten r
+  named_written : (name : List ℕ) (fields : Fields) (r : Request) → list_all is_clean fields ≡ true → request_by request_forms name fields ≡ Some r → CanBeWritten r
   named_written name fields r clean =
       choose (bytes_eq name (codes "Agree")) _ _ r
       (λ e. let (a, reads, same) = mapped-some request.Agree (agreement_of fields) r e in rw (← same) (agreement_written fields a clean reads))
@@ -119,7 +120,7 @@ module _ (w : NumberLaws) (names : NameLaw) where
   row_written [] r e = absurd cc
   row_written (name ∷ fields) r e = by (list_all is_clean (name ∷ fields)) refl e
     where
-      by : (t : Bool) → list_all is_clean (name ∷ fields) ≡ t → (if t then named_request name fields else None) ≡ Some r → CanBeWritten r
+      by : (t : Bool) → list_all is_clean (name ∷ fields) ≡ t → (if t then request_by request_forms name fields else None) ≡ Some r → CanBeWritten r
       by true clean is = named_written name fields r (clean-parts name fields clean).1 is
       by false clean is = absurd cc
 
@@ -130,7 +131,7 @@ module _ (w : NumberLaws) (names : NameLaw) where
 
   piece_written : (piece : List Fields) → CanBeWritten (request_of piece)
   piece_written [] = tt
-  piece_written (row ∷ more) = by (begins_message row)
+  piece_written (row ∷ more) = by (begins_with ("Message" ∷ []) row)
     where
       by : (t : Bool) → CanBeWritten (if t then request.Deliver (row ∷ more) else alone (row_request row) more)
       by true = tt

@@ -11,8 +11,9 @@ use Rattle.series_rules.specs.declared.answers.GapReport.{GapReport}
 use Rattle.series_rules.specs.declared.answers.Answer.{Answer}
 use Rattle.series_rules.specs.declared.answers.Answer.TheVariants as answer
 use Rattle.desk_http.specs.AnswerJson.{agreement, answer_json, delivered, gaps, missing, waiver_answer}
+use Rattle.desk_http.specs.Json.{count}
 use Rattle.desk_http.proofs.CatalogueDepths.{catalogue_depth}
-use Rattle.desk_http.proofs.Depths.{count_depth, list_depth}
+use Rattle.desk_http.proofs.Depths.{list_depth, null_depth}
 use Rattle.desk_http.proofs.OfferDepths.{calendar_depth, choice_depth, price_depth}
 
 agreement_depth : (name : List ℕ) (first : ℕ) (a : AgreeAnswer) → depth (agreement name first a) ≡ 1
@@ -37,7 +38,7 @@ waiver_depth series n waiver.Had = refl
 waiver_depth series n waiver.Waived = refl
 
 gaps_depth : (g : GapReport) → depth (gaps g) ≤ 3
-gaps_depth g = rw (count_depth g.greatest) (omega (arith, list_depth missing 1 (λ _. omega arith) g.missing))
+gaps_depth g = rw (null_depth count (λ _. refl) g.greatest) (omega (arith, list_depth missing 1 (λ _. omega arith) g.missing))
 
 pub answer_depth : (a : Answer) → depth (answer_json a) ≤ 11
 answer_depth (answer.Agreement name first a) = omega (arith, agreement_depth name first a)

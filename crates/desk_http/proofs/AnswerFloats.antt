@@ -11,8 +11,9 @@ use Rattle.series_rules.specs.declared.answers.GapReport.{GapReport}
 use Rattle.series_rules.specs.declared.answers.Answer.{Answer}
 use Rattle.series_rules.specs.declared.answers.Answer.TheVariants as answer
 use Rattle.desk_http.specs.AnswerJson.{agreement, answer_json, delivered, gaps, missing, waiver_answer}
+use Rattle.desk_http.specs.Json.{count}
 use Rattle.desk_http.proofs.CatalogueFloats.{catalogue_has_none}
-use Rattle.desk_http.proofs.NoFloats.{count_has_none, list_has_none}
+use Rattle.desk_http.proofs.NoFloats.{list_has_none, null_has_none}
 use Rattle.desk_http.proofs.OfferFloats.{calendar_has_none, choice_has_none, price_has_none}
 
 agreement_has_none : (name : List ℕ) (first : ℕ) (a : AgreeAnswer) → has_float (agreement name first a) ≡ false
@@ -37,7 +38,7 @@ waiver_has_none series n waiver.Had = refl
 waiver_has_none series n waiver.Waived = refl
 
 gaps_has_none : (g : GapReport) → has_float (gaps g) ≡ false
-gaps_has_none g = rw (count_has_none g.greatest, list_has_none missing (λ _. refl) g.missing) refl
+gaps_has_none g = rw (null_has_none count (λ _. refl) g.greatest, list_has_none missing (λ _. refl) g.missing) refl
 
 pub answer_has_none : (a : Answer) → has_float (answer_json a) ≡ false
 answer_has_none (answer.Agreement name first a) = agreement_has_none name first a

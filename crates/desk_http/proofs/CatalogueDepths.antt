@@ -1,8 +1,6 @@
 -- How deep the JSON of a catalogue nests.
-use Rattle.std.proofs.Common.{◌≤◌, ℕ, List, Option, Some, None, arith}
-use Rattle.std.specs.Prelude.{option_map}
+use Rattle.std.proofs.Common.{◌≤◌, ℕ, List, Option, Some, None, arith, refl}
 use Rattle.serde_json.specs.Data.{depth, string}
-use Rattle.onix_terms.specs.Day.{day_text}
 use Rattle.onix_terms.specs.declared.party.Party.{Party}
 use Rattle.onix_terms.specs.declared.territory.Territory.{Territory}
 use Rattle.onix_message.specs.declared.parts.Price.{Price}
@@ -10,10 +8,11 @@ use Rattle.onix_message.specs.declared.parts.ProductSupply.{ProductSupply}
 use Rattle.onix_message.specs.declared.parts.SupplyDetail.{SupplyDetail}
 use Rattle.catalogue_rules.specs.Records.{ByReference, records_of}
 use Rattle.catalogue_rules.specs.declared.entry.Entry.{Entry}
-use Rattle.desk_http.specs.CatalogueJson.{catalogue, detail, entry, identifier, party_or_null, price, supply, territory}
-use Rattle.desk_http.proofs.Depths.{list_depth, text_depth}
+use Rattle.desk_http.specs.CatalogueJson.{catalogue, detail, entry, identifier, party, price, supply, territory}
+use Rattle.desk_http.specs.Json.{day, or_null}
+use Rattle.desk_http.proofs.Depths.{list_depth, null_depth}
 
-party_depth : (p : Option Party) → depth (party_or_null p) ≤ 1
+party_depth : (p : Option Party) → depth (or_null party p) ≤ 1
 party_depth None = omega arith
 party_depth (Some p) = omega arith
 
@@ -21,10 +20,10 @@ territory_depth : (t : Territory) → depth (territory t) ≤ 2
 territory_depth t = omega (arith, list_depth string 0 (λ _. omega arith) t.excluded, list_depth string 0 (λ _. omega arith) t.included)
 
 price_depth : (p : Price) → depth (price p) ≤ 3
-price_depth p = rw (text_depth (option_map day_text p.from), text_depth (option_map day_text p.until)) (omega (arith, territory_depth p.territory))
+price_depth p = rw (null_depth day (λ _. refl) p.from, null_depth day (λ _. refl) p.until) (omega (arith, territory_depth p.territory))
 
 detail_depth : (d : SupplyDetail) → depth (detail d) ≤ 5
-detail_depth d = rw (text_depth d.unpriced) (omega (arith, list_depth price 3 price_depth d.prices, party_depth d.supplier.party))
+detail_depth d = rw (null_depth string (λ _. refl) d.unpriced) (omega (arith, list_depth price 3 price_depth d.prices, party_depth d.supplier.party))
 
 supply_depth : (s : ProductSupply) → depth (supply s) ≤ 7
 supply_depth s = omega (arith, list_depth detail 5 detail_depth s.details, territory_depth s.market)

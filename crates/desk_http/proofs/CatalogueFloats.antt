@@ -1,31 +1,25 @@
 -- No value in the JSON of a catalogue is a float.
-use Rattle.std.proofs.Common.{◌≡◌, false, ℕ, List, refl, Option, Some, None}
-use Rattle.std.specs.Prelude.{option_map}
+use Rattle.std.proofs.Common.{◌≡◌, false, ℕ, List, refl}
 use Rattle.serde_json.specs.Data.{string}
 use Rattle.serde_json.specs.Written.{has_float}
-use Rattle.onix_terms.specs.Day.{day_text}
-use Rattle.onix_terms.specs.declared.party.Party.{Party}
 use Rattle.onix_terms.specs.declared.territory.Territory.{Territory}
 use Rattle.onix_message.specs.declared.parts.Price.{Price}
 use Rattle.onix_message.specs.declared.parts.ProductSupply.{ProductSupply}
 use Rattle.onix_message.specs.declared.parts.SupplyDetail.{SupplyDetail}
 use Rattle.catalogue_rules.specs.Records.{ByReference, records_of}
 use Rattle.catalogue_rules.specs.declared.entry.Entry.{Entry}
-use Rattle.desk_http.specs.CatalogueJson.{catalogue, detail, entry, identifier, party_or_null, price, supply, territory}
-use Rattle.desk_http.proofs.NoFloats.{list_has_none, text_has_none}
-
-party_has_none : (p : Option Party) → has_float (party_or_null p) ≡ false
-party_has_none None = refl
-party_has_none (Some p) = refl
+use Rattle.desk_http.specs.CatalogueJson.{catalogue, detail, entry, identifier, party, price, supply, territory}
+use Rattle.desk_http.specs.Json.{day}
+use Rattle.desk_http.proofs.NoFloats.{list_has_none, null_has_none}
 
 territory_has_none : (t : Territory) → has_float (territory t) ≡ false
 territory_has_none t = rw (list_has_none string (λ _. refl) t.excluded, list_has_none string (λ _. refl) t.included) refl
 
 price_has_none : (p : Price) → has_float (price p) ≡ false
-price_has_none p = rw (text_has_none (option_map day_text p.from), territory_has_none p.territory, text_has_none (option_map day_text p.until)) refl
+price_has_none p = rw (null_has_none day (λ _. refl) p.from, territory_has_none p.territory, null_has_none day (λ _. refl) p.until) refl
 
 detail_has_none : (d : SupplyDetail) → has_float (detail d) ≡ false
-detail_has_none d = rw (list_has_none price price_has_none d.prices, party_has_none d.supplier.party, text_has_none d.unpriced) refl
+detail_has_none d = rw (list_has_none price price_has_none d.prices, null_has_none party (λ _. refl) d.supplier.party, null_has_none string (λ _. refl) d.unpriced) refl
 
 supply_has_none : (s : ProductSupply) → has_float (supply s) ≡ false
 supply_has_none s = rw (list_has_none detail detail_has_none s.details, territory_has_none s.market) refl

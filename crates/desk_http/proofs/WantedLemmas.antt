@@ -5,9 +5,11 @@ use Rattle.std.specs.Str.Parse.{digits_value}
 use Rattle.std.proofs.lemmas.Bool.{ltb-false}
 use Rattle.httparse.specs.Grammar.{RequestHead, print_request}
 use Rattle.csv_records.specs.RecordTexts.{limit}
-use Rattle.http_requests.specs.Fields.{field_values, is_numeral, only_value, size_by, size_written}
+use Rattle.http_requests.specs.Fields.{at_most_one, field_values, is_numeral, size_by, size_written}
 use Rattle.http_requests.specs.Posted.{most_posted, size_asked, size_or_none}
+use Rattle.http_requests.specs.Steps.{◌>>=◌}
 use Rattle.http_requests.specs.declared.refusal.Refusal.{Refusal}
+use Rattle.http_requests.specs.declared.refusal.Refusal.TheVariants as refusal
 use Rattle.desk_http.specs.Asks.{most_at, most_behind, most_by}
 use Rattle.desk_http.specs.Laws.{WantedIsBounded}
 use Rattle.desk_http.specs.Routing.{route_asked}
@@ -25,14 +27,14 @@ written_fits text = by_numeral (is_numeral text) refl
     by_numeral true numeral = by_value (nat_lt limit (digits_value 10 text)) refl numeral
     by_numeral false other = rw other (omega arith)
 
-size_fits : (only : Result (Option (List ℕ)) (Unit {0})) → size_or_none (size_by only) ≤ limit
+size_fits : (only : Result (Option (List ℕ)) Refusal) → size_or_none (only >>= size_by) ≤ limit
 size_fits (Ok None) = omega arith
 size_fits (Ok (Some value)) = written_fits value
 size_fits (Err more) = omega arith
 
 posted_fits : (h : RequestHead) → most_posted h ≤ limit
 unfolding most_posted size_asked
-posted_fits h = size_fits (only_value (field_values (codes "content-length") h))
+posted_fits h = size_fits (at_most_one refusal.BadLength (field_values (codes "content-length") h))
 
 at_fits : (h : RequestHead) (r : Route) → most_at h r ≤ limit
 at_fits h route.Messages = posted_fits h

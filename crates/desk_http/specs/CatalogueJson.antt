@@ -1,9 +1,6 @@
 -- The JSON of a catalogue, under the names that ONIX has for its parts.
-use Rattle.std.specs.Prelude.{ℕ, ℤ, List, [], ◌∷◌, Option, Some, None, option_map}
-use Rattle.serde_json.specs.Data.{Data, array, boolean, null, string}
-use Rattle.serde_json.specs.View.{items_of}
-use Rattle.onix_terms.specs.Amount.{amount_text}
-use Rattle.onix_terms.specs.Day.{day_text}
+use Rattle.std.specs.Prelude.{ℕ, List, [], ◌∷◌}
+use Rattle.serde_json.specs.Data.{Data, boolean, string}
 use Rattle.onix_terms.specs.declared.party.Party.{Party}
 use Rattle.onix_terms.specs.declared.territory.Territory.{Territory}
 use Rattle.onix_message.specs.declared.parts.Price.{Price}
@@ -12,20 +9,19 @@ use Rattle.onix_message.specs.declared.parts.ProductSupply.{ProductSupply}
 use Rattle.onix_message.specs.declared.parts.SupplyDetail.{SupplyDetail}
 use Rattle.catalogue_rules.specs.Records.{ByReference, records_of}
 use Rattle.catalogue_rules.specs.declared.entry.Entry.{Entry}
-use Rattle.desk_http.specs.Json.{answered, count, list_of, object_of, text_or_null}
+use Rattle.desk_http.specs.Json.{amount, answered, count, day, list_of, object_of, or_null}
 
 -- a type and a value
 abbrev pub type_and_value : List ℕ → List ℕ → Data
-type_and_value id_type id_value = array (items_of (string id_type ∷ string id_value ∷ []))
+type_and_value id_type id_value = list_of string (id_type ∷ id_value ∷ [])
 
 -- an identifier of a product
 abbrev pub identifier : ProductIdentifier → Data
 identifier i = type_and_value i.id_type i.id_value
 
--- the identifier of a supplier, or null where there is none
-abbrev pub party_or_null : Option Party → Data
-party_or_null None = null
-party_or_null (Some p) = type_and_value p.id_type p.id_value
+-- the identifier of a supplier
+abbrev pub party : Party → Data
+party p = type_and_value p.id_type p.id_value
 
 -- where a price or a market holds
 abbrev pub territory : Territory → Data
@@ -33,28 +29,25 @@ territory t = object_of (
     ("included", list_of string t.included) ∷ ("world", boolean t.world)
     ∷ ("excluded", list_of string t.excluded) ∷ [])
 
--- a day YYYYMMDD, or null where there is none
-abbrev pub day_or_null : Option ℤ → Data
-day_or_null day = text_or_null (option_map day_text day)
-
 -- a price
 abbrev pub price : Price → Data
 price p = object_of (
-    ("type", string p.price_type) ∷ ("amount", string (amount_text p.amount))
+    ("type", string p.price_type) ∷ ("amount", amount p.amount)
     ∷ ("currency", string p.currency) ∷ ("territory", territory p.territory)
-    ∷ ("from", day_or_null p.from) ∷ ("until", day_or_null p.until)
+    ∷ ("from", or_null day p.from) ∷ ("until", or_null day p.until)
     ∷ ("minimum", count p.minimum) ∷ [])
 
 -- one supplier's availability of a product, and its prices
 abbrev pub detail : SupplyDetail → Data
 detail d = object_of (
-    ("role", string d.supplier.role) ∷ ("supplier", party_or_null d.supplier.party)
+    ("role", string d.supplier.role) ∷ ("supplier", or_null party d.supplier.party)
     ∷ ("name", string d.supplier.name) ∷ ("availability", string d.availability)
-    ∷ ("unpriced", text_or_null d.unpriced) ∷ ("prices", list_of price d.prices) ∷ [])
+    ∷ ("unpriced", or_null string d.unpriced) ∷ ("prices", list_of price d.prices) ∷ [])
 
 -- the supply of a product to a market
 abbrev pub supply : ProductSupply → Data
-supply s = object_of (("market", territory s.market) ∷ ("details", list_of detail s.details) ∷ [])
+supply s =
+    object_of (("market", territory s.market) ∷ ("details", list_of detail s.details) ∷ [])
 
 -- what a catalogue keeps under a reference
 abbrev pub entry : List ℕ × Entry → Data

@@ -1,22 +1,28 @@
 -- The JSON of what answers are made of. The keys of each object stand in the order of their bytes.
 use Prim.Native.String.{String}
-use Rattle.std.specs.Prelude.{ℕ, List, [], ◌∷◌, Option, codes, map}
+use Rattle.std.specs.Prelude.{ℕ, ℤ, List, [], ◌∷◌, Option, codes, map}
 use Rattle.std.specs.Option.{option_map_or}
 use Rattle.serde_json.specs.Data.{Data, Members, array, null, no_members, number, object, put}
 use Rattle.serde_json.specs.Data.{string, unsigned}
 use Rattle.serde_json.specs.View.{items_of}
+use Rattle.onix_terms.specs.Amount.{amount_text}
+use Rattle.onix_terms.specs.Day.{day_text}
 
 -- a whole number
 abbrev pub count : ℕ → Data
 count n = number (unsigned n)
 
--- a whole number, or null where there is none
-abbrev pub count_or_null : Option ℕ → Data
-count_or_null n = option_map_or count n null
+-- an amount, as a text in three decimals
+abbrev pub amount : ℕ → Data
+amount a = string (amount_text a)
 
--- a text, or null where there is none
-abbrev pub text_or_null : Option (List ℕ) → Data
-text_or_null text = option_map_or string text null
+-- a day, as a text YYYYMMDD
+abbrev pub day : ℤ → Data
+day d = string (day_text d)
+
+-- the JSON of what is there, or null where nothing is
+abbrev pub or_null : {A : Type 0} → (A → Data) → Option A → Data
+or_null f x = option_map_or f x null
 
 -- a list of what each of these is
 abbrev pub list_of : {A : Type 0} → (A → Data) → List A → Data
@@ -40,8 +46,8 @@ abbrev pub answered : String → Fields → Data
 answered name fields = object_of (("answer", string (codes name)) ∷ fields)
 
 -- a refusal for that reason
-abbrev pub refused : List ℕ → Fields → Data
-refused reason fields = answered "refused" (("reason", string reason) ∷ fields)
+abbrev pub refused : String → Fields → Data
+refused reason fields = answered "refused" (("reason", string (codes reason)) ∷ fields)
 
 -- a fault of storage of that kind
 abbrev pub fault : List ℕ → Data

@@ -1,20 +1,13 @@
 -- The JSON of answers about the offers of an article.
 use Prim.Native.String.{String}
-use Rattle.std.specs.Prelude.{ℕ, List, [], ◌∷◌, Option, option_map}
-use Rattle.std.specs.Option.{option_map_or}
-use Rattle.serde_json.specs.Data.{Data, null, string}
-use Rattle.onix_terms.specs.Amount.{amount_text}
-use Rattle.onix_terms.specs.Day.{day_text}
+use Rattle.std.specs.Prelude.{ℕ, List, [], ◌∷◌, Option}
+use Rattle.serde_json.specs.Data.{Data, string}
 use Rattle.price_rules.specs.declared.calendar.Span.{Span}
 use Rattle.series_rules.specs.declared.answers.ListedOffer.{ListedOffer}
 use Rattle.series_rules.specs.declared.answers.PricedOffer.{PricedOffer}
 use Rattle.series_rules.specs.declared.answers.ChosenOffer.{ChosenOffer}
 use Rattle.series_rules.specs.declared.answers.OfferCalendar.{OfferCalendar}
-use Rattle.desk_http.specs.Json.{Fields, answered, count, list_of, object_of, text_or_null}
-
--- an amount in three decimals, or null where no price holds
-abbrev pub amount_or_null : Option ℕ → Data
-amount_or_null amount = text_or_null (option_map amount_text amount)
+use Rattle.desk_http.specs.Json.{Fields, amount, answered, count, day, list_of, object_of, or_null}
 
 -- an offer, and these members
 abbrev pub offered : ListedOffer → Fields → Data
@@ -28,7 +21,7 @@ about name isbn fields = answered name (("isbn", string isbn) ∷ fields)
 
 -- an offer and its current price
 abbrev pub priced : PricedOffer → Data
-priced p = offered p.offer (("amount", amount_or_null p.amount) ∷ [])
+priced p = offered p.offer (("amount", or_null amount p.amount) ∷ [])
 
 -- the offers of an article with their current prices
 abbrev pub price : List ℕ → List PricedOffer → Data
@@ -36,22 +29,16 @@ price isbn offers = about "price" isbn (("offers", list_of priced offers) ∷ []
 
 -- the offer that is chosen, its current price and the rule that takes it
 abbrev pub chosen_offer : ChosenOffer → Data
-chosen_offer c = offered c.offer (
-    ("amount", string (amount_text c.amount)) ∷ ("rule", count c.rule) ∷ [])
-
--- the offer that is chosen, or null where there is none
-abbrev pub chosen : Option ChosenOffer → Data
-chosen c = option_map_or chosen_offer c null
+chosen_offer c = offered c.offer (("amount", amount c.amount) ∷ ("rule", count c.rule) ∷ [])
 
 -- the choice among the offers of an article
 abbrev pub choice : List ℕ → Option ChosenOffer → Data
-choice isbn c = about "choice" isbn (("choice", chosen c) ∷ [])
+choice isbn c = about "choice" isbn (("choice", or_null chosen_offer c) ∷ [])
 
 -- days in a row with one current price, or with none
 abbrev pub span : Span → Data
 span s = object_of (
-    ("first", string (day_text s.first)) ∷ ("last", string (day_text s.last))
-    ∷ ("amount", amount_or_null s.amount) ∷ [])
+    ("first", day s.first) ∷ ("last", day s.last) ∷ ("amount", or_null amount s.amount) ∷ [])
 
 -- an offer and its calendar
 abbrev pub dated : OfferCalendar → Data

@@ -24,15 +24,11 @@ phrases =
     ∷ (431, "Request Header Fields Too Large") ∷ (501, "Not Implemented")
     ∷ (503, "Service Unavailable") ∷ []
 
--- the phrase beside a status, if it is one of these
+-- the reason phrase of a status, if it is one of these
 abbrev pub phrase_in : List (ℕ × String) → ℕ → List ℕ
 phrase_in [] status = []
 phrase_in ((known, phrase) ∷ more) status =
     if status == known then codes phrase else phrase_in more status
-
--- the reason phrase of a status
-abbrev pub phrase_of : ℕ → List ℕ
-phrase_of status = phrase_in phrases status
 
 -- the Allow line, where a reply has one
 abbrev pub allow_line : Option (List ℕ) → List ℕ
@@ -42,7 +38,7 @@ allow_line (Some method) = codes "Allow: " ++ method ++ line_end
 -- the head of a reply: the status line, the header fields and an empty line
 unfoldable pub head_text : Reply → List ℕ
 head_text r =
-    codes "HTTP/1.1 " ++ decimal r.status ++ codes " " ++ phrase_of r.status ++ line_end
+    codes "HTTP/1.1 " ++ decimal r.status ++ codes " " ++ phrase_in phrases r.status ++ line_end
     ++ allow_line r.allow
     ++ codes "Content-Type: application/json" ++ line_end
     ++ codes "Content-Length: " ++ decimal (length r.body) ++ line_end
@@ -59,4 +55,4 @@ reply_of status json = record { status = status; allow = None; body = compact_te
 
 -- a request is refused with that status, for that reason
 abbrev pub refusal : ℕ → String → Reply
-refusal status reason = reply_of status (refused (codes reason) [])
+refusal status reason = reply_of status (refused reason [])

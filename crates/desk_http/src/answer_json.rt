@@ -1,11 +1,16 @@
 //! The JSON of answers.
 
-ghost use Rattle.std.specs.Prelude.{◌≡◌, IfOk, Some};
+ghost use Rattle.std.specs.Prelude.{◌≡◌, ◌∷◌, [], IfOk, Some};
 ghost use Rattle.std.specs.String.{string_bytes};
+ghost use Rattle.serde_json.specs.Data.{string};
 ghost use Rattle.serde_json.specs.Read.{read};
 ghost use Rattle.serde_json.specs.View.{view};
 ghost use Rattle.serde_json.specs.Written.{compact_text};
+ghost use Rattle.series_rules.specs.declared.answers.AgreeAnswer.TheVariants.{Agreed};
+ghost use Rattle.series_rules.specs.declared.answers.DeliveryAnswer.TheVariants as delivery;
+ghost use Rattle.series_rules.specs.declared.answers.WaiveAnswer.TheVariants as waiver;
 ghost use Rattle.desk_http.specs.AnswerJson as json;
+ghost use Rattle.desk_http.specs.Json.{answered};
 
 use crate::bodies::refused_json;
 use crate::catalogue_json::catalogue_json;
@@ -56,7 +61,8 @@ fn not_agreed_json<'a>(
     reason: &'a str,
     series: &'a SeriesName,
 ) -> Result<Value, AllocError>
-    ensures { IfOk result (λ v. view v ≡ json.not_agreed reason.now series.now) }
+    ensures { IfOk result (λ v. view v ≡ answered "refused"
+        (("reason", string reason.now) ∷ ("series", string series.now) ∷ [])) }
 {
     let members = [
         Member::Text("answer", "refused"),
@@ -73,7 +79,8 @@ fn number_refused_json<'a>(
     series: &'a SeriesName,
     number: Number,
 ) -> Result<Value, AllocError>
-    ensures { IfOk result (λ v. view v ≡ json.number_refused reason.now series.now number) }
+    ensures { IfOk result (λ v. view v ≡ answered "refused"
+        (("reason", string reason.now) ∷ json.numbered series.now number [])) }
 {
     let members = [
         Member::Text("answer", "refused"),
@@ -85,7 +92,7 @@ fn number_refused_json<'a>(
 }
 
 fn agreed_json(alloc: Global, series: &SeriesName, first: Number) -> Result<Value, AllocError>
-    ensures { IfOk result (λ v. view v ≡ json.agreed series.now first) }
+    ensures { IfOk result (λ v. view v ≡ json.agreement series.now first Agreed) }
 {
     let members = [
         Member::Text("answer", "agreed"),
@@ -137,7 +144,7 @@ fn held_json(
     number: Number,
     next: u32,
 ) -> Result<Value, AllocError>
-    ensures { IfOk result (λ v. view v ≡ json.held series.now number next) }
+    ensures { IfOk result (λ v. view v ≡ json.delivered (delivery.Held series.now number next)) }
 {
     let members = [
         Member::Text("answer", "held"),
@@ -183,7 +190,7 @@ fn delivered_json(alloc: Global, answer: &DeliveryAnswer) -> Result<Value, Alloc
 }
 
 fn waived_json(alloc: Global, series: &SeriesName, number: Number) -> Result<Value, AllocError>
-    ensures { IfOk result (λ v. view v ≡ json.waived series.now number) }
+    ensures { IfOk result (λ v. view v ≡ json.waiver_answer series.now number waiver.Waived) }
 {
     let members = [
         Member::Text("answer", "waived"),

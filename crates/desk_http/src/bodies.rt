@@ -1,7 +1,8 @@
 //! The bodies that need no answer of the desk.
 
-ghost use Rattle.std.specs.Prelude.{◌≡◌, [], IfOk};
+ghost use Rattle.std.specs.Prelude.{◌≡◌, ◌∷◌, [], IfOk};
 ghost use Rattle.std.specs.String.{string_bytes};
+ghost use Rattle.serde_json.specs.Data.{string};
 ghost use Rattle.serde_json.specs.View.{view};
 ghost use Rattle.serde_json.specs.Written.{compact_text};
 ghost use Rattle.desk_http.specs.Json as json;
@@ -13,7 +14,8 @@ use std::alloc::{AllocError, Global};
 
 /// The JSON of a refusal that has nothing to say but its reason. Fails only where memory runs out.
 pub(crate) fn refused_json(alloc: Global, reason: &str) -> Result<Value, AllocError>
-    ensures { IfOk result (λ v. view v ≡ json.refused reason.now []) }
+    ensures { IfOk result (λ v. view v
+        ≡ json.answered "refused" (("reason", string reason.now) ∷ [])) }
 {
     let members = [
         Member::Text("answer", "refused"),
@@ -25,7 +27,8 @@ pub(crate) fn refused_json(alloc: Global, reason: &str) -> Result<Value, AllocEr
 /// The body of a refusal that has nothing to say but its reason, such as `not-found`. Fails only
 /// where memory runs out.
 pub fn refused_body(alloc: Global, reason: &str) -> Result<String, AllocError>
-    ensures { IfOk result (λ text. string_bytes text ≡ compact_text (json.refused reason.now [])) }
+    ensures { IfOk result (λ text. string_bytes text
+        ≡ compact_text (json.answered "refused" (("reason", string reason.now) ∷ []))) }
 {
     let value = refused_json(alloc, reason)?;
     value.to_string(alloc)

@@ -2,6 +2,7 @@
 
 ghost use Rattle.std.specs.Prelude.{◌≡◌, IfOk};
 ghost use Rattle.serde_json.specs.View.{view};
+ghost use Rattle.desk_http.specs.Json.{or_null};
 ghost use Rattle.desk_http.specs.OfferJson as json;
 
 use crate::member::Member;
@@ -45,7 +46,7 @@ fn chosen_offer_json(alloc: Global, chosen: &ChosenOffer) -> Result<Value, Alloc
 }
 
 fn chosen_json(alloc: Global, choice: &Option<ChosenOffer>) -> Result<Value, AllocError>
-    ensures { IfOk result (λ v. view v ≡ json.chosen choice.now) }
+    ensures { IfOk result (λ v. view v ≡ or_null json.chosen_offer choice.now) }
 {
     match choice {
         None => Ok(Value::Null),

@@ -2,14 +2,14 @@
 
 ghost use Rattle.std.specs.Prelude.{◌≡◌, IfOk, option_copied};
 ghost use Rattle.std.specs.String.{string_bytes};
-ghost use Rattle.desk_http.specs.Reply.{allow_line, head_text, phrase_of, reply_text};
+ghost use Rattle.desk_http.specs.Reply.{allow_line, head_text, phrase_in, phrases, reply_text};
 
 use std::alloc::{AllocError, Global};
 
 /// The reason phrase of a status, as RFC 9110 names it. A status that no reply has gives the empty
 /// phrase, which a status line may have.
 pub fn phrase_of(status: u16) -> &'static str
-    ensures { result.now ≡ phrase_of status }
+    ensures { result.now ≡ phrase_in phrases status }
 {
     match status {
         200 => "OK",

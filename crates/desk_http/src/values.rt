@@ -1,11 +1,9 @@
 //! The JSON of terms, and of those that may be missing.
 
-ghost use Rattle.std.specs.Prelude.{◌≡◌, IfOk, option_map};
+ghost use Rattle.std.specs.Prelude.{◌≡◌, IfOk};
 ghost use Rattle.serde_json.specs.Data.{string};
 ghost use Rattle.serde_json.specs.View.{view};
-ghost use Rattle.onix_terms.specs.Amount.{amount_text};
-ghost use Rattle.onix_terms.specs.Day.{day_text};
-ghost use Rattle.desk_http.specs.CatalogueJson.{identifier, party_or_null as party_data, type_and_value};
+ghost use Rattle.desk_http.specs.CatalogueJson.{identifier, party as party_data, type_and_value};
 ghost use Rattle.desk_http.specs.Json as json;
 
 use crate::to_json::ToJson;
@@ -20,7 +18,7 @@ use std::alloc::{AllocError, Global};
 
 /// A number, or null where there is none. It does not allocate.
 pub(crate) fn number_or_null(number: &Option<Number>) -> Value
-    ensures { view result ≡ json.count_or_null number.now }
+    ensures { view result ≡ json.or_null json.count number.now }
 {
     match number {
         None => Value::Null,
@@ -30,7 +28,7 @@ pub(crate) fn number_or_null(number: &Option<Number>) -> Value
 
 /// An amount as a text in three decimals.
 pub(crate) fn amount_json(alloc: Global, amount: &Amount) -> Result<Value, AllocError>
-    ensures { IfOk result (λ v. view v ≡ string (amount_text amount.now)) }
+    ensures { IfOk result (λ v. view v ≡ json.amount amount.now) }
 {
     let mut text = String::new(alloc);
     amount.write(&mut text)?;
@@ -39,7 +37,7 @@ pub(crate) fn amount_json(alloc: Global, amount: &Amount) -> Result<Value, Alloc
 
 /// An amount as a text in three decimals, or null where there is none.
 pub(crate) fn amount_or_null(alloc: Global, amount: &Option<Amount>) -> Result<Value, AllocError>
-    ensures { IfOk result (λ v. view v ≡ json.text_or_null (option_map amount_text amount.now)) }
+    ensures { IfOk result (λ v. view v ≡ json.or_null json.amount amount.now) }
 {
     match amount {
         None => Ok(Value::Null),
@@ -49,7 +47,7 @@ pub(crate) fn amount_or_null(alloc: Global, amount: &Option<Amount>) -> Result<V
 
 /// A day as a text YYYYMMDD.
 pub(crate) fn day_json(alloc: Global, day: &Day) -> Result<Value, AllocError>
-    ensures { IfOk result (λ v. view v ≡ string (day_text day.now)) }
+    ensures { IfOk result (λ v. view v ≡ json.day day.now) }
 {
     let mut text = String::new(alloc);
     day.write(&mut text)?;
@@ -58,7 +56,7 @@ pub(crate) fn day_json(alloc: Global, day: &Day) -> Result<Value, AllocError>
 
 /// A day as a text YYYYMMDD, or null where there is none.
 pub(crate) fn day_or_null(alloc: Global, day: &Option<Day>) -> Result<Value, AllocError>
-    ensures { IfOk result (λ v. view v ≡ json.text_or_null (option_map day_text day.now)) }
+    ensures { IfOk result (λ v. view v ≡ json.or_null json.day day.now) }
 {
     match day {
         None => Ok(Value::Null),
@@ -68,7 +66,7 @@ pub(crate) fn day_or_null(alloc: Global, day: &Option<Day>) -> Result<Value, All
 
 /// A code as a text, or null where there is none.
 pub(crate) fn code_or_null(alloc: Global, code: &Option<Code2>) -> Result<Value, AllocError>
-    ensures { IfOk result (λ v. view v ≡ json.text_or_null code.now) }
+    ensures { IfOk result (λ v. view v ≡ json.or_null string code.now) }
 {
     match code {
         None => Ok(Value::Null),
@@ -84,7 +82,7 @@ fn pair_json(alloc: Global, id_type: Code2, id_value: &str) -> Result<Value, All
 
 /// A type and a value that identify a party, or null where there is none.
 pub(crate) fn party_or_null(alloc: Global, party: &Option<Party>) -> Result<Value, AllocError>
-    ensures { IfOk result (λ v. view v ≡ party_data party.now) }
+    ensures { IfOk result (λ v. view v ≡ json.or_null party_data party.now) }
 {
     match party {
         None => Ok(Value::Null),

@@ -12,7 +12,7 @@ use Rattle.series_rules.specs.Steps.{AreQuestions, Follows, HasAll, Leads, Step,
 use Rattle.series_rules.specs.Views.{DeskKind, LeavesOnly, View}
 use Rattle.series_rules.specs.declared.requests.Request.{Request}
 use Rattle.desk_commands.proofs.TalkEnds.{batch_as, talks_as}
-use Rattle.desk_commands.specs.TaskEnds.{GapsEnds, TaskEnds}
+use Rattle.desk_commands.specs.TaskEnds.{GapsEnds, RequestsEnd, TaskEnds}
 use Rattle.command_line.specs.declared.invocation.Task.{Task}
 use Rattle.command_line.specs.declared.invocation.Task.TheVariants as task
 
@@ -92,15 +92,19 @@ module _ {k : DeskKind} (rules : List Rule) (steps : List Step) (old first last 
     faults = leads.faults;
   }
 
+-- requests that were asked so were asked as well so
+requests_as : (asked asks : List Step → Type 0) (written : List ℕ → Type 0) → ((steps : List Step) → asked steps → asks steps) → (rs : List Request) (status : ℕ) → RequestsEnd asked written rs status → RequestsEnd asks written rs status
+requests_as asked asks written f rs status (result, talks, is) = (result, talks_as asked asks written written rs _ _ f (λ t was. was) (λ steps stop given. given) talks, is)
+
 -- a command that asked so asked as well so
 pub task_as : (asked asks : List Step → Type 0) (written : List ℕ → Type 0) → ((steps : List Step) → asked steps → asks steps) → (task : Task) (holds : Holdings) (told : Option (List ℕ)) (status : ℕ) → TaskEnds asked written task holds told status → TaskEnds asks written task holds told status
 task_as asked asks written f task.Batch holds told status (text, result, is, ran, same) = (text, result, is, batch_as asked asks written written f (λ t was. was) text result ran, same)
 task_as asked asks written f (task.Deliver names) holds told status ended =
-    (ended.0, ended.1, ended.2, ended.3, talks_as asked asks written written _ _ _ f (λ t was. was) (λ steps stop given. given) ended.4)
+    (ended.0, ended.1, ended.2, ended.3, ended.4, requests_as asked asks written f _ _ ended.5, ended.6)
 task_as asked asks written f (task.Gaps name) holds told status ended = by (series_name_of name.now) ended
   where
     by : (o : Option (List ℕ)) → GapsEnds asked written o status → GapsEnds asks written o status
-    by (Some series) talks = talks_as asked asks written written _ _ _ f (λ t was. was) (λ steps stop given. given) talks
+    by (Some series) end = requests_as asked asks written f _ _ end
     by None end = (f [] end.0, end.1)
 task_as asked asks written f (task.Serve port requests batches) holds told status ended =
     (ended.0, (ended.1.0, ended.1.1, f _ ended.1.2), ended.2, ended.3)

@@ -6,8 +6,8 @@ use Rattle.command_line.specs.declared.convert_words.Conversion.{Conversion}
 
 -- how `convert` can end with this status: as a run over its FILEs, of which the input tells its
 -- bytes or not, and names what they hold. Before, after: what names hold
-abbrev pub ConvertEnds : Bool → Holdings → Holdings → Option (List ℕ) → (List ℕ → Type 0)
-    → Conversion → ℕ → Type 0
+abbrev pub ConvertEnds : Bool → Holdings → Holdings → Option (List ℕ)
+    → (List ℕ → Type 0) → Conversion → ℕ → Type 0
 ConvertEnds is_told before after told written c status =
     RunEnds (run_asking is_told c.run) told before after
     (map (λ file. file.now) c.files.items) written status

@@ -1,18 +1,16 @@
 -- How the program ends by what it is asked, with what it leaves of the files of a desk.
-use Rattle.std.specs.Prelude.{◌≡◌, ◌⊎◌, ℕ, Bool, List, [], Ok, Err, Option, Some, None, string_bytes}
+use Rattle.std.specs.Prelude.{◌≡◌, ◌⊎◌, ℕ, Bool, List, [], Result, Ok, Err, Option, Some, None, string_bytes}
 use Rattle.sqlite_disk.specs.declared.Disk.{Ghosts}
-use Rattle.sqlite_wal.specs.Reads.{AreClean}
 use Rattle.sqlite_wal.specs.Recovery.{Image}
 use Rattle.price_rules.specs.declared.precedence.Rule.{Rule}
 use Rattle.series_rules.specs.Steps.{Leads}
 use Rattle.series_rules.specs.Views.{DeskKind, View}
-use Rattle.desk_store.specs.ClosedFiles.{HoldOneDatabase}
-use Rattle.desk_store.specs.Openings.{MakesNothing}
 use Rattle.named_files.specs.Holdings.{Holdings}
 use Rattle.command_line.specs.Asked.{Reads}
 use Rattle.desk_program.specs.ConvertEnds.{ConvertEnds}
-use Rattle.desk_program.specs.FileViews.{seen_files, seen_image, seen_store}
-use Rattle.database_files.specs.Leftovers.{IsUntouched, LeavesUndone}
+use Rattle.desk_program.specs.FileViews.{seen_image}
+use Rattle.desk_program.specs.OverFiles.{EndsOverFiles}
+use Rattle.database_files.specs.Leftovers.{IsUntouched}
 use Rattle.desk_program.specs.ListingEnds.{FileListingEnds, SparesFiles}
 use Rattle.desk_program.specs.MigrationEnd.{MigrateEnds}
 use Rattle.program_lines.specs.Printing.{PrintEnds}
@@ -26,43 +24,31 @@ use Rattle.command_line.specs.declared.invocation.Reading.{Reading}
 use Rattle.command_line.specs.declared.invocation.Reading.TheVariants as reading
 use Rattle.command_line.specs.declared.invocation.Task.{Task}
 use Rattle.database_files.specs.declared.files.FilesLeft.{FilesLeft}
-use Rattle.database_files.specs.declared.files.FilesLeft.TheVariants.{Closed, Unclosed}
 use Rattle.rules_file.specs.declared.rules.RulesFault.{RulesFault}
 
 -- Of a command under these rules. Written: these bytes were written. Holds: what names hold. Told:
 -- what the input tells of its bytes
 module _ (rules : List Rule) (written : List ℕ → Type 0) (task : Task) (holds : Holdings)
     (told : Option (List ℕ)) where
-  -- How it can end over the desk in two files that held `image`. It ended, and what it asked of the
-  -- desk led from what the files held to what they hold: closed, they hold one database, and so a
-  -- crash leaves them; where they could not be closed, the status is 3 in the place of its own.
-  -- Else the desk was not opened: the status is 3, and nothing is written
-  abbrev pub FileEnds : {O U D : Type 0} → {g : Ghosts D} → Image → ℕ → FilesLeft O U D g → Type 0
-  FileEnds {g = g} image status (Closed files) =
-      TaskEnds (λ steps. Leads rules steps (seen_image image) (seen_files g files)) written task
-      holds told status
-      × (AreClean g files.log files.db → HoldOneDatabase g files)
-  FileEnds image status (Unclosed store) =
-      (status ≡ 3) × (own : ℕ)
-      × TaskEnds (λ steps. Leads rules steps (seen_image image) (seen_store store)) written task
-      holds told own
-  FileEnds image status left = LeavesUndone image MakesNothing written status left
+  -- how it can end over the desk in two files that held `image`: what it asked of the desk led from
+  -- what the files held to what they hold
+  abbrev pub FileEnds : {O U D : Type 0} → {g : Ghosts D} → Image → ℕ → FilesLeft O U D g
+      → Type 0
+  FileEnds image = EndsOverFiles (λ new.
+      TaskEnds (λ steps. Leads rules steps (seen_image image) new) written task holds told)
+      image written
 
   -- how it can end over a new desk, which has seen no request
   abbrev pub NewDeskEnds : {M : Type 0} → {k : DeskKind} → (M → View k) → ℕ → Type 0
   NewDeskEnds {M} seen status =
       (new last : M) × (seen new).stands_for [] × (seen last).sound
-      × TaskEnds (λ steps. Leads rules steps (seen new) (seen last)) written task holds told status
+      × TaskEnds (λ steps. Leads rules steps (seen new) (seen last)) written task holds told
+      status
 
--- the rules of a precedence table: none where none is named, and else those of a text
-abbrev pub AreRulesOf : {N : Type 0} → Option N → List Rule → Type 0
-AreRulesOf None rules = rules ≡ []
-AreRulesOf (Some name) rules = (text : List ℕ) × RulesFit text (Ok rules)
-
--- a precedence table is named, and that fault says why it cannot be read
-abbrev pub IsUnruled : {N : Type 0} → Option N → RulesFault → Type 0
-IsUnruled None fault = ⊥
-IsUnruled (Some name) fault = (text : List ℕ) × RulesFit text (Err fault)
+-- how the rules of a precedence table can read: none are named, or as those of a text
+abbrev pub ReadsRules : {N : Type 0} → Option N → Result (List Rule) RulesFault → Type 0
+ReadsRules None read = read ≡ Ok []
+ReadsRules (Some name) read = (text : List ℕ) × RulesFit text read
 
 -- nothing was done: with that status, nothing written and no file touched
 abbrev pub IsUndone : {O U D : Type 0} → {g : Ghosts D} → ℕ → (List ℕ → Type 0) → ℕ
@@ -76,8 +62,9 @@ IsUndone own written status left = (status ≡ own) × written [] × IsUntouched
 -- known. Is told: whether it is told what files hold; before, after: what names hold. Written:
 -- these bytes were written. Told: what the input tells of its bytes
 module _ {M : Type 0} {k : DeskKind} (seen : M → View k) {O U D : Type 0} {g : Ghosts D}
-    (held : List ℕ → Image) (answers : List ℕ → List ℕ → Option (List ℕ)) (is_told : Bool)
-    (before after : Holdings) (written : List ℕ → Type 0) (told : Option (List ℕ)) where
+    (held : List ℕ → Image) (answers : List ℕ → List ℕ → Option (List ℕ))
+    (is_told : Bool) (before after : Holdings) (written : List ℕ → Type 0)
+    (told : Option (List ℕ)) where
   -- how an action can end under those rules, with what it leaves of files
   abbrev pub ActionEnds : List Rule → Action → ℕ → FilesLeft O U D g → Type 0
   ActionEnds rules (InMemory task) status left =
@@ -98,9 +85,9 @@ module _ {M : Type 0} {k : DeskKind} (seen : M → View k) {O U D : Type 0} {g :
   -- read, with nothing done
   abbrev pub InvocationEnds : Invocation → ℕ → FilesLeft O U D g → Type 0
   InvocationEnds invocation status left =
-      ((rules : List Rule) × AreRulesOf invocation.rules rules
+      ((rules : List Rule) × ReadsRules invocation.rules (Ok rules)
       × ActionEnds rules invocation.action status left)
-      ⊎ ((fault : RulesFault) × IsUnruled invocation.rules fault
+      ⊎ ((fault : RulesFault) × ReadsRules invocation.rules (Err fault)
       × IsUndone (status_of fault) written status left)
 
   -- how the program can end by how its words read: by what they ask; with the help that they ask

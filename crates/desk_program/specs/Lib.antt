@@ -1,5 +1,6 @@
 pub mod MigrationEnd
 pub mod FileViews
+pub mod OverFiles
 pub mod ConvertEnds
 pub mod Closings
 pub mod ListingEnds

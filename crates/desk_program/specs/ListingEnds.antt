@@ -4,7 +4,6 @@ use Rattle.sqlite.specs.Files.{file_state}
 use Rattle.sqlite.specs.Held.{Held}
 use Rattle.sqlite_disk.specs.declared.Disk.{Ghosts}
 use Rattle.sqlite_store.specs.declared.store.FileStore.{FileStore}
-use Rattle.sqlite_wal.specs.Reads.{AreClean}
 use Rattle.sqlite_wal.specs.Recovery.{Image}
 use Rattle.series_rules.specs.Views.{DeskKind, View}
 use Rattle.series_rules.specs.declared.requests.Request.{Request}
@@ -15,16 +14,13 @@ use Rattle.desk_export.specs.PartTexts.{AreInFolder, MayBeInFolder}
 use Rattle.desk_export.specs.RequestTexts.{batch_text}
 use Rattle.named_files.specs.Holdings.{Holdings, MayName}
 use Rattle.named_files.specs.PartFiles.{files_of, numbered}
-use Rattle.desk_store.specs.ClosedFiles.{HoldOneDatabase}
-use Rattle.desk_store.specs.Openings.{MakesNothing}
 use Rattle.desk_store.specs.Seen.{in_tables, seen_in}
 use Rattle.command_line.specs.declared.invocation.Listing.{Listing}
 use Rattle.command_line.specs.declared.invocation.Listing.TheVariants.{Agreements, Export, Gaps}
 use Rattle.desk_program.specs.Closings.{Closes}
-use Rattle.desk_program.specs.FileViews.{seen_files, seen_image, seen_store}
-use Rattle.database_files.specs.Leftovers.{LeavesUndone}
+use Rattle.desk_program.specs.FileViews.{seen_image}
+use Rattle.desk_program.specs.OverFiles.{EndsOverFiles}
 use Rattle.database_files.specs.declared.files.FilesLeft.{FilesLeft}
-use Rattle.database_files.specs.declared.files.FilesLeft.TheVariants.{Closed, Unclosed}
 
 -- Written: these bytes were written. Is told: whether it is told what files hold; before, after:
 -- what names hold
@@ -51,18 +47,11 @@ module _ (written : List ℕ → Type 0) (is_told : Bool) (before after : Holdin
   ListingEnds listing old new status =
       IsAsked old new (λ L. IsListed listing L status) × ((status ≡ 0) ⊎ (status ≡ 3))
 
-  -- How it can end over the desk in two files that held `image`. What these hold is what they held:
-  -- closed, they hold one database, and so a crash leaves them; where they could not be closed, the
-  -- status is 3 in the place of its own. Else the desk was not opened: the status is 3, and nothing
-  -- is written
+  -- how it can end over the desk in two files that held `image`: what these hold is what they held
   abbrev pub FileListingEnds : {O U D : Type 0} → {g : Ghosts D} → Listing → Image → ℕ
       → FilesLeft O U D g → Type 0
-  FileListingEnds {g = g} listing image status (Closed files) =
-      ListingEnds listing (seen_image image) (seen_files g files) status
-      × (AreClean g files.log files.db → HoldOneDatabase g files)
-  FileListingEnds listing image status (Unclosed store) =
-      (status ≡ 3) × (own : ℕ) × ListingEnds listing (seen_image image) (seen_store store) own
-  FileListingEnds listing image status left = LeavesUndone image MakesNothing written status left
+  FileListingEnds listing image =
+      EndsOverFiles (ListingEnds listing (seen_image image)) image written
 
   -- the same of a desk that was opened as `was`, over a connection that was then closed
   abbrev pub ListsAndCloses : {O U D : Type 0} → {g : Ghosts D} → Listing → View in_tables → ℕ

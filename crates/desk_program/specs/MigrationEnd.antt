@@ -33,8 +33,8 @@ pub record IsMigrationDone {D : Type 0} (g : Ghosts D) (image : Image) (answer :
 -- How the command can end over files that held `image`. Where the files are left closed, a
 -- migration was done, and its line is written with 0, or a first part of it with 3. Else nothing
 -- was done. Written: these bytes were written
-abbrev pub MigrateEnds : {O U D : Type 0} → {g : Ghosts D} → Image → (List ℕ → Type 0) → ℕ
-    → FilesLeft O U D g → Type 0
+abbrev pub MigrateEnds : {O U D : Type 0} → {g : Ghosts D} → Image → (List ℕ → Type 0)
+    → ℕ → FilesLeft O U D g → Type 0
 MigrateEnds {g = g} image written status (Closed files) =
     (answer : MigrateAnswer)
     × (AreClean g files.log files.db → IsMigrationDone g image answer files)

@@ -5,7 +5,7 @@ ghost use Rattle.std.specs.Io.KnownBytes.{Appends};
 ghost use Rattle.sqlite_wal.specs.Recovery.{Image};
 ghost use Rattle.desk_program.specs.Closings.{RunsAndCloses};
 ghost use Rattle.database_files.specs.Databases.{AreSettled};
-ghost use Rattle.desk_program.specs.FileEnds.{ActionEnds, AreRulesOf, FileEnds, InvocationEnds, IsUnruled, NewDeskEnds, RunEnds};
+ghost use Rattle.desk_program.specs.FileEnds.{ActionEnds, FileEnds, InvocationEnds, NewDeskEnds, ReadsRules, RunEnds};
 ghost use Rattle.desk_program.specs.MigrationEnd.{MigrateEnds};
 
 use crate::{help, listing, migrate};
@@ -221,8 +221,7 @@ fn run_action<O: Databases, K: OpenDesks, F: NamedFiles, R: Read, W: Write, E: W
 
 // The rules of the file of that name, or none where none is named.
 fn rules_of(rt: &HostRuntime, name: Option<&str>) -> Result<Precedence, RulesFault>
-    ensures ok { IfOk result (AreRulesOf name.entry) }
-    ensures err { IfErr result (IsUnruled name.entry) }
+    ensures { ReadsRules name.entry result }
 {
     match name {
         None => Ok(Precedence::none(rt.alloc())),

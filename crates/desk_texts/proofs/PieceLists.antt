@@ -3,18 +3,19 @@ use Rattle.std.proofs.Common.{arith, length, ◌≡◌, Bool, true, false, ℕ, 
 use Rattle.std.specs.List.{list_all}
 use Rattle.std.specs.Prelude.{if◌then◌else◌, ◌&&◌}
 use Rattle.std.proofs.lemmas.List.Folds.{list_all-append}
-use Rattle.desk_texts.specs.Pieces.{are_request, begins_request, in_front, pieces}
+use Rattle.desk_texts.specs.Pieces.{are_request, in_front, pieces, request_names}
+use Rattle.desk_texts.specs.Records.{begins_with}
 use Rattle.desk_texts.specs.Closed.{closed}
 
 -- no record but the first begins a request
 abbrev pub is_one_piece : List (List (List ℕ)) → Bool
 is_one_piece [] = true
-is_one_piece (row ∷ more) = list_all (λ r. not (begins_request r)) more
+is_one_piece (row ∷ more) = list_all (λ r. not (begins_with request_names r)) more
 
 -- nothing, or records of which the first begins a request
 abbrev pub starts_anew : List (List (List ℕ)) → Bool
 starts_anew [] = true
-starts_anew (row ∷ more) = begins_request row
+starts_anew (row ∷ more) = begins_with request_names row
 
 -- the first piece begins with the first record
 pub record FirstPiece (row : List (List ℕ)) (rest : List (List (List ℕ))) : Type 0 where
@@ -56,21 +57,21 @@ unfolding pieces
 cut_behind [] rest whole anew = refl
 cut_behind (row ∷ []) rest whole anew = alone row rest anew
 cut_behind (row ∷ next ∷ more) rest whole anew =
-    let split = not_first (begins_request next) (list_all (λ r. not (begins_request r)) more) whole in
+    let split = not_first (begins_with request_names next) (list_all (λ r. not (begins_with request_names r)) more) whole in
     ap (in_front row) (cut_behind (next ∷ more) rest split.1 anew)
     ∙ ap (λ b. if b then (row ∷ []) ∷ (next ∷ more) ∷ pieces rest else (row ∷ next ∷ more) ∷ pieces rest) split.0
 
 -- one more record that begins no request
-pub one_piece_more : (piece : List (List (List ℕ))) (row : List (List ℕ)) → is_one_piece piece ≡ true → begins_request row ≡ false → is_one_piece (piece ++ row ∷ []) ≡ true
+pub one_piece_more : (piece : List (List (List ℕ))) (row : List (List ℕ)) → is_one_piece piece ≡ true → begins_with request_names row ≡ false → is_one_piece (piece ++ row ∷ []) ≡ true
 one_piece_more [] row whole plain = refl
 one_piece_more (first ∷ more) row whole plain =
-    list_all-append (λ r. not (begins_request r)) more (row ∷ [])
-    ∙ ap (λ b. b && (not (begins_request row) && true)) whole
+    list_all-append (λ r. not (begins_with request_names r)) more (row ∷ [])
+    ∙ ap (λ b. b && (not (begins_with request_names row) && true)) whole
     ∙ ap (λ b. not b && true) plain
 
 -- the record that comes next begins a piece
 pub next_begins : (cut all : List (List (List (List ℕ)))) (piece rest : List (List (List ℕ))) (row : List (List ℕ)) →
-    is_one_piece piece ≡ true → begins_request row ≡ true → cut ++ pieces (piece ++ row ∷ rest) ≡ all → (cut ++ closed piece) ++ pieces (row ∷ rest) ≡ all
+    is_one_piece piece ≡ true → begins_with request_names row ≡ true → cut ++ pieces (piece ++ row ∷ rest) ≡ all → (cut ++ closed piece) ++ pieces (row ∷ rest) ≡ all
 next_begins cut all piece rest row whole begins all_is =
     append_assoc cut (closed piece) (pieces (row ∷ rest))
     ∙ ap (λ ps. cut ++ ps) (sym (cut_behind piece (row ∷ rest) whole begins))

@@ -12,9 +12,11 @@ use Rattle.desk_texts.specs.Records.{Records}
 -- what a catalogue keeps under a reference: its identifiers, then its supplies
 abbrev pub entry_records : List ℕ × Entry → Records
 entry_records (reference, e) =
-    (codes "record" ∷ reference ∷ flat_map identifier_fields e.ids) ∷ supplies_records e.supplies
+    (codes "record" ∷ reference ∷ flat_map identifier_fields e.ids)
+    ∷ supplies_records e.supplies
 
 -- the catalogue of a series: how many records it has, then each in order of reference
 unfoldable pub catalogue_records : List ℕ → ByReference → Records
 catalogue_records series m =
-    (codes "catalogue" ∷ series ∷ decimal (len m) ∷ []) ∷ flat_map entry_records (records_of m)
+    (codes "catalogue" ∷ series ∷ decimal (len m) ∷ [])
+    ∷ flat_map entry_records (records_of m)

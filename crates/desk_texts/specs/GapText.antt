@@ -10,10 +10,6 @@ use Rattle.desk_texts.specs.Records.{Fields, Records}
 abbrev pub labelled : String → ℕ → List ℕ
 labelled name n = codes name ++ decimal n
 
--- a number, or nothing
-abbrev pub optional_decimal : Option ℕ → List ℕ
-optional_decimal n = option_map_or decimal n []
-
 -- the numbers of a report, each behind its name
 unfoldable pub gap_fields : GapReport → Fields
 gap_fields g =
@@ -21,7 +17,7 @@ gap_fields g =
     ∷ g.series
     ∷ labelled "first=" g.first
     ∷ labelled "next=" g.next
-    ∷ (codes "greatest=" ++ optional_decimal g.greatest)
+    ∷ (codes "greatest=" ++ option_map_or decimal g.greatest [])
     ∷ labelled "held=" g.held
     ∷ labelled "missing=" (length g.missing)
     ∷ []

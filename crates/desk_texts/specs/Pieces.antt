@@ -1,31 +1,21 @@
 -- The pieces of a batch, each of which is one request.
 use Prim.Native.String.{String}
-use Rattle.std.specs.Prelude.{ℕ, Bool, false, List, [], ◌∷◌, codes, if◌then◌else◌}
-use Rattle.std.specs.List.{list_any}
-use Rattle.std.specs.Str.{bytes_eq}
-use Rattle.desk_texts.specs.Records.{Fields, Records}
-
--- the name is one of these
-abbrev pub is_one_of : List String → List ℕ → Bool
-is_one_of names name = list_any (λ text. bytes_eq name (codes text)) names
-
--- the names of questions
-abbrev pub question_names : List String
-question_names = "AskPrice" ∷ "AskChoice" ∷ "AskCalendar" ∷ "AskGaps" ∷ "AskCatalogue" ∷ []
+use Rattle.std.specs.Prelude.{Bool, false, List, [], ◌∷◌, if◌then◌else◌, map}
+use Rattle.desk_texts.specs.Records.{Fields, Records, begins_with}
+use Rattle.desk_texts.specs.RequestRows.{question_forms, request_forms}
 
 -- the names that begin a request
 abbrev pub request_names : List String
-request_names = "Agree" ∷ "Message" ∷ "Waive" ∷ question_names
+request_names = "Message" ∷ map (λ form. form.0) request_forms
 
--- a record begins a request where its first field is one of these names
-abbrev pub begins_request : Fields → Bool
-begins_request [] = false
-begins_request (name ∷ fields) = is_one_of request_names name
+-- those of them that begin a question
+abbrev pub question_names : List String
+question_names = map (λ form. form.0) question_forms
 
 -- records are those of a request where the first of them begins one
 abbrev pub are_request : Records → Bool
 are_request [] = false
-are_request (row ∷ more) = begins_request row
+are_request (row ∷ more) = begins_with request_names row
 
 -- pieces with one more record in front: it joins the first piece, unless that is a request of its
 -- own

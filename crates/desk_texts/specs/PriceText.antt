@@ -12,17 +12,14 @@ use Rattle.series_rules.specs.declared.answers.ChosenOffer.{ChosenOffer}
 use Rattle.series_rules.specs.declared.answers.OfferCalendar.{OfferCalendar}
 use Rattle.desk_texts.specs.Records.{Fields, Records}
 
--- an amount, or nothing where no price holds
-abbrev pub optional_amount : Option ℕ → List ℕ
-optional_amount amount = option_map_or amount_text amount []
-
 -- which offer it is
 abbrev pub listed_fields : ListedOffer → Fields
 listed_fields o = o.series ∷ o.reference ∷ decimal o.place ∷ o.availability ∷ []
 
 -- an offer and its current price
 abbrev pub priced_fields : PricedOffer → Fields
-priced_fields p = codes "offer" ∷ (listed_fields p.offer ++ optional_amount p.amount ∷ [])
+priced_fields p =
+    codes "offer" ∷ (listed_fields p.offer ++ option_map_or amount_text p.amount [] ∷ [])
 
 -- the name of an answer, the article, and how many offers it has
 abbrev pub head_fields : List ℕ → List ℕ → ℕ → Fields
@@ -33,19 +30,18 @@ unfoldable pub price_records : List ℕ → List PricedOffer → Records
 price_records isbn offers =
     (codes "price" ∷ isbn ∷ decimal (length offers) ∷ []) ∷ map priced_fields offers
 
--- the rule that takes an offer, the offer and its current price
-abbrev pub chosen_fields : List ℕ → ChosenOffer → Fields
-chosen_fields isbn c =
-    codes "choice" ∷ isbn ∷ decimal c.rule ∷ (listed_fields c.offer ++ amount_text c.amount ∷ [])
-
--- the chosen offer, or that there is none
+-- the rule that takes an offer, the offer and its current price; or that none is chosen
 abbrev pub choice_fields : List ℕ → Option ChosenOffer → Fields
 choice_fields isbn None = codes "choice" ∷ isbn ∷ codes "none" ∷ []
-choice_fields isbn (Some c) = chosen_fields isbn c
+choice_fields isbn (Some c) =
+    codes "choice" ∷ isbn ∷ decimal c.rule
+    ∷ (listed_fields c.offer ++ amount_text c.amount ∷ [])
 
 -- days in a row with one current price, or with none
 abbrev pub span_fields : Span → Fields
-span_fields s = codes "span" ∷ day_text s.first ∷ day_text s.last ∷ optional_amount s.amount ∷ []
+span_fields s =
+    codes "span" ∷ day_text s.first ∷ day_text s.last
+    ∷ option_map_or amount_text s.amount [] ∷ []
 
 -- an offer, then its spans
 abbrev pub dated_records : OfferCalendar → Records

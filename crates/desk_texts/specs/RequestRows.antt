@@ -1,5 +1,6 @@
 -- The request that a piece of a batch is.
-use Rattle.std.specs.Prelude.{ℕ, Bool, false, List, [], ◌∷◌, Option, Some, None, if◌then◌else◌, option_map, codes}
+use Prim.Native.String.{String}
+use Rattle.std.specs.Prelude.{ℕ, List, [], ◌∷◌, Option, Some, None, if◌then◌else◌, option_map, codes}
 use Rattle.std.specs.List.{list_all}
 use Rattle.std.specs.Str.{bytes_eq}
 use Rattle.onix_terms.specs.Code.{isbn13_of}
@@ -14,21 +15,17 @@ use Rattle.price_rules.specs.declared.offer.PriceQuery.{PriceQuery}
 use Rattle.price_rules.specs.declared.offer.CalendarQuery.{CalendarQuery}
 use Rattle.series_rules.specs.declared.requests.Request.{Request}
 use Rattle.series_rules.specs.declared.requests.Request.TheVariants.{Agree, AskCalendar, AskCatalogue, AskChoice, AskGaps, AskPrice, Deliver, Malformed, Waive}
-use Rattle.desk_texts.specs.Records.{Fields, Records}
+use Rattle.desk_texts.specs.Records.{Fields, Records, begins_with}
 
--- the agreement of a name, a sender, perhaps an addressee, and a first number
-abbrev pub agreement_from : List ℕ → List ℕ → List ℕ → List ℕ → List ℕ → List ℕ → Option Agreement
-agreement_from name sender_type sender_value to_type to_value first = do
+-- the agreement that the fields after `Agree` make: a name, a sender, perhaps an addressee, and a
+-- first number
+unfoldable pub agreement_of : Fields → Option Agreement
+agreement_of (name ∷ sender_type ∷ sender_value ∷ to_type ∷ to_value ∷ first ∷ []) = do
   n ← series_name_of name
   f ← number_of first
   sender ← party_of sender_type sender_value
   addressee ← optional_party to_type to_value
   Some (record { name = n; sender = sender; addressee = addressee; first = f })
-
--- the agreement that the fields after `Agree` make
-unfoldable pub agreement_of : Fields → Option Agreement
-agreement_of (name ∷ sender_type ∷ sender_value ∷ to_type ∷ to_value ∷ first ∷ []) =
-    agreement_from name sender_type sender_value to_type to_value first
 agreement_of _ = None
 
 -- the waiver that the fields after `Waive` make
@@ -54,53 +51,49 @@ prices_on day (country ∷ currency ∷ price_type ∷ quantity ∷ []) =
 prices_on day _ = None
 
 -- the article and the prices that the fields after `AskPrice` or `AskChoice` ask for
-unfoldable pub price_question_of : Fields → Option (List ℕ × PriceQuery)
-price_question_of (isbn ∷ day ∷ fields) = do
+unfoldable pub prices_asked : Fields → Option (List ℕ × PriceQuery)
+prices_asked (isbn ∷ day ∷ fields) = do
   i ← isbn13_of isbn
   q ← prices_on day fields
   Some (i, q)
-price_question_of _ = None
+prices_asked _ = None
 
 -- the article and the calendar that the fields after `AskCalendar` ask for
-unfoldable pub calendar_question_of : Fields → Option (List ℕ × CalendarQuery)
-calendar_question_of (isbn ∷ from ∷ to ∷ fields) = do
+unfoldable pub calendar_asked : Fields → Option (List ℕ × CalendarQuery)
+calendar_asked (isbn ∷ from ∷ to ∷ fields) = do
   i ← isbn13_of isbn
   first ← prices_on from fields
   last ← day_of to
   Some (i, until first last)
-calendar_question_of _ = None
+calendar_asked _ = None
 
--- the question that the fields after a name ask
-abbrev pub question_of : List ℕ → Fields → Option Request
-question_of name fields =
-    if bytes_eq name (codes "AskPrice")
-    then option_map (λ (i, q). AskPrice i q) (price_question_of fields)
-    else if bytes_eq name (codes "AskChoice")
-    then option_map (λ (i, q). AskChoice i q) (price_question_of fields)
-    else if bytes_eq name (codes "AskCalendar")
-    then option_map (λ (i, q). AskCalendar i q) (calendar_question_of fields)
-    else if bytes_eq name (codes "AskGaps") then option_map AskGaps (series_of fields)
-    else if bytes_eq name (codes "AskCatalogue")
-    then option_map AskCatalogue (series_of fields)
-    else None
+-- the questions, each by its name, with what the fields after it make
+abbrev pub question_forms : List (String × (Fields → Option Request))
+question_forms =
+    ("AskPrice", λ fields. option_map (λ (i, q). AskPrice i q) (prices_asked fields))
+    ∷ ("AskChoice", λ fields. option_map (λ (i, q). AskChoice i q) (prices_asked fields))
+    ∷ ("AskCalendar", λ fields. option_map (λ (i, q). AskCalendar i q) (calendar_asked fields))
+    ∷ ("AskGaps", λ fields. option_map AskGaps (series_of fields))
+    ∷ ("AskCatalogue", λ fields. option_map AskCatalogue (series_of fields)) ∷ []
 
--- the request that the fields after a name make
-abbrev pub named_request : List ℕ → Fields → Option Request
-named_request name fields =
-    if bytes_eq name (codes "Agree") then option_map Agree (agreement_of fields)
-    else if bytes_eq name (codes "Waive") then waiver_of fields
-    else question_of name fields
+-- all requests of one record
+abbrev pub request_forms : List (String × (Fields → Option Request))
+request_forms =
+    ("Agree", λ fields. option_map Agree (agreement_of fields)) ∷ ("Waive", waiver_of)
+    ∷ question_forms
+
+-- the request that the fields after a name make, by the one of these that has the name
+abbrev pub request_by : List (String × (Fields → Option Request)) → List ℕ → Fields
+    → Option Request
+request_by [] name fields = None
+request_by (form ∷ forms) name fields =
+    if bytes_eq name (codes form.0) then form.1 fields else request_by forms name fields
 
 -- the request that a record is, unless one of its fields is wrong
 abbrev pub row_request : Fields → Option Request
 row_request [] = None
 row_request (name ∷ fields) =
-    if list_all is_clean (name ∷ fields) then named_request name fields else None
-
--- a record begins a message
-abbrev pub begins_message : Fields → Bool
-begins_message [] = false
-begins_message (name ∷ fields) = bytes_eq name (codes "Message")
+    if list_all is_clean (name ∷ fields) then request_by request_forms name fields else None
 
 -- a request of one record, with no more records behind it
 abbrev pub alone : Option Request → Records → Request
@@ -113,4 +106,5 @@ alone (Some r) (next ∷ more) = Malformed 2
 abbrev pub request_of : Records → Request
 request_of [] = Malformed 1
 request_of (row ∷ more) =
-    if begins_message row then Deliver (row ∷ more) else alone (row_request row) more
+    if begins_with ("Message" ∷ []) row then Deliver (row ∷ more)
+    else alone (row_request row) more

@@ -1,7 +1,9 @@
 //! The records of a report on the gaps of a series.
 
 ghost use Rattle.std.specs.Prelude.{◌≡◌, ◌++◌, ◌∷◌, [], OnOk, codes};
-ghost use Rattle.desk_texts.specs.GapText.{gap_fields, gap_records, missing_fields, optional_decimal};
+ghost use Rattle.std.specs.Fmt.{decimal};
+ghost use Rattle.std.specs.Option.{option_map_or};
+ghost use Rattle.desk_texts.specs.GapText.{gap_fields, gap_records, missing_fields};
 
 use crate::text_rows::{fill, push_labelled, push_number};
 use csv_records::buffer::RecordBuffer;
@@ -17,7 +19,7 @@ fn push_greatest(
     greatest: Option<Number>,
 ) -> Result<(), AllocError>
     ensures { OnOk result
-        (out.new ≡ out.old ++ (codes "greatest=" ++ optional_decimal greatest) ∷ []) }
+        (out.new ≡ out.old ++ (codes "greatest=" ++ option_map_or decimal greatest []) ∷ []) }
 {
     match greatest {
         None => out.push("greatest="),

@@ -2,7 +2,8 @@
 
 ghost use Rattle.std.specs.Prelude.{◌≡◌, ◌++◌, [], IfOk, OnOk};
 ghost use Rattle.csv.specs.Records.{fields_of};
-ghost use Rattle.desk_texts.specs.Pieces.{begins_request, is_one_of, pieces, question_names, request_names};
+ghost use Rattle.desk_texts.specs.Pieces.{pieces, question_names, request_names};
+ghost use Rattle.desk_texts.specs.Records.{begins_with, is_one_of};
 ghost use Rattle.desk_texts.specs.Closed.{closed};
 
 use csv::StringRecord;
@@ -26,12 +27,12 @@ fn is_question(name: &str) -> bool
 fn is_request(name: &str) -> bool
     ensures { result ≡ is_one_of request_names name.now }
 {
-    name == "Agree" || name == "Message" || name == "Waive" || is_question(name)
+    name == "Message" || name == "Agree" || name == "Waive" || is_question(name)
 }
 
 // Whether a record begins a request.
 fn begins_piece(from: &StringRecord) -> bool
-    ensures { result ≡ begins_request (fields_of from.now) }
+    ensures { result ≡ begins_with request_names (fields_of from.now) }
 {
     match from.get(0) {
         None => false,

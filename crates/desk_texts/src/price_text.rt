@@ -1,9 +1,11 @@
 //! The records of answers about the offers of an article.
 
-ghost use Rattle.std.specs.Prelude.{◌≡◌, ◌++◌, ◌∷◌, [], IfOk, OnOk, map};
+ghost use Rattle.std.specs.Prelude.{◌≡◌, ◌++◌, ◌∷◌, [], IfOk, OnOk, Some, map};
+ghost use Rattle.std.specs.Option.{option_map_or};
 ghost use Rattle.std.specs.String.{string_bytes};
+ghost use Rattle.onix_terms.specs.Amount.{amount_text};
 ghost use Rattle.onix_terms.specs.Day.{day_text};
-ghost use Rattle.desk_texts.specs.PriceText.{calendar_records, choice_fields, chosen_fields, dated_records, head_fields, listed_fields, optional_amount, price_records, priced_fields, span_fields};
+ghost use Rattle.desk_texts.specs.PriceText.{calendar_records, choice_fields, dated_records, head_fields, listed_fields, price_records, priced_fields, span_fields};
 
 use crate::text_rows::{fill, push_count, push_number};
 use csv_records::buffer::RecordBuffer;
@@ -16,7 +18,7 @@ use series_rules::answers::{ChosenOffer, ListedOffer, OfferCalendar, PricedOffer
 use std::alloc::{AllocError, Global};
 
 fn amount_digits(alloc: Global, amount: Option<Amount>) -> Result<String, AllocError>
-    ensures { IfOk result (λ t. string_bytes t ≡ optional_amount amount) }
+    ensures { IfOk result (λ t. string_bytes t ≡ option_map_or amount_text amount []) }
 {
     let mut text = String::new(alloc);
     if let Some(amount) = amount {
@@ -31,7 +33,7 @@ fn push_amount(
     out: &mut FieldBuffer,
     amount: Option<Amount>,
 ) -> Result<(), AllocError>
-    ensures { OnOk result (out.new ≡ out.old ++ optional_amount amount ∷ []) }
+    ensures { OnOk result (out.new ≡ out.old ++ option_map_or amount_text amount [] ∷ []) }
 {
     out.push(amount_digits(alloc, amount)?.as_str())
 }
@@ -101,7 +103,7 @@ fn fill_chosen(
     isbn: &Isbn13,
     chosen: &ChosenOffer,
 ) -> Result<(), AllocError>
-    ensures { OnOk result (out.new ≡ chosen_fields isbn.now chosen.now) }
+    ensures { OnOk result (out.new ≡ choice_fields isbn.now (Some chosen.now)) }
 {
     fill(out, &["choice", isbn.as_str()])?;
     push_number(out, chosen.rule)?;

@@ -1,10 +1,11 @@
 //! Requests, read from the pieces of a batch.
 
-ghost use Rattle.std.specs.Prelude.{◌≡◌, [], IfOk, OnOk, map};
+ghost use Rattle.std.specs.Prelude.{◌≡◌, ◌∷◌, [], IfOk, OnOk, map};
 ghost use Rattle.desk_texts.specs.Pieces.{pieces};
 ghost use Rattle.desk_texts.specs.Requests.{TextFits};
 ghost use Rattle.onix_message.specs.Gives.{Gives};
-ghost use Rattle.desk_texts.specs.RequestRows.{agreement_from, agreement_of, begins_message, calendar_question_of, named_request, price_question_of, prices_on, question_of, request_of, row_request, series_of, waiver_of};
+ghost use Rattle.desk_texts.specs.RequestRows.{agreement_of, calendar_asked, prices_asked, prices_on, question_forms, request_by, request_forms, request_of, row_request, series_of, waiver_of};
+ghost use Rattle.desk_texts.specs.Records.{begins_with};
 
 use crate::pieces::read_pieces;
 use csv_records::buffer::RecordBuffer;
@@ -23,6 +24,7 @@ use series_rules::requests::Request;
 use std::alloc::{AllocError, Global};
 
 // The agreement of a name, a sender, perhaps an addressee, and a first number.
+#[tactic(auto, unfolding(crate::specs::RequestRows::agreement_of))]
 fn make_agreement(
     alloc: Global,
     name: &str,
@@ -32,8 +34,8 @@ fn make_agreement(
     to_value: &str,
     first: &str,
 ) -> Result<Agreement, RowFault>
-    ensures { Gives result (agreement_from name.now
-        sender_type.now sender_value.now to_type.now to_value.now first.now) }
+    ensures { Gives result (agreement_of (name.now ∷ sender_type.now ∷ sender_value.now
+        ∷ to_type.now ∷ to_value.now ∷ first.now ∷ [])) }
 {
     let name = SeriesName::read(name).ok_or(RowFault::Wrong)?;
     let first = Number::read(first).ok_or(RowFault::Wrong)?;
@@ -110,9 +112,9 @@ fn read_prices(day: &str, fields: &[&str]) -> Option<PriceQuery>
 }
 
 // The article and the prices that the fields after `AskPrice` or `AskChoice` ask for.
-#[tactic(auto, unfolding(crate::specs::RequestRows::price_question_of))]
+#[tactic(auto, unfolding(crate::specs::RequestRows::prices_asked))]
 fn read_price_question(fields: &[&str]) -> Option<(Isbn13, PriceQuery)>
-    ensures { result ≡ price_question_of (map (λ f. f.now) fields.now) }
+    ensures { result ≡ prices_asked (map (λ f. f.now) fields.now) }
 {
     let [isbn, day, terms @ ..] = fields else {
         return None;
@@ -124,9 +126,9 @@ fn read_price_question(fields: &[&str]) -> Option<(Isbn13, PriceQuery)>
 
 // The article and the calendar that the fields after `AskCalendar` ask for. A range that is
 // reversed or too long is asked for too: the answer refuses it.
-#[tactic(auto, unfolding(crate::specs::RequestRows::calendar_question_of))]
+#[tactic(auto, unfolding(crate::specs::RequestRows::calendar_asked))]
 fn read_calendar_question(fields: &[&str]) -> Option<(Isbn13, CalendarQuery)>
-    ensures { result ≡ calendar_question_of (map (λ f. f.now) fields.now) }
+    ensures { result ≡ calendar_asked (map (λ f. f.now) fields.now) }
 {
     let [isbn, from, to, terms @ ..] = fields else {
         return None;
@@ -139,7 +141,7 @@ fn read_calendar_question(fields: &[&str]) -> Option<(Isbn13, CalendarQuery)>
 
 // The question that the fields after a name ask.
 fn read_question(name: &str, fields: &[&str]) -> Option<Request>
-    ensures { result ≡ question_of name.now (map (λ f. f.now) fields.now) }
+    ensures { result ≡ request_by question_forms name.now (map (λ f. f.now) fields.now) }
 {
     if name == "AskPrice" {
         let (isbn, query) = read_price_question(fields)?;
@@ -164,7 +166,7 @@ fn read_question(name: &str, fields: &[&str]) -> Option<Request>
 
 // The request that the fields after a name make.
 fn read_named(alloc: Global, name: &str, fields: &[&str]) -> Result<Request, RowFault>
-    ensures { Gives result (named_request name.now (map (λ f. f.now) fields.now)) }
+    ensures { Gives result (request_by request_forms name.now (map (λ f. f.now) fields.now)) }
 {
     if name == "Agree" {
         return Ok(Request::Agree(read_agreement(alloc, fields)?));
@@ -189,7 +191,7 @@ fn read_row(alloc: Global, from: &Record<'_>) -> Result<Request, RowFault>
 
 // Whether a record begins a message.
 fn is_message(from: &Record<'_>) -> bool
-    ensures { result ≡ begins_message from.now }
+    ensures { result ≡ begins_with ("Message" ∷ []) from.now }
 {
     match from.get(0) {
         None => false,

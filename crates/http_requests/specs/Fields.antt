@@ -14,15 +14,22 @@ use Rattle.http_requests.specs.declared.refusal.Refusal.TheVariants as refusal
 abbrev pub same_name : List ℕ → List ℕ → Bool
 same_name a b = pointwise nat_eq (map to_ascii_lowercase a) (map to_ascii_lowercase b)
 
--- the values of the fields of this name, in order
-abbrev pub values_of : List ℕ → List (List ℕ × List ℕ) → List (List ℕ)
-values_of name [] = []
-values_of name (f ∷ fields) = if same_name f.0 name then f.1 ∷ values_of name fields
-    else values_of name fields
+-- the values of the pairs whose names are such, in order
+abbrev pub values_where : (List ℕ → Bool) → List (List ℕ × List ℕ) → List (List ℕ)
+values_where such [] = []
+values_where such (pair ∷ pairs) =
+    if such pair.0 then pair.1 ∷ values_where such pairs else values_where such pairs
+
+-- the only one of these values, if there is one. Several are refused so
+abbrev pub at_most_one : Refusal → List (List ℕ) → Result (Option (List ℕ)) Refusal
+at_most_one why [] = Ok None
+at_most_one why (value ∷ []) = Ok (Some value)
+at_most_one why (value ∷ other ∷ more) = Err why
 
 -- the values of the fields of this name in a head, without white space at their ends
 unfoldable pub field_values : List ℕ → RequestHead → List (List ℕ)
-field_values name h = values_of name (map name_and_value h.fields)
+field_values name h =
+    values_where (λ other. same_name other name) (map name_and_value h.fields)
 
 -- one or more digits
 abbrev pub is_numeral : List ℕ → Bool
@@ -37,15 +44,7 @@ size_written text =
     else Ok (digits_value 10 text))
     else Err refusal.BadLength
 
--- the value of the only field of a name, `None` where there is none, and an error where there are
--- more
-abbrev pub only_value : List (List ℕ) → Result (Option (List ℕ)) (Unit {0})
-only_value [] = Ok None
-only_value (value ∷ []) = Ok (Some value)
-only_value (value ∷ other ∷ more) = Err tt
-
--- how many bytes the body of a POST has, by its Content-Length
-abbrev pub size_by : Result (Option (List ℕ)) (Unit {0}) → Result ℕ Refusal
-size_by (Ok None) = Err refusal.LengthRequired
-size_by (Ok (Some value)) = size_written value
-size_by (Err more) = Err refusal.BadLength
+-- how many bytes the body of a POST has, by the value of its Content-Length
+abbrev pub size_by : Option (List ℕ) → Result ℕ Refusal
+size_by None = Err refusal.LengthRequired
+size_by (Some value) = size_written value

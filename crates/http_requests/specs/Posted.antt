@@ -5,7 +5,7 @@ use Rattle.httparse.specs.Grammar.{RequestHead}
 use Rattle.csv_records.specs.RecordTexts.{records_of}
 use Rattle.http_requests.specs.declared.refusal.Refusal.{Refusal}
 use Rattle.http_requests.specs.declared.refusal.Refusal.TheVariants as refusal
-use Rattle.http_requests.specs.Fields.{field_values, only_value, size_by}
+use Rattle.http_requests.specs.Fields.{at_most_one, field_values, size_by}
 use Rattle.http_requests.specs.Steps.{◌>>=◌}
 
 -- the body of so many bytes. What follows it is ignored
@@ -18,7 +18,9 @@ records_in body = if is_utf8 body then Ok (records_of body) else Err refusal.Not
 
 -- how many bytes the body of a POST has
 unfoldable pub size_asked : RequestHead → Result ℕ Refusal
-size_asked h = size_by (only_value (field_values (codes "content-length") h))
+size_asked h = do
+  value ← at_most_one refusal.BadLength (field_values (codes "content-length") h)
+  size_by value
 
 -- so many bytes, or none behind a refusal
 abbrev pub size_or_none : Result ℕ Refusal → ℕ

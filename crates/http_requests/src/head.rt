@@ -7,13 +7,13 @@ ghost use Rattle.httparse.specs.Spans.{IsRequestOf, IsRequestWithin};
 ghost use Rattle.csv_records.specs.RecordTexts.{limit};
 ghost use Rattle.csv_records.specs.Streams.{TakesAtMost};
 ghost use Rattle.http_requests.specs.Head.{HasNoHead, IsNeverHead, has_empty_line, skip_line_ends, IsRefused};
-ghost use Rattle.http_requests.specs.Fields.{field_values, only_value};
+ghost use Rattle.http_requests.specs.Fields.{at_most_one, field_values};
 ghost use Rattle.http_requests.specs.Steps.{IfRefused};
 ghost use Rattle.http_requests.specs.Posted.{size_asked};
 ghost use Rattle.http_requests.specs.HeadRead.{head_text, IsHeadOf};
 
 use crate::fault::InputFault;
-use crate::fields::{Repeated, body_size, only_value};
+use crate::fields::{body_size, only_value};
 use crate::parts::Head;
 use crate::reading::read_once;
 use crate::refusal::Refusal;
@@ -52,18 +52,19 @@ impl Head {
         &self.bytes[self.parts.len..self.filled]
     }
 
-    /// The value of the only field of a name, `None` where there is none, and an error where there
-    /// are more.
-    pub(crate) fn only_field(&self, name: &[u8]) -> Result<Option<&[u8]>, Repeated>
+    /// The value of the only field of a name, `None` where there is none. Where there are several,
+    /// `why` refuses them.
+    pub(crate) fn only_field(&self, name: &[u8], why: Refusal) -> Result<Option<&[u8]>, Refusal>
         ensures one { (h : RequestHead) → IsHeadOf self.now h → IfOk result (λ found.
-            only_value (field_values name.now h) ≡ Ok (option_map (λ v. v.now) found)) }
+            at_most_one why (field_values name.now h) ≡ Ok (option_map (λ v. v.now) found)) }
         ensures more { (h : RequestHead) → IsHeadOf self.now h
-            → OnErr result (only_value (field_values name.now h) ≡ Err tt) }
+            → IfErr result (λ e. at_most_one why (field_values name.now h) ≡ Err e) }
     {
         only_value(
             &self.bytes[..self.filled],
             &self.spans[..self.parts.headers],
             name,
+            why,
         )
     }
 
@@ -80,10 +81,10 @@ impl Head {
         ensures { (h : RequestHead) → IsHeadOf self.now h
             → result ≡ nat_lt 0 (length (field_values name.now h)) }
     {
-        match self.only_field(name) {
+        match self.only_field(name, Refusal::BadHead) {
             Ok(None) => false,
             Ok(Some(_)) => true,
-            Err(Repeated) => true,
+            Err(_) => true,
         }
     }
 
@@ -92,7 +93,7 @@ impl Head {
         ensures size { (h : RequestHead) → IsHeadOf self.now h → result ≡ size_asked h }
         ensures most { IfOk result (λ size. size ≤ limit) }
     {
-        body_size(self.only_field(b"content-length"))
+        body_size(self.only_field(b"content-length", Refusal::BadLength))
     }
 }
 

@@ -1,11 +1,9 @@
 -- What private functions say of the members of an object that are terms: under which key each
 -- stands, and which JSON it is.
-use Rattle.std.specs.Prelude.{ℕ, List, [], ◌∷◌, option_map}
+use Rattle.std.specs.Prelude.{ℕ, List, [], ◌∷◌}
 use Rattle.serde_json.specs.Data.{Data, Members, boolean, put, string}
-use Rattle.onix_terms.specs.Amount.{amount_text}
-use Rattle.onix_terms.specs.Day.{day_text}
-use Rattle.desk_http.specs.CatalogueJson.{identifier, party_or_null}
-use Rattle.desk_http.specs.Json.{count, count_or_null, list_of, text_or_null}
+use Rattle.desk_http.specs.CatalogueJson.{identifier, party}
+use Rattle.desk_http.specs.Json.{amount, count, day, list_of, or_null}
 use Rattle.desk_http.specs.declared.member.Member.{Member}
 use Rattle.desk_http.specs.declared.member.Member.TheVariants as a
 
@@ -31,13 +29,13 @@ value_of (a.Text _ text) = string text.now
 value_of (a.Number _ n) = count n
 value_of (a.Count _ n) = count n
 value_of (a.Boolean _ b) = boolean b
-value_of (a.OptionalNumber _ n) = count_or_null n.now
-value_of (a.Amount _ amount) = string (amount_text amount.now)
-value_of (a.OptionalAmount _ amount) = text_or_null (option_map amount_text amount.now)
-value_of (a.Day _ day) = string (day_text day.now)
-value_of (a.OptionalDay _ day) = text_or_null (option_map day_text day.now)
-value_of (a.OptionalCode _ code) = text_or_null code.now
-value_of (a.OptionalParty _ party) = party_or_null party.now
+value_of (a.OptionalNumber _ n) = or_null count n.now
+value_of (a.Amount _ x) = amount x.now
+value_of (a.OptionalAmount _ x) = or_null amount x.now
+value_of (a.Day _ d) = day d.now
+value_of (a.OptionalDay _ d) = or_null day d.now
+value_of (a.OptionalCode _ code) = or_null string code.now
+value_of (a.OptionalParty _ p) = or_null party p.now
 value_of (a.Countries _ countries) = list_of string countries.now
 value_of (a.Identifiers _ ids) = list_of identifier ids.now
 

@@ -1,13 +1,14 @@
 use Rattle.std.proofs.Common.{◌≡◌, ◌+◌, ◌++◌, ◌∷◌, ◌∙◌, ℕ, List, [], Some, ap, length, length-append, map, not, nat_eq, sym, arith, refl}
 use Rattle.std.specs.Borrow.{Bor}
-use Rattle.std.specs.Prelude.{slice_get, slice_index_or, if◌then◌else◌}
+use Rattle.std.specs.Prelude.{nat_lt, slice_get, slice_index_or, if◌then◌else◌}
 use Rattle.std.proofs.lemmas.List.{length-map}
 use Rattle.std.proofs.lemmas.List.Elements.{All-nil, All-push}
 use Rattle.std.proofs.KnownBytes.{Appends-nil}
 use Rattle.desk_batch.proofs.TalkLemmas.{refusals_then}
 use Rattle.desk_texts.specs.Requests.{HasRecords}
 use Rattle.desk_batch.specs.Talks.{ended, over, refusals_in}
-use Rattle.desk_commands.specs.TaskEnds.{talk_status}
+use Rattle.desk_commands.proofs.TalkEnds.{deliveries_end, talk_status}
+use Rattle.desk_commands.specs.Deliveries.{delivery_of}
 use Rattle.desk_commands.proofs.InputLemmas.{named_at, tells_more, untouched_more}
 use Rattle.desk_commands.proofs.DeliveryLemmas.{not_less, one_file, refused_more, status_by, stopped_at}
 use Rattle.desk_commands.proofs.deliver.run.Goals as goal
@@ -84,7 +85,7 @@ returns-clause-end g c =
       omega (arith, all),
       inv.have,
       inv.tells,
-      record {
+      deliveries_end _ _ (map delivery_of inv.texts) (nat_lt (length inv.texts) (length names)) c.refusal_status.result record {
         steps = inv.steps;
         text = inv.text;
         stop = ended;

@@ -1,18 +1,22 @@
-use Rattle.std.proofs.Common.{◌≡◌, ◌∷◌, ◌∙◌, [], ℕ, List, Some, None, false, ap, codes, sym, refl}
+use Rattle.std.proofs.Common.{◌≡◌, ◌∷◌, ◌∙◌, ◌||◌, [], Bool, ℕ, List, Some, None, true, false, ap, codes, sym, refl}
 use Rattle.std.specs.Str.{bytes_eq}
 use Rattle.csv.specs.Records.{field_at}
-use Rattle.desk_commands.specs.Sending.{begins_refusal}
+use Rattle.desk_texts.specs.Records.{begins_with}
 use Rattle.desk_commands.proofs.sending.is_refusal.Goals as goal
 
-begins-nothing : (fields : List (List ℕ)) → field_at fields 0 ≡ None → false ≡ begins_refusal fields
+begins-nothing : (fields : List (List ℕ)) → field_at fields 0 ≡ None → false ≡ begins_with ("refused" ∷ []) fields
 unfolding field_at
 begins-nothing [] e = refl
 begins-nothing (name ∷ more) e = cc e
 
-begins-by : (fields : List (List ℕ)) (name : List ℕ) → field_at fields 0 ≡ Some name → bytes_eq name (codes "refused") ≡ begins_refusal fields
+or-none : (a : Bool) → a ≡ (a || false)
+or-none true = refl
+or-none false = refl
+
+begins-by : (fields : List (List ℕ)) (name : List ℕ) → field_at fields 0 ≡ Some name → bytes_eq name (codes "refused") ≡ begins_with ("refused" ∷ []) fields
 unfolding field_at
 begins-by [] name e = cc e
-begins-by (first ∷ more) name e = ap (λ n. bytes_eq n (codes "refused")) (some-is (sym e))
+begins-by (first ∷ more) name e = ap (λ n. bytes_eq n (codes "refused")) (some-is (sym e)) ∙ or-none (bytes_eq first (codes "refused"))
   where
     some-is : Some name ≡ Some first → name ≡ first
     some-is q = cc q

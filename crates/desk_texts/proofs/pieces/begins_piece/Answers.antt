@@ -1,14 +1,15 @@
 use Rattle.std.proofs.Common.{◌≡◌, ◌∷◌, ◌∙◌, [], ℕ, List, Some, None, false, ap, sym, refl}
 use Rattle.csv.specs.Records.{field_at}
-use Rattle.desk_texts.specs.Pieces.{begins_request, is_one_of, request_names}
+use Rattle.desk_texts.specs.Pieces.{request_names}
+use Rattle.desk_texts.specs.Records.{begins_with, is_one_of}
 use Rattle.desk_texts.proofs.pieces.begins_piece.Goals as goal
 
-begins-nothing : (fields : List (List ℕ)) → field_at fields 0 ≡ None → false ≡ begins_request fields
+begins-nothing : (fields : List (List ℕ)) → field_at fields 0 ≡ None → false ≡ begins_with request_names fields
 unfolding field_at
 begins-nothing [] e = refl
 begins-nothing (name ∷ more) e = cc e
 
-begins-by : (fields : List (List ℕ)) (name : List ℕ) → field_at fields 0 ≡ Some name → is_one_of request_names name ≡ begins_request fields
+begins-by : (fields : List (List ℕ)) (name : List ℕ) → field_at fields 0 ≡ Some name → is_one_of request_names name ≡ begins_with request_names fields
 unfolding field_at
 begins-by [] name e = cc e
 begins-by (first ∷ more) name e = ap (is_one_of request_names) (some-is (sym e))

@@ -6,4 +6,4 @@ use Rattle.desk_http.proofs.query.Form.read.Given as goal
 
 abbrev pub invariant-loop-pair : goal.invariant-loop-pair
 invariant-loop-pair l =
-    pairs_of l.query ≡ map texts l.pairs.items ++ map decoded (pairs_left l.pair-iterator)
+    pairs_of l.query ≡ map texts l.pairs.items ++ map (λ pair. (decoded pair.0, decoded pair.1)) (pairs_left l.pair-iterator)

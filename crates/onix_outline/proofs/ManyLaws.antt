@@ -331,7 +331,7 @@ pub tree_many : {T : Type 0} (after : T → List Line → T) (t : T) (d : Dialec
     → many_behind after (first_feed t) None tokens ≡ first_with_many d [] (root_place first_position tokens) inside
 tree_many after t d tokens name inside tree e k =
     let root = tree.root ++ tree.behind in
-    let before = all_quiet IsProlog quiet_prolog tree.before tree.prolog in
+    let before = quiet_prolog tree.before tree.prolog in
     let behind = all_quiet IsMisc quiet_misc tree.behind tree.misc in
     let p = position_past first_position tree.before in
     let place : root_place first_position tokens ≡ root_place p root = ap (root_place first_position) tree.parts ∙ misc_place first_position tree.before root before in

@@ -147,7 +147,7 @@ tree_runs : {T : Type 0} (after : T → List Line → T) (t : T) (d : Dialect) (
     → root_of tokens ≡ Some (Ok d) → Runs after t d tokens first_position (root_place first_position tokens) inside
 tree_runs after t d tokens name inside tree e =
     let root = tree.root ++ tree.behind in
-    let before = all_quiet IsProlog quiet_prolog tree.before tree.prolog in
+    let before = quiet_prolog tree.before tree.prolog in
     let p = position_past first_position tree.before in
     let place : root_place first_position tokens ≡ root_place p root = ap (root_place first_position) tree.parts ∙ misc_place first_position tree.before root before in
     let told : root_of root ≡ Some (Ok d) = sym (misc_root tree.before root before) ∙ ap root_of (sym tree.parts) ∙ e in

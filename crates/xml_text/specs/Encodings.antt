@@ -3,7 +3,7 @@ use Rattle.std.specs.Prelude.{ℕ, ◌+◌, ◌-◌, ◌*◌, Bool, ◌&&◌, �
 use Rattle.std.specs.Prelude.{◌++◌, if◌then◌else◌, encode_utf8, slice_index}
 use Rattle.std.specs.List.{flat_map}
 use Rattle.xml_text.specs.declared.encodings.Encoding.{Encoding}
-use Rattle.xml_text.specs.declared.encodings.Encoding.TheVariants.{Utf8, Ascii, Latin1}
+use Rattle.xml_text.specs.declared.encodings.Encoding.TheVariants.{Utf8, Ascii}
 use Rattle.xml_text.specs.declared.encodings.Encoding.TheVariants.{Latin9, Windows1252}
 use Rattle.xml_text.specs.declared.encodings.Encoding.TheVariants.{Utf16Big, Utf16Little}
 

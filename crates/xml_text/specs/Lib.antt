@@ -7,7 +7,6 @@ pub mod View
 pub mod Kinds
 pub mod AttributeView
 pub mod Pieces
-pub mod Places
 pub mod Stacks
 pub mod Documents
 pub mod Limits

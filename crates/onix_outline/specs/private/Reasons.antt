@@ -7,11 +7,10 @@ use Rattle.xml_text.specs.declared.fault.Fault.TheVariants.{NotText}
 use Rattle.xml_text.specs.declared.fault.Fault.TheVariants.{Refused, UnknownEncoding, Read, Memory}
 use Rattle.xml_text.specs.Grammar.{Token}
 use Rattle.xml_text.specs.declared.position.Position.{Position}
-use Rattle.xml_text.specs.Documents.{BeginsAt}
 use Rattle.xml_text.specs.EncodingNames.{OfText, IsOfUnknown}
 use Rattle.xml_text.specs.Positions.{first_position, position_past}
-use Rattle.xml_text.specs.Limits.{Bound, Meets, IsDeep, IsLarge, IsLong, NoneMayStand}
-use Rattle.xml_text.specs.Places.{IsNoDocument, IsNoText, first_place}
+use Rattle.xml_text.specs.Limits.{BeginsWith, Bound, Meets, IsDeep, IsLarge, IsLong, NoneMayStand}
+use Rattle.xml_text.specs.Documents.{IsNoDocument, IsNoText}
 use Rattle.xml_text.specs.Tree.{Content}
 use Rattle.xml_text.specs.Trees.{IsTree}
 use Rattle.onix_outline.specs.declared.dialect.Wrong.{Wrong}
@@ -38,7 +37,7 @@ Refuses ManyPrefixes tokens = (place : Position) × IsManyAt tokens place
 -- refused
 abbrev pub RefusesText : Option (List ℕ) → Fault → Type 0
 RefusesText bytes fault =
-    (tokens : List Token) × OfText (BeginsAt first_place tokens) bytes × Refuses fault tokens
+    (tokens : List Token) × OfText (BeginsWith tokens) bytes × Refuses fault tokens
 
 -- why it is refused
 abbrev pub IsReason : Option (List ℕ) → Fault → Type 0
@@ -59,7 +58,7 @@ IsReason bytes ManyPrefixes = RefusesText bytes ManyPrefixes
 -- A place is the one behind the first tokens of the text. Of some faults it tells nothing.
 abbrev pub IsBehind : Option (List ℕ) → Position → Type 0
 IsBehind bytes place =
-    (tokens : List Token) × OfText (BeginsAt first_place tokens) bytes
+    (tokens : List Token) × OfText (BeginsWith tokens) bytes
     × (place ≡ position_past first_position tokens)
 
 -- where it is
@@ -76,6 +75,6 @@ IsAt bytes (Document Refused) place = ⊥
 IsAt bytes (Message wrong) place = IsPlaceOf bytes (IsRefusedRoot wrong) place
 IsAt bytes Reference place = IsPlaceOf bytes IsUnknown place
 IsAt bytes TooLarge place =
-    (tokens : List Token) × OfText (BeginsAt first_place tokens) bytes × IsLargeAt tokens place
+    (tokens : List Token) × OfText (BeginsWith tokens) bytes × IsLargeAt tokens place
 IsAt bytes ManyPrefixes place =
-    (tokens : List Token) × OfText (BeginsAt first_place tokens) bytes × IsManyAt tokens place
+    (tokens : List Token) × OfText (BeginsWith tokens) bytes × IsManyAt tokens place

@@ -1,7 +1,7 @@
 -- Tokens that lead to a place are those that a document begins with.
-use Rattle.std.proofs.Common.{◌≡◌, ◌∙◌, ℕ, suc, ◌-◌, ◌≤◌, Bool, true, false, cond, eqb, List, [], ◌∷◌, ◌++◌, length, Option, Some, None, refl, sym, ap, subst, fold, arith}
+use Rattle.std.proofs.Common.{◌≡◌, ◌∙◌, ℕ, suc, ◌-◌, Bool, true, false, cond, eqb, List, [], ◌∷◌, ◌++◌, length, Option, Some, None, refl, sym, ap, subst, fold, arith}
 use Rattle.std.specs.Prelude.{not, ◌&&◌, ◌||◌, option_map, option_and_then}
-use Rattle.std.specs.List.{list_all, flat_map}
+use Rattle.std.specs.List.{list_all}
 use Rattle.std.specs.Str.{bytes_eq}
 use Rattle.std.proofs.lemmas.Bool.{and_parts, eqb-true}
 use Rattle.std.proofs.lemmas.List.Folds.{list_all-append}
@@ -14,7 +14,7 @@ use Rattle.xml_text.specs.Documents.{AreFront}
 use Rattle.xml_text.specs.Grammar.{is_name, is_space, is_token, Token, raw, reference, cdata, comment, instruction, declaration, doctype, start, empty, end}
 use Rattle.xml_text.specs.Limits.{open_behind}
 use Rattle.xml_text.specs.Trees.{next_brackets}
-use Rattle.xml_text.specs.private.Places.{closed, is_closed, is_nothing, nested, nests, ordered, prolog_after, steps, first_nesting, first_place, last_place}
+use Rattle.xml_text.specs.private.Places.{closed, is_closed, is_nothing, nested, nests, ordered, steps, first_nesting, first_place, last_place}
 use Rattle.xml_text.proofs.CharacterLaws.{ascii_name}
 use Rattle.xml_text.proofs.PlaceLaws.{parts_of, steps-append}
 use Rattle.xml_text.proofs.TreeLaws.{are_document}

@@ -18,6 +18,7 @@ pub mod NumberLaws
 pub mod TreeLaws
 pub mod FrontLaws
 pub mod MeetLaws
+pub mod EntityLaws
 pub mod AsciiLaws
 pub mod EncodingLaws
 pub mod ReadingLaws

@@ -1,13 +1,11 @@
 -- What is met at a place is met behind the tokens that lead there.
-use Rattle.std.proofs.Common.{◌≡◌, ◌∙◌, ℕ, ◌≤◌, List, [], ◌∷◌, ◌++◌, length, Option, Some, None, refl, sym, ap, subst, fold}
-use Rattle.std.specs.Prelude.{option_and_then}
+use Rattle.std.proofs.Common.{◌≡◌, ◌∙◌, ℕ, ◌≤◌, List, [], ◌∷◌, ◌++◌, length, Option, Some, None, refl, sym, subst, fold}
 use Rattle.xml_text.specs.declared.place.Place.{Place}
-use Rattle.xml_text.specs.Documents.{AreFront}
 use Rattle.xml_text.specs.EncodingNames.{OfText}
 use Rattle.xml_text.specs.Grammar.{Token, raw, reference, cdata, comment, instruction, declaration, doctype, start, empty, end}
 use Rattle.xml_text.specs.Limits.{Bound, Meets, BeginsWith, Follows, NoneMayStand, open_behind, IsDeep, IsLarge, IsLong}
 use Rattle.xml_text.specs.private.Bounds.{PlaceBound, MeetsFrom, NoneStandsAt, IsStart, IsDeepAt, IsLargeAt, IsLongAt}
-use Rattle.xml_text.specs.private.Places.{first_nesting, first_place, last_place, steps}
+use Rattle.xml_text.specs.private.Places.{first_nesting, first_place, steps}
 use Rattle.xml_text.specs.private.Windows.{BeginsAt}
 use Rattle.xml_text.proofs.FrontLaws.{front_of, open_all}
 use Rattle.xml_text.proofs.PlaceLaws.{parts_of, steps-append}

@@ -12,6 +12,7 @@ pub mod Documents
 pub mod Limits
 pub mod Distinct
 pub mod Skims
+pub mod Tables
 pub mod References
 pub mod HtmlNames
 pub mod Values

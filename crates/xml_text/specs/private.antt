@@ -4,3 +4,4 @@ pub mod Decoders
 pub mod Places
 pub mod Windows
 pub mod Bounds
+pub mod References

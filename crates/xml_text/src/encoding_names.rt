@@ -36,15 +36,23 @@ fn is_alike(name: &[u8], plain: &[u8]) -> bool
 fn encoding_of(name: &[u8]) -> Option<Encoding>
     ensures { result ≡ encoding_of name.now }
 {
-    if is_alike(name, b"utf8") || is_alike(name, b"utf16") {
+    if is_alike(name, b"utf8") {
         Some(Encoding::Utf8)
-    } else if is_alike(name, b"usascii") || is_alike(name, b"ascii") {
+    } else if is_alike(name, b"utf16") {
+        Some(Encoding::Utf8)
+    } else if is_alike(name, b"usascii") {
         Some(Encoding::Ascii)
-    } else if is_alike(name, b"iso88591") || is_alike(name, b"latin1") {
+    } else if is_alike(name, b"ascii") {
+        Some(Encoding::Ascii)
+    } else if is_alike(name, b"iso88591") {
+        Some(Encoding::Latin1)
+    } else if is_alike(name, b"latin1") {
         Some(Encoding::Latin1)
     } else if is_alike(name, b"iso885915") {
         Some(Encoding::Latin9)
-    } else if is_alike(name, b"windows1252") || is_alike(name, b"cp1252") {
+    } else if is_alike(name, b"windows1252") {
+        Some(Encoding::Windows1252)
+    } else if is_alike(name, b"cp1252") {
         Some(Encoding::Windows1252)
     } else {
         None

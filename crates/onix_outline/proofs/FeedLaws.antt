@@ -22,7 +22,7 @@ use Rattle.onix_outline.specs.Spaces.{collapsed}
 use Rattle.onix_outline.specs.private.Feed.{feeding, handed, settled, spoken, moved, feed, feed_from, first_feed}
 use Rattle.onix_outline.specs.Roots.{root_of, root_place}
 use Rattle.onix_outline.proofs.ChangeLaws.{longer-nil, longer-append}
-use Rattle.onix_outline.proofs.InsideLaws.{IsClean, clean, inside_at, inside_feeds, passes, past-append}
+use Rattle.onix_outline.proofs.InsideLaws.{IsClean, clean, inside_at, root_inside, passes, past-append}
 
 -- ---- sizes
 
@@ -101,7 +101,7 @@ root_element after t d name inside closing rest (Some m) tag b p h small later =
     let parts = are_small m tag text below others small in
     let q = position_past p (tokens_of inside) in
     fold-append (feed after) (inside_at t d (line 0 m tag [] ∷ []) (open_at 0 false (scope m b) ∷ []) 0 p) (tokens_of inside) (end name closing ∷ tokens_of rest)
-    ∙ ap (λ f. fold (feed after) f (end name closing ∷ tokens_of rest)) (inside_feeds after t d p inside (line 0 m tag [] ∷ []) 0 false (scope m b) [] h (omega arith))
+    ∙ ap (λ f. fold (feed after) f (end name closing ∷ tokens_of rest)) (root_inside after t d m tag b p inside h)
     ∙ ap (λ f. fold (feed after) (moved (spelling (end name closing)) f) (tokens_of rest)) (part_ends after t d (part m tag text below) q parts.first)
     ∙ later (handed after t (part m tag text below)) parts.others
     ∙ ap (λ u. inside_at u d [] [] 0 (position_past behind (tokens_of rest))) (handed_first after t m tag text below others)

@@ -22,7 +22,7 @@ use Rattle.onix_outline.specs.Outline.{Line, line, part}
 use Rattle.onix_outline.specs.Sizes.{element_size, first_large, is_small, lines_size, nodes_size}
 use Rattle.onix_outline.specs.Spaces.{collapsed}
 use Rattle.onix_outline.proofs.FeedLaws.{all_quiet, misc_before, misc_place, misc_root, part_ends, part_size, quiet_prolog, tree_feeds}
-use Rattle.onix_outline.proofs.InsideLaws.{IsClean, clean, inside_at, inside_feeds, passes}
+use Rattle.onix_outline.proofs.InsideLaws.{IsClean, clean, inside_at, root_inside, passes}
 use Rattle.onix_outline.proofs.LargeLaws.{IsStuck, moved_stuck, one_place, part_kept, stuck}
 
 -- the first of the elements in the root that is too large is kept
@@ -76,7 +76,7 @@ element_kept {T = T} after t d name inside closing rest (Some m) tag b p place h
         ≡ fold (feed after) (moved (spelling (end name closing)) from) (tokens_of rest)
     runs =
         fold-append (feed after) (inside_at t d (line 0 m tag [] ∷ []) (open_at 0 false (scope m b) ∷ []) 0 p) (tokens_of inside) (end name closing ∷ tokens_of rest)
-        ∙ ap (λ f. fold (feed after) f (end name closing ∷ tokens_of rest)) (inside_feeds after t d p inside (line 0 m tag [] ∷ []) 0 false (scope m b) [] h (omega arith))
+        ∙ ap (λ f. fold (feed after) f (end name closing ∷ tokens_of rest)) (root_inside after t d m tag b p inside h)
 
     go : (small : Bool) → is_small (element_size tag text + nodes_size below) ≡ small → (if small then first_large (nodes_in d [] (place_behind p inside name closing) rest) else Some tag.place) ≡ Some place
         → IsStuck place (fold (feed after) (feeding t (Some (Ok d)) (opened 0 (Some m) tag b no_lines) true p) (tokens_of inside ++ end name closing ∷ tokens_of rest)).child

@@ -1,5 +1,5 @@
 -- The declarations of a tag, attribute by attribute.
-use Rattle.std.proofs.Common.{◌≡◌, ℕ, List, [], ◌∷◌, ◌++◌, Option, Some, None, refl}
+use Rattle.std.proofs.Common.{◌≡◌, List, [], ◌∷◌, ◌++◌, Option, Some, None, refl}
 use Rattle.xml_text.specs.AttributeView.{attribute_view}
 use Rattle.xml_text.specs.Grammar.{Attribute}
 use Rattle.xml_text.specs.declared.attributes.Attribute.{Attribute as Read}

@@ -1,6 +1,6 @@
 -- Words that are pushed one after the other are the words of the text.
-use Rattle.std.proofs.Common.{◌≡◌, ◌∙◌, ℕ, Bool, true, false, List, [], ◌∷◌, ◌++◌, drop, refl, sym, ap, append-nil}
-use Rattle.std.specs.List.{filter, flat_map, slice_split, onto_first}
+use Rattle.std.proofs.Common.{◌≡◌, ◌∙◌, ℕ, Bool, true, false, List, [], ◌∷◌, ◌++◌, drop, refl, sym, ap}
+use Rattle.std.specs.List.{filter, flat_map, slice_split}
 use Rattle.std.proofs.lemmas.List.Concat.{flat_map-cons}
 use Rattle.xml_text.specs.Grammar.{is_filled, is_space}
 use Rattle.onix_outline.specs.Spaces.{collapsed}

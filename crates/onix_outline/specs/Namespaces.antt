@@ -1,7 +1,7 @@
 -- Which namespace an element is in, as Namespaces in XML 1.0 says.
 use Rattle.std.specs.Prelude.{ℕ, ◌==◌, List, [], ◌∷◌, Option, Some, None, suc, codes, drop, take}
 use Rattle.std.specs.Prelude.{if◌then◌else◌, position, option_map, unwrap_or}
-use Rattle.std.specs.List.{filter_map}
+use Rattle.std.specs.List.{filter_map, find}
 use Rattle.std.specs.Option.{option_or}
 use Rattle.std.specs.Str.{bytes_eq}
 use Rattle.xml_text.specs.Grammar.{Attribute}
@@ -46,9 +46,8 @@ bindings_of attributes = filter_map binding_of attributes
 
 -- what a prefix stands for by the declarations of one tag
 abbrev pub address_among : List ℕ → List Binding → Option (List ℕ)
-address_among prefix [] = None
-address_among prefix (b ∷ bindings) =
-    if bytes_eq b.prefix prefix then Some b.address else address_among prefix bindings
+address_among prefix bindings =
+    option_map (λ b. b.address) (find (λ b. bytes_eq b.prefix prefix) bindings)
 
 -- what a prefix stands for that nobody declares: `xml` has its address, and others have none
 abbrev pub undeclared : List ℕ → List ℕ

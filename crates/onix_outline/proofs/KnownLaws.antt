@@ -9,13 +9,13 @@ use Rattle.xml_text.specs.declared.position.Position.{Position}
 use Rattle.xml_text.specs.Grammar.{Token, raw, reference, cdata, comment, instruction, declaration, doctype, start, empty, end}
 use Rattle.xml_text.specs.Positions.{first_position, position_past}
 use Rattle.xml_text.specs.Tree.{Content}
-use Rattle.xml_text.specs.Trees.{IsProlog, IsRoot, IsTree}
+use Rattle.xml_text.specs.Trees.{IsRoot, IsTree}
 use Rattle.onix_outline.specs.Dialect.{Dialect}
 use Rattle.onix_outline.specs.private.Feed.{Feed, feed, feed_from, first_feed}
 use Rattle.onix_outline.specs.Roots.{root_of}
 use Rattle.onix_outline.specs.Nodes.{is_known}
 use Rattle.onix_outline.specs.Outline.{Line}
-use Rattle.onix_outline.proofs.FeedLaws.{IsQuiet, all_quiet, misc_before, misc_root, quiet_prolog}
+use Rattle.onix_outline.proofs.FeedLaws.{IsQuiet, misc_before, misc_root, quiet_prolog}
 use Rattle.onix_outline.proofs.RefusalLaws.{known_behind, known_step, root_behind, root_step}
 
 some_root : (root behind : List Token) (name : List ℕ) (inside : Content) → IsRoot root name inside → root_of (root ++ behind) ≡ None → ⊥

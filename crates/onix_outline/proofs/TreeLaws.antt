@@ -1,5 +1,5 @@
 -- A tree with a Header or Product that is too large.
-use Rattle.std.proofs.Common.{◌≡◌, ℕ, ◌+◌, Bool, true, false, List, [], ◌∷◌, ◌++◌, Option, Some, None, Result, Ok, refl, sym, ap, ◌∙◌, append_assoc, arith, fold}
+use Rattle.std.proofs.Common.{◌≡◌, ℕ, ◌+◌, Bool, true, false, List, [], ◌∷◌, ◌++◌, Option, Some, None, Result, Ok, refl, sym, ap, ◌∙◌, append_assoc, fold}
 use Rattle.std.specs.Prelude.{◌&&◌, if◌then◌else◌}
 use Rattle.std.specs.List.{list_all}
 use Rattle.std.proofs.lemmas.Bool.{and_parts}
@@ -9,7 +9,7 @@ use Rattle.xml_text.specs.declared.position.Position.{Position}
 use Rattle.xml_text.specs.Grammar.{Token, raw, reference, cdata, comment, instruction, declaration, doctype, start, empty, end, spelling}
 use Rattle.xml_text.specs.Positions.{first_position, position_after, position_past}
 use Rattle.xml_text.specs.Tree.{Content, nothing, leaf, element, tokens_of}
-use Rattle.xml_text.specs.Trees.{IsProlog, IsRoot, IsTree}
+use Rattle.xml_text.specs.Trees.{IsRoot, IsTree}
 use Rattle.onix_outline.specs.declared.dialect.Wrong.{Wrong}
 use Rattle.onix_outline.specs.Dialect.{Dialect, counted}
 use Rattle.onix_outline.specs.Namespaces.{Binding, scope, bindings_of}
@@ -21,7 +21,7 @@ use Rattle.onix_outline.specs.Nodes.{Nodes, no_nodes, Tag, tag_of, is_known, nod
 use Rattle.onix_outline.specs.Outline.{Line, line, part}
 use Rattle.onix_outline.specs.Sizes.{element_size, first_large, is_small, lines_size, nodes_size}
 use Rattle.onix_outline.specs.Spaces.{collapsed}
-use Rattle.onix_outline.proofs.FeedLaws.{all_quiet, misc_before, misc_place, misc_root, part_ends, part_size, quiet_prolog, tree_feeds}
+use Rattle.onix_outline.proofs.FeedLaws.{misc_before, misc_place, misc_root, part_ends, part_size, quiet_prolog, tree_feeds}
 use Rattle.onix_outline.proofs.InsideLaws.{IsClean, clean, inside_at, root_inside, passes}
 use Rattle.onix_outline.proofs.LargeLaws.{IsStuck, moved_stuck, one_place, part_kept, stuck}
 

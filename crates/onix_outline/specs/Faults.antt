@@ -4,7 +4,7 @@ use Rattle.std.specs.Prelude.{Ok, Err, IfSome}
 use Rattle.std.specs.List.{list_all}
 use Rattle.xml_text.specs.declared.fault.Fault.TheVariants.{Malformed, TooDeep, TooLong, LargeTag}
 use Rattle.xml_text.specs.declared.fault.Fault.TheVariants.{NotText}
-use Rattle.xml_text.specs.declared.fault.Fault.TheVariants.{Refused, UnknownEncoding, Read, Memory}
+use Rattle.xml_text.specs.declared.fault.Fault.TheVariants.{Refused, UnknownEncoding}
 use Rattle.xml_text.specs.Grammar.{Token}
 use Rattle.xml_text.specs.declared.position.Position.{Position}
 use Rattle.xml_text.specs.EncodingNames.{OfText, IsOfUnknown}

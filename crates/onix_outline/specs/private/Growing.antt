@@ -1,6 +1,7 @@
 -- The outline of one child of the root, as it grows from token to token.
 use Rattle.std.specs.Prelude.{ℕ, zero, suc, Bool, true, false, List, [], ◌∷◌, ◌++◌, length, map}
-use Rattle.std.specs.Prelude.{Option, Some, None, fold, if◌then◌else◌}
+use Rattle.std.specs.Prelude.{Option, Some, None, fold, if◌then◌else◌, unwrap_or}
+use Rattle.xml_text.specs.declared.position.Position.{Position}
 use Rattle.xml_text.specs.Grammar.{is_filled, is_space}
 use Rattle.onix_outline.specs.Namespaces.{Binding, Scope, scope}
 use Rattle.onix_outline.specs.Nodes.{Tag}
@@ -98,3 +99,11 @@ is_idle_at zero opens = is_nothing opens
 -- no element is open
 abbrev pub is_idle : Growing → Bool
 is_idle g = is_idle_at g.passed g.opens
+
+-- ---- tags and their sizes
+
+abbrev pub tagged : Position → Option (List ℕ) → Tag
+tagged place format = record { place = place; format = format }
+
+abbrev pub format_size : Option (List ℕ) → ℕ
+format_size format = length (unwrap_or format [])

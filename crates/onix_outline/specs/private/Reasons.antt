@@ -1,6 +1,6 @@
 -- Why no message was read, and where, each by itself.
-use Rattle.std.specs.Prelude.{◌≡◌, ℕ, true, false, List, [], ◌∷◌, ◌++◌, Option, Some, None}
-use Rattle.std.specs.Prelude.{Ok, Err, IfSome}
+use Rattle.std.specs.Prelude.{◌≡◌, ℕ, false, List, Option, Some}
+use Rattle.std.specs.Prelude.{Err, IfSome}
 use Rattle.std.specs.List.{list_all}
 use Rattle.xml_text.specs.declared.fault.Fault.TheVariants.{Malformed, TooDeep, TooLong, LargeTag}
 use Rattle.xml_text.specs.declared.fault.Fault.TheVariants.{NotText}
@@ -9,19 +9,13 @@ use Rattle.xml_text.specs.Grammar.{Token}
 use Rattle.xml_text.specs.declared.position.Position.{Position}
 use Rattle.xml_text.specs.EncodingNames.{OfText, IsOfUnknown}
 use Rattle.xml_text.specs.Positions.{first_position, position_past}
-use Rattle.xml_text.specs.Limits.{BeginsWith, Bound, Meets, IsDeep, IsLarge, IsLong, NoneMayStand}
+use Rattle.xml_text.specs.Limits.{BeginsWith, IsDeep, IsLarge, IsLong, NoneMayStand}
 use Rattle.xml_text.specs.Documents.{IsNoDocument, IsNoText}
-use Rattle.xml_text.specs.Tree.{Content}
-use Rattle.xml_text.specs.Trees.{IsTree}
-use Rattle.onix_outline.specs.declared.dialect.Wrong.{Wrong}
 use Rattle.onix_outline.specs.declared.reading.Fault.{Fault}
 use Rattle.onix_outline.specs.declared.reading.Fault.TheVariants.{Document, Message, Reference}
 use Rattle.onix_outline.specs.declared.reading.Fault.TheVariants.{TooLarge, ManyPrefixes}
-use Rattle.onix_outline.specs.Dialect.{Dialect}
-use Rattle.onix_outline.specs.Nodes.{is_known, nodes_in}
-use Rattle.onix_outline.specs.Prefixes.{first_with_many}
-use Rattle.onix_outline.specs.Sizes.{first_large}
-use Rattle.onix_outline.specs.Roots.{root_of, root_place}
+use Rattle.onix_outline.specs.Nodes.{is_known}
+use Rattle.onix_outline.specs.Roots.{root_of}
 use Rattle.onix_outline.specs.Faults.{IsLargeAt, IsManyAt, IsPlaceOf, IsRefusedRoot, IsUnknown}
 use Rattle.onix_outline.specs.Faults.{MeetsAt}
 

@@ -1,10 +1,10 @@
 -- The encoding that a document says it has.
-use Rattle.std.specs.Prelude.{◌≡◌, ℕ, Bool, ◌||◌, ◌==◌, codes, List, [], ◌∷◌, Option, Some, None}
-use Rattle.std.specs.Prelude.{Result, Ok, ⊤, if◌then◌else◌, option_map, take, drop, unwrap_or}
-use Rattle.std.specs.Char.{to_ascii_lowercase}
+use Rattle.std.specs.Prelude.{◌≡◌, ℕ, Bool, ◌||◌, ◌==◌, codes, List, [], ◌∷◌, Option, Some, None, not}
+use Rattle.std.specs.Prelude.{Result, Ok, ⊤, option_map, take, drop, unwrap_or}
+use Rattle.std.specs.List.{filter}
 use Rattle.std.specs.Option.{option_or}
 use Rattle.std.specs.Result.{result_ok}
-use Rattle.std.specs.Str.{bytes_eq}
+use Rattle.std.specs.Str.{bytes_eq, str_to_ascii_lowercase}
 use Rattle.xml_text.specs.declared.encodings.Encoding.{Encoding}
 use Rattle.xml_text.specs.declared.encodings.Encoding.TheVariants.{Utf8, Ascii, Latin1}
 use Rattle.xml_text.specs.declared.encodings.Encoding.TheVariants.{Latin9, Windows1252}
@@ -17,9 +17,7 @@ use Rattle.xml_text.specs.Tables.{entry}
 
 -- a name without its hyphens and low lines, in small letters
 abbrev pub plain_name : List ℕ → List ℕ
-plain_name [] = []
-plain_name (b ∷ name) =
-    if (b == 45) || (b == 95) then plain_name name else to_ascii_lowercase b ∷ plain_name name
+plain_name name = str_to_ascii_lowercase (filter (λ b. not ((b == 45) || (b == 95))) name)
 
 abbrev pub is_alike : List ℕ → List ℕ → Bool
 is_alike name plain = bytes_eq (plain_name name) plain
@@ -46,10 +44,9 @@ declared_name head = result_ok (encoding_in head)
 abbrev pub declared_or_empty : List ℕ → List ℕ
 declared_or_empty head = unwrap_or (declared_name head) []
 
--- where nothing is said, UTF-8
-abbrev pub named : Option (List ℕ) → Option Encoding
-named None = Some Utf8
-named (Some name) = encoding_of name
+-- the encoding that is declared, and where none is, UTF-8
+abbrev pub declared : List ℕ → Option Encoding
+declared head = encoding_of (unwrap_or (declared_name head) (codes "utf8"))
 
 -- the encoding of a byte order mark at the front, and how many bytes the mark has
 abbrev pub marked : List ℕ → Option (Encoding × ℕ)
@@ -61,7 +58,7 @@ marked head =
 -- that the mark tells, else the one of its declaration.
 abbrev pub encoding_at : List ℕ → Option (Encoding × ℕ)
 encoding_at head =
-    option_or (marked head) (option_map (λ encoding. (encoding, 0)) (named (declared_name head)))
+    option_or (marked head) (option_map (λ encoding. (encoding, 0)) (declared head))
 
 -- The text of a document's bytes, where its encoding is known. It is told within the first 1,024
 -- bytes, and the mark is no part of the text.

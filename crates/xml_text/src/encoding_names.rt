@@ -1,7 +1,7 @@
 //! The encoding that a document says it has.
 
 ghost use Rattle.std.specs.Prelude.{◌≡◌, ◌≤◌, ◌∷◌, [], IfSome, length, option_map};
-ghost use Rattle.xml_text.specs.EncodingNames.{is_alike, encoding_of, encoding_in, declared_name, declared_or_empty, named, marked, encoding_at};
+ghost use Rattle.xml_text.specs.EncodingNames.{is_alike, encoding_of, encoding_in, declared_name, declared_or_empty, declared, marked, encoding_at};
 ghost use Rattle.xml_text.specs.Steps.{Gives};
 
 use crate::encodings::Encoding;
@@ -89,12 +89,9 @@ pub(crate) fn declared_or_empty(head: &[u8]) -> &[u8]
 
 // The encoding that the declaration names, and UTF-8 where none does.
 fn declared_encoding(head: &[u8]) -> Option<Encoding>
-    ensures { result ≡ named (declared_name head.now) }
+    ensures { result ≡ declared head.now }
 {
-    match declared_name(head) {
-        None => Some(Encoding::Utf8),
-        Some(name) => encoding_of(name),
-    }
+    encoding_of(declared_name(head).unwrap_or(b"utf8"))
 }
 
 // The encoding of the byte order mark at the front, and how many bytes the mark has.

@@ -3,8 +3,7 @@ use Rattle.std.proofs.Common.{◌≡◌, ℕ, zero, suc, ◌<◌, Bool, true, fa
 use Rattle.std.specs.Prelude.{◌&&◌, if◌then◌else◌}
 use Rattle.xml_text.specs.Grammar.{is_filled, is_space}
 use Rattle.onix_outline.specs.Outline.{Line, line}
-use Rattle.onix_outline.specs.private.Growing.{change, grown, longer, waits_behind}
-use Rattle.onix_outline.specs.Spaces.{words}
+use Rattle.onix_outline.specs.private.Growing.{words, change, grown, longer, waits_behind}
 
 pub length-change : (f : Line → Line) (at : ℕ) (lines : List Line) → length (change f at lines) ≡ length lines
 length-change f at [] = refl

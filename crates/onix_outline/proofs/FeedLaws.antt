@@ -10,7 +10,7 @@ use Rattle.xml_text.specs.declared.position.Position.{Position}
 use Rattle.xml_text.specs.Grammar.{Token, raw, reference, cdata, comment, instruction, declaration, doctype, start, empty, end, spelling}
 use Rattle.xml_text.specs.Positions.{first_position, next_position, position_after, position_past}
 use Rattle.xml_text.specs.Tree.{Content, nothing, leaf, element, tokens_of, HasLeaves}
-use Rattle.xml_text.specs.Trees.{IsMisc, IsProlog, IsRoot, IsTree}
+use Rattle.xml_text.specs.Trees.{IsMisc, AreTyped, IsProlog, IsRoot, IsTree}
 use Rattle.onix_outline.specs.declared.dialect.Wrong.{Wrong}
 use Rattle.onix_outline.specs.Dialect.{Dialect, counted}
 use Rattle.onix_outline.specs.Namespaces.{Binding, scope, bindings_of}
@@ -22,7 +22,7 @@ use Rattle.onix_outline.specs.Spaces.{collapsed}
 use Rattle.onix_outline.specs.private.Feed.{feeding, handed, settled, spoken, moved, feed, feed_from, first_feed}
 use Rattle.onix_outline.specs.Roots.{root_of, root_place}
 use Rattle.onix_outline.proofs.ChangeLaws.{longer-nil, longer-append}
-use Rattle.onix_outline.proofs.InsideLaws.{IsClean, clean, inside_at, inside_feeds, passes, past-append}
+use Rattle.onix_outline.proofs.InsideLaws.{IsClean, clean, inside_at, root_inside, passes, past-append}
 
 -- ---- sizes
 
@@ -101,7 +101,7 @@ root_element after t d name inside closing rest (Some m) tag b p h small later =
     let parts = are_small m tag text below others small in
     let q = position_past p (tokens_of inside) in
     fold-append (feed after) (inside_at t d (line 0 m tag [] ∷ []) (open_at 0 false (scope m b) ∷ []) 0 p) (tokens_of inside) (end name closing ∷ tokens_of rest)
-    ∙ ap (λ f. fold (feed after) f (end name closing ∷ tokens_of rest)) (inside_feeds after t d p inside (line 0 m tag [] ∷ []) 0 false (scope m b) [] h (omega arith))
+    ∙ ap (λ f. fold (feed after) f (end name closing ∷ tokens_of rest)) (root_inside after t d m tag b p inside h)
     ∙ ap (λ f. fold (feed after) (moved (spelling (end name closing)) f) (tokens_of rest)) (part_ends after t d (part m tag text below) q parts.first)
     ∙ later (handed after t (part m tag text below)) parts.others
     ∙ ap (λ u. inside_at u d [] [] 0 (position_past behind (tokens_of rest))) (handed_first after t m tag text below others)
@@ -151,21 +151,35 @@ quiet_misc (start name attributes space) h = absurd h
 quiet_misc (empty name attributes space) h = absurd h
 quiet_misc (end name space) h = absurd h
 
-pub quiet_prolog : (token : Token) → IsProlog token → IsQuiet token
-quiet_prolog (raw b) h = tt
-quiet_prolog (comment body) h = tt
-quiet_prolog (instruction body) h = tt
-quiet_prolog (declaration body) h = tt
-quiet_prolog (doctype body) h = tt
-quiet_prolog (reference body) h = absurd h
-quiet_prolog (cdata body) h = absurd h
-quiet_prolog (start name attributes space) h = absurd h
-quiet_prolog (empty name attributes space) h = absurd h
-quiet_prolog (end name space) h = absurd h
-
 pub all_quiet : (P : Token → Type 0) → ((token : Token) → P token → IsQuiet token) → (tokens : List Token) → AllByRecursion P tokens → AllByRecursion IsQuiet tokens
 all_quiet P f [] h = tt
 all_quiet P f (token ∷ tokens) h = (f token h.0, all_quiet P f tokens h.1)
+
+quiet_typed : (tokens : List Token) → AreTyped tokens → AllByRecursion IsQuiet tokens
+quiet_typed [] h = tt
+quiet_typed (doctype body ∷ tokens) h = (tt, all_quiet IsMisc quiet_misc tokens h)
+quiet_typed (raw b ∷ tokens) h = (tt, quiet_typed tokens h.1)
+quiet_typed (comment body ∷ tokens) h = (tt, quiet_typed tokens h.1)
+quiet_typed (instruction body ∷ tokens) h = (tt, quiet_typed tokens h.1)
+quiet_typed (declaration body ∷ tokens) h = absurd h.0
+quiet_typed (reference body ∷ tokens) h = absurd h.0
+quiet_typed (cdata body ∷ tokens) h = absurd h.0
+quiet_typed (start name attributes space ∷ tokens) h = absurd h.0
+quiet_typed (empty name attributes space ∷ tokens) h = absurd h.0
+quiet_typed (end name space ∷ tokens) h = absurd h.0
+
+pub quiet_prolog : (tokens : List Token) → IsProlog tokens → AllByRecursion IsQuiet tokens
+quiet_prolog [] h = tt
+quiet_prolog (declaration body ∷ tokens) h = (tt, quiet_typed tokens h)
+quiet_prolog (doctype body ∷ tokens) h = quiet_typed (doctype body ∷ tokens) h
+quiet_prolog (raw b ∷ tokens) h = quiet_typed (raw b ∷ tokens) h
+quiet_prolog (comment body ∷ tokens) h = quiet_typed (comment body ∷ tokens) h
+quiet_prolog (instruction body ∷ tokens) h = quiet_typed (instruction body ∷ tokens) h
+quiet_prolog (reference body ∷ tokens) h = absurd h.0
+quiet_prolog (cdata body ∷ tokens) h = absurd h.0
+quiet_prolog (start name attributes space ∷ tokens) h = absurd h.0
+quiet_prolog (empty name attributes space ∷ tokens) h = absurd h.0
+quiet_prolog (end name space ∷ tokens) h = absurd h.0
 
 quiet_before : {T : Type 0} (after : T → List Line → T) (t : T) (p : Position) (token : Token) → IsQuiet token → feed after (feed_from t p) token ≡ feed_from t (position_after p (spelling token))
 quiet_before after t p (raw b) h = refl
@@ -287,7 +301,7 @@ pub tree_feeds : {T : Type 0} (after : T → List Line → T) (t : T) (d : Diale
     ≡ inside_at (fold after t (parts_of (nodes_in d [] (root_place first_position tokens) inside))) d [] [] 0 (position_past first_position tokens)
 tree_feeds after t d tokens name inside tree e k small =
     let root = tree.root ++ tree.behind in
-    let before = all_quiet IsProlog quiet_prolog tree.before tree.prolog in
+    let before = quiet_prolog tree.before tree.prolog in
     let behind = all_quiet IsMisc quiet_misc tree.behind tree.misc in
     let p = position_past first_position tree.before in
     let place : root_place first_position tokens ≡ root_place p root = ap (root_place first_position) tree.parts ∙ misc_place first_position tree.before root before in

@@ -7,7 +7,8 @@ use Rattle.onix_outline.specs.Namespaces.{Binding}
 use Rattle.onix_outline.specs.Nodes.{Tag}
 use Rattle.onix_outline.specs.Outline.{Line as Told}
 use Rattle.onix_outline.specs.private.Growing.{Growing, change, growing, opened}
-use Rattle.onix_outline.specs.Sizes.{element_size, format_size, lines_size}
+use Rattle.onix_outline.specs.Sizes.{element_size, lines_size}
+use Rattle.onix_outline.specs.private.Growing.{format_size}
 use Rattle.onix_outline.specs.Views.{line_view, line_views, tag_view}
 
 pub past_lines : (f : Told → Told) (at : ℕ) (lines : List Line) → length lines ≤ at → line_views lines ≡ change f at (line_views lines)

@@ -12,8 +12,9 @@ use Rattle.xml_text.specs.Tree.{Content, nothing, leaf, element, tokens_of, IsLe
 use Rattle.onix_outline.specs.Namespaces.{Binding, Scope, scope, bindings_of}
 use Rattle.onix_outline.specs.Dialect.{Dialect, counted}
 use Rattle.onix_outline.specs.Nodes.{Nodes, no_nodes, Tag, tag_of, token_text, is_known, direct_text, with_node, leaf_nodes, within, content_place, place_behind, nodes_in}
-use Rattle.onix_outline.specs.Outline.{Line, line, outline}
+use Rattle.onix_outline.specs.Outline.{Line, line, outline, part}
 use Rattle.onix_outline.specs.private.Growing.{Open, growing, open_at, scopes_of, change, longer, waits_behind, opened, closed}
+use Rattle.onix_outline.proofs.SpaceLaws.{collapsed_is}
 use Rattle.onix_outline.specs.Spaces.{collapsed}
 use Rattle.onix_outline.specs.private.Feed.{Feed, feeding, settled, moved, feed}
 use Rattle.onix_outline.proofs.ChangeLaws.{length-change, change-front, change-last, longer-nil, longer-append}
@@ -151,7 +152,7 @@ element_step after t d name inside closing rest (Some m) tag b lines at w s more
     let first : fold (feed after) (inside_at t d begun (open_at place false (scope m b) ∷ opens) 0 p) (tokens_of inside)
     ≡ inside_at t d whole (open_at place (waits_behind false text) (scope m b) ∷ opens) 0 (position_past p (tokens_of inside)) =
     inner begun place false (scope m b) opens (omega (arith, length-append lines (line depth m tag [] ∷ [])))
-    ∙ ap (λ ls. inside_at t d (ls ++ below) (open_at place (waits_behind false text) (scope m b) ∷ opens) 0 (position_past p (tokens_of inside))) (change-last (longer false text) lines (line depth m tag [])) in
+    ∙ ap (λ ls. inside_at t d (ls ++ below) (open_at place (waits_behind false text) (scope m b) ∷ opens) 0 (position_past p (tokens_of inside))) (change-last (longer false text) lines (line depth m tag []) ∙ ap (λ x. lines ++ line depth m tag x ∷ []) (collapsed_is text)) in
     let regroup : change (longer w (direct_text rest)) at whole ++ others
     ≡ change (longer w (direct_text rest)) at lines ++ (line depth m tag (collapsed text) ∷ (below ++ others)) =
     ap (λ ls. ls ++ others)
@@ -190,3 +191,11 @@ inside_feeds after t d p (element name attributes space inside closing rest) lin
     let q = content_place p name attributes space in
     element_step after t d name inside closing rest (counted d (s ∷ scopes_of more) name (bindings_of attributes)) (tag_of p attributes) (bindings_of attributes) lines at w s more q h.0 lt
     (λ ls n v k ns. inside_feeds after t d q inside ls n v k ns h.0) (λ ls. inside_feeds after t d (place_behind q inside name closing) rest ls at w s more h.1)
+
+-- the same in a child of the root
+pub root_inside : {T : Type 0} (after : T → List Line → T) (t : T) (d : Dialect) (m : List ℕ) (tag : Tag) (b : List Binding) (p : Position) (inside : Content) → IsClean inside
+    → fold (feed after) (inside_at t d (line 0 m tag [] ∷ []) (open_at 0 false (scope m b) ∷ []) 0 p) (tokens_of inside)
+    ≡ inside_at t d (part m tag (collapsed (direct_text inside)) (nodes_in d (scope m b ∷ []) p inside)) (open_at 0 (waits_behind false (direct_text inside)) (scope m b) ∷ []) 0 (position_past p (tokens_of inside))
+root_inside after t d m tag b p inside h =
+    inside_feeds after t d p inside (line 0 m tag [] ∷ []) 0 false (scope m b) [] h (omega arith)
+    ∙ ap (λ x. inside_at t d (part m tag x (nodes_in d (scope m b ∷ []) p inside)) (open_at 0 (waits_behind false (direct_text inside)) (scope m b) ∷ []) 0 (position_past p (tokens_of inside))) (collapsed_is (direct_text inside))

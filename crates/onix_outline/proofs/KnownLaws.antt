@@ -9,13 +9,13 @@ use Rattle.xml_text.specs.declared.position.Position.{Position}
 use Rattle.xml_text.specs.Grammar.{Token, raw, reference, cdata, comment, instruction, declaration, doctype, start, empty, end}
 use Rattle.xml_text.specs.Positions.{first_position, position_past}
 use Rattle.xml_text.specs.Tree.{Content}
-use Rattle.xml_text.specs.Trees.{IsProlog, IsRoot, IsTree}
+use Rattle.xml_text.specs.Trees.{IsRoot, IsTree}
 use Rattle.onix_outline.specs.Dialect.{Dialect}
 use Rattle.onix_outline.specs.private.Feed.{Feed, feed, feed_from, first_feed}
 use Rattle.onix_outline.specs.Roots.{root_of}
 use Rattle.onix_outline.specs.Nodes.{is_known}
 use Rattle.onix_outline.specs.Outline.{Line}
-use Rattle.onix_outline.proofs.FeedLaws.{IsQuiet, all_quiet, misc_before, misc_root, quiet_prolog}
+use Rattle.onix_outline.proofs.FeedLaws.{IsQuiet, misc_before, misc_root, quiet_prolog}
 use Rattle.onix_outline.proofs.RefusalLaws.{known_behind, known_step, root_behind, root_step}
 
 some_root : (root behind : List Token) (name : List ℕ) (inside : Content) → IsRoot root name inside → root_of (root ++ behind) ≡ None → ⊥
@@ -34,7 +34,7 @@ some_root (end n space ∷ tokens) behind name inside r e = absurd r
 -- a document has a root
 pub has_root : (tokens : List Token) (name : List ℕ) (inside : Content) → IsTree tokens name inside → root_of tokens ≡ None → ⊥
 has_root tokens name inside tree e =
-    some_root tree.root tree.behind name inside tree.is_root (sym (ap root_of tree.parts ∙ misc_root tree.before (tree.root ++ tree.behind) (all_quiet IsProlog quiet_prolog tree.before tree.prolog)) ∙ e)
+    some_root tree.root tree.behind name inside tree.is_root (sym (ap root_of tree.parts ∙ misc_root tree.before (tree.root ++ tree.behind) (quiet_prolog tree.before tree.prolog)) ∙ e)
 
 -- ---- references
 
@@ -95,7 +95,7 @@ pub known_tree : {T : Type 0} (after : T → List Line → T) (t : T) (d : Diale
     → root_of tokens ≡ Some (Ok d) → (fold (feed after) (first_feed t) tokens).known ≡ true → list_all is_known tokens ≡ true
 known_tree after t d tokens name inside tree e k =
     let root = tree.root ++ tree.behind in
-    let before = all_quiet IsProlog quiet_prolog tree.before tree.prolog in
+    let before = quiet_prolog tree.before tree.prolog in
     let p = position_past first_position tree.before in
     let told : root_of root ≡ Some (Ok d) = sym (misc_root tree.before root before) ∙ ap root_of (sym tree.parts) ∙ e in
     let runs = ap (fold (feed after) (first_feed t)) tree.parts ∙ fold-append (feed after) (first_feed t) tree.before root ∙ ap (λ f. fold (feed after) f root) (misc_before after t first_position tree.before before) in

@@ -9,9 +9,8 @@ use Rattle.onix_outline.specs.Dialect.{Dialect, counted}
 use Rattle.onix_outline.specs.Namespaces.{Binding, bindings_of}
 use Rattle.onix_outline.specs.Nodes.{Nodes, Tag, token_text, tag_of}
 use Rattle.onix_outline.specs.Outline.{Line, line, outline, part}
-use Rattle.onix_outline.specs.private.Growing.{Growing, Open, growing, scopes_of, no_lines, change, longer, opened, closed, texted, is_idle}
+use Rattle.onix_outline.specs.private.Growing.{words, Growing, Open, growing, scopes_of, no_lines, change, longer, opened, closed, texted, is_idle}
 use Rattle.onix_outline.specs.Sizes.{element_size, is_small, lines_size, nodes_size}
-use Rattle.onix_outline.specs.Spaces.{words}
 use Rattle.onix_outline.specs.private.Feed.{Feed, feeding, handed, fits, settled, told, moved, feed}
 use Rattle.onix_outline.specs.private.Finishing.{first_place_of}
 use Rattle.onix_outline.proofs.FeedLaws.{lines_size-append, part_size}

@@ -1,3 +1,4 @@
+pub mod SpaceLaws
 pub mod GrowerLaws
 pub mod ChangeLaws
 pub mod InsideLaws

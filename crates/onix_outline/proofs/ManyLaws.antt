@@ -10,14 +10,15 @@ use Rattle.xml_text.specs.declared.position.Position.{Position}
 use Rattle.xml_text.specs.Grammar.{Attribute, Token, raw, reference, cdata, comment, instruction, declaration, doctype, start, empty, end, spelling}
 use Rattle.xml_text.specs.Positions.{first_position, position_after, position_past}
 use Rattle.xml_text.specs.Tree.{Content, nothing, leaf, element, tokens_of, IsLeaf, HasLeaves}
-use Rattle.xml_text.specs.Trees.{IsMisc, IsProlog, IsRoot, IsTree}
+use Rattle.xml_text.specs.Trees.{IsMisc, IsRoot, IsTree}
 use Rattle.onix_outline.specs.declared.dialect.Wrong.{Wrong}
 use Rattle.onix_outline.specs.Dialect.{Dialect, counted}
 use Rattle.onix_outline.specs.Faults.{IsManyAt}
 use Rattle.onix_outline.specs.Namespaces.{Binding, Scope, scope, bindings_of}
 use Rattle.onix_outline.specs.Nodes.{Tag, token_text, tag_of, is_known, within, content_place, place_behind}
 use Rattle.onix_outline.specs.Outline.{Line, line}
-use Rattle.onix_outline.specs.Prefixes.{first_with_many, has_many, if_counted, leaf_with_many, place_if}
+use Rattle.onix_outline.specs.Prefixes.{first_with_many, has_many, leaf_with_many, place_if}
+use Rattle.onix_outline.specs.private.Bounded.{if_counted}
 use Rattle.onix_outline.specs.Roots.{root_of, root_place}
 use Rattle.onix_outline.specs.private.Bounded.{Bounded, bounded, bound, many_at, many_of}
 use Rattle.onix_outline.specs.private.Feed.{Feed, feeding, handed, fits, settled, moved, feed, feed_from, first_feed}
@@ -331,7 +332,7 @@ pub tree_many : {T : Type 0} (after : T → List Line → T) (t : T) (d : Dialec
     → many_behind after (first_feed t) None tokens ≡ first_with_many d [] (root_place first_position tokens) inside
 tree_many after t d tokens name inside tree e k =
     let root = tree.root ++ tree.behind in
-    let before = all_quiet IsProlog quiet_prolog tree.before tree.prolog in
+    let before = quiet_prolog tree.before tree.prolog in
     let behind = all_quiet IsMisc quiet_misc tree.behind tree.misc in
     let p = position_past first_position tree.before in
     let place : root_place first_position tokens ≡ root_place p root = ap (root_place first_position) tree.parts ∙ misc_place first_position tree.before root before in

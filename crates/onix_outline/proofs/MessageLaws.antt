@@ -8,13 +8,12 @@ use Rattle.xml_text.specs.declared.fault.Fault.TheVariants.{Malformed, NotText, 
 use Rattle.xml_text.specs.declared.position.Position.{Position}
 use Rattle.xml_text.specs.Grammar.{Token, spelling}
 use Rattle.xml_text.specs.Faults.{AtFault}
-use Rattle.xml_text.specs.Places.{IsDocument, IsNoDocument, IsNoText, first_place, last_place}
+use Rattle.xml_text.specs.Documents.{IsDocument, IsNoDocument, IsNoText}
 use Rattle.xml_text.specs.Positions.{first_position, position_past}
-use Rattle.xml_text.specs.Documents.{BeginsAt}
 use Rattle.xml_text.specs.EncodingNames.{IsTextOf, OfText, IsOfUnknown}
-use Rattle.xml_text.specs.Limits.{Bound, Meets, IsDeep, IsLarge, IsLong, NoneMayStand}
+use Rattle.xml_text.specs.Limits.{BeginsWith, Bound, Meets, IsDeep, IsLarge, IsLong, NoneMayStand}
 use Rattle.xml_text.specs.Tree.{Content}
-use Rattle.xml_text.specs.Trees.{IsTree}
+use Rattle.xml_text.specs.Trees.{AreDocument, IsTree}
 use Rattle.onix_outline.specs.declared.dialect.Wrong.{Wrong}
 use Rattle.onix_outline.specs.declared.reading.Fault.{Fault}
 use Rattle.onix_outline.specs.declared.reading.Fault.TheVariants.{Document, Message, Reference, TooLarge, ManyPrefixes}
@@ -49,18 +48,18 @@ pub record Comes {T : Type 0} (after : T → List Line → T) (taker : T) (bytes
   pub at : IfErr result (λ s. IsAt bytes s.fault s.place)
 
 -- a document begins with all of its tokens
-all_tokens : (bytes : Option (List ℕ)) (text : List ℕ) (tokens : List Token) → IsTextOf bytes text → IsDocument text tokens → OfText (BeginsAt first_place tokens) bytes
+all_tokens : (bytes : Option (List ℕ)) (text : List ℕ) (tokens : List Token) → IsTextOf bytes text → IsDocument text tokens → OfText (BeginsWith tokens) bytes
 all_tokens None text tokens is document = tt
 all_tokens (Some b) text tokens is document =
-    (text, is, ([], last_place, record { spelled = document.spelled ∙ sym (append-nil (flat_map spelling tokens)); each = document.each; leads = document.ends }))
+    (text, is, ([], document.spelled ∙ sym (append-nil (flat_map spelling tokens)), ([], subst AreDocument (sym (append-nil tokens)) document.are), tt))
 
 -- ---- tokens that are refused
 
-place_of : (P : List Token → Token → Type 0) (bytes : Option (List ℕ)) (tokens : List Token) (place : Position) → OfText (BeginsAt first_place tokens) bytes → Finds P first_position tokens place
+place_of : (P : List Token → Token → Type 0) (bytes : Option (List ℕ)) (tokens : List Token) (place : Position) → OfText (BeginsWith tokens) bytes → Finds P first_position tokens place
     → IsPlaceOf bytes P place
 place_of P bytes tokens place begins h = (h.before, h.token, h.behind, rw (sym h.parts) begins, h.holds, h.at)
 
-refuses : {T : Type 0} (after : T → List Line → T) (taker : T) (bytes : Option (List ℕ)) (tokens : List Token) → OfText (BeginsAt first_place tokens) bytes
+refuses : {T : Type 0} (after : T → List Line → T) (taker : T) (bytes : Option (List ℕ)) (tokens : List Token) → OfText (BeginsWith tokens) bytes
     → takes_more (fold (feed after) (first_feed taker) tokens) ≡ false → Comes after taker bytes (finished (fold (feed after) (first_feed taker) tokens))
 refuses {T = T} after taker bytes tokens begins refused = go f.root refl f.known refl (fits f.child) refl refused
   where
@@ -157,7 +156,7 @@ comes {T = T} after taker bytes text tokens name inside is document tree none = 
 
 -- ---- within the bound on prefixes
 
-many_refused : {T : Type 0} (after : T → List Line → T) (taker : T) (bytes : Option (List ℕ)) (tokens : List Token) (place : Position) → OfText (BeginsAt first_place tokens) bytes
+many_refused : {T : Type 0} (after : T → List Line → T) (taker : T) (bytes : Option (List ℕ)) (tokens : List Token) (place : Position) → OfText (BeginsWith tokens) bytes
     → many_behind after (first_feed taker) None tokens ≡ Some place → Comes after taker bytes (ends_with (Some place) (fold (feed after) (first_feed taker) tokens))
 many_refused after taker bytes tokens place begins met =
     let r = many_root after (first_feed taker) tokens place met in
@@ -179,7 +178,7 @@ all_comes after taker bytes text tokens name inside is document tree =
     go (Some place) e = many_refused after taker bytes tokens place (all_tokens bytes text tokens is document) e
 
 -- and of tokens of which no more are taken
-pub all_refuses : {T : Type 0} (after : T → List Line → T) (taker : T) (bytes : Option (List ℕ)) (tokens : List Token) → OfText (BeginsAt first_place tokens) bytes
+pub all_refuses : {T : Type 0} (after : T → List Line → T) (taker : T) (bytes : Option (List ℕ)) (tokens : List Token) → OfText (BeginsWith tokens) bytes
     → goes_on (fold (bound after) (first_bounded taker) tokens) ≡ false → Comes after taker bytes (ends (fold (bound after) (first_bounded taker) tokens))
 all_refuses after taker bytes tokens begins refused =
     subst (Comes after taker bytes) (sym (ends_is after taker tokens))
@@ -214,7 +213,7 @@ takes_sound f h = go f.root f.known (fits f.child) h
 
 -- the text goes beyond a bound behind tokens, and they were fed
 abbrev pub Goes : {T : Type 0} → (T → List Line → T) → Option (List ℕ) → Bounded T → Bounded T → Bound → Type 0
-Goes after bytes start b Limit = (tokens : List Token) × OfText (Meets Limit first_place tokens) bytes × (b ≡ fold (bound after) start tokens)
+Goes after bytes start b Limit = (tokens : List Token) × OfText (Meets Limit tokens) bytes × (b ≡ fold (bound after) start tokens)
 
 -- what is said of each fault that comes from the reading of the document
 pub record Reasons {T R : Type 0} (after : T → List Line → T) (bytes : Option (List ℕ)) (start f : Bounded T) (r : Result R DocumentFault) : Type 0 where
@@ -255,14 +254,14 @@ place_is after taker b tokens more is =
 
 -- and so is its place
 pub document_at : {T R : Type 0} (after : T → List Line → T) (bytes : Option (List ℕ)) (taker : T) (start f : Bounded T) (fault : DocumentFault) → start ≡ first_bounded taker
-    → (is_of_text fault ≡ true → goes_on f ≡ true) → AtFault ((tokens : List Token) × OfText (BeginsAt first_place tokens) bytes × (f ≡ fold (bound after) start tokens)) fault
+    → (is_of_text fault ≡ true → goes_on f ≡ true) → AtFault ((tokens : List Token) × OfText (BeginsWith tokens) bytes × (f ≡ fold (bound after) start tokens)) fault
     → Reasons {T = T} {R = R} after bytes start f (Err fault) → IsAt bytes (Document fault) f.feed.place
 document_at {T = T} {R = R} after bytes taker start f fault starts takes h r = go fault takes h r
   where
     at : goes_on f ≡ true → (tokens : List Token) → f ≡ fold (bound after) start tokens → f.feed.place ≡ position_past first_position tokens
     at more tokens is = place_is after taker f tokens more (is ∙ ap (λ g. fold (bound after) g tokens) starts)
 
-    go : (e : DocumentFault) → (is_of_text e ≡ true → goes_on f ≡ true) → AtFault ((tokens : List Token) × OfText (BeginsAt first_place tokens) bytes × (f ≡ fold (bound after) start tokens)) e
+    go : (e : DocumentFault) → (is_of_text e ≡ true → goes_on f ≡ true) → AtFault ((tokens : List Token) × OfText (BeginsWith tokens) bytes × (f ≡ fold (bound after) start tokens)) e
         → Reasons {T = T} {R = R} after bytes start f (Err e) → IsAt bytes (Document e) f.feed.place
     go Malformed t w r = let g = r.stuck refl in (g.0, g.1, at (t refl) g.0 g.2)
     go NotText t w r = (w.0, w.1, at (t refl) w.0 w.2)

@@ -1,10 +1,10 @@
 -- The declarations of a tag, attribute by attribute.
-use Rattle.std.proofs.Common.{◌≡◌, ℕ, List, [], ◌∷◌, ◌++◌, Option, Some, None, refl}
+use Rattle.std.proofs.Common.{◌≡◌, List, [], ◌∷◌, ◌++◌, Option, Some, None, refl}
 use Rattle.xml_text.specs.AttributeView.{attribute_view}
 use Rattle.xml_text.specs.Grammar.{Attribute}
 use Rattle.xml_text.specs.declared.attributes.Attribute.{Attribute as Read}
-use Rattle.xml_text.specs.Values.{normalized}
-use Rattle.onix_outline.specs.Namespaces.{bindings_of, declared_prefix, with_binding}
+use Rattle.std.specs.List.{cons_option}
+use Rattle.onix_outline.specs.Namespaces.{Binding, binding_of, bindings_of}
 
 -- the attributes that are left
 abbrev pub left : Option (Read × List Attribute) → List Attribute
@@ -14,10 +14,8 @@ left (Some x) = attribute_view x.0 ∷ x.1
 -- the declarations of the first attribute, and of the others
 pub split : (a : Attribute) (attributes : List Attribute)
     → bindings_of (a ∷ attributes) ≡ bindings_of (a ∷ []) ++ bindings_of attributes
-split a attributes = go (declared_prefix a.name)
+split a attributes = go (binding_of a)
   where
-    go : (o : Option (List ℕ))
-        → with_binding o (normalized a.value) (bindings_of attributes)
-        ≡ with_binding o (normalized a.value) [] ++ bindings_of attributes
+    go : (o : Option Binding) → cons_option o (bindings_of attributes) ≡ cons_option o [] ++ bindings_of attributes
     go None = refl
-    go (Some prefix) = refl
+    go (Some b) = refl

@@ -1,5 +1,5 @@
 -- A tree with a Header or Product that is too large.
-use Rattle.std.proofs.Common.{◌≡◌, ℕ, ◌+◌, Bool, true, false, List, [], ◌∷◌, ◌++◌, Option, Some, None, Result, Ok, refl, sym, ap, ◌∙◌, append_assoc, arith, fold}
+use Rattle.std.proofs.Common.{◌≡◌, ℕ, ◌+◌, Bool, true, false, List, [], ◌∷◌, ◌++◌, Option, Some, None, Result, Ok, refl, sym, ap, ◌∙◌, append_assoc, fold}
 use Rattle.std.specs.Prelude.{◌&&◌, if◌then◌else◌}
 use Rattle.std.specs.List.{list_all}
 use Rattle.std.proofs.lemmas.Bool.{and_parts}
@@ -9,7 +9,7 @@ use Rattle.xml_text.specs.declared.position.Position.{Position}
 use Rattle.xml_text.specs.Grammar.{Token, raw, reference, cdata, comment, instruction, declaration, doctype, start, empty, end, spelling}
 use Rattle.xml_text.specs.Positions.{first_position, position_after, position_past}
 use Rattle.xml_text.specs.Tree.{Content, nothing, leaf, element, tokens_of}
-use Rattle.xml_text.specs.Trees.{IsProlog, IsRoot, IsTree}
+use Rattle.xml_text.specs.Trees.{IsRoot, IsTree}
 use Rattle.onix_outline.specs.declared.dialect.Wrong.{Wrong}
 use Rattle.onix_outline.specs.Dialect.{Dialect, counted}
 use Rattle.onix_outline.specs.Namespaces.{Binding, scope, bindings_of}
@@ -21,8 +21,8 @@ use Rattle.onix_outline.specs.Nodes.{Nodes, no_nodes, Tag, tag_of, is_known, nod
 use Rattle.onix_outline.specs.Outline.{Line, line, part}
 use Rattle.onix_outline.specs.Sizes.{element_size, first_large, is_small, lines_size, nodes_size}
 use Rattle.onix_outline.specs.Spaces.{collapsed}
-use Rattle.onix_outline.proofs.FeedLaws.{all_quiet, misc_before, misc_place, misc_root, part_ends, part_size, quiet_prolog, tree_feeds}
-use Rattle.onix_outline.proofs.InsideLaws.{IsClean, clean, inside_at, inside_feeds, passes}
+use Rattle.onix_outline.proofs.FeedLaws.{misc_before, misc_place, misc_root, part_ends, part_size, quiet_prolog, tree_feeds}
+use Rattle.onix_outline.proofs.InsideLaws.{IsClean, clean, inside_at, root_inside, passes}
 use Rattle.onix_outline.proofs.LargeLaws.{IsStuck, moved_stuck, one_place, part_kept, stuck}
 
 -- the first of the elements in the root that is too large is kept
@@ -76,7 +76,7 @@ element_kept {T = T} after t d name inside closing rest (Some m) tag b p place h
         ≡ fold (feed after) (moved (spelling (end name closing)) from) (tokens_of rest)
     runs =
         fold-append (feed after) (inside_at t d (line 0 m tag [] ∷ []) (open_at 0 false (scope m b) ∷ []) 0 p) (tokens_of inside) (end name closing ∷ tokens_of rest)
-        ∙ ap (λ f. fold (feed after) f (end name closing ∷ tokens_of rest)) (inside_feeds after t d p inside (line 0 m tag [] ∷ []) 0 false (scope m b) [] h (omega arith))
+        ∙ ap (λ f. fold (feed after) f (end name closing ∷ tokens_of rest)) (root_inside after t d m tag b p inside h)
 
     go : (small : Bool) → is_small (element_size tag text + nodes_size below) ≡ small → (if small then first_large (nodes_in d [] (place_behind p inside name closing) rest) else Some tag.place) ≡ Some place
         → IsStuck place (fold (feed after) (feeding t (Some (Ok d)) (opened 0 (Some m) tag b no_lines) true p) (tokens_of inside ++ end name closing ∷ tokens_of rest)).child
@@ -147,7 +147,7 @@ tree_runs : {T : Type 0} (after : T → List Line → T) (t : T) (d : Dialect) (
     → root_of tokens ≡ Some (Ok d) → Runs after t d tokens first_position (root_place first_position tokens) inside
 tree_runs after t d tokens name inside tree e =
     let root = tree.root ++ tree.behind in
-    let before = all_quiet IsProlog quiet_prolog tree.before tree.prolog in
+    let before = quiet_prolog tree.before tree.prolog in
     let p = position_past first_position tree.before in
     let place : root_place first_position tokens ≡ root_place p root = ap (root_place first_position) tree.parts ∙ misc_place first_position tree.before root before in
     let told : root_of root ≡ Some (Ok d) = sym (misc_root tree.before root before) ∙ ap root_of (sym tree.parts) ∙ e in

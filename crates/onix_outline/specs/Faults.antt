@@ -4,14 +4,13 @@ use Rattle.std.specs.Prelude.{Ok, Err, IfSome}
 use Rattle.std.specs.List.{list_all}
 use Rattle.xml_text.specs.declared.fault.Fault.TheVariants.{Malformed, TooDeep, TooLong, LargeTag}
 use Rattle.xml_text.specs.declared.fault.Fault.TheVariants.{NotText}
-use Rattle.xml_text.specs.declared.fault.Fault.TheVariants.{Refused, UnknownEncoding, Read, Memory}
+use Rattle.xml_text.specs.declared.fault.Fault.TheVariants.{Refused, UnknownEncoding}
 use Rattle.xml_text.specs.Grammar.{Token}
 use Rattle.xml_text.specs.declared.position.Position.{Position}
-use Rattle.xml_text.specs.Documents.{BeginsAt}
 use Rattle.xml_text.specs.EncodingNames.{OfText, IsOfUnknown}
 use Rattle.xml_text.specs.Positions.{first_position, position_past}
-use Rattle.xml_text.specs.Limits.{Bound, Meets, IsDeep, IsLarge, IsLong, NoneMayStand}
-use Rattle.xml_text.specs.Places.{IsNoDocument, IsNoText, first_place}
+use Rattle.xml_text.specs.Limits.{BeginsWith, Bound, Meets, IsDeep, IsLarge, IsLong, NoneMayStand}
+use Rattle.xml_text.specs.Documents.{IsNoDocument, IsNoText}
 use Rattle.xml_text.specs.Tree.{Content}
 use Rattle.xml_text.specs.Trees.{IsTree}
 use Rattle.onix_outline.specs.declared.dialect.Wrong.{Wrong}
@@ -55,20 +54,20 @@ module _ (bytes : Option (List ℕ)) where
   -- the text of the bytes that a reader has left, where it tells them, begins with tokens of which
   -- this holds
   abbrev pub BeginsSo : (List Token → Type 0) → Type 0
-  BeginsSo P = (tokens : List Token) × OfText (BeginsAt first_place tokens) bytes × P tokens
+  BeginsSo P = (tokens : List Token) × OfText (BeginsWith tokens) bytes × P tokens
 
   -- it begins with tokens that end at this place, and of what follows there this holds, as that it
   -- goes beyond a bound
   abbrev pub MeetsAt : Bound → Position → Type 0
   MeetsAt Limit place =
-      (tokens : List Token) × OfText (Meets Limit first_place tokens) bytes
+      (tokens : List Token) × OfText (Meets Limit tokens) bytes
       × (place ≡ position_past first_position tokens)
 
   -- a place is that of a token of which, with the tokens before it, this holds
   abbrev pub IsPlaceOf : (List Token → Token → Type 0) → Position → Type 0
   IsPlaceOf P place =
       (before : List Token) × (token : Token) × (behind : List Token)
-      × OfText (BeginsAt first_place (before ++ token ∷ behind)) bytes
+      × OfText (BeginsWith (before ++ token ∷ behind)) bytes
       × P before token × (place ≡ position_past first_position before)
 
   -- Why a message is refused, and what its place tells. Malformed: what the reader has left is no

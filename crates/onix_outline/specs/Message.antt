@@ -4,7 +4,7 @@ use Rattle.std.specs.List.{list_all}
 use Rattle.xml_text.specs.declared.position.Position.{Position}
 use Rattle.xml_text.specs.Grammar.{Token}
 use Rattle.xml_text.specs.Positions.{first_position}
-use Rattle.xml_text.specs.Places.{IsDocument}
+use Rattle.xml_text.specs.Documents.{IsDocument}
 use Rattle.xml_text.specs.Tree.{Content}
 use Rattle.xml_text.specs.Trees.{IsTree}
 use Rattle.onix_outline.specs.Dialect.{Dialect}

@@ -1,6 +1,7 @@
 -- Which namespace an element is in, as Namespaces in XML 1.0 says.
 use Rattle.std.specs.Prelude.{ℕ, ◌==◌, List, [], ◌∷◌, Option, Some, None, suc, codes, drop, take}
-use Rattle.std.specs.Prelude.{if◌then◌else◌, position}
+use Rattle.std.specs.Prelude.{if◌then◌else◌, position, option_map, unwrap_or}
+use Rattle.std.specs.List.{filter_map, find}
 use Rattle.std.specs.Option.{option_or}
 use Rattle.std.specs.Str.{bytes_eq}
 use Rattle.xml_text.specs.Grammar.{Attribute}
@@ -11,20 +12,12 @@ use Rattle.xml_text.specs.Values.{normalized}
 abbrev pub colon : List ℕ → Option ℕ
 colon name = position (λ b. b == 58) name
 
-abbrev pub front_to : Option ℕ → List ℕ → List ℕ
-front_to None name = []
-front_to (Some at) name = take at name
-
-abbrev pub rest_from : Option ℕ → List ℕ → List ℕ
-rest_from None name = name
-rest_from (Some at) name = drop (suc at) name
-
 -- what stands before the first colon of a name, and behind it; a name without one has no prefix
 abbrev pub prefix_of : List ℕ → List ℕ
-prefix_of name = front_to (colon name) name
+prefix_of name = unwrap_or (option_map (λ at. take at name) (colon name)) []
 
 abbrev pub local_of : List ℕ → List ℕ
-local_of name = rest_from (colon name) name
+local_of name = unwrap_or (option_map (λ at. drop (suc at) name) (colon name)) name
 
 -- ---- declarations
 
@@ -41,22 +34,20 @@ declared_prefix name =
     else if bytes_eq (prefix_of name) (codes "xmlns") then Some (local_of name)
     else None
 
-abbrev pub with_binding : Option (List ℕ) → List ℕ → List Binding → List Binding
-with_binding None address bindings = bindings
-with_binding (Some prefix) address bindings =
-    record { prefix = prefix; address = address } ∷ bindings
+-- what an attribute declares, if anything
+abbrev pub binding_of : Attribute → Option Binding
+binding_of a =
+    option_map (λ prefix. record { prefix = prefix; address = normalized a.value })
+    (declared_prefix a.name)
 
 -- the declarations of a tag
 abbrev pub bindings_of : List Attribute → List Binding
-bindings_of [] = []
-bindings_of (a ∷ attributes) =
-    with_binding (declared_prefix a.name) (normalized a.value) (bindings_of attributes)
+bindings_of attributes = filter_map binding_of attributes
 
 -- what a prefix stands for by the declarations of one tag
 abbrev pub address_among : List ℕ → List Binding → Option (List ℕ)
-address_among prefix [] = None
-address_among prefix (b ∷ bindings) =
-    if bytes_eq b.prefix prefix then Some b.address else address_among prefix bindings
+address_among prefix bindings =
+    option_map (λ b. b.address) (find (λ b. bytes_eq b.prefix prefix) bindings)
 
 -- what a prefix stands for that nobody declares: `xml` has its address, and others have none
 abbrev pub undeclared : List ℕ → List ℕ

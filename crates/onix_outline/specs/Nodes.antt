@@ -16,11 +16,8 @@ pub record Tag : Type 0 where
   pub place : Position
   pub format : Option (List ℕ)
 
-abbrev pub tagged : Position → Option (List ℕ) → Tag
-tagged place format = record { place = place; format = format }
-
 abbrev pub tag_of : Position → List Attribute → Tag
-tag_of place attributes = tagged place (format_of attributes)
+tag_of place attributes = record { place = place; format = format_of attributes }
 
 -- The elements that count, as a tree
 pub data Nodes : Type 0 where

@@ -1,5 +1,5 @@
 -- How many prefixes may stand for the namespace of the root at one place.
-use Rattle.std.specs.Prelude.{ℕ, ◌&&◌, Bool, false, true, not, nat_lt, is_some}
+use Rattle.std.specs.Prelude.{◌&&◌, Bool, false, true, not, nat_lt, is_some, option_and_then}
 use Rattle.std.specs.Prelude.{List, [], ◌∷◌, ◌++◌, length, Option, Some, None, if◌then◌else◌}
 use Rattle.std.specs.List.{filter}
 use Rattle.std.specs.Option.{option_or}
@@ -44,11 +44,6 @@ has_many d around bindings = is_declaring bindings && are_many d (scope [] bindi
 abbrev pub place_if : Bool → Position → Option Position
 place_if b p = if b then Some p else None
 
--- a place in an element, where it counts
-abbrev pub if_counted : Option (List ℕ) → Option Position → Option Position
-if_counted None place = None
-if_counted (Some name) place = place
-
 module _ (d : Dialect) where
   abbrev pub leaf_with_many : List Scope → Position → Token → Option Position
   leaf_with_many around p (empty name attributes space) =
@@ -66,5 +61,6 @@ module _ (d : Dialect) where
       let found = counted d around name bindings in
       let from = content_place p name attributes space in
       option_or (place_if (has_many d around bindings) p)
-      (option_or (if_counted found (first_with_many (within found bindings around) from inside))
+      (option_or
+      (option_and_then (λ _. first_with_many (within found bindings around) from inside) found)
       (first_with_many around (place_behind from inside name closing) rest))

@@ -1,17 +1,13 @@
 -- How large a Header or a Product may be.
-use Rattle.std.specs.Prelude.{ℕ, ◌+◌, Bool, nat_le, List, [], ◌∷◌, length, Option, Some, None}
+use Rattle.std.specs.Prelude.{ℕ, ◌+◌, Bool, nat_le, List, [], ◌∷◌, length, Option, Some, None, unwrap_or}
 use Rattle.std.specs.Prelude.{if◌then◌else◌}
 use Rattle.xml_text.specs.declared.position.Position.{Position}
 use Rattle.onix_outline.specs.Nodes.{Nodes, no_nodes, node, Tag}
 use Rattle.onix_outline.specs.Outline.{Line}
 
-abbrev pub format_size : Option (List ℕ) → ℕ
-format_size None = 0
-format_size (Some format) = length format
-
 -- an element by itself: 64, and the bytes of its text and of its attribute `dateformat`
 abbrev pub element_size : Tag → List ℕ → ℕ
-element_size tag text = 64 + (format_size tag.format + length text)
+element_size tag text = 64 + (length (unwrap_or tag.format []) + length text)
 
 -- elements, with all that is in them
 abbrev pub nodes_size : Nodes → ℕ

@@ -1,20 +1,15 @@
 -- Text with each run of white space made one space, and none at the ends.
-use Rattle.std.specs.Prelude.{ℕ, Bool, true, false, List, [], ◌∷◌, Option, Some, None}
-use Rattle.std.specs.Prelude.{if◌then◌else◌}
-use Rattle.xml_text.specs.Grammar.{is_space}
+use Rattle.std.specs.Prelude.{ℕ, List, [], ◌∷◌, drop, Option, Some, None}
+use Rattle.std.specs.List.{filter, flat_map, slice_split}
+use Rattle.xml_text.specs.Grammar.{is_filled, is_space}
 
--- the words of a text, with a space before each but the first; `waits` says whether white space
--- came since the last word, `began` whether a word came
-abbrev pub words : Bool → Bool → List ℕ → List ℕ
-words began waits [] = []
-words began waits (b ∷ text) =
-    if is_space b then words began true text
-    else if began then (if waits then 32 ∷ b ∷ words true false text else b ∷ words true false text)
-    else b ∷ words true false text
+-- the words of a text, between white space
+abbrev pub words : List ℕ → List (List ℕ)
+words text = filter is_filled (slice_split is_space text)
 
--- a text without white space at its ends, and with one space for each run of it inside
-abbrev pub collapsed : List ℕ → List ℕ
-collapsed text = words false false text
+-- the words with one space between each two
+unfoldable pub collapsed : List ℕ → List ℕ
+collapsed text = drop 1 (flat_map (λ word. 32 ∷ word) (words text))
 
 -- a text that has a character
 abbrev pub filled : List ℕ → Option (List ℕ)

@@ -34,5 +34,5 @@ binding_view b = record { prefix = b.prefix.items; address = b.address.items }
 abbrev pub binding_views : List Binding → List Declared
 binding_views bindings = map binding_view bindings
 
-abbrev pub held_views : List (Bor Binding) → List Declared
-held_views bindings = map (λ b. binding_view b.now) bindings
+abbrev pub borrowed_views : List (Bor Binding) → List Declared
+borrowed_views bindings = map (λ b. binding_view b.now) bindings

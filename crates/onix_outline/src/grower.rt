@@ -5,8 +5,9 @@ ghost use Rattle.onix_outline.specs.private.Feed.{fits};
 ghost use Rattle.onix_outline.specs.Dialect.{composite_of};
 ghost use Rattle.onix_outline.specs.private.Growing.{growing, no_lines, change, longer, opened, closed, texted, is_idle, scopes_of};
 ghost use Rattle.onix_outline.specs.Namespaces.{address_within};
-ghost use Rattle.onix_outline.specs.Nodes.{tagged};
-ghost use Rattle.onix_outline.specs.Sizes.{element_size, format_size, lines_size};
+ghost use Rattle.onix_outline.specs.private.Growing.{tagged};
+ghost use Rattle.onix_outline.specs.Sizes.{element_size, lines_size};
+ghost use Rattle.onix_outline.specs.private.Growing.{format_size};
 ghost use Rattle.onix_outline.specs.Views.{binding_views, line_views};
 ghost use Rattle.onix_outline.specs.private.OpenViews.{open_views};
 

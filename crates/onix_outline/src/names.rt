@@ -340,6 +340,7 @@ static WORDS: [Word; 63] = [
 ];
 
 // The elements that count.
+#[tactic(auto, unfolding(crate::specs::Names::vocabulary))]
 fn vocabulary() -> &'static [Word]
     ensures { word_views result.now ≡ vocabulary }
 {

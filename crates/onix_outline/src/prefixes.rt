@@ -7,7 +7,7 @@ ghost use Rattle.onix_outline.specs.Namespaces.{address_among};
 ghost use Rattle.onix_outline.specs.Prefixes.{behind_tag, holding};
 ghost use Rattle.onix_outline.specs.private.Growing.{scopes_of};
 ghost use Rattle.onix_outline.specs.private.OpenViews.{open_views};
-ghost use Rattle.onix_outline.specs.Views.{binding_views, held_views};
+ghost use Rattle.onix_outline.specs.Views.{binding_views, borrowed_views};
 
 use crate::grower::Open;
 use crate::namespaces::{Binding, address_among};
@@ -18,8 +18,8 @@ const MOST_PREFIXES: usize = 64;
 
 // Adds declarations.
 fn push_all<'a>(list: &mut Vec<&'a Binding>, bindings: &'a [Binding]) -> Result<(), AllocError>
-    ensures { OnOk result (held_views list.new.items
-        ≡ held_views list.old.items ++ binding_views bindings.now) }
+    ensures { OnOk result (borrowed_views list.new.items
+        ≡ borrowed_views list.old.items ++ binding_views bindings.now) }
 {
     let mut rest = bindings;
     while let [first, tail @ ..] = rest {
@@ -35,10 +35,10 @@ fn push_undeclared<'a>(
     nearer: &[Binding],
     outer: &[&'a Binding],
 ) -> Result<(), AllocError>
-    ensures { OnOk result (held_views list.new.items
-        ≡ held_views list.old.items
+    ensures { OnOk result (borrowed_views list.new.items
+        ≡ borrowed_views list.old.items
         ++ filter (λ b. not (is_some (address_among b.prefix (binding_views nearer.now))))
-        (held_views outer.now)) }
+        (borrowed_views outer.now)) }
 {
     let mut rest = outer;
     while let [first, tail @ ..] = rest {
@@ -57,8 +57,8 @@ fn hold<'a>(
     nearer: &'a [Binding],
     outer: &[&'a Binding],
 ) -> Result<Vec<&'a Binding>, AllocError>
-    ensures { IfOk result (λ list. held_views list.items
-        ≡ behind_tag (binding_views nearer.now) (held_views outer.now)) }
+    ensures { IfOk result (λ list. borrowed_views list.items
+        ≡ behind_tag (binding_views nearer.now) (borrowed_views outer.now)) }
 {
     let mut list = Vec::new(alloc);
     push_all(&mut list, nearer)?;
@@ -72,7 +72,7 @@ fn holding<'a>(
     root: &'a [Binding],
     opens: &'a [Open],
 ) -> Result<Vec<&'a Binding>, AllocError>
-    ensures { IfOk result (λ list. held_views list.items
+    ensures { IfOk result (λ list. borrowed_views list.items
         ≡ holding (binding_views root.now) (scopes_of (reverse (open_views opens.now)))) }
 {
     let mut list = Vec::new(alloc);
@@ -91,9 +91,9 @@ fn push_of<'a>(
     address: &[u8],
     held: &[&'a Binding],
 ) -> Result<(), AllocError>
-    ensures { OnOk result (held_views list.new.items
-        ≡ held_views list.old.items
-        ++ filter (λ b. bytes_eq b.address address.now) (held_views held.now)) }
+    ensures { OnOk result (borrowed_views list.new.items
+        ≡ borrowed_views list.old.items
+        ++ filter (λ b. bytes_eq b.address address.now) (borrowed_views held.now)) }
 {
     let mut rest = held;
     while let [first, tail @ ..] = rest {
@@ -109,7 +109,7 @@ fn push_of<'a>(
 // Whether too many of the declarations that hold stand for an address.
 fn are_many(alloc: Global, address: &[u8], held: &[&Binding]) -> Result<bool, AllocError>
     ensures { IfOk result (λ many. many ≡ nat_lt 64
-        (length (filter (λ b. bytes_eq b.address address.now) (held_views held.now)))) }
+        (length (filter (λ b. bytes_eq b.address address.now) (borrowed_views held.now)))) }
 {
     let mut list = Vec::new(alloc);
     push_of(&mut list, address, held)?;

@@ -16,7 +16,7 @@ use crate::outliner::Taker;
 use crate::told::Told;
 use std::alloc::Global;
 use std::io::Read;
-use xml_text::{Position, documents_are_trees, read_document};
+use xml_text::{Position, read_document};
 
 /// Why no message was read.
 #[derive(Debug, Drop)]
@@ -73,7 +73,6 @@ pub fn read_message<R: Read, T: Taker + Drop>(
     ensures refused { IfErr result (λ stopped.
         Explains (R.remaining reader.old) stopped.fault stopped.place) }
 {
-    documents_are_trees();
     let mut outliner = BoundedOutliner::new(alloc, taker);
     match read_document(alloc, reader, &mut outliner) {
         Ok(()) => outliner.finish(),

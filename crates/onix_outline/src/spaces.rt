@@ -45,12 +45,21 @@ pub(crate) fn waits_behind(waits: bool, text: &[u8]) -> bool
     }
 }
 
+// The text so.
+#[tactic(auto, using(crate::proofs::SpaceLaws::collapsed_is))]
+fn collapse(alloc: Global, text: &[u8]) -> Result<Vec<u8>, AllocError>
+    ensures { IfOk result (λ out. out.items ≡ collapsed text.now) }
+{
+    let mut out = Vec::new(alloc);
+    push_words(&mut out, false, text)?;
+    Ok(out)
+}
+
 /// The text so, where it has a character that is no white space.
 pub(crate) fn fill(alloc: Global, text: &[u8]) -> Result<Option<Vec<u8>>, AllocError>
     ensures { IfOk result (λ out. option_map (λ t. t.items) out ≡ filled (collapsed text.now)) }
 {
-    let mut out = Vec::new(alloc);
-    push_words(&mut out, false, text)?;
+    let out = collapse(alloc, text)?;
     if out.is_empty() {
         Ok(None)
     } else {

@@ -9,7 +9,7 @@ use Rattle.xml_text.specs.declared.encodings.Held.{Held}
 use Rattle.xml_text.specs.declared.encodings.Held.TheVariants.{Nothing, Byte, Lead, LeadByte}
 use Rattle.xml_text.specs.declared.texts.Part.{Part}
 use Rattle.xml_text.specs.declared.texts.Part.TheVariants.{Whole, One, Two, Three}
-use Rattle.xml_text.specs.Documents.{IsEnding}
+use Rattle.xml_text.specs.private.Windows.{IsEnding}
 use Rattle.xml_text.specs.Encodings.{byte_text}
 use Rattle.xml_text.specs.private.Decoders.{after_byte, held16, text16, ending16, held_behind, text_from, ending, decoded_from, decoded_rest, text_left}
 use Rattle.xml_text.specs.Texts.{follow}

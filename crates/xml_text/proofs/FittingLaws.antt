@@ -9,16 +9,17 @@ use Rattle.xml_text.specs.declared.nesting.Nesting.{Nesting}
 use Rattle.xml_text.specs.declared.place.Place.{Place}
 use Rattle.xml_text.specs.Grammar.{is_space, is_token, raw}
 use Rattle.xml_text.specs.Pieces.{Begins}
-use Rattle.xml_text.specs.Places.{brackets_after, counted, is_nothing, nested, nests, prolog_after, steps}
+use Rattle.xml_text.specs.Trees.{brackets_after, next_brackets}
+use Rattle.xml_text.specs.private.Places.{is_nothing, nested, nests, prolog_after, steps}
 use Rattle.xml_text.specs.private.Fitting.{brackets_with, fitting}
 use Rattle.xml_text.proofs.PieceLaws.{raws}
 use Rattle.xml_text.proofs.PlaceLaws.{none_right, text_ok, text_order}
 
 -- a byte that may stand there
-byte_stands : (p : Nesting) (n b m : ℕ) → brackets_with (is_nothing p.names) n b ≡ Some m → (nested p (raw b) ≡ Some p) × (counted n (raw b) ≡ Some m)
+byte_stands : (p : Nesting) (n b m : ℕ) → brackets_with (is_nothing p.names) n b ≡ Some m → (nested p (raw b) ≡ Some p) × (next_brackets n (raw b) ≡ Some m)
 byte_stands p n b m e = go (is_nothing p.names && not (is_space b)) e
   where
-    go : (t : Bool) → cond t None (counted n (raw b)) ≡ Some m → (cond t None (Some p) ≡ Some p) × (counted n (raw b) ≡ Some m)
+    go : (t : Bool) → cond t None (next_brackets n (raw b)) ≡ Some m → (cond t None (Some p) ≡ Some p) × (next_brackets n (raw b) ≡ Some m)
     go true e = absurd cc
     go false e = (refl, e)
 
@@ -49,15 +50,15 @@ front_stands p run none = go (take (fitting (is_nothing p.nesting.names) p.brack
 
 -- the first byte may not stand there
 pub none_stands : (p : Place) (b : ℕ) (run : List ℕ) → fitting (is_nothing p.nesting.names) p.brackets (b ∷ run) ≡ 0 → steps p (raw b ∷ []) ≡ None
-none_stands p b run e = go (is_nothing p.nesting.names && not (is_space b)) refl (counted p.brackets (raw b)) refl
+none_stands p b run e = go (is_nothing p.nesting.names && not (is_space b)) refl (next_brackets p.brackets (raw b)) refl
   where
     some_fit : (m : ℕ) → brackets_with (is_nothing p.nesting.names) p.brackets b ≡ Some m → ⊥
     some_fit m h = absurd (omega (arith, sym (rw h at e)))
 
-    go : (t : Bool) → (is_nothing p.nesting.names && not (is_space b)) ≡ t → (o : Option ℕ) → counted p.brackets (raw b) ≡ o → steps p (raw b ∷ []) ≡ None
+    go : (t : Bool) → (is_nothing p.nesting.names && not (is_space b)) ≡ t → (o : Option ℕ) → next_brackets p.brackets (raw b) ≡ o → steps p (raw b ∷ []) ≡ None
     go true h o k = rw h refl
     go false h None k = rw (h, k) (none_right (Some p.nesting) (prolog_after p.prolog (raw b ∷ [])))
-    go false h (Some m) k = absurd (some_fit m (ap (λ t. cond t None (counted p.brackets (raw b))) h ∙ k))
+    go false h (Some m) k = absurd (some_fit m (ap (λ t. cond t None (next_brackets p.brackets (raw b))) h ∙ k))
 
 pub fitting_within : (o : Bool) (n : ℕ) (run : List ℕ) → fitting o n run ≤ length run
 fitting_within o n [] = omega arith

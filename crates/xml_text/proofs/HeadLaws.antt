@@ -4,7 +4,7 @@ use Rattle.std.specs.Prelude.{IfSome, option_map}
 use Rattle.std.specs.Io.KnownBytes.{Consumes}
 use Rattle.std.proofs.lemmas.List.{take-append-le, drop-append-le, length-take}
 use Rattle.xml_text.specs.declared.encodings.Encoding.{Encoding}
-use Rattle.xml_text.specs.Documents.{IsTold}
+use Rattle.xml_text.specs.private.Windows.{IsTold}
 use Rattle.xml_text.specs.EncodingNames.{encoding_at, text_of, IsTextOf, OfText}
 use Rattle.xml_text.specs.Encodings.{decoded}
 use Rattle.xml_text.specs.private.Decoders.{text_left}

@@ -16,6 +16,9 @@ pub mod DocumentLaws
 pub mod LimitLaws
 pub mod NumberLaws
 pub mod TreeLaws
+pub mod FrontLaws
+pub mod MeetLaws
+pub mod EntityLaws
 pub mod AsciiLaws
 pub mod EncodingLaws
 pub mod ReadingLaws

@@ -6,7 +6,7 @@ use Rattle.std.proofs.lemmas.Bool.{and_parts, ne_eqb}
 use Rattle.xml_text.specs.declared.nesting.Nesting.{Nesting}
 use Rattle.xml_text.specs.Grammar.{is_space, raw}
 use Rattle.xml_text.specs.Stacks.{names}
-use Rattle.xml_text.specs.Places.{is_nothing, nests}
+use Rattle.xml_text.specs.private.Places.{is_nothing, nests}
 
 pub length-names : (starts bytes : List ℕ) → length (names starts bytes) ≡ length starts
 length-names [] bytes = refl

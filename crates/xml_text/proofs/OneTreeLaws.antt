@@ -3,7 +3,7 @@ use Rattle.std.proofs.Common.{◌≡◌, ℕ, List, [], ◌∷◌, ◌++◌, ref
 use Rattle.std.specs.List.{AllByRecursion}
 use Rattle.xml_text.specs.Grammar.{Attribute, Token, raw, reference, cdata, comment, instruction, declaration, doctype, start, empty, end}
 use Rattle.xml_text.specs.Tree.{Content, nothing, leaf, element, tokens_of, IsLeaf, HasLeaves}
-use Rattle.xml_text.specs.Trees.{IsProlog, IsRoot, IsTree}
+use Rattle.xml_text.specs.Trees.{IsMisc, AreTyped, IsProlog, IsRoot, IsTree}
 
 head_is : (x y : Token) (xs ys : List Token) → x ∷ xs ≡ y ∷ ys → x ≡ y
 head_is x y xs ys e = cc
@@ -86,24 +86,58 @@ IsTag (start name attributes space) = Unit {0}
 IsTag (empty name attributes space) = Unit {0}
 IsTag other = ⊥
 
-no_tag : (t : Token) → IsProlog t → IsTag t → ⊥
-no_tag (raw b) p h = h
-no_tag (reference body) p h = h
-no_tag (cdata body) p h = h
-no_tag (comment body) p h = h
-no_tag (instruction body) p h = h
-no_tag (declaration body) p h = h
-no_tag (doctype body) p h = h
-no_tag (start name attributes space) p h = p
-no_tag (empty name attributes space) p h = p
-no_tag (end name space) p h = h
+-- what stands before it
+abbrev IsNoTag : Token → Type 0
+IsNoTag t = IsTag t → ⊥
+
+misc_no_tag : (t : Token) → IsMisc t → IsNoTag t
+misc_no_tag (raw b) p h = h
+misc_no_tag (reference body) p h = h
+misc_no_tag (cdata body) p h = h
+misc_no_tag (comment body) p h = h
+misc_no_tag (instruction body) p h = h
+misc_no_tag (declaration body) p h = h
+misc_no_tag (doctype body) p h = h
+misc_no_tag (start name attributes space) p h = p
+misc_no_tag (empty name attributes space) p h = p
+misc_no_tag (end name space) p h = h
+
+misc_loose : (ts : List Token) → AllByRecursion IsMisc ts → AllByRecursion IsNoTag ts
+misc_loose [] h = tt
+misc_loose (t ∷ ts) h = (misc_no_tag t h.0, misc_loose ts h.1)
+
+typed_loose : (ts : List Token) → AreTyped ts → AllByRecursion IsNoTag ts
+typed_loose [] h = tt
+typed_loose (doctype body ∷ ts) h = (λ is. is, misc_loose ts h)
+typed_loose (raw b ∷ ts) h = (misc_no_tag (raw b) h.0, typed_loose ts h.1)
+typed_loose (reference body ∷ ts) h = absurd h.0
+typed_loose (cdata body ∷ ts) h = absurd h.0
+typed_loose (comment body ∷ ts) h = (λ is. is, typed_loose ts h.1)
+typed_loose (instruction body ∷ ts) h = (λ is. is, typed_loose ts h.1)
+typed_loose (declaration body ∷ ts) h = absurd h.0
+typed_loose (start name attributes space ∷ ts) h = absurd h.0
+typed_loose (empty name attributes space ∷ ts) h = absurd h.0
+typed_loose (end name space ∷ ts) h = absurd h.0
+
+prolog_loose : (ts : List Token) → IsProlog ts → AllByRecursion IsNoTag ts
+prolog_loose [] h = tt
+prolog_loose (declaration body ∷ ts) h = (λ is. is, typed_loose ts h)
+prolog_loose (doctype body ∷ ts) h = typed_loose (doctype body ∷ ts) h
+prolog_loose (raw b ∷ ts) h = typed_loose (raw b ∷ ts) h
+prolog_loose (reference body ∷ ts) h = absurd h.0
+prolog_loose (cdata body ∷ ts) h = absurd h.0
+prolog_loose (comment body ∷ ts) h = typed_loose (comment body ∷ ts) h
+prolog_loose (instruction body ∷ ts) h = typed_loose (instruction body ∷ ts) h
+prolog_loose (start name attributes space ∷ ts) h = absurd h.0
+prolog_loose (empty name attributes space ∷ ts) h = absurd h.0
+prolog_loose (end name space ∷ ts) h = absurd h.0
 
 -- the first tag, and what follows it
-first_tag : (b1 b2 : List Token) (t u : Token) (x y : List Token) → AllByRecursion IsProlog b1 → AllByRecursion IsProlog b2
+first_tag : (b1 b2 : List Token) (t u : Token) (x y : List Token) → AllByRecursion IsNoTag b1 → AllByRecursion IsNoTag b2
     → IsTag t → IsTag u → b1 ++ t ∷ x ≡ b2 ++ u ∷ y → t ∷ x ≡ u ∷ y
 first_tag [] [] t u x y p q h k e = e
-first_tag [] (s ∷ b2) t u x y p q h k e = absurd (no_tag s q.0 (subst IsTag (head_is _ _ _ _ e) h))
-first_tag (r ∷ b1) [] t u x y p q h k e = absurd (no_tag r p.0 (subst IsTag (sym (head_is _ _ _ _ e)) k))
+first_tag [] (s ∷ b2) t u x y p q h k e = absurd (q.0 (subst IsTag (head_is _ _ _ _ e) h))
+first_tag (r ∷ b1) [] t u x y p q h k e = absurd (p.0 (subst IsTag (sym (head_is _ _ _ _ e)) k))
 first_tag (r ∷ b1) (s ∷ b2) t u x y p q h k e = first_tag b1 b2 t u x y p.1 q.1 h k (tail_is _ _ _ _ e)
 
 pub one_tree : (tokens : List Token) (n m : List ℕ) (a b : Content) → IsTree tokens n a → IsTree tokens m b → a ≡ b
@@ -130,11 +164,11 @@ one_tree tokens n m a b t u = go t.root u.root t.is_root u.is_root (sym t.parts 
     go (r ∷ rs) (end c s ∷ q) h k e = absurd k
     go (empty n1 a1 s1 ∷ r) (empty n2 a2 s2 ∷ q) h k e = h.1 ∙ sym k.1
     go (empty n1 a1 s1 ∷ r) (start n2 a2 s2 ∷ q) h k e =
-        absurd (cc (head_is _ _ _ _ (first_tag t.before u.before _ _ _ _ t.prolog u.prolog tt tt e)))
+        absurd (cc (head_is _ _ _ _ (first_tag t.before u.before _ _ _ _ (prolog_loose t.before t.prolog) (prolog_loose u.before u.prolog) tt tt e)))
     go (start n1 a1 s1 ∷ r) (empty n2 a2 s2 ∷ q) h k e =
-        absurd (cc (head_is _ _ _ _ (first_tag t.before u.before _ _ _ _ t.prolog u.prolog tt tt e)))
+        absurd (cc (head_is _ _ _ _ (first_tag t.before u.before _ _ _ _ (prolog_loose t.before t.prolog) (prolog_loose u.before u.prolog) tt tt e)))
     go (start n1 a1 s1 ∷ r) (start n2 a2 s2 ∷ q) h k e =
-        let rest = tail_is _ _ _ _ (first_tag t.before u.before _ _ _ _ t.prolog u.prolog tt tt e) in
+        let rest = tail_is _ _ _ _ (first_tag t.before u.before _ _ _ _ (prolog_loose t.before t.prolog) (prolog_loose u.before u.prolog) tt tt e) in
         let left : r ++ t.behind ≡ tokens_of a ++ end n h.1.0 ∷ t.behind =
         ap (λ (ts : List Token). ts ++ t.behind) h.1.1 ∙ append_assoc (tokens_of a) (end n h.1.0 ∷ []) t.behind in
         let right : q ++ u.behind ≡ tokens_of b ++ end m k.1.0 ∷ u.behind =

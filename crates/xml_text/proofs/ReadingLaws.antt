@@ -8,12 +8,13 @@ use Rattle.xml_text.specs.declared.fault.Fault.TheVariants.{Malformed, NotText, 
 use Rattle.xml_text.specs.declared.place.Place.{Place}
 use Rattle.xml_text.specs.declared.texts.Part.{Part}
 use Rattle.xml_text.specs.declared.texts.Part.TheVariants.{Whole}
-use Rattle.xml_text.specs.Documents.{Advances, BeginsAt, Grows, IsEnding, IsTold, is_whole}
+use Rattle.xml_text.specs.private.Windows.{Advances, BeginsAt, Grows, IsEnding, IsTold, is_whole}
 use Rattle.xml_text.specs.Faults.{AtFault}
 use Rattle.xml_text.specs.Grammar.{Token}
-use Rattle.xml_text.specs.Limits.{Meets, IsLong, NoneMayStand}
+use Rattle.xml_text.specs.private.Bounds.{MeetsFrom, IsLongAt, NoneStandsAt}
 use Rattle.xml_text.specs.Pieces.{HasNoToken}
-use Rattle.xml_text.specs.Places.{Completes, IsDocument, IsNoDocument, IsNoText, first_place}
+use Rattle.xml_text.specs.private.Places.{Completes, IsComplete, IsNeverComplete, first_place}
+use Rattle.xml_text.specs.Documents.{IsNoText}
 use Rattle.xml_text.specs.Texts.{follow, is_start, IsSmall}
 use Rattle.xml_text.proofs.Runs.{rest_is}
 use Rattle.xml_text.proofs.DocumentLaws.{at_start, advance_further, advance_longer, a_round, known_malformed, known_told, known_cut, known_garbled, known_half, known_stuck, nothing_read, whole_document}
@@ -96,15 +97,15 @@ hands_on told left window shown behind n tokens others q r part s is b dropped =
 }
 
 pub none_follows : (told left : Option (List ℕ)) (window shown : List ℕ) (tokens : List Token) (q : Place) (part : Option Part) → State told left window tokens q part → shown ≡ window
-    → ((more : List ℕ) (all : List Token) → ¬ (Completes q (shown ++ more) all)) → IfSome told IsNoDocument
+    → ((more : List ℕ) (all : List Token) → ¬ (Completes q (shown ++ more) all)) → IfSome told IsNeverComplete
 none_follows told left window shown tokens q part s is none =
     known_malformed told (prepend_known s.bad left) s.text window tokens q s.read s.advances
     (subst (λ (l : List ℕ). (more : List ℕ) (all : List Token) → ¬ (Completes q (l ++ more) all)) is none)
 
 pub goes_beyond : (Limit : Place → List ℕ → Type 0) (told left : Option (List ℕ)) (window shown : List ℕ) (tokens : List Token) (q : Place) (part : Option Part) → Lasts Limit
-    → (others : List Token) → State told left window tokens q part → shown ≡ window → Meets Limit q others shown → IfSome told (Meets Limit first_place (tokens ++ others))
+    → (others : List Token) → State told left window tokens q part → shown ≡ window → MeetsFrom Limit q others shown → IfSome told (MeetsFrom Limit first_place (tokens ++ others))
 goes_beyond Limit told left window shown tokens q part lasts others s is m =
-    known_limit Limit told (prepend_known s.bad left) s.text window tokens q lasts s.read others s.advances (subst (Meets Limit q others) is m)
+    known_limit Limit told (prepend_known s.bad left) s.text window tokens q lasts s.read others s.advances (subst (MeetsFrom Limit q others) is m)
 
 pub is_garbled : (told left : Option (List ℕ)) (window : List ℕ) (tokens : List Token) (q : Place) (part : Option Part) → part ≡ None → State told left window tokens q part
     → IfSome told IsNoText
@@ -112,12 +113,12 @@ is_garbled told left window tokens q (Some p) is s = absurd cc
 is_garbled told left window tokens q None is s = known_garbled told left (s.text ++ s.bad) (put_back told left s.text s.bad s.read) s.at_part
 
 pub is_cut : (told left : Option (List ℕ)) (window : List ℕ) (tokens : List Token) (q : Place) (part : Part) → State told left window tokens q (Some part) → IsAtEnd left → HasNoToken window
-    → is_whole window q part ≡ false → IfSome told IsNoDocument
+    → is_whole window q part ≡ false → IfSome told IsNeverComplete
 is_cut told left window tokens q part s last none cut =
     known_cut told left s.text window tokens q part (nothing_bad told left s.text s.bad s.at_part.0 s.read) last s.advances s.at_part.1 none cut
 
 pub is_read : (told left : Option (List ℕ)) (window : List ℕ) (tokens : List Token) (q : Place) (part : Part) → State told left window tokens q (Some part) → IsAtEnd left
-    → is_whole window q part ≡ true → (text : List ℕ) × IsTold told text × IsDocument text tokens
+    → is_whole window q part ≡ true → (text : List ℕ) × IsTold told text × IsComplete text tokens
 is_read told left window tokens q part s last whole =
     (s.text, known_told told left s.text (nothing_bad told left s.text s.bad s.at_part.0 s.read) last, whole_document s.text window tokens q part s.advances s.at_part.1 whole)
 
@@ -162,11 +163,11 @@ at_same_fault P Q Read f h = tt
 at_same_fault P Q Memory f h = tt
 
 -- a window that is too long
-pub too_long : (told left : Option (List ℕ)) (window : List ℕ) (tokens : List Token) (q : Place) (part : Option Part) → State told left window tokens q part → IsLong q window
-    → IfSome told (Meets IsLong first_place tokens)
+pub too_long : (told left : Option (List ℕ)) (window : List ℕ) (tokens : List Token) (q : Place) (part : Option Part) → State told left window tokens q part → IsLongAt q window
+    → IfSome told (MeetsFrom IsLongAt first_place tokens)
 too_long told left window tokens q part s long =
-    subst (λ (ts : List Token). IfSome told (Meets IsLong first_place ts)) (append-nil tokens)
-    (goes_beyond IsLong told left window window tokens q part long_lasts [] s refl (record { rest = window; place = q; leads = at_start window q; meets = long }))
+    subst (λ (ts : List Token). IfSome told (MeetsFrom IsLongAt first_place ts)) (append-nil tokens)
+    (goes_beyond IsLongAt told left window window tokens q part long_lasts [] s refl (record { rest = window; place = q; leads = at_start window q; meets = long }))
 
 -- an end without bytes
 pub same_window : (before window piece : List ℕ) (part next : Part) → Grows before window part piece (Some next) → IsEnding piece → window ≡ before
@@ -206,14 +207,14 @@ reads_on_at told left later before window tokens place was part piece next s is 
 -- the last turn
 pub ends_whole : (told left later : Option (List ℕ)) (before window shown : List ℕ) (tokens : List Token) (place : Place) (was : Option Part) (part : Part) (piece : List ℕ) (next : Option Part) (last : Part)
     → State told left before tokens place was → was ≡ Some part → Consumes left later piece → Grows before window part piece next → next ≡ Some last → IsAtEnd later → shown ≡ window
-    → is_whole shown place last ≡ true → (text : List ℕ) × IsTold told text × IsDocument text tokens
+    → is_whole shown place last ≡ true → (text : List ℕ) × IsTold told text × IsComplete text tokens
 ends_whole told left later before window shown tokens place was part piece next last s is c g found end_here same whole =
     let t = reads_on_at told left later before window tokens place was part piece next s is c g in
     is_read told later window tokens place last (subst (λ (o : Option Part). State told later window tokens place o) found t) end_here (ap (λ (l : List ℕ). is_whole l place last) (sym same) ∙ whole)
 
 pub ends_cut : (told left later : Option (List ℕ)) (before window shown : List ℕ) (tokens : List Token) (place : Place) (was : Option Part) (part : Part) (piece : List ℕ) (next : Option Part) (last : Part)
     → State told left before tokens place was → was ≡ Some part → Consumes left later piece → Grows before window part piece next → next ≡ Some last → IsAtEnd later → shown ≡ window
-    → IsEnding piece → HasNoToken before → is_whole shown place last ≡ false → IfSome told IsNoDocument
+    → IsEnding piece → HasNoToken before → is_whole shown place last ≡ false → IfSome told IsNeverComplete
 ends_cut told left later before window shown tokens place was part piece next last s is c g found end_here same ending_is none not_whole =
     let t = reads_on_at told left later before window tokens place was part piece next s is c g in
     let grows = subst (Grows before window part piece) found g in
@@ -230,7 +231,7 @@ last_state told left later before window tokens place was part piece next last s
 
 pub ends_stuck : (told left later : Option (List ℕ)) (before window : List ℕ) (tokens : List Token) (place : Place) (was : Option Part) (part : Part) (piece : List ℕ) (next : Option Part) (last : Part)
     → State told left before tokens place was → was ≡ Some part → Consumes left later piece → Grows before window part piece next → next ≡ Some last → IsAtEnd later
-    → IsEnding piece → HasNoToken before → IfSome told (Meets NoneMayStand first_place tokens)
+    → IsEnding piece → HasNoToken before → IfSome told (MeetsFrom NoneStandsAt first_place tokens)
 ends_stuck told left later before window tokens place was part piece next last s is c g found end_here ending_is none =
     let t = last_state told left later before window tokens place was part piece next last s is c g found ending_is in
     known_stuck told later t.text before tokens place (nothing_bad told later t.text t.bad t.at_part.0 t.read) end_here t.advances none

@@ -2,15 +2,17 @@
 use Rattle.std.proofs.Common.{◌≡◌, ℕ, zero, suc, ◌<◌, Bool, true, false, cond, List, [], ◌∷◌, ◌++◌, length, Option, Some, None, refl, sym, ap, ◌∙◌, append_assoc, length-append, arith}
 use Rattle.std.specs.Prelude.{not, option_map, option_and_then}
 use Rattle.std.specs.Str.{bytes_eq}
-use Rattle.std.specs.List.{AllByRecursion, flat_map}
+use Rattle.std.specs.List.{AllByRecursion, list_all}
 use Rattle.std.proofs.lemmas.Slice.Eq.{bytes_eq-Decides}
 use Rattle.xml_text.specs.declared.nesting.Nesting.{Nesting}
-use Rattle.xml_text.specs.Grammar.{is_space, spelling, Token, raw, reference, cdata, comment, instruction, declaration, doctype, start, empty, end}
-use Rattle.xml_text.specs.Places.{nested, nests, first_nesting, last_nesting, first_place, last_place, IsDocument}
-use Rattle.xml_text.specs.Texts.{IsText}
+use Rattle.xml_text.specs.declared.place.Prolog.{Prolog}
+use Rattle.xml_text.specs.declared.place.Prolog.TheVariants.{Front, Open, Closed}
+use Rattle.xml_text.specs.Documents.{IsDocument, IsNoDocument}
+use Rattle.xml_text.specs.Grammar.{Attribute, is_space, is_token, Token, raw, reference, cdata, comment, instruction, declaration, doctype, start, empty, end}
+use Rattle.xml_text.specs.private.Places.{nested, nests, first_nesting, last_nesting, first_place, last_place, ordered, prolog_after, steps, IsComplete, IsNeverComplete}
 use Rattle.xml_text.specs.Tree.{Content, nothing, leaf, element, tokens_of, IsLeaf, HasLeaves}
-use Rattle.xml_text.specs.Trees.{IsMisc, IsProlog, IsRoot, IsTree, AreSound}
-use Rattle.xml_text.proofs.PlaceLaws.{nests-append, parts_of, steps_of}
+use Rattle.xml_text.specs.Trees.{IsMisc, AreTyped, IsProlog, IsRoot, IsTree, AreDocument}
+use Rattle.xml_text.proofs.PlaceLaws.{nests-append, prolog-append, parts_of, steps_of}
 
 abbrev inside_of : List (List ℕ) → Nesting
 inside_of names = record { names = names; begun = true }
@@ -106,73 +108,121 @@ misc_behind (empty name attributes space ∷ ts) h = absurd (none_ends h)
 misc_behind (start name attributes space ∷ ts) h = absurd (none_ends h)
 misc_behind (end name space ∷ ts) h = absurd (none_ends h)
 
-pub record SomeTree (tokens : List Token) : Type 0 where
-  pub name : List ℕ
-  pub inside : Content
-  pub tree : IsTree tokens name inside
+-- a tree behind tokens of which this holds
+record Trunk (P : List Token → Type 0) (tokens : List Token) : Type 0 where
+  name : List ℕ
+  inside : Content
+  before : List Token
+  root : List Token
+  behind : List Token
+  parts : tokens ≡ before ++ (root ++ behind)
+  is_root : IsRoot root name inside
+  leaves : HasLeaves inside
+  prolog : P before
+  misc : AllByRecursion IsMisc behind
 
-add_prolog : (t : Token) (ts : List Token) → IsProlog t → SomeTree ts → SomeTree (t ∷ ts)
-add_prolog t ts h s = record {
+grow : (P Q : List Token → Type 0) (t : Token) (ts : List Token) → ((l : List Token) → P l → Q (t ∷ l)) → Trunk P ts → Trunk Q (t ∷ ts)
+grow P Q t ts more s = record {
   name = s.name;
   inside = s.inside;
-  tree = record {
-    before = t ∷ s.tree.before;
-    root = s.tree.root;
-    behind = s.tree.behind;
-    parts = ap (λ (l : List Token). t ∷ l) s.tree.parts;
-    is_root = s.tree.is_root;
-    leaves = s.tree.leaves;
-    prolog = (h, s.tree.prolog);
-    misc = s.tree.misc;
-  };
+  before = t ∷ s.before;
+  root = s.root;
+  behind = s.behind;
+  parts = ap (λ (l : List Token). t ∷ l) s.parts;
+  is_root = s.is_root;
+  leaves = s.leaves;
+  prolog = more s.before s.prolog;
+  misc = s.misc;
 }
 
-pub tree_of : (ts : List Token) → ends_well (nests first_nesting ts) → SomeTree ts
-tree_of [] h =
-    let e : false ≡ true = ap (λ (p : Nesting). p.begun) (nesting_is first_nesting h) in
-    absurd cc
-tree_of (raw b ∷ ts) h = go (is_space b) refl h (tree_of ts)
-  where
-    go : (t : Bool) → is_space b ≡ t → ends_well (option_and_then (λ q. nests q ts) (cond (not t) None (Some first_nesting))) → (ends_well (nests first_nesting ts) → SomeTree ts) → SomeTree (raw b ∷ ts)
-    go true e k rest = add_prolog (raw b) ts e (rest k)
-    go false e k rest = absurd (none_ends k)
-tree_of (reference body ∷ ts) h = absurd (none_ends h)
-tree_of (cdata body ∷ ts) h = absurd (none_ends h)
-tree_of (comment body ∷ ts) h = add_prolog (comment body) ts tt (tree_of ts h)
-tree_of (instruction body ∷ ts) h = add_prolog (instruction body) ts tt (tree_of ts h)
-tree_of (declaration body ∷ ts) h = add_prolog (declaration body) ts tt (tree_of ts h)
-tree_of (doctype body ∷ ts) h = add_prolog (doctype body) ts tt (tree_of ts h)
-tree_of (empty name attributes space ∷ ts) h = record {
+empty_root : (P : List Token → Type 0) (name : List ℕ) (attributes : List Attribute) (space : List ℕ) (ts : List Token) → P [] → ends_well (nests last_nesting ts) → Trunk P (empty name attributes space ∷ ts)
+empty_root P name attributes space ts none h = record {
   name = name;
   inside = nothing;
-  tree = record {
-    before = [];
-    root = empty name attributes space ∷ [];
-    behind = ts;
-    parts = refl;
-    is_root = (refl, refl, refl);
-    leaves = tt;
-    prolog = tt;
-    misc = misc_behind ts h;
-  };
+  before = [];
+  root = empty name attributes space ∷ [];
+  behind = ts;
+  parts = refl;
+  is_root = (refl, refl, refl);
+  leaves = tt;
+  prolog = none;
+  misc = misc_behind ts h;
 }
-tree_of (start name attributes space ∷ ts) h =
+
+start_root : (P : List Token → Type 0) (name : List ℕ) (attributes : List Attribute) (space : List ℕ) (ts : List Token) → P [] → ends_well (nests (inside_of (name ∷ [])) ts) → Trunk P (start name attributes space ∷ ts)
+start_root P name attributes space ts none h =
     let i = inside_ends (suc (length ts)) ts name [] (omega arith) h in
     record {
       name = name;
       inside = i.content;
-      tree = record {
-        before = [];
-        root = start name attributes space ∷ (tokens_of i.content ++ end name i.closing ∷ []);
-        behind = i.rest;
-        parts = ap (λ (l : List Token). start name attributes space ∷ l) (i.parts ∙ sym (append_assoc (tokens_of i.content) (end name i.closing ∷ []) i.rest));
-        is_root = (refl, (i.closing, refl));
-        leaves = i.leaves;
-        prolog = tt;
-        misc = misc_behind i.rest i.goes_on;
-      };
+      before = [];
+      root = start name attributes space ∷ (tokens_of i.content ++ end name i.closing ∷ []);
+      behind = i.rest;
+      parts = ap (λ (l : List Token). start name attributes space ∷ l) (i.parts ∙ sym (append_assoc (tokens_of i.content) (end name i.closing ∷ []) i.rest));
+      is_root = (refl, (i.closing, refl));
+      leaves = i.leaves;
+      prolog = none;
+      misc = misc_behind i.rest i.goes_on;
     }
-tree_of (end name space ∷ ts) h = absurd (none_ends h)
+
+-- outside of the root a byte of a text is white space
+space_first : (A : Type 0) (b : ℕ) (ts : List Token) → nests first_nesting (raw b ∷ ts) ≡ Some last_nesting
+    → (is_space b ≡ true → ends_well (nests first_nesting ts) → A) → A
+space_first A b ts h then = go (is_space b) refl h
+  where
+    go : (t : Bool) → is_space b ≡ t → ends_well (option_and_then (λ q. nests q ts) (cond (not t) None (Some first_nesting))) → A
+    go true e k = then e k
+    go false e k = absurd (none_ends k)
+
+abbrev closes_with : Option Prolog → Type 0
+closes_with o = o ≡ Some Closed
+
+none_closes : closes_with None → ⊥
+none_closes h = cc
+
+not_begun : (A : Type 0) → ends_well (nests first_nesting []) → A
+not_begun A h =
+    let e : false ≡ true = ap (λ (p : Nesting). p.begun) (nesting_is first_nesting h) in
+    absurd cc
+
+past_type : (ts : List Token) → ends_well (nests first_nesting ts) → closes_with (prolog_after Closed ts) → Trunk (AllByRecursion IsMisc) ts
+past_type [] h o = not_begun _ h
+past_type (raw b ∷ ts) h o = space_first _ b ts h (λ e k. grow _ _ (raw b) ts (λ l m. (e, m)) (past_type ts k o))
+past_type (reference body ∷ ts) h o = absurd (none_ends h)
+past_type (cdata body ∷ ts) h o = absurd (none_ends h)
+past_type (comment body ∷ ts) h o = grow _ _ (comment body) ts (λ l m. (tt, m)) (past_type ts h o)
+past_type (instruction body ∷ ts) h o = grow _ _ (instruction body) ts (λ l m. (tt, m)) (past_type ts h o)
+past_type (declaration body ∷ ts) h o = absurd (none_closes o)
+past_type (doctype body ∷ ts) h o = absurd (none_closes o)
+past_type (empty name attributes space ∷ ts) h o = empty_root _ name attributes space ts tt h
+past_type (start name attributes space ∷ ts) h o = start_root _ name attributes space ts tt h
+past_type (end name space ∷ ts) h o = absurd (none_ends h)
+
+past_front : (ts : List Token) → ends_well (nests first_nesting ts) → closes_with (prolog_after Open ts) → Trunk AreTyped ts
+past_front [] h o = not_begun _ h
+past_front (raw b ∷ ts) h o = space_first _ b ts h (λ e k. grow _ _ (raw b) ts (λ l m. (e, m)) (past_front ts k o))
+past_front (reference body ∷ ts) h o = absurd (none_ends h)
+past_front (cdata body ∷ ts) h o = absurd (none_ends h)
+past_front (comment body ∷ ts) h o = grow _ _ (comment body) ts (λ l m. (tt, m)) (past_front ts h o)
+past_front (instruction body ∷ ts) h o = grow _ _ (instruction body) ts (λ l m. (tt, m)) (past_front ts h o)
+past_front (declaration body ∷ ts) h o = absurd (none_closes o)
+past_front (doctype body ∷ ts) h o = grow (AllByRecursion IsMisc) _ (doctype body) ts (λ l m. m) (past_type ts h o)
+past_front (empty name attributes space ∷ ts) h o = empty_root _ name attributes space ts tt h
+past_front (start name attributes space ∷ ts) h o = start_root _ name attributes space ts tt h
+past_front (end name space ∷ ts) h o = absurd (none_ends h)
+
+from_front : (ts : List Token) → ends_well (nests first_nesting ts) → closes_with (prolog_after Front ts) → Trunk IsProlog ts
+from_front [] h o = not_begun _ h
+from_front (raw b ∷ ts) h o = space_first _ b ts h (λ e k. grow AreTyped _ (raw b) ts (λ l m. (e, m)) (past_front ts k o))
+from_front (reference body ∷ ts) h o = absurd (none_ends h)
+from_front (cdata body ∷ ts) h o = absurd (none_ends h)
+from_front (comment body ∷ ts) h o = grow AreTyped _ (comment body) ts (λ l m. (tt, m)) (past_front ts h o)
+from_front (instruction body ∷ ts) h o = grow AreTyped _ (instruction body) ts (λ l m. (tt, m)) (past_front ts h o)
+from_front (declaration body ∷ ts) h o = grow AreTyped _ (declaration body) ts (λ l m. m) (past_front ts h o)
+from_front (doctype body ∷ ts) h o = grow (AllByRecursion IsMisc) _ (doctype body) ts (λ l m. m) (past_type ts h o)
+from_front (empty name attributes space ∷ ts) h o = empty_root _ name attributes space ts tt h
+from_front (start name attributes space ∷ ts) h o = start_root _ name attributes space ts tt h
+from_front (end name space ∷ ts) h o = absurd (none_ends h)
 
 -- ---- and back
 
@@ -205,18 +255,75 @@ content_stays (element name attributes space inside closing rest) n os h =
     then_go (inside_of (name ∷ n ∷ os)) (inside_of (name ∷ n ∷ os)) (tokens_of inside) (end name closing ∷ tokens_of rest) (content_stays inside name (n ∷ os) h.0)
     ∙ rw (closes name closing (n ∷ os)) (content_stays rest n os h.1)
 
-prolog_stays : (ts : List Token) → AllByRecursion IsProlog ts → nests first_nesting ts ≡ Some first_nesting
-prolog_stays [] h = refl
-prolog_stays (raw b ∷ ts) h = rw h.0 (prolog_stays ts h.1)
-prolog_stays (comment body ∷ ts) h = prolog_stays ts h.1
-prolog_stays (instruction body ∷ ts) h = prolog_stays ts h.1
-prolog_stays (declaration body ∷ ts) h = prolog_stays ts h.1
-prolog_stays (doctype body ∷ ts) h = prolog_stays ts h.1
-prolog_stays (reference body ∷ ts) h = absurd h.0
-prolog_stays (cdata body ∷ ts) h = absurd h.0
-prolog_stays (start name attributes space ∷ ts) h = absurd h.0
-prolog_stays (empty name attributes space ∷ ts) h = absurd h.0
-prolog_stays (end name space ∷ ts) h = absurd h.0
+record Stays (p : Prolog) (ts : List Token) : Type 0 where
+  nesting : nests first_nesting ts ≡ Some first_nesting
+  last : Prolog
+  order : prolog_after p ts ≡ Some last
+
+misc_first : (ts : List Token) → AllByRecursion IsMisc ts → Stays Closed ts
+misc_first [] h = record { nesting = refl; last = Closed; order = refl }
+misc_first (raw b ∷ ts) h =
+    let s = misc_first ts h.1 in
+    record { nesting = rw h.0 s.nesting; last = s.last; order = s.order }
+misc_first (comment body ∷ ts) h =
+    let s = misc_first ts h.1 in
+    record { nesting = s.nesting; last = s.last; order = s.order }
+misc_first (instruction body ∷ ts) h =
+    let s = misc_first ts h.1 in
+    record { nesting = s.nesting; last = s.last; order = s.order }
+misc_first (declaration body ∷ ts) h = absurd h.0
+misc_first (doctype body ∷ ts) h = absurd h.0
+misc_first (reference body ∷ ts) h = absurd h.0
+misc_first (cdata body ∷ ts) h = absurd h.0
+misc_first (start name attributes space ∷ ts) h = absurd h.0
+misc_first (empty name attributes space ∷ ts) h = absurd h.0
+misc_first (end name space ∷ ts) h = absurd h.0
+
+typed_first : (ts : List Token) → AreTyped ts → Stays Open ts
+typed_first [] h = record { nesting = refl; last = Open; order = refl }
+typed_first (raw b ∷ ts) h =
+    let s = typed_first ts h.1 in
+    record { nesting = rw h.0 s.nesting; last = s.last; order = s.order }
+typed_first (comment body ∷ ts) h =
+    let s = typed_first ts h.1 in
+    record { nesting = s.nesting; last = s.last; order = s.order }
+typed_first (instruction body ∷ ts) h =
+    let s = typed_first ts h.1 in
+    record { nesting = s.nesting; last = s.last; order = s.order }
+typed_first (declaration body ∷ ts) h = absurd h.0
+typed_first (doctype body ∷ ts) h =
+    let s = misc_first ts h in
+    record { nesting = s.nesting; last = s.last; order = s.order }
+typed_first (reference body ∷ ts) h = absurd h.0
+typed_first (cdata body ∷ ts) h = absurd h.0
+typed_first (start name attributes space ∷ ts) h = absurd h.0
+typed_first (empty name attributes space ∷ ts) h = absurd h.0
+typed_first (end name space ∷ ts) h = absurd h.0
+
+-- behind any other token than a declaration or a DOCTYPE
+opens : (t : Token) (ts : List Token) → ordered Front t ≡ Some Open → Stays Open (t ∷ ts) → ordered Open t ≡ Some Open → Stays Front (t ∷ ts)
+opens t ts e s f = record {
+  nesting = s.nesting;
+  last = s.last;
+  order = rw e (sym (rw f refl) ∙ s.order);
+}
+
+prolog_first : (ts : List Token) → IsProlog ts → Stays Front ts
+prolog_first [] h = record { nesting = refl; last = Front; order = refl }
+prolog_first (raw b ∷ ts) h = opens (raw b) ts refl (typed_first (raw b ∷ ts) h) refl
+prolog_first (comment body ∷ ts) h = opens (comment body) ts refl (typed_first (comment body ∷ ts) h) refl
+prolog_first (instruction body ∷ ts) h = opens (instruction body) ts refl (typed_first (instruction body ∷ ts) h) refl
+prolog_first (declaration body ∷ ts) h =
+    let s = typed_first ts h in
+    record { nesting = s.nesting; last = s.last; order = s.order }
+prolog_first (doctype body ∷ ts) h =
+    let s = misc_first ts h in
+    record { nesting = s.nesting; last = s.last; order = s.order }
+prolog_first (reference body ∷ ts) h = absurd h.0
+prolog_first (cdata body ∷ ts) h = absurd h.0
+prolog_first (start name attributes space ∷ ts) h = absurd h.0
+prolog_first (empty name attributes space ∷ ts) h = absurd h.0
+prolog_first (end name space ∷ ts) h = absurd h.0
 
 misc_stays : (ts : List Token) → AllByRecursion IsMisc ts → nests last_nesting ts ≡ Some last_nesting
 misc_stays [] h = refl
@@ -247,23 +354,108 @@ root_ends (declaration body ∷ tokens) name inside l h = absurd h
 root_ends (doctype body ∷ tokens) name inside l h = absurd h
 root_ends (end n space ∷ tokens) name inside l h = absurd h
 
+-- behind the root's tag
+leaf_past : (t : Token) → IsLeaf t → ordered Closed t ≡ Some Closed
+leaf_past (raw b) h = refl
+leaf_past (reference body) h = refl
+leaf_past (cdata body) h = refl
+leaf_past (comment body) h = refl
+leaf_past (instruction body) h = refl
+leaf_past (declaration body) h = absurd h
+leaf_past (doctype body) h = absurd h
+leaf_past (start name attributes space) h = absurd h
+leaf_past (empty name attributes space) h = refl
+leaf_past (end name space) h = absurd h
+
+past_go : (p q : Prolog) (xs ys : List Token) → prolog_after p xs ≡ Some q → prolog_after p (xs ++ ys) ≡ prolog_after q ys
+past_go p q xs ys h = prolog-append p xs ys ∙ rw h refl
+
+content_past : (c : Content) → HasLeaves c → prolog_after Closed (tokens_of c) ≡ Some Closed
+content_past nothing h = refl
+content_past (leaf t rest) h = rw (leaf_past t h.0) (content_past rest h.1)
+content_past (element name attributes space inside closing rest) h =
+    past_go Closed Closed (tokens_of inside) (end name closing ∷ tokens_of rest) (content_past inside h.0)
+    ∙ content_past rest h.1
+
+misc_past : (ts : List Token) → AllByRecursion IsMisc ts → prolog_after Closed ts ≡ Some Closed
+misc_past [] h = refl
+misc_past (raw b ∷ ts) h = misc_past ts h.1
+misc_past (comment body ∷ ts) h = misc_past ts h.1
+misc_past (instruction body ∷ ts) h = misc_past ts h.1
+misc_past (declaration body ∷ ts) h = absurd h.0
+misc_past (doctype body ∷ ts) h = absurd h.0
+misc_past (reference body ∷ ts) h = absurd h.0
+misc_past (cdata body ∷ ts) h = absurd h.0
+misc_past (start name attributes space ∷ ts) h = absurd h.0
+misc_past (empty name attributes space ∷ ts) h = absurd h.0
+misc_past (end name space ∷ ts) h = absurd h.0
+
+root_past : (p : Prolog) (root : List Token) (name : List ℕ) (inside : Content) → HasLeaves inside → IsRoot root name inside → prolog_after p root ≡ Some Closed
+root_past p [] name inside l h = absurd h
+root_past p (start n attributes space ∷ tokens) name inside l h =
+    ap (prolog_after Closed) h.1.1
+    ∙ past_go Closed Closed (tokens_of inside) (end name h.1.0 ∷ []) (content_past inside l)
+root_past p (empty n attributes space ∷ tokens) name inside l h = ap (prolog_after Closed) h.2
+root_past p (raw b ∷ tokens) name inside l h = absurd h
+root_past p (reference body ∷ tokens) name inside l h = absurd h
+root_past p (cdata body ∷ tokens) name inside l h = absurd h
+root_past p (comment body ∷ tokens) name inside l h = absurd h
+root_past p (instruction body ∷ tokens) name inside l h = absurd h
+root_past p (declaration body ∷ tokens) name inside l h = absurd h
+root_past p (doctype body ∷ tokens) name inside l h = absurd h
+root_past p (end n space ∷ tokens) name inside l h = absurd h
+
 tree_nests : (tokens : List Token) (name : List ℕ) (inside : Content) → IsTree tokens name inside → nests first_nesting tokens ≡ Some last_nesting
 tree_nests tokens name inside t =
-    ap (nests first_nesting) t.parts ∙ then_go first_nesting first_nesting t.before (t.root ++ t.behind) (prolog_stays t.before t.prolog)
+    ap (nests first_nesting) t.parts ∙ then_go first_nesting first_nesting t.before (t.root ++ t.behind) (prolog_first t.before t.prolog).nesting
     ∙ then_go first_nesting last_nesting t.root t.behind (root_ends t.root name inside t.leaves t.is_root) ∙ misc_stays t.behind t.misc
 
-pub document_of : (bytes : List ℕ) (tokens : List Token) (name : List ℕ) (inside : Content) → IsText bytes → bytes ≡ flat_map spelling tokens → AreSound tokens → IsTree tokens name inside → IsDocument bytes tokens
-document_of bytes tokens name inside text spelled sound tree = record {
-  text = text;
-  spelled = spelled;
-  each = sound.each;
-  ends = steps_of first_place tokens last_place (record { distinct = sound.distinct; nesting = tree_nests tokens name inside tree; count = sound.apart; order = sound.order });
-}
+tree_order : (tokens : List Token) (name : List ℕ) (inside : Content) → IsTree tokens name inside → prolog_after Front tokens ≡ Some Closed
+tree_order tokens name inside t =
+    let s = prolog_first t.before t.prolog in
+    ap (prolog_after Front) t.parts ∙ past_go Front s.last t.before (t.root ++ t.behind) s.order
+    ∙ past_go s.last Closed t.root t.behind (root_past s.last t.root name inside t.leaves t.is_root) ∙ misc_past t.behind t.misc
 
-pub sound_of : (bytes : List ℕ) (tokens : List Token) → IsDocument bytes tokens → AreSound tokens
-sound_of bytes tokens d =
-    let parts = parts_of first_place tokens last_place d.ends in
-    record { each = d.each; distinct = parts.distinct; apart = parts.count; order = parts.order }
+-- ---- documents
 
-pub document_tree : (bytes : List ℕ) (tokens : List Token) → IsDocument bytes tokens → SomeTree tokens
-document_tree bytes tokens d = tree_of tokens (parts_of first_place tokens last_place d.ends).nesting
+-- the tokens of a document lead to its end
+pub leads_through : (tokens : List Token) → AreDocument tokens → steps first_place tokens ≡ Some last_place
+leads_through tokens d =
+    steps_of first_place tokens last_place (record {
+      distinct = d.distinct;
+      nesting = tree_nests tokens d.name d.inside d.tree;
+      count = d.apart;
+      order = tree_order tokens d.name d.inside d.tree;
+    })
+
+-- tokens that lead to the end of one are those of a document
+pub are_document : (tokens : List Token) → list_all is_token tokens ≡ true → steps first_place tokens ≡ Some last_place → AreDocument tokens
+are_document tokens each ends =
+    let parts = parts_of first_place tokens last_place ends in
+    let s = from_front tokens parts.nesting parts.order in
+    record {
+      each = each;
+      distinct = parts.distinct;
+      apart = parts.count;
+      name = s.name;
+      inside = s.inside;
+      tree = record {
+        before = s.before;
+        root = s.root;
+        behind = s.behind;
+        parts = s.parts;
+        is_root = s.is_root;
+        leaves = s.leaves;
+        prolog = s.prolog;
+        misc = s.misc;
+      };
+    }
+
+pub complete_of : (bytes : List ℕ) (tokens : List Token) → IsDocument bytes tokens → IsComplete bytes tokens
+complete_of bytes tokens d = record { text = d.text; spelled = d.spelled; each = d.are.each; ends = leads_through tokens d.are }
+
+pub document_of : (bytes : List ℕ) (tokens : List Token) → IsComplete bytes tokens → IsDocument bytes tokens
+document_of bytes tokens c = record { text = c.text; spelled = c.spelled; are = are_document tokens c.each c.ends }
+
+pub never_document : (bytes : List ℕ) → IsNeverComplete bytes → IsNoDocument bytes
+never_document bytes none tokens d = none tokens (complete_of bytes tokens d)

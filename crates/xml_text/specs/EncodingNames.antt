@@ -1,9 +1,10 @@
 -- The encoding that a document says it has.
-use Rattle.std.specs.Prelude.{◌≡◌, ℕ, Bool, ◌||◌, ◌==◌, codes, List, [], ◌∷◌, Option, Some, None}
-use Rattle.std.specs.Prelude.{Result, Ok, ⊤, if◌then◌else◌, option_map, take, drop, unwrap_or}
-use Rattle.std.specs.Char.{to_ascii_lowercase}
+use Rattle.std.specs.Prelude.{◌≡◌, ℕ, Bool, ◌||◌, ◌==◌, codes, List, [], ◌∷◌, Option, Some, None, not}
+use Rattle.std.specs.Prelude.{Result, Ok, ⊤, option_map, take, drop, unwrap_or}
+use Rattle.std.specs.List.{filter}
+use Rattle.std.specs.Option.{option_or}
 use Rattle.std.specs.Result.{result_ok}
-use Rattle.std.specs.Str.{bytes_eq}
+use Rattle.std.specs.Str.{bytes_eq, str_to_ascii_lowercase}
 use Rattle.xml_text.specs.declared.encodings.Encoding.{Encoding}
 use Rattle.xml_text.specs.declared.encodings.Encoding.TheVariants.{Utf8, Ascii, Latin1}
 use Rattle.xml_text.specs.declared.encodings.Encoding.TheVariants.{Latin9, Windows1252}
@@ -12,12 +13,11 @@ use Rattle.xml_text.specs.Encodings.{decoded}
 use Rattle.xml_text.specs.declared.stop.Stop.{Stop}
 use Rattle.xml_text.specs.Grammar.{begins, declared_at}
 use Rattle.xml_text.specs.Steps.{◌>>=◌, literal}
+use Rattle.xml_text.specs.Tables.{entry}
 
 -- a name without its hyphens and low lines, in small letters
 abbrev pub plain_name : List ℕ → List ℕ
-plain_name [] = []
-plain_name (b ∷ name) =
-    if (b == 45) || (b == 95) then plain_name name else to_ascii_lowercase b ∷ plain_name name
+plain_name name = str_to_ascii_lowercase (filter (λ b. not ((b == 45) || (b == 95))) name)
 
 abbrev pub is_alike : List ℕ → List ℕ → Bool
 is_alike name plain = bytes_eq (plain_name name) plain
@@ -26,13 +26,9 @@ is_alike name plain = bytes_eq (plain_name name) plain
 -- would not be: what says so there is UTF-8.
 abbrev pub encoding_of : List ℕ → Option Encoding
 encoding_of name =
-    if is_alike name (codes "utf8") || is_alike name (codes "utf16") then Some Utf8
-    else if is_alike name (codes "usascii") || is_alike name (codes "ascii") then Some Ascii
-    else if is_alike name (codes "iso88591") || is_alike name (codes "latin1") then Some Latin1
-    else if is_alike name (codes "iso885915") then Some Latin9
-    else if is_alike name (codes "windows1252") || is_alike name (codes "cp1252")
-    then Some Windows1252
-    else None
+    entry (λ key. is_alike name (codes key)) (("utf8", Utf8) ∷ ("utf16", Utf8) ∷ ("usascii", Ascii)
+    ∷ ("ascii", Ascii) ∷ ("iso88591", Latin1) ∷ ("latin1", Latin1) ∷ ("iso885915", Latin9)
+    ∷ ("windows1252", Windows1252) ∷ ("cp1252", Windows1252) ∷ [])
 
 -- the encoding in a declaration at the front
 unfoldable pub encoding_in : List ℕ → Result (List ℕ) Stop
@@ -48,27 +44,21 @@ declared_name head = result_ok (encoding_in head)
 abbrev pub declared_or_empty : List ℕ → List ℕ
 declared_or_empty head = unwrap_or (declared_name head) []
 
--- where nothing is said, UTF-8
-abbrev pub named : Option (List ℕ) → Option Encoding
-named None = Some Utf8
-named (Some name) = encoding_of name
+-- the encoding that is declared, and where none is, UTF-8
+abbrev pub declared : List ℕ → Option Encoding
+declared head = encoding_of (unwrap_or (declared_name head) (codes "utf8"))
 
 -- the encoding of a byte order mark at the front, and how many bytes the mark has
 abbrev pub marked : List ℕ → Option (Encoding × ℕ)
 marked head =
-    if begins (239 ∷ 187 ∷ 191 ∷ []) head then Some (Utf8, 3)
-    else if begins (254 ∷ 255 ∷ []) head then Some (Utf16Big, 2)
-    else if begins (255 ∷ 254 ∷ []) head then Some (Utf16Little, 2)
-    else None
-
-abbrev pub or_declared : Option (Encoding × ℕ) → List ℕ → Option (Encoding × ℕ)
-or_declared (Some found) head = Some found
-or_declared None head = option_map (λ encoding. (encoding, 0)) (named (declared_name head))
+    entry (λ mark. begins mark head) ((239 ∷ 187 ∷ 191 ∷ [], (Utf8, 3))
+    ∷ (254 ∷ 255 ∷ [], (Utf16Big, 2)) ∷ (255 ∷ 254 ∷ [], (Utf16Little, 2)) ∷ [])
 
 -- The encoding of a document that begins so, and how many bytes its byte order mark has: the one
 -- that the mark tells, else the one of its declaration.
 abbrev pub encoding_at : List ℕ → Option (Encoding × ℕ)
-encoding_at head = or_declared (marked head) head
+encoding_at head =
+    option_or (marked head) (option_map (λ encoding. (encoding, 0)) (declared head))
 
 -- The text of a document's bytes, where its encoding is known. It is told within the first 1,024
 -- bytes, and the mark is no part of the text.

@@ -1,9 +1,10 @@
 -- Encodings, and the text that bytes are in one.
 use Rattle.std.specs.Prelude.{ℕ, ◌+◌, ◌-◌, ◌*◌, Bool, ◌&&◌, ◌==◌, nat_lt, nat_le, List, [], ◌∷◌}
-use Rattle.std.specs.Prelude.{◌++◌, if◌then◌else◌, encode_utf8, slice_index}
+use Rattle.std.specs.Prelude.{◌++◌, if◌then◌else◌, encode_utf8, slice_index, unwrap_or}
 use Rattle.std.specs.List.{flat_map}
+use Rattle.xml_text.specs.Tables.{entry}
 use Rattle.xml_text.specs.declared.encodings.Encoding.{Encoding}
-use Rattle.xml_text.specs.declared.encodings.Encoding.TheVariants.{Utf8, Ascii, Latin1}
+use Rattle.xml_text.specs.declared.encodings.Encoding.TheVariants.{Utf8, Ascii}
 use Rattle.xml_text.specs.declared.encodings.Encoding.TheVariants.{Latin9, Windows1252}
 use Rattle.xml_text.specs.declared.encodings.Encoding.TheVariants.{Utf16Big, Utf16Little}
 
@@ -21,14 +22,8 @@ windows_code b = if nat_lt b 160 then slice_index windows_codes (b - 128) else b
 -- the code point of a byte of ISO-8859-15, which has eight others than ISO-8859-1
 abbrev pub latin9_code : ℕ → ℕ
 latin9_code b =
-    if b == 164 then 8364 else
-    if b == 166 then 352 else
-    if b == 168 then 353 else
-    if b == 180 then 381 else
-    if b == 184 then 382 else
-    if b == 188 then 338 else
-    if b == 189 then 339 else
-    if b == 190 then 376 else b
+    unwrap_or (entry (λ c. b == c) ((164, 8364) ∷ (166, 352) ∷ (168, 353) ∷ (180, 381) ∷ (184, 382)
+    ∷ (188, 338) ∷ (189, 339) ∷ (190, 376) ∷ [])) b
 
 -- The code point of a byte. One that the encoding does not have is 0, a character that no document
 -- has.

@@ -7,12 +7,12 @@ pub mod View
 pub mod Kinds
 pub mod AttributeView
 pub mod Pieces
-pub mod Places
 pub mod Stacks
 pub mod Documents
 pub mod Limits
 pub mod Distinct
 pub mod Skims
+pub mod Tables
 pub mod References
 pub mod HtmlNames
 pub mod Values

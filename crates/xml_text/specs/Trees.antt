@@ -1,10 +1,10 @@
 -- A document as a tree.
-use Rattle.std.specs.Prelude.{◌≡◌, ℕ, true, Some, List, [], ◌∷◌, ◌++◌}
+use Rattle.std.specs.Prelude.{◌≡◌, ℕ, suc, true, ◌==◌, ◌&&◌, nat_lt, Option, Some, None, List, []}
+use Rattle.std.specs.Prelude.{◌∷◌, ◌++◌, option_and_then, if◌then◌else◌}
 use Rattle.std.specs.List.{AllByRecursion, list_all}
+use Rattle.xml_text.specs.Distinct.{has_distinct}
 use Rattle.xml_text.specs.Grammar.{is_space, Token, raw, comment, instruction, declaration, doctype}
 use Rattle.xml_text.specs.Grammar.{start, empty, end, is_token}
-use Rattle.xml_text.specs.Places.{has_distinct, brackets_after, prolog_after}
-use Rattle.xml_text.specs.declared.place.Prolog.TheVariants.{Front, Closed}
 use Rattle.xml_text.specs.Tree.{Content, nothing, tokens_of, HasLeaves}
 
 -- what may stand behind the root: white space, comments and instructions
@@ -14,14 +14,16 @@ IsMisc (comment body) = Unit {0}
 IsMisc (instruction body) = Unit {0}
 IsMisc other = ⊥
 
--- what may stand before it: also the declaration and the DOCTYPE
-abbrev pub IsProlog : Token → Type 0
-IsProlog (raw b) = is_space b ≡ true
-IsProlog (comment body) = Unit {0}
-IsProlog (instruction body) = Unit {0}
-IsProlog (declaration body) = Unit {0}
-IsProlog (doctype body) = Unit {0}
-IsProlog other = ⊥
+-- such tokens, and one DOCTYPE at most
+abbrev pub AreTyped : List Token → Type 0
+AreTyped [] = Unit {0}
+AreTyped (doctype body ∷ tokens) = AllByRecursion IsMisc tokens
+AreTyped (token ∷ tokens) = IsMisc token × AreTyped tokens
+
+-- what may stand before it: these, and the declaration at the front
+abbrev pub IsProlog : List Token → Type 0
+IsProlog (declaration body ∷ tokens) = AreTyped tokens
+IsProlog tokens = AreTyped tokens
 
 -- the tokens of a root element with its tags, or of an empty one
 abbrev pub IsRoot : List Token → List ℕ → Content → Type 0
@@ -40,13 +42,30 @@ pub record IsTree (tokens : List Token) (name : List ℕ) (inside : Content) : T
   pub parts : tokens ≡ before ++ (root ++ behind)
   pub is_root : IsRoot root name inside
   pub leaves : HasLeaves inside
-  pub prolog : AllByRecursion IsProlog before
+  pub prolog : IsProlog before
   pub misc : AllByRecursion IsMisc behind
 
--- Each token is well formed, its attributes have names of their own, no text has ]]>, a declaration
--- stands at the front alone, and there is one DOCTYPE at most.
-pub record AreSound (tokens : List Token) : Type 0 where
+-- How many closing brackets of a text stand before the next token, two at most. In a text no >
+-- stands behind two of them.
+abbrev pub next_brackets : ℕ → Token → Option ℕ
+next_brackets n (raw b) =
+    if b == 93 then Some (if nat_lt n 2 then suc n else n)
+    else if (b == 62) && (n == 2) then None
+    else Some 0
+next_brackets n other = Some 0
+
+-- that number behind these tokens, or none where a > stands behind two brackets
+abbrev pub brackets_after : ℕ → List Token → Option ℕ
+brackets_after n [] = Some n
+brackets_after n (token ∷ tokens) =
+    option_and_then (λ m. brackets_after m tokens) (next_brackets n token)
+
+-- The tokens are those of a document: a tree, of which each token is well formed, the attributes of
+-- each tag have names of their own, and no text has ]]>.
+pub record AreDocument (tokens : List Token) : Type 0 where
   pub each : list_all is_token tokens ≡ true
   pub distinct : list_all has_distinct tokens ≡ true
   pub apart : brackets_after 0 tokens ≡ Some 0
-  pub order : prolog_after Front tokens ≡ Some Closed
+  pub name : List ℕ
+  pub inside : Content
+  pub tree : IsTree tokens name inside

@@ -1,7 +1,7 @@
 //! The encoding that a document says it has.
 
 ghost use Rattle.std.specs.Prelude.{◌≡◌, ◌≤◌, ◌∷◌, [], IfSome, length, option_map};
-ghost use Rattle.xml_text.specs.EncodingNames.{is_alike, encoding_of, encoding_in, declared_name, declared_or_empty, named, marked, encoding_at};
+ghost use Rattle.xml_text.specs.EncodingNames.{is_alike, encoding_of, encoding_in, declared_name, declared_or_empty, declared, marked, encoding_at};
 ghost use Rattle.xml_text.specs.Steps.{Gives};
 
 use crate::encodings::Encoding;
@@ -36,15 +36,23 @@ fn is_alike(name: &[u8], plain: &[u8]) -> bool
 fn encoding_of(name: &[u8]) -> Option<Encoding>
     ensures { result ≡ encoding_of name.now }
 {
-    if is_alike(name, b"utf8") || is_alike(name, b"utf16") {
+    if is_alike(name, b"utf8") {
         Some(Encoding::Utf8)
-    } else if is_alike(name, b"usascii") || is_alike(name, b"ascii") {
+    } else if is_alike(name, b"utf16") {
+        Some(Encoding::Utf8)
+    } else if is_alike(name, b"usascii") {
         Some(Encoding::Ascii)
-    } else if is_alike(name, b"iso88591") || is_alike(name, b"latin1") {
+    } else if is_alike(name, b"ascii") {
+        Some(Encoding::Ascii)
+    } else if is_alike(name, b"iso88591") {
+        Some(Encoding::Latin1)
+    } else if is_alike(name, b"latin1") {
         Some(Encoding::Latin1)
     } else if is_alike(name, b"iso885915") {
         Some(Encoding::Latin9)
-    } else if is_alike(name, b"windows1252") || is_alike(name, b"cp1252") {
+    } else if is_alike(name, b"windows1252") {
+        Some(Encoding::Windows1252)
+    } else if is_alike(name, b"cp1252") {
         Some(Encoding::Windows1252)
     } else {
         None
@@ -81,12 +89,9 @@ pub(crate) fn declared_or_empty(head: &[u8]) -> &[u8]
 
 // The encoding that the declaration names, and UTF-8 where none does.
 fn declared_encoding(head: &[u8]) -> Option<Encoding>
-    ensures { result ≡ named (declared_name head.now) }
+    ensures { result ≡ declared head.now }
 {
-    match declared_name(head) {
-        None => Some(Encoding::Utf8),
-        Some(name) => encoding_of(name),
-    }
+    encoding_of(declared_name(head).unwrap_or(b"utf8"))
 }
 
 // The encoding of the byte order mark at the front, and how many bytes the mark has.

@@ -2,7 +2,8 @@
 
 ghost use Rattle.std.specs.Prelude.{◌≡◌, map, option_map};
 ghost use Rattle.xml_text.specs.HtmlNames.{list_of, html_names};
-ghost use Rattle.xml_text.specs.References.{past_reference, word, listed, named_text, xml_entity};
+ghost use Rattle.xml_text.specs.References.{listed, named_text, xml_entity};
+ghost use Rattle.xml_text.specs.private.References.{past_reference, word, word_of};
 ghost use Rattle.xml_text.specs.Steps.{Gives};
 
 use crate::html_names::NAMES;
@@ -33,7 +34,7 @@ fn html_names(name: &[u8]) -> &'static [u8]
 
 // What follows a reference to that name, which the text begins with.
 #[inline(always)]
-#[tactic(auto, unfolding(crate::specs::References::past_reference))]
+#[tactic(auto, unfolding(crate::specs::private::References::past_reference))]
 fn past_reference<'a>(name: &[u8], text: &'a [u8]) -> Result<&'a [u8], Stop>
     ensures { Gives (λ rest. rest.now) result (past_reference name.now text.now) }
 {
@@ -44,7 +45,6 @@ fn past_reference<'a>(name: &[u8], text: &'a [u8]) -> Result<&'a [u8], Stop>
 }
 
 // What stands before the next space.
-#[tactic(auto, unfolding(crate::specs::References::word))]
 fn word(text: &[u8]) -> Option<&[u8]>
     ensures { option_map (λ w. w.now) result ≡ word text.now }
 {
@@ -55,9 +55,8 @@ fn word(text: &[u8]) -> Option<&[u8]>
 }
 
 // What stands in a list of names behind the first reference to this one.
-#[tactic(auto, unfolding(crate::specs::References::listed))]
 fn listed<'a>(name: &[u8], list: &'a [u8]) -> Option<&'a [u8]>
-    ensures { option_map (λ t. t.now) result ≡ listed name.now list.now }
+    ensures { option_map (λ t. t.now) result ≡ word_of (listed name.now list.now) }
 {
     let mut rest = list;
     while let [_, tail @ ..] = rest {

@@ -33,12 +33,7 @@ fn is_apart(bytes: &[u8]) -> bool
 fn is_xml(name: &[u8]) -> bool
     ensures { result ≡ is_xml name.now }
 {
-    match name {
-        [x, m, l] => {
-            (*x == b'x' || *x == b'X') && ((*m == b'm' || *m == b'M') && (*l == b'l' || *l == b'L'))
-        }
-        _ => false,
-    }
+    name.eq_ignore_ascii_case(b"xml")
 }
 
 /// Whether this may stand between `<?` and `?>`, and is no XML declaration.
@@ -124,8 +119,7 @@ fn is_standalone(value: &[u8]) -> bool
 
 // Whether a declaration may end so: with standalone, where it is.
 fn is_from_standalone(bytes: &[u8]) -> bool
-    ensures { result ≡ is_from_standalone bytes.now
-        (declared_at (codes "standalone") bytes.now) }
+    ensures { result ≡ is_from_standalone bytes.now }
 {
     match declared(b"standalone", bytes) {
         Ok((value, rest)) => is_standalone(value) && all_pass(Kind::Space, rest),
@@ -135,7 +129,7 @@ fn is_from_standalone(bytes: &[u8]) -> bool
 
 // Whether a declaration may go on so: with encoding, where it is.
 fn is_from_encoding(bytes: &[u8]) -> bool
-    ensures { result ≡ is_from_encoding bytes.now (declared_at (codes "encoding") bytes.now) }
+    ensures { result ≡ is_from_encoding bytes.now }
 {
     match declared(b"encoding", bytes) {
         Ok((value, rest)) => is_encoding_name(value) && is_from_standalone(rest),

@@ -7,10 +7,9 @@ ghost use Rattle.xml_text.specs.declared.stop.Stop.TheVariants.{More, Never};
 ghost use Rattle.xml_text.specs.Encodings.{decoded};
 ghost use Rattle.xml_text.specs.Grammar.{Token, spelling, is_token};
 ghost use Rattle.xml_text.specs.Reading.{token_at};
-ghost use Rattle.xml_text.specs.Places.{IsDocument};
-ghost use Rattle.xml_text.specs.Texts.{IsText};
+ghost use Rattle.xml_text.specs.Documents.{IsDocument};
 ghost use Rattle.xml_text.specs.Tree.{Content};
-ghost use Rattle.xml_text.specs.Trees.{IsTree, AreSound};
+ghost use Rattle.xml_text.specs.Trees.{IsTree};
 ghost use Rattle.xml_text.specs.Utf16.{is_scalar, utf16};
 
 /// What is read is spelled so, and what is spelled so is read, whatever follows.
@@ -33,17 +32,6 @@ pub fn one_document()
 pub fn one_tree()
     ensures { (tokens : List Token) (name other : List ℕ) (a b : Content)
         → IsTree tokens name a → IsTree tokens other b → a ≡ b }
-{}
-
-/// The texts whose tokens are sound and those of a tree are the documents.
-pub fn documents_are_trees()
-    ensures trees { (bytes : List ℕ) (tokens : List Token) → IsDocument bytes tokens
-        → (name : List ℕ) × (inside : Content) × IsTree tokens name inside }
-    ensures sound { (bytes : List ℕ) (tokens : List Token) → IsDocument bytes tokens
-        → AreSound tokens }
-    ensures documents { (bytes : List ℕ) (tokens : List Token) (name : List ℕ) (inside : Content)
-        → IsText bytes → bytes ≡ flat_map spelling tokens
-        → AreSound tokens → IsTree tokens name inside → IsDocument bytes tokens }
 {}
 
 /// The UTF-16 of characters is read as their UTF-8, whichever byte of its units is first.

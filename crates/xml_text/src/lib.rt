@@ -31,7 +31,7 @@ pub mod values;
 pub use attributes::{Attribute, Attributes};
 pub use bytes::Bytes;
 pub use fault::Fault;
-pub use laws::{documents_are_trees, one_document, one_tree, tokens_are_read, utf16_is_read};
+pub use laws::{one_document, one_tree, tokens_are_read, utf16_is_read};
 pub use pieces::Piece;
 pub use position::Position;
 pub use reading::{HEAD, read_document};

@@ -3,8 +3,8 @@
 ghost use Rattle.std.specs.Prelude.{◌≡◌, ◌≤◌, ◌<◌, Some, None, OnOk, OnErr, IfErr, IsErrOf, map, length};
 ghost use Rattle.std.specs.List.{list_all};
 ghost use Rattle.xml_text.specs.Grammar.{is_space, raw};
-ghost use Rattle.xml_text.specs.Limits.{IsStart};
-ghost use Rattle.xml_text.specs.Places.{nested, nests, first_nesting, opened, is_closed, is_nothing};
+ghost use Rattle.xml_text.specs.private.Bounds.{IsStart};
+ghost use Rattle.xml_text.specs.private.Places.{nested, nests, first_nesting, opened, is_closed, is_nothing};
 ghost use Rattle.xml_text.specs.Faults.{IsOfPlace};
 ghost use Rattle.xml_text.specs.View.{token_view};
 

@@ -1,6 +1,6 @@
 -- A message that is read token by token within the bound on prefixes.
 use Rattle.std.specs.Prelude.{ℕ, zero, suc, Bool, ◌&&◌, not, List, Option, Some, None}
-use Rattle.std.specs.Prelude.{is_some, Result, Ok, Err}
+use Rattle.std.specs.Prelude.{option_and_then, is_some, Result, Ok, Err}
 use Rattle.std.specs.Option.{option_or}
 use Rattle.xml_text.specs.declared.position.Position.{Position}
 use Rattle.xml_text.specs.Grammar.{Attribute, Token, start, empty}
@@ -60,3 +60,7 @@ ends_with None f = finished f
 -- what comes of it at its end
 abbrev pub ends : {T : Type 0} → Bounded T → Result T (Stopped T)
 ends b = ends_with b.many b.feed
+
+-- a place in an element, where it counts
+abbrev pub if_counted : Option (List ℕ) → Option Position → Option Position
+if_counted found place = option_and_then (λ _. place) found

@@ -1,11 +1,11 @@
 -- The outline of one child of the root, as it grows from token to token.
 use Rattle.std.specs.Prelude.{ℕ, zero, suc, Bool, true, false, List, [], ◌∷◌, ◌++◌, length, map}
-use Rattle.std.specs.Prelude.{Option, Some, None, fold}
+use Rattle.std.specs.Prelude.{Option, Some, None, fold, if◌then◌else◌, unwrap_or}
+use Rattle.xml_text.specs.declared.position.Position.{Position}
 use Rattle.xml_text.specs.Grammar.{is_filled, is_space}
 use Rattle.onix_outline.specs.Namespaces.{Binding, Scope, scope}
 use Rattle.onix_outline.specs.Nodes.{Tag}
 use Rattle.onix_outline.specs.Outline.{Line, line}
-use Rattle.onix_outline.specs.Spaces.{words}
 
 -- an open element: where its line is, whether white space stands at the end of its text so far, and
 -- what it is to those below it
@@ -38,6 +38,15 @@ abbrev pub change : (Line → Line) → ℕ → List Line → List Line
 change f at [] = []
 change f zero (l ∷ lines) = f l ∷ lines
 change f (suc at) (l ∷ lines) = l ∷ change f at lines
+
+-- the words of a text, with a space before each but the first; `waits` says whether white space
+-- came since the last word, `began` whether a word came
+abbrev pub words : Bool → Bool → List ℕ → List ℕ
+words began waits [] = []
+words began waits (b ∷ text) =
+    if is_space b then words began true text
+    else if began then (if waits then 32 ∷ b ∷ words true false text else b ∷ words true false text)
+    else b ∷ words true false text
 
 -- a text with more of it, behind white space or not: each run of white space in it becomes one
 -- space, and none stands at the ends
@@ -90,3 +99,11 @@ is_idle_at zero opens = is_nothing opens
 -- no element is open
 abbrev pub is_idle : Growing → Bool
 is_idle g = is_idle_at g.passed g.opens
+
+-- ---- tags and their sizes
+
+abbrev pub tagged : Position → Option (List ℕ) → Tag
+tagged place format = record { place = place; format = format }
+
+abbrev pub format_size : Option (List ℕ) → ℕ
+format_size format = length (unwrap_or format [])

@@ -1,28 +1,21 @@
 -- Why no message was read, and where, each by itself.
-use Rattle.std.specs.Prelude.{◌≡◌, ℕ, true, false, List, [], ◌∷◌, ◌++◌, Option, Some, None}
-use Rattle.std.specs.Prelude.{Ok, Err, IfSome}
+use Rattle.std.specs.Prelude.{◌≡◌, ℕ, false, List, Option, Some}
+use Rattle.std.specs.Prelude.{Err, IfSome}
 use Rattle.std.specs.List.{list_all}
 use Rattle.xml_text.specs.declared.fault.Fault.TheVariants.{Malformed, TooDeep, TooLong, LargeTag}
 use Rattle.xml_text.specs.declared.fault.Fault.TheVariants.{NotText}
 use Rattle.xml_text.specs.declared.fault.Fault.TheVariants.{Refused, UnknownEncoding, Read, Memory}
 use Rattle.xml_text.specs.Grammar.{Token}
 use Rattle.xml_text.specs.declared.position.Position.{Position}
-use Rattle.xml_text.specs.Documents.{BeginsAt}
 use Rattle.xml_text.specs.EncodingNames.{OfText, IsOfUnknown}
 use Rattle.xml_text.specs.Positions.{first_position, position_past}
-use Rattle.xml_text.specs.Limits.{Bound, Meets, IsDeep, IsLarge, IsLong, NoneMayStand}
-use Rattle.xml_text.specs.Places.{IsNoDocument, IsNoText, first_place}
-use Rattle.xml_text.specs.Tree.{Content}
-use Rattle.xml_text.specs.Trees.{IsTree}
-use Rattle.onix_outline.specs.declared.dialect.Wrong.{Wrong}
+use Rattle.xml_text.specs.Limits.{BeginsWith, IsDeep, IsLarge, IsLong, NoneMayStand}
+use Rattle.xml_text.specs.Documents.{IsNoDocument, IsNoText}
 use Rattle.onix_outline.specs.declared.reading.Fault.{Fault}
 use Rattle.onix_outline.specs.declared.reading.Fault.TheVariants.{Document, Message, Reference}
 use Rattle.onix_outline.specs.declared.reading.Fault.TheVariants.{TooLarge, ManyPrefixes}
-use Rattle.onix_outline.specs.Dialect.{Dialect}
-use Rattle.onix_outline.specs.Nodes.{is_known, nodes_in}
-use Rattle.onix_outline.specs.Prefixes.{first_with_many}
-use Rattle.onix_outline.specs.Sizes.{first_large}
-use Rattle.onix_outline.specs.Roots.{root_of, root_place}
+use Rattle.onix_outline.specs.Nodes.{is_known}
+use Rattle.onix_outline.specs.Roots.{root_of}
 use Rattle.onix_outline.specs.Faults.{IsLargeAt, IsManyAt, IsPlaceOf, IsRefusedRoot, IsUnknown}
 use Rattle.onix_outline.specs.Faults.{MeetsAt}
 
@@ -38,7 +31,7 @@ Refuses ManyPrefixes tokens = (place : Position) × IsManyAt tokens place
 -- refused
 abbrev pub RefusesText : Option (List ℕ) → Fault → Type 0
 RefusesText bytes fault =
-    (tokens : List Token) × OfText (BeginsAt first_place tokens) bytes × Refuses fault tokens
+    (tokens : List Token) × OfText (BeginsWith tokens) bytes × Refuses fault tokens
 
 -- why it is refused
 abbrev pub IsReason : Option (List ℕ) → Fault → Type 0
@@ -59,7 +52,7 @@ IsReason bytes ManyPrefixes = RefusesText bytes ManyPrefixes
 -- A place is the one behind the first tokens of the text. Of some faults it tells nothing.
 abbrev pub IsBehind : Option (List ℕ) → Position → Type 0
 IsBehind bytes place =
-    (tokens : List Token) × OfText (BeginsAt first_place tokens) bytes
+    (tokens : List Token) × OfText (BeginsWith tokens) bytes
     × (place ≡ position_past first_position tokens)
 
 -- where it is
@@ -76,6 +69,6 @@ IsAt bytes (Document Refused) place = ⊥
 IsAt bytes (Message wrong) place = IsPlaceOf bytes (IsRefusedRoot wrong) place
 IsAt bytes Reference place = IsPlaceOf bytes IsUnknown place
 IsAt bytes TooLarge place =
-    (tokens : List Token) × OfText (BeginsAt first_place tokens) bytes × IsLargeAt tokens place
+    (tokens : List Token) × OfText (BeginsWith tokens) bytes × IsLargeAt tokens place
 IsAt bytes ManyPrefixes place =
-    (tokens : List Token) × OfText (BeginsAt first_place tokens) bytes × IsManyAt tokens place
+    (tokens : List Token) × OfText (BeginsWith tokens) bytes × IsManyAt tokens place

@@ -2,13 +2,13 @@
 use Rattle.std.specs.Prelude.{ℕ, suc, Bool, ◌&&◌, not, List, [], ◌∷◌, Option, Some, None}
 use Rattle.std.specs.Prelude.{if◌then◌else◌}
 use Rattle.xml_text.specs.Grammar.{is_space, raw}
-use Rattle.xml_text.specs.Places.{counted}
+use Rattle.xml_text.specs.Trees.{next_brackets}
 
 -- the closing brackets behind a byte of a text, outside of the root or in it, unless the byte may
 -- not stand there
 abbrev pub brackets_with : Bool → ℕ → ℕ → Option ℕ
 brackets_with is_outside n b =
-    if is_outside && not (is_space b) then None else counted n (raw b)
+    if is_outside && not (is_space b) then None else next_brackets n (raw b)
 
 abbrev pub one_more : Option ℕ → (ℕ → ℕ) → ℕ
 one_more None rest = 0

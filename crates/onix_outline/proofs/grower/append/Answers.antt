@@ -3,8 +3,7 @@ use Rattle.onix_outline.specs.Views.{line_view, tag_view}
 use Rattle.onix_outline.specs.declared.line.Line.{Line}
 use Rattle.onix_outline.specs.Outline.{line}
 use Rattle.xml_text.specs.Grammar.{is_filled}
-use Rattle.onix_outline.specs.private.Growing.{longer}
-use Rattle.onix_outline.specs.Spaces.{words}
+use Rattle.onix_outline.specs.private.Growing.{words, longer}
 use Rattle.onix_outline.proofs.GrowerLaws.{past_lines, set_line, set_size}
 use Rattle.onix_outline.proofs.grower.append.Goals as goal
 

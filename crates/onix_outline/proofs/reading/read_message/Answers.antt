@@ -9,18 +9,18 @@ use Rattle.onix_outline.proofs.reading.read_message.Goals as goal
 pub returns-in-Ok-clause-message : goal.returns-in-Ok-clause-message
 returns-in-Ok-clause-message g c =
     let d = c.in-Ok.ensures.document in
-    let t = c.documents_are_trees.ensures.trees d.0 d.1 d.3 in
+    let t = d.3.are in
     let after = g.T.Taker.after in
     rw (c.finish.ensures ∙ ap ends (d.4 ∙ ap (λ f. fold (bound after) f d.1) c.new-outliner.ensures))
-    (all_comes after c.args.taker (g.R.Read.remaining c.args.reader.now) d.0 d.1 t.0 t.1 d.2 d.3 t.2).ok
+    (all_comes after c.args.taker (g.R.Read.remaining c.args.reader.now) d.0 d.1 t.name t.inside d.2 d.3 t.tree).ok
 
 pub returns-in-Ok-clause-refused : goal.returns-in-Ok-clause-refused
 returns-in-Ok-clause-refused g c =
     let d = c.in-Ok.ensures.document in
-    let t = c.documents_are_trees.ensures.trees d.0 d.1 d.3 in
+    let t = d.3.are in
     let after = g.T.Taker.after in
     let bytes = g.R.Read.remaining c.args.reader.now in
-    let all = all_comes after c.args.taker bytes d.0 d.1 t.0 t.1 d.2 d.3 t.2 in
+    let all = all_comes after c.args.taker bytes d.0 d.1 t.name t.inside d.2 d.3 t.tree in
     rw (c.finish.ensures ∙ ap ends (d.4 ∙ ap (λ f. fold (bound after) f d.1) c.new-outliner.ensures))
     (all_explained bytes _ all.err all.at)
 

@@ -1,4 +1,4 @@
-use Rattle.std.proofs.Common.{◌≡◌, ◌≤◌, ◌<◌, length, List, [], Bor, slice_index_or}
+use Rattle.std.proofs.Common.{◌≡◌, List, [], Bor, slice_index_or}
 use Rattle.std.specs.Prelude.{map}
 use Rattle.std.proofs.lemmas.List.{get_or-map, get_or_past, length-map}
 use Rattle.xml_text.specs.HtmlNames.{list_of}

@@ -1,6 +1,6 @@
 use Rattle.std.proofs.Common.{◌≡◌, length, map}
 use Rattle.xml_text.specs.Grammar.{raw}
-use Rattle.xml_text.specs.Places.{brackets_after}
+use Rattle.xml_text.specs.Trees.{brackets_after}
 use Rattle.xml_text.proofs.place.brackets_behind.Given as goal
 
 abbrev pub invariant-loop-rest : goal.invariant-loop-rest

@@ -1,7 +1,7 @@
 use Rattle.std.proofs.Common.{◌≡◌, ◌≤◌, ◌∙◌, ℕ, List, length, drop, map, take, sym, ap, arith}
 use Rattle.std.proofs.lemmas.Result.{err_from_is_err_and}
 use Rattle.xml_text.specs.Grammar.{raw}
-use Rattle.xml_text.specs.Places.{is_nothing, steps}
+use Rattle.xml_text.specs.private.Places.{is_nothing, steps}
 use Rattle.xml_text.specs.private.Fitting.{fitting}
 use Rattle.xml_text.proofs.DocumentLaws.{other_err}
 use Rattle.xml_text.proofs.FittingLaws.{first_begins, fitting_within, front_begins, front_stands, none_stands, run_within, some_byte}

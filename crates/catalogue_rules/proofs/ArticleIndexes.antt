@@ -1,5 +1,5 @@
 -- What an index of articles lists, step by step.
-use Rattle.std.proofs.Common.{◌≡◌, ℕ, List, [], ◌∷◌, ◌++◌, Option, Some, None, Bool, true, false, cond, ◌&&◌, ◌||◌, ◌⊎◌, inl, inr, ⊎_elim, refl, sym, ap, subst, ◌∙◌}
+use Rattle.std.proofs.Common.{◌≡◌, ℕ, List, [], ◌∷◌, ◌++◌, Option, Some, None, Bool, true, false, cond, fold, ◌&&◌, ◌||◌, ◌⊎◌, inl, inr, ⊎_elim, refl, sym, ap, subst, ◌∙◌}
 use Rattle.std.specs.BTreeSet.{BTreeSet}
 use Rattle.std.specs.Cmp.Lexicographic.{slice_cmp}
 use Rattle.std.specs.FinMap as map
@@ -118,3 +118,13 @@ module _ (series isbn : List ℕ) (listings : BTreeSet Listing) (m : ByReference
       ∙ ap (λ (found : List ℕ → Option Entry). flat_map (λ (l : Listing). offers_there series isbn l.reference (found l.reference)) (filter (is_of isbn) listings.keys)) (λ i k. get-entries m k i)
       ∙ walk_is_all nat_list_cmp_total (slice_cmp-IsAntisymmetric nat_cmp-IsAntisymmetric) (λ l. l.reference) (offers_there series isbn) (λ k. refl) (records_of m) (filter (is_of isbn) listings.keys) (entries_sorted m) (in_order isbn listings.keys sorted)
       (λ k e found. unlisted _ k e (λ h. among isbn listings k (lists_all isbn k h)) (get-entries m k ∙ found))
+
+  -- where the listings of the article, from the first that may be one on, were gone through, what was collected is all its offers
+  pub listed_collected : {S : Type 0} (collected : S → Offer → S) (was now : S) (first left : List Listing) → IsStrictlySortedBy listing_cmp listings.keys → first ≡ filter (is_from isbn) listings.keys
+      → fold collected now (flat_map (offers_at series isbn m) (at_first isbn left)) ≡ fold collected was (flat_map (offers_at series isbn m) (at_first isbn first)) → at_first isbn left ≡ []
+      → now ≡ fold collected was (offers_in series m isbn)
+  listed_collected collected was now first left sorted begins so_far ended =
+      ap (λ ls. fold collected now (flat_map (offers_at series isbn m) ls)) (sym ended)
+      ∙ so_far
+      ∙ ap (λ ls. fold collected was (flat_map (offers_at series isbn m) (at_first isbn ls))) begins
+      ∙ ap (fold collected was) (offers_listed sorted)

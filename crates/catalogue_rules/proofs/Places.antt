@@ -1,9 +1,9 @@
 -- Offers in the order of their places, with more of them at the end.
-use Rattle.std.proofs.Common.{◌≡◌, ◌+◌, ◌++◌, ◌∷◌, ◌<◌, [], ℕ, List, append_assoc, arith, get_or, length, map, refl, subst, sym, take, ap, ◌∙◌}
+use Rattle.std.proofs.Common.{◌≡◌, ◌+◌, ◌++◌, ◌∷◌, ◌<◌, [], ℕ, List, arith, fold, get_or, length, map, refl, subst, sym, take, ap, ◌∙◌}
 use Rattle.std.specs.List.{flat_map}
 use Rattle.std.proofs.lemmas.Grind.{flat_map-append}
 use Rattle.std.proofs.lemmas.List.{append-nil, length-append, length-map, take_more}
-use Rattle.std.proofs.lemmas.List.Sums.{sum_by-cons}
+use Rattle.std.proofs.lemmas.List.Sums.{fold-append, sum_by-cons}
 use Rattle.onix_message.specs.DetailCount.{detail_count}
 use Rattle.onix_message.specs.declared.parts.ProductSupply.{ProductSupply}
 use Rattle.onix_message.specs.declared.parts.SupplyDetail.{SupplyDetail}
@@ -54,6 +54,6 @@ take-next xs slice i x e within is =
     subst (λ ys. take (i + 1) ys ≡ take i ys ++ x ∷ []) e (take_more slice i x within ∙ ap (λ y. take i slice ++ y ∷ []) (sym is))
 
 -- one more record
-pub walk-more : {X Y : Type 0} (f : X → List Y) (out all : List Y) (left rest : List X) (x : X)
-    → left ≡ x ∷ rest → out ++ flat_map f left ≡ all → (out ++ f x) ++ flat_map f rest ≡ all
-walk-more f out all left rest x e h = append_assoc out (f x) (flat_map f rest) ∙ ap (λ xs. out ++ flat_map f xs) (sym e) ∙ h
+pub walk-more : {S X Y : Type 0} (step : S → Y → S) (f : X → List Y) (out all : S) (left rest : List X) (x : X)
+    → left ≡ x ∷ rest → fold step out (flat_map f left) ≡ all → fold step (fold step out (f x)) (flat_map f rest) ≡ all
+walk-more step f out all left rest x e h = sym (fold-append step out (f x) (flat_map f rest)) ∙ ap (λ xs. fold step out (flat_map f xs)) (sym e) ∙ h

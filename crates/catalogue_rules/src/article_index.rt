@@ -1,6 +1,6 @@
 //! Which records of a catalogue may be of an article.
 
-ghost use Rattle.std.specs.Prelude.{◌≡◌, ◌++◌, ℕ, List, IfOk, OnOk, OnErr, true};
+ghost use Rattle.std.specs.Prelude.{◌≡◌, ℕ, List, OnOk, OnErr, fold, true};
 ghost use Rattle.std.specs.FinMap as map;
 ghost use Rattle.onix_message.specs.Product as product;
 ghost use Rattle.catalogue_rules.specs.ArticleIndex.{IsIndexOf, ListsArticles, ListsAsBefore, is_listed, offers_there};
@@ -10,14 +10,13 @@ ghost use Rattle.catalogue_rules.specs.Records.{ByReference};
 
 use crate::catalogue::Catalogue;
 use crate::listing::Listing;
-use crate::offers::add_record;
+use crate::offers::collect_record;
 use onix_message::contents::Contents;
 use onix_message::parts::{Product, ProductIdentifier, is_article_type};
 use onix_terms::isbn13::Isbn13;
-use onix_terms::items::Items;
 use onix_terms::series_name::SeriesName;
 use onix_terms::text::Text;
-use price_rules::offer::Offer;
+use price_rules::collector::OfferCollector;
 use std::alloc::{AllocError, Global};
 use std::collections::BTreeSet;
 
@@ -30,22 +29,23 @@ pub struct ArticleIndex {
     listings: BTreeSet<Listing>,
 }
 
-// Adds the article's offers of the record that a reference has, if it has one.
-fn add_listed(
+// Collects the article's offers of the record that a reference has, if it has one.
+fn collect_listed<C: OfferCollector>(
     alloc: Global,
-    offers: &mut Items<Offer>,
+    collector: &mut C,
     series: &SeriesName,
     isbn: &Isbn13,
     catalogue: &Catalogue,
     reference: &str,
 ) -> Result<(), AllocError>
     ensures { OnOk result
-        (offers.new
-        ≡ offers.old ++ offers_there series.now isbn.now reference.now
-        (map.get catalogue.now reference.now)) }
+        (collector.new
+        ≡ fold C.collected collector.old
+        (offers_there series.now isbn.now reference.now
+        (map.get catalogue.now reference.now))) }
 {
     if let Some(entry) = catalogue.get(reference) {
-        add_record(alloc, offers, series, isbn, reference, entry)?;
+        collect_record(alloc, collector, series, isbn, reference, entry)?;
     }
     Ok(())
 }
@@ -112,19 +112,20 @@ impl ArticleIndex {
         Ok(())
     }
 
-    /// The article's offers under the name of a series, as the catalogue gives them, by a look at
-    /// the listed records alone.
-    pub fn offers_of(
+    /// Collects the article's offers under the name of a series, as the catalogue gives them, by a
+    /// look at the listed records alone.
+    pub fn collect_offers<C: OfferCollector>(
         &self,
         catalogue: &Catalogue,
         series: &SeriesName,
         isbn: &Isbn13,
-    ) -> Result<Items<Offer>, AllocError>
-        ensures { IsIndexOf self.now catalogue.now
-            → IfOk result (λ offers. offers ≡ offers_in series.now catalogue.now isbn.now) }
+        collector: &mut C,
+    ) -> Result<(), AllocError>
+        ensures { IsIndexOf self.now catalogue.now → OnOk result
+            (collector.new
+            ≡ fold C.collected collector.old (offers_in series.now catalogue.now isbn.now)) }
     {
         let alloc = self.alloc;
-        let mut offers = Items::new(alloc);
         let digits = isbn.as_str();
         let value = Text::from_str(alloc, digits)?;
         let first = Listing {
@@ -136,8 +137,8 @@ impl ArticleIndex {
                 break;
             }
             let reference = listing.reference.as_str();
-            add_listed(alloc, &mut offers, series, isbn, catalogue, reference)?;
+            collect_listed(alloc, collector, series, isbn, catalogue, reference)?;
         }
-        Ok(offers)
+        Ok(())
     }
 }

@@ -1,6 +1,6 @@
 //! The catalogue of a series.
 
-ghost use Rattle.std.specs.Prelude.{◌≡◌, ◌↔◌, IfOk, IfSome, IsTrue, OnOk, OnErr, IsSome, None, ℕ, List, All, Contains};
+ghost use Rattle.std.specs.Prelude.{◌≡◌, ◌↔◌, IfOk, IfSome, IsTrue, OnOk, OnErr, IsSome, None, ℕ, List, All, Contains, fold};
 ghost use Rattle.std.specs.Option.{option_copied};
 ghost use Rattle.std.specs.FinMap as map;
 ghost use Rattle.catalogue_rules.specs.Records.{EachHas, HasFewDetails, by_bytes, records_of};
@@ -10,13 +10,14 @@ ghost use Rattle.catalogue_rules.specs.Plans.{IsReady, all_bytes, entry_now};
 
 use crate::entry::Entry;
 use crate::entry_changes::EntryChanges;
-use crate::offers::add_record;
+use crate::offers::collect_record;
 use crate::plan::Plan;
 use onix_message::Effect;
 use onix_message::contents::Contents;
 use onix_terms::isbn13::Isbn13;
 use onix_terms::items::Items;
 use onix_terms::series_name::SeriesName;
+use price_rules::collector::OfferCollector;
 use price_rules::offer::Offer;
 use std::alloc::{AllocError, Global};
 use std::collections::{BTreeMap, btree_map};
@@ -195,16 +196,31 @@ impl Catalogue {
         self.records.iter()
     }
 
-    /// The article's offers under the name of a series: those of each record that has an
+    /// Collects the article's offers under the name of a series: those of each record that has an
     /// identifier of type 03 or 15 with this value, in order of reference and place.
+    pub fn collect_offers<C: OfferCollector>(
+        &self,
+        series: &SeriesName,
+        isbn: &Isbn13,
+        collector: &mut C,
+    ) -> Result<(), AllocError>
+        ensures { OnOk result
+            (collector.new
+            ≡ fold C.collected collector.old (offers_in series.now self.now isbn.now)) }
+    {
+        let alloc = self.alloc;
+        for (reference, entry) in self.entries() {
+            collect_record(alloc, collector, series, isbn, reference.as_str(), entry)?;
+        }
+        Ok(())
+    }
+
+    /// The list of these offers.
     pub fn offers_of(&self, series: &SeriesName, isbn: &Isbn13) -> Result<Items<Offer>, AllocError>
         ensures { IfOk result (λ offers. offers ≡ offers_in series.now self.now isbn.now) }
     {
-        let alloc = self.alloc;
-        let mut offers = Items::new(alloc);
-        for (reference, entry) in self.entries() {
-            add_record(alloc, &mut offers, series, isbn, reference.as_str(), entry)?;
-        }
+        let mut offers = Items::new(self.alloc);
+        self.collect_offers(series, isbn, &mut offers)?;
         Ok(offers)
     }
 

@@ -1,6 +1,6 @@
 //! The offers that the records of a catalogue make of an article.
 
-ghost use Rattle.std.specs.Prelude.{◌≡◌, ◌+◌, ◌<◌, ◌^◌, ◌++◌, IfOk, OnOk, length};
+ghost use Rattle.std.specs.Prelude.{◌≡◌, ◌+◌, ◌<◌, ◌^◌, IfOk, OnOk, fold, length};
 ghost use Rattle.onix_message.specs.DetailCount.{detail_count};
 ghost use Rattle.catalogue_rules.specs.Records.{HasFewDetails};
 ghost use Rattle.catalogue_rules.specs.Offers.{entry_offers, has_article, is_article, offer_of, offers_from, record_offers, supply_details};
@@ -8,11 +8,11 @@ ghost use Rattle.catalogue_rules.specs.Offers.{entry_offers, has_article, is_art
 use crate::entry::Entry;
 use onix_message::parts::{ProductIdentifier, ProductSupply, SupplyDetail, is_article_type};
 use onix_terms::isbn13::Isbn13;
-use onix_terms::items::Items;
 use onix_terms::plain::Plain;
 use onix_terms::series_name::SeriesName;
 use onix_terms::territory::Territory;
 use onix_terms::text::Text;
+use price_rules::collector::OfferCollector;
 use price_rules::offer::Offer;
 use std::alloc::{AllocError, Global};
 
@@ -84,11 +84,11 @@ fn offer(
     }
 }
 
-// Adds the offers of a supply, where so many SupplyDetails of the record come before it. Gives how
-// many come before the next supply.
-fn add_supply(
+// Collects the offers of a supply, where so many SupplyDetails of the record come before it. Gives
+// how many come before the next supply.
+fn collect_supply<C: OfferCollector>(
     alloc: Global,
-    offers: &mut Items<Offer>,
+    collector: &mut C,
     series: &SeriesName,
     reference: &str,
     before: u32,
@@ -96,42 +96,43 @@ fn add_supply(
 ) -> Result<u32, AllocError>
     requires { before + length supply.now.details < 2 ^ 32 }
     ensures offers { OnOk result
-        (offers.new
-        ≡ offers.old ++ offers_from series.now reference.now (before + 1)
-        (supply_details supply.now)) }
+        (collector.new
+        ≡ fold C.collected collector.old
+        (offers_from series.now reference.now (before + 1) (supply_details supply.now))) }
     ensures count { IfOk result (λ n. n ≡ before + length supply.now.details) }
 {
     let mut place = before;
     for detail in supply.details.as_slice() {
         place += 1;
-        offers.push(offer(alloc, series, reference, place, &supply.market, detail)?)?;
+        collector.collect(offer(alloc, series, reference, place, &supply.market, detail)?)?;
     }
     Ok(place)
 }
 
-// Adds the offers of a record, in order of their places.
-fn add_entry(
+// Collects the offers of a record, in order of their places.
+fn collect_entry<C: OfferCollector>(
     alloc: Global,
-    offers: &mut Items<Offer>,
+    collector: &mut C,
     series: &SeriesName,
     reference: &str,
     entry: &Entry,
 ) -> Result<(), AllocError>
     requires { HasFewDetails entry.now }
     ensures { OnOk result
-        (offers.new ≡ offers.old ++ entry_offers series.now reference.now entry.now) }
+        (collector.new
+        ≡ fold C.collected collector.old (entry_offers series.now reference.now entry.now)) }
 {
     let mut count = 0;
     for supply in entry.supplies.as_slice() {
-        count = add_supply(alloc, offers, series, reference, count, supply)?;
+        count = collect_supply(alloc, collector, series, reference, count, supply)?;
     }
     Ok(())
 }
 
-/// Adds the offers that a record has of the article.
-pub(crate) fn add_record(
+/// Collects the offers that a record has of the article.
+pub(crate) fn collect_record<C: OfferCollector>(
     alloc: Global,
-    offers: &mut Items<Offer>,
+    collector: &mut C,
     series: &SeriesName,
     isbn: &Isbn13,
     reference: &str,
@@ -139,10 +140,12 @@ pub(crate) fn add_record(
 ) -> Result<(), AllocError>
     requires { HasFewDetails entry.now }
     ensures { OnOk result
-        (offers.new ≡ offers.old ++ record_offers series.now isbn.now (reference.now, entry.now)) }
+        (collector.new
+        ≡ fold C.collected collector.old
+        (record_offers series.now isbn.now (reference.now, entry.now))) }
 {
     if has_article(entry, isbn) {
-        add_entry(alloc, offers, series, reference, entry)?;
+        collect_entry(alloc, collector, series, reference, entry)?;
     }
     Ok(())
 }

@@ -1,6 +1,6 @@
 //! The articles of one series: which records have them.
 
-ghost use Rattle.std.specs.Prelude.{◌≡◌, ◌+◌, ◌-◌, [], ℕ, List, IfOk, OnErr, OnOk, Some, length, slice_get};
+ghost use Rattle.std.specs.Prelude.{◌≡◌, ◌+◌, ◌-◌, [], ℕ, List, OnErr, OnOk, Some, fold, length, slice_get};
 ghost use Rattle.std.specs.BTreeMap.{get};
 ghost use Rattle.std.specs.FinMap as map;
 ghost use Rattle.std.specs.Ordering.{nat_cmp};
@@ -14,10 +14,9 @@ ghost use Rattle.series_rules.specs.Series.{BeginsWith, after_all, after_standin
 use catalogue_rules::article_index::ArticleIndex;
 use catalogue_rules::catalogue::Catalogue;
 use onix_terms::isbn13::Isbn13;
-use onix_terms::items::Items;
 use onix_terms::number::Number;
 use onix_terms::series_name::SeriesName;
-use price_rules::offer::Offer;
+use price_rules::collector::OfferCollector;
 use series_rules::requests::Standing;
 use std::alloc::{AllocError, Global};
 use std::collections::BTreeMap;
@@ -84,22 +83,27 @@ impl Articles {
         }
     }
 
-    /// The article's offers in the catalogue of what stands below a number: a look at the records
-    /// that have it, where all are listed, and else at each record.
-    pub(crate) fn offers_of(
+    /// Collects the article's offers in the catalogue of what stands below a number: by a look at the
+    /// records that have it, where all are listed, and else at each record.
+    pub(crate) fn collect_offers<C: OfferCollector>(
         &self,
         catalogue: &Catalogue,
         next: u32,
         series: &SeriesName,
         isbn: &Isbn13,
-    ) -> Result<Items<Offer>, AllocError>
+        collector: &mut C,
+    ) -> Result<(), AllocError>
         ensures { (from : ℕ) (hs : List Standing) → IsListed from hs self.now
             → next ≡ from + length hs → catalogue.now ≡ after_all map.empty hs →
-            IfOk result (λ offers. offers ≡ offers_in series.now catalogue.now isbn.now) }
+            OnOk result
+            (collector.new
+            ≡ fold C.collected collector.old (offers_in series.now catalogue.now isbn.now)) }
     {
         if self.next == next {
-            return self.index.offers_of(catalogue, series, isbn);
+            return self
+                .index
+                .collect_offers(catalogue, series, isbn, collector);
         }
-        catalogue.offers_of(series, isbn)
+        catalogue.collect_offers(series, isbn, collector)
     }
 }

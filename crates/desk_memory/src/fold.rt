@@ -1,6 +1,6 @@
 //! The fold of one series of the desk in memory: what its first numbers come to.
 
-ghost use Rattle.std.specs.Prelude.{◌≡◌, ◌≤◌, ◌+◌, ◌-◌, ◌++◌, ◌∷◌, [], ℕ, List, IfOk, IsTrue, OnOk, OnErr, option_copied, slice_get};
+ghost use Rattle.std.specs.Prelude.{◌≡◌, ◌≤◌, ◌+◌, ◌-◌, ◌++◌, ◌∷◌, [], ℕ, List, IfOk, IsTrue, OnOk, OnErr, fold, option_copied, slice_get};
 ghost use Rattle.std.specs.BTreeMap.{get};
 ghost use Rattle.std.specs.FinMap as map;
 ghost use Rattle.std.specs.Ordering.{nat_cmp};
@@ -14,10 +14,9 @@ use crate::articles::Articles;
 use catalogue_rules::catalogue::Catalogue;
 use onix_message::Effect;
 use onix_terms::isbn13::Isbn13;
-use onix_terms::items::Items;
 use onix_terms::number::Number;
 use onix_terms::series_name::SeriesName;
-use price_rules::offer::Offer;
+use price_rules::collector::OfferCollector;
 use series_rules::answers::DeliveryAnswer;
 use series_rules::requests::Standing;
 use std::alloc::{AllocError, Global};
@@ -133,17 +132,20 @@ impl Fold {
         self.articles.go_on(numbers, self.next);
     }
 
-    /// The article's offers in the catalogue, in order of reference and place.
-    pub(crate) fn offers_of(
+    /// Collects the article's offers in the catalogue, in order of reference and place.
+    pub(crate) fn collect_offers<C: OfferCollector>(
         &self,
         series: &SeriesName,
         isbn: &Isbn13,
-    ) -> Result<Items<Offer>, AllocError>
-        ensures { (from : ℕ) (hs : List Standing) → IsFold from hs self.now → IfOk result (λ offers.
-            offers ≡ offers_in series.now (after_all map.empty hs) isbn.now) }
+        collector: &mut C,
+    ) -> Result<(), AllocError>
+        ensures { (from : ℕ) (hs : List Standing) → IsFold from hs self.now → OnOk result
+            (collector.new
+            ≡ fold C.collected collector.old
+            (offers_in series.now (after_all map.empty hs) isbn.now)) }
     {
         self.articles
-            .offers_of(&self.catalogue, self.next, series, isbn)
+            .collect_offers(&self.catalogue, self.next, series, isbn, collector)
     }
 
     // What the message of a number did, where it is folded.

@@ -1,6 +1,6 @@
 //! One series of the desk in memory.
 
-ghost use Rattle.std.specs.Prelude.{◌≡◌, ◌≤◌, ◌+◌, ℕ, List, IfOk, OnOk, OnErr, Option, None, [], length, nat_eq, if◌then◌else◌};
+ghost use Rattle.std.specs.Prelude.{◌≡◌, ◌≤◌, ◌+◌, ℕ, List, IfOk, OnOk, OnErr, Option, None, [], fold, length, nat_eq, if◌then◌else◌};
 ghost use Rattle.std.specs.BTreeMap.{get};
 ghost use Rattle.std.specs.FinMap as map;
 ghost use Rattle.std.specs.Ordering.{nat_cmp};
@@ -19,10 +19,9 @@ use catalogue_rules::catalogue::Catalogue;
 use onix_message::Agreement;
 use onix_message::contents::Contents;
 use onix_terms::isbn13::Isbn13;
-use onix_terms::items::Items;
 use onix_terms::number::Number;
 use onix_terms::series_name::SeriesName;
-use price_rules::offer::Offer;
+use price_rules::collector::OfferCollector;
 use series_rules::answers::{DeliveryAnswer, GapReport, WaiveAnswer};
 use series_rules::gaps::gap_report;
 use series_rules::requests::Standing;
@@ -267,26 +266,33 @@ impl Series {
         self.fold_anew(alloc)
     }
 
-    /// Lists the articles of its catalogue, as far as memory allows, so that `offers_of` need not
-    /// look at each record.
+    /// Lists the articles of its catalogue, as far as memory allows, so that `collect_offers` need
+    /// not look at each record.
     pub(crate) fn list_articles(&mut self)
         ensures { self.new ≡ self.old }
     {
         self.fold.list_articles(&self.numbers);
     }
 
-    /// The article's offers in its catalogue, in order of reference and place.
-    pub(crate) fn offers_of(&self, alloc: Global, isbn: &Isbn13) -> Result<Items<Offer>, AllocError>
+    /// Collects the article's offers in its catalogue, in order of reference and place.
+    pub(crate) fn collect_offers<C: OfferCollector>(
+        &self,
+        alloc: Global,
+        isbn: &Isbn13,
+        collector: &mut C,
+    ) -> Result<(), AllocError>
         ensures { (hs : List Standing)
-            → IsFront (stands_at self.now.numbers) self.now.agreement.first hs
-            → IfOk result (λ offers.
-            offers ≡ offers_in self.now.agreement.name (after_all map.empty hs) isbn.now) }
+            → IsFront (stands_at self.now.numbers) self.now.agreement.first hs →
+            OnOk result
+            (collector.new
+            ≡ fold C.collected collector.old
+            (offers_in self.now.agreement.name (after_all map.empty hs) isbn.now)) }
     {
         let name = self.agreement.name;
         if self.fold.is_whole(&self.numbers, self.agreement.first) {
-            return self.fold.offers_of(&name, isbn);
+            return self.fold.collect_offers(&name, isbn, collector);
         }
         let catalogue = self.fold_anew(alloc)?;
-        catalogue.offers_of(&name, isbn)
+        catalogue.collect_offers(&name, isbn, collector)
     }
 }

@@ -185,22 +185,23 @@ pair_compares =
     (then_compares (λ c. c.1.reference) IsTextLess _ SameIndex text_compares
     (then_compares (λ c. c.1.place) IsLess (λ c d. c.0.offer_index < d.0.offer_index) SameIndex less_compares (λ c d. less_compares c.0.offer_index d.0.offer_index)))))
 
+-- two candidates, neither of which precedes the other, are the same
+pub same_pair : (rules : List Rule) (offers : List Offer) (q : PriceQuery) (x y : Pair) → IsCandidate rules offers q x → IsCandidate rules offers q y → (Precedes x y → ⊥) → (Precedes y x → ⊥) → x ≡ y
+same_pair rules offers q x y h k not_before not_after =
+    let same_rule : x.0.rule ≡ y.0.rule =
+    ⊎_elim (λ lt. absurd (not_before (inl lt))) (λ ge. ⊎_elim (λ lt. absurd (not_after (inl lt))) (λ le. omega arith) (cases_lt y.0.rule x.0.rule)) (cases_lt x.0.rule y.0.rule) in
+    let same_index : x.0.offer_index ≡ y.0.offer_index = alike_at SameIndex Precedes x y not_before not_after (pair_compares x y) in
+    let same_offer : x.1 ≡ y.1 = same_some x.1 y.1 (sym h.3.1 ∙ ap (slice_get offers) same_index ∙ k.3.1) in
+    let same_amount : x.0.amount ≡ y.0.amount =
+    same_some x.0.amount y.0.amount (current_unique y.1 q (Some x.0.amount) (Some y.0.amount) (subst (λ (o : Offer). IsCurrent o q (Some x.0.amount)) same_offer h.3.2.1) k.3.2.1) in
+    λ i. (record { rule = same_rule i; offer_index = same_index i; amount = same_amount i }, same_offer i)
+
 choice_unique : (rules : List Rule) (offers : List Offer) (q : PriceQuery) (a b : Option Choice) → IsChoice rules offers q a → IsChoice rules offers q b → a ≡ b
 choice_unique rules offers q None None h k = refl
 choice_unique rules offers q None (Some b) h k = absurd (h (b, k.0) k.1)
 choice_unique rules offers q (Some a) None h k = absurd (k (a, h.0) h.1)
 choice_unique rules offers q (Some a) (Some b) h k =
-    let x : Pair = (a, h.0) in
-    let y : Pair = (b, k.0) in
-    let not_before : Precedes x y → ⊥ = k.2 x h.1 in
-    let not_after : Precedes y x → ⊥ = h.2 y k.1 in
-    let same_rule : a.rule ≡ b.rule =
-    ⊎_elim (λ lt. absurd (not_before (inl lt))) (λ ge. ⊎_elim (λ lt. absurd (not_after (inl lt))) (λ le. omega arith) (cases_lt b.rule a.rule)) (cases_lt a.rule b.rule) in
-    let same_index : a.offer_index ≡ b.offer_index = alike_at SameIndex Precedes x y not_before not_after (pair_compares x y) in
-    let same_offer : h.0 ≡ k.0 = same_some h.0 k.0 (sym h.1.3.1 ∙ ap (slice_get offers) same_index ∙ k.1.3.1) in
-    let same_amount : a.amount ≡ b.amount =
-    same_some a.amount b.amount (current_unique k.0 q (Some a.amount) (Some b.amount) (subst (λ (o : Offer). IsCurrent o q (Some a.amount)) same_offer h.1.3.2.1) k.1.3.2.1) in
-    λ i. Some (record { rule = same_rule i; offer_index = same_index i; amount = same_amount i })
+    ap (λ (c : Pair). Some c.0) (same_pair rules offers q (a, h.0) (b, k.0) h.1 k.1 (k.2 (a, h.0) h.1) (h.2 (b, k.0) k.1))
 
 of_best : (rules : List Rule) (offers : List Offer) (q : PriceQuery) (best : Option Pair) → IsBest (λ c. Unit {0}) Precedes (candidates 1 rules offers q) best
     → IsChoice rules offers q (option_map (λ c. c.0) best)

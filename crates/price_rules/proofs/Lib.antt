@@ -9,5 +9,8 @@ pub mod Tests
 pub mod Texts
 pub mod Scan
 pub mod Candidates
+pub mod Images
+pub mod BestOffers
+pub mod Collected
 pub mod TomlTables
 pub mod BadItems

@@ -25,7 +25,7 @@ precedes_order =
     (then_order (λ c. c.1.reference) IsTextLess _ text_order
     (then_order (λ c. c.1.place) IsLess _ less_order (by_order (λ c. c.0.offer_index) IsLess less_order)))))
 
-next_level : {L E N M : Type 0} → (N → M) → L ⊎ (E × N) → L ⊎ (E × M)
+pub next_level : {L E N M : Type 0} → (N → M) → L ⊎ (E × N) → L ⊎ (E × M)
 next_level f (inl l) = inl l
 next_level f (inr p) = inr (p.0, f p.1)
 

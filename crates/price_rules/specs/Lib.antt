@@ -7,6 +7,7 @@ pub mod Spans
 pub mod Breaks
 pub mod Choice
 pub mod Chosen
+pub mod BestOffer
 pub mod Steps
 pub mod RulesFile
 pub mod Laws

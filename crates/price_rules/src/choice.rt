@@ -22,6 +22,14 @@ pub struct Choice {
     pub amount: Amount,
 }
 
+/// A chosen offer: the number of the rule, from 1, the offer, and its current price.
+#[derive(Drop)]
+pub struct BestOffer {
+    pub rule: u32,
+    pub offer: Offer,
+    pub amount: Amount,
+}
+
 fn is_series(series: &Option<SeriesName>, name: &SeriesName) -> bool
     ensures { IsTrue result ↔ IsSeries series.now name.now }
 {

@@ -10,6 +10,8 @@
 pub mod breaks;
 pub mod calendar;
 pub mod choice;
+pub mod choice_so_far;
+pub mod collector;
 pub mod current;
 pub mod day_by_day;
 pub mod laws;

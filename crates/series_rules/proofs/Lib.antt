@@ -5,6 +5,7 @@ pub mod FirstLemmas
 pub mod AgreementLemmas
 pub mod Questions
 pub mod ViewLemmas
+pub mod CollectedPrices
 pub mod LawProofs
 pub mod PriceLaws
 pub mod GapLaw

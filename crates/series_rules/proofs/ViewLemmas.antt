@@ -30,6 +30,16 @@ asks_of r answer old new (Err f) is told = record {
   fault = told.fault;
 }
 
+-- what is made of an answer is the answer that is made of it after each list
+pub tells_made : {A B : Type 0} {k : DeskKind} (answer : List Request → A) (made : List Request → B) (old new : View k) (a : A) (b : B) → ((L : List Request) → a ≡ answer L → b ≡ made L) → Tells answer old new (Ok a) → Tells made old new (Ok b)
+tells_made answer made old new a b is told = record {
+  premise = told.premise;
+  ok = λ L stands sound. is L (told.ok L stands sound);
+  left = told.left;
+  stays = told.stays;
+  fault = tt;
+}
+
 -- nothing was asked of the desk
 pub tells_unasked : {A : Type 0} {k : DeskKind} (answer : List Request → A) (desk : View k) (a : A) → ((L : List Request) → a ≡ answer L) → Tells answer desk desk (Ok a)
 tells_unasked answer desk a is = record {

@@ -5,6 +5,7 @@ use Rattle.price_rules.specs.Calendar.{is_bad_range}
 use Rattle.price_rules.specs.Chosen.{choice}
 use Rattle.price_rules.specs.Current.{current}
 use Rattle.price_rules.specs.Spans.{calendar_spans}
+use Rattle.price_rules.specs.declared.choice.BestOffer.{BestOffer}
 use Rattle.price_rules.specs.declared.choice.Choice.{Choice}
 use Rattle.price_rules.specs.declared.offer.Offer.{Offer}
 use Rattle.price_rules.specs.declared.offer.PriceQuery.{PriceQuery}
@@ -43,6 +44,10 @@ chosen_offer offers c =
 -- the offer that the rules choose
 abbrev pub chosen_by : List Rule → PriceQuery → List Offer → Option ChosenOffer
 chosen_by rules q offers = choice rules offers q >>= chosen_offer offers
+
+-- the best offer, as answers name it
+abbrev pub named_best : BestOffer → ChosenOffer
+named_best best = record { rule = best.rule; offer = listed best.offer; amount = best.amount }
 
 -- an offer with its calendar
 abbrev pub dated : CalendarQuery → Offer → OfferCalendar

@@ -1,16 +1,16 @@
 //! Answers about the offers of an article.
 
-ghost use Rattle.std.specs.Prelude.{◌≡◌, IfOk, false, slice_get};
+ghost use Rattle.std.specs.Prelude.{◌≡◌, [], IfOk, false, option_map};
 ghost use Rattle.price_rules.specs.Calendar.{is_bad_range};
-ghost use Rattle.series_rules.specs.PriceAnswers.{calendars_of, chosen_by, dated, listed, priced, prices_of};
+ghost use Rattle.series_rules.specs.PriceAnswers.{calendars_of, dated, listed, named_best, priced};
 
 use crate::answers::{ChosenOffer, ListedOffer, OfferCalendar, PricedOffer};
 use onix_terms::items::Items;
 use price_rules::calendar::{CalendarFault, calendar_for};
-use price_rules::choice::choose;
+use price_rules::choice::BestOffer;
+use price_rules::collector::OfferCollector;
 use price_rules::current::current_price;
 use price_rules::offer::{CalendarQuery, Offer, PriceQuery};
-use price_rules::precedence::Precedence;
 use std::alloc::{AllocError, Global};
 
 fn into_listed(offer: Offer) -> ListedOffer
@@ -34,47 +34,46 @@ fn price_offer(offer: Offer, query: &PriceQuery) -> PricedOffer
     }
 }
 
-/// Each offer with its current price.
-pub(crate) fn price_offers(
-    alloc: Global,
-    offers: Items<Offer>,
-    query: &PriceQuery,
-) -> Result<Items<PricedOffer>, AllocError>
-    ensures { IfOk result (λ priced. priced ≡ prices_of query.now offers) }
-{
-    let mut priced = Items::new(alloc);
-    for offer in offers.into_vec() {
-        priced.push(price_offer(offer, query))?;
-    }
-    Ok(priced)
+/// The prices of the offers that were collected, which are not held themselves.
+#[derive(Drop)]
+pub(crate) struct PricesSoFar {
+    query: PriceQuery,
+    pub(crate) offers: Items<PricedOffer>,
 }
 
-// The offer at that index, where there is one.
-fn offer_at(offers: Items<Offer>, index: usize) -> Option<Offer>
-    ensures { result ≡ slice_get offers index }
-{
-    let mut offers = offers.into_vec();
-    if index < offers.len() {
-        Some(offers.swap_remove(index))
-    } else {
-        None
+impl PricesSoFar {
+    /// No prices, for this question.
+    pub(crate) fn new(alloc: Global, query: &PriceQuery) -> PricesSoFar
+        ensures query { result.query ≡ query.now }
+        ensures none { result.offers ≡ [] }
+    {
+        PricesSoFar {
+            query: *query,
+            offers: Items::new(alloc),
+        }
     }
 }
 
-/// The offer that the precedence table chooses.
-pub(crate) fn choose_offer(
-    precedence: &Precedence,
-    offers: Items<Offer>,
-    query: &PriceQuery,
-) -> Option<ChosenOffer>
-    ensures { result ≡ chosen_by precedence.now query.now offers }
+impl OfferCollector for PricesSoFar {
+    ghost use Rattle.std.specs.Prelude.{◌++◌, ◌∷◌, []};
+    ghost use Rattle.series_rules.specs.PriceAnswers.{priced};
+
+    ghost collected = { λ s o. record s { offers = s.offers ++ priced s.query o ∷ [] } };
+
+    fn collect(&mut self, offer: Offer) -> Result<(), AllocError> {
+        self.offers.push(price_offer(offer, &self.query))
+    }
+}
+
+/// The answer to a question about a choice.
+pub(crate) fn into_chosen(best: Option<BestOffer>) -> Option<ChosenOffer>
+    ensures { result ≡ option_map named_best best }
 {
-    let choice = choose(precedence, offers.as_slice(), query)?;
-    let offer = offer_at(offers, choice.offer_index)?;
+    let best = best?;
     Some(ChosenOffer {
-        rule: choice.rule,
-        offer: into_listed(offer),
-        amount: choice.amount,
+        rule: best.rule,
+        offer: into_listed(best.offer),
+        amount: best.amount,
     })
 }
 

@@ -1,9 +1,0 @@
-use Rattle.std.proofs.Common.{◌≡◌, List, take}
-use Rattle.std.specs.List.{flat_map}
-use Rattle.series_rules.specs.Offers.{series_offers, with_names}
-use Rattle.desk_memory.specs.Stands.{StandsFor, kept_agreements}
-use Rattle.series_rules.specs.declared.requests.Request.{Request}
-use Rattle.desk_memory.proofs.desk.offers_of.Given as goal
-
-abbrev pub invariant-loop-series : goal.invariant-loop-series
-invariant-loop-series l = (L : List Request) → StandsFor l.kept L → l.offers ≡ flat_map (series_offers L l.isbn) (with_names (kept_agreements (take l.series-index l.kept)))

@@ -57,20 +57,29 @@ pub enum Action<'a> {
     /// A command over a new desk in memory.
     InMemory(Task<'a>),
     /// A command over the desk in this database file.
-    InFile { db: Database<'a>, task: Task<'a> },
+    InFile {
+        db: Database<'a>,
+        task: Task<'a>,
+    },
     /// What the desk in this database file holds is listed.
     Listed {
         db: Database<'a>,
         listing: Listing<'a>,
     },
     /// `migrate`: the desk in this database file is brought to version 2.
-    Migrate { db: Database<'a> },
+    Migrate {
+        db: Database<'a>,
+    },
     /// `--batches SOCKET batch`: the batch is sent to the desk that is open there.
-    Send { socket: &'a str },
+    Send {
+        socket: &'a str,
+    },
     /// `convert`: messages in XML become CSV records, and no desk is opened.
     Convert(Conversion<'a>),
     /// `rules FILE`: the precedence table of a file is read, and no desk is opened.
-    CheckRules { file: &'a str },
+    CheckRules {
+        file: &'a str,
+    },
 }
 
 /// What the program is asked to do, under the precedence table of a file or under no rules.
@@ -214,7 +223,7 @@ fn listing_of<'a>(name: &str, words: &ArgMatches<'a>) -> Option<Listing<'a>>
 
 // What a command asks for that lists what a desk holds.
 fn listing_reading<'a>(matches: &ArgMatches<'a>, listing: Listing<'a>) -> Reading<'a>
-    ensures { (name : Text) (own : List Row) → IsListing name own listing
+    ensures { (name : Text) (own : List Row) → IsListing name own listing.entry
         → text_in (words_in matches.now) (codes "batches") ≡ None
         → ReadsAs (words_in matches.now) name own result }
 {

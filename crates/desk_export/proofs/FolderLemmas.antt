@@ -1,5 +1,5 @@
 -- Files of a folder that get their names, or may.
-use Rattle.std.proofs.Common.{◌≡◌, ℕ, List, [], Result, Ok, Err, inl}
+use Rattle.std.proofs.Common.{List, Result, Ok, Err, inl}
 use Rattle.std.specs.Prelude.{OnErr, OnOk}
 use Rattle.named_files.specs.Holdings.{Holdings, MayName, NamedText, Names}
 

@@ -1,19 +1,21 @@
 -- How a command ends that lists what a desk in two files holds.
-use Rattle.std.proofs.Common.{◌≡◌, ◌⊎◌, ℕ, Bool, List, [], inl, inr, subst, sym}
+use Rattle.std.proofs.Common.{◌≡◌, ◌⊎◌, ℕ, Bool, List, [], Some, None, inl, inr, refl, subst, sym}
 use Rattle.sqlite_disk.specs.declared.Disk.{Ghosts}
 use Rattle.sqlite_wal.specs.Recovery.{Image}
 use Rattle.series_rules.specs.Views.{DeskKind, LeavesOnly, View}
 use Rattle.series_rules.specs.declared.requests.Request.{Request}
+use Rattle.desk_export.proofs.FolderLemmas.{none_named}
 use Rattle.desk_export.specs.Asking.{IsAsked}
 use Rattle.desk_store.specs.Seen.{in_tables, seen_in}
 use Rattle.sqlite.specs.Files.{file_state}
 use Rattle.named_files.specs.Holdings.{Holdings}
 use Rattle.command_line.specs.declared.invocation.Listing.{Listing}
+use Rattle.command_line.specs.declared.invocation.Listing.TheVariants.{Agreements, Export, Gaps}
 use Rattle.desk_program.proofs.ClosingLemmas.{closed_comes, unclosed_comes}
 use Rattle.desk_program.proofs.EndLemmas.{ComesOf, ComesTo}
 use Rattle.desk_program.specs.FileViews.{seen_files, seen_image, seen_store}
 use Rattle.database_files.specs.Leftovers.{HasNoFiles}
-use Rattle.desk_program.specs.ListingEnds.{FileListingEnds, ListingEnds, ListsAndCloses}
+use Rattle.desk_program.specs.ListingEnds.{FileListingEnds, ListingEnds, ListsAndCloses, SparesFiles}
 use Rattle.database_files.specs.declared.files.FilesLeft.{FilesLeft}
 use Rattle.database_files.specs.declared.files.FilesLeft.TheVariants.{Closed, NotOpened, Unclosed, Unopened, Untouched}
 
@@ -43,6 +45,13 @@ module _ {k : DeskKind} (old first last new : View k) (IsSo : List Request → T
     stays = λ sound x. (λ held. comes.holds sound x ((asked.stays (ended sound) x).0 (begins.holds (opened sound) x held)), λ may. leaves sound x may);
     so = λ L held sound. asked.so L (begins.stands (opened sound) L held) (ended sound);
   }
+
+-- nothing was done, so that no file is touched
+pub spared : (written : List ℕ → Type 0) (is_told : Bool) (holds : Holdings) (listing : Listing) → written [] → SparesFiles written is_told holds holds listing
+spared written is_told holds Agreements none = refl
+spared written is_told holds Gaps none = refl
+spared written is_told holds (Export None) none = refl
+spared written is_told holds (Export (Some folder)) none = (none, λ told. ([], none_named [] holds))
 
 module _ (written : List ℕ → Type 0) (is_told : Bool) (before after : Holdings) (listing : Listing) where
   ends_between : {k : DeskKind} (old first last new : View k) (status : ℕ) → ComesTo old first → ComesOf last new → ListingEnds written is_told before after listing first last status → ListingEnds written is_told before after listing old new status

@@ -234,7 +234,15 @@ pub fn list_file<O: Databases, F: NamedFiles, W: Write, E: Write>(
 {
     match open_database(rt, db, databases, errors) {
         Ok((database, options)) => {
-            list_over_files(rt.alloc(), database, options, listing, files, output, errors)
+            list_over_files(
+                rt.alloc(),
+                database,
+                options,
+                listing,
+                files,
+                output,
+                errors,
+            )
         }
         Err((fault, none)) => (report(&fault, errors), none),
     }

@@ -1,4 +1,4 @@
-use Rattle.std.proofs.Common.{◌≡◌, ◌-◌, ◌+◌, ◌++◌, ◌∷◌, ◌∙◌, [], Ok, arith, ap, drop, refl, sym}
+use Rattle.std.proofs.Common.{◌≡◌, ◌-◌, ◌+◌, ◌++◌, ◌∷◌, ◌∙◌, [], Ok, arith, ap, drop, sym}
 use Rattle.std.proofs.lemmas.List.{drop_all, drop_more}
 use Rattle.desk_export.specs.Exporting.{end_after, requests_between}
 use Rattle.desk_export.specs.Exports.{requests_from}

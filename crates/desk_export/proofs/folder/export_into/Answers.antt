@@ -1,6 +1,4 @@
-use Rattle.std.proofs.Common.{[], inl, refl}
-use Rattle.desk_export.proofs.AskedDesks.{asked_as, nothing_asked}
-use Rattle.desk_export.proofs.FolderLemmas.{none_named}
+use Rattle.desk_export.proofs.AskedDesks.{asked_as}
 use Rattle.desk_export.specs.Exports.{export_of}
 use Rattle.desk_export.proofs.folder.export_into.Goals as goal
 

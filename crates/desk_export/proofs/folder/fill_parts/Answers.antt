@@ -5,7 +5,7 @@ use Rattle.desk_export.proofs.AskedDesks.{asked_list}
 use Rattle.desk_export.proofs.PartLemmas.{cut_whole}
 use Rattle.desk_export.specs.Exporting.{TakesAll}
 use Rattle.desk_export.specs.Exports.{export_of}
-use Rattle.desk_export.specs.PartTexts.{Fills, filling}
+use Rattle.desk_export.specs.PartTexts.{filling}
 use Rattle.desk_export.proofs.folder.fill_parts.Goals as goal
 
 pub returns-in-Ok : goal.returns-in-Ok

@@ -16,3 +16,9 @@ returns-in-Err-clause-end g c = (
   (c.report_unclosed-status.ensures, c.in-Err.ensures.left),
   c.run-status.ensures.end,
 )
+
+pub returns-in-Ok-clause-spares : goal.returns-in-Ok-clause-spares
+returns-in-Ok-clause-spares g c = c.run-status.ensures.spares
+
+pub returns-in-Err-clause-spares : goal.returns-in-Err-clause-spares
+returns-in-Err-clause-spares g c = c.run-status.ensures.spares

@@ -6,7 +6,7 @@ use Rattle.desk_store.specs.Openings.{MakesNothing}
 use Rattle.desk_store.specs.Seen.{seen_in}
 use Rattle.desk_program.proofs.ClosingLemmas.{opened_comes, spares_settled}
 use Rattle.desk_program.proofs.EndLemmas.{ComesTo}
-use Rattle.desk_program.proofs.ListingLemmas.{listing_closed}
+use Rattle.desk_program.proofs.ListingLemmas.{listing_closed, spared}
 use Rattle.desk_program.specs.FileViews.{seen_image}
 use Rattle.desk_program.proofs.listing.list_over_files.Goals as goal
 
@@ -24,3 +24,11 @@ returns-in-Err-clause-end g c = λ image settled. (
   Appends-nil (g.W.Write.contents c.args.output.now),
   λ clean. spares_settled g.D.Disk MakesNothing image c.args.database c.in-Err.left settled (c.in-Err.ensures.left clean),
 )
+
+pub returns-in-Ok-clause-spares : goal.returns-in-Ok-clause-spares
+returns-in-Ok-clause-spares g c = c.list_and_close.ensures.spares
+
+pub returns-in-Err-clause-spares : goal.returns-in-Err-clause-spares
+returns-in-Err-clause-spares g c =
+    spared (Appends (g.W.Write.contents c.args.output.now) (g.W.Write.contents c.args.output.now)) g.F.NamedFiles.is_told (g.F.NamedFiles.holds c.args.files.now) c.args.listing
+    (Appends-nil (g.W.Write.contents c.args.output.now))

@@ -1,4 +1,4 @@
-use Rattle.std.proofs.Common.{◌≡◌, true, ap, subst, sym}
+use Rattle.std.proofs.Common.{◌≡◌, ap, subst, sym}
 use Rattle.std.specs.Prelude.{OnOk}
 use Rattle.named_files.specs.Texts.{told_texts, with_text}
 use Rattle.named_files.proofs.TextLemmas.{kept_in_file, kept_in_memory, on_ok_both}

@@ -113,12 +113,13 @@ fn offer_prices<S: Alter>(
 }
 
 fn offers_by_article<S: Alter>(
+    alloc: Global,
     work: &mut Work<'_, S>,
     line: &str,
     wanted: &str,
 ) -> Result<bool, StoreFault> {
     let article = isbn(word(line, 1))?;
-    are_items(work.offers_by_article(&article), wanted)
+    are_items(work.offers_by_article(alloc, &article), wanted)
 }
 
 fn version<S: Alter>(work: &mut Work<'_, S>, wanted: &str) -> Result<bool, StoreFault> {
@@ -178,7 +179,7 @@ pub fn ask<S: Alter>(
         "offer_prices" | "offer_prices_without_minimums" => {
             offer_prices(alloc, work, line, wanted)
         }
-        "offers_by_article" => offers_by_article(work, line, wanted),
+        "offers_by_article" => offers_by_article(alloc, work, line, wanted),
         _ => match ask_rows(work, north, line, wanted) {
             Some(answer) => answer,
             None => return ask_series(alloc, work, line, wanted),

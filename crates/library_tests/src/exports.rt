@@ -1,7 +1,7 @@
 //! A desk is listed as text, and a new desk that is given its export is listed alike.
 
+use crate::asking::run;
 use crate::cases::{expect, expect_bytes, made};
-use desk_batch::run_batch;
 use desk_export::list_text::{write_agreements, write_export, write_gaps};
 use desk_listing::listing::ListedDesk;
 use desk_store::DeskStore;
@@ -50,6 +50,18 @@ missing,3,3
 gaps,south,first=7,next=7,greatest=,held=0,missing=0
 ";
 
+// A text was written to its end, and is that.
+fn expect_text<E: Drop>(
+    stop: &impl Abort,
+    ended: Result<(), E>,
+    text: &[u8],
+    wanted: &str,
+    case: &str,
+) {
+    expect(stop, ended.is_ok(), case);
+    expect_bytes(stop, text, wanted.as_bytes(), case);
+}
+
 // A desk that was given these requests is listed as that.
 fn expect_lists<D: ListedDesk>(
     alloc: Global,
@@ -59,22 +71,18 @@ fn expect_lists<D: ListedDesk>(
     case: &str,
 ) {
     let rules = Precedence::none(alloc);
-    let mut answers = Vec::new(alloc);
-    let mut input = requests.as_bytes();
-    let ended = run_batch(alloc, desk, &rules, &mut input, &mut answers);
-    expect(stop, ended.is_ok(), case);
     let mut text = Vec::new(alloc);
+    let ended = run(alloc, desk, &rules, &mut requests.as_bytes(), &mut text);
+    expect(stop, ended.is_ok(), case);
+    text.clear();
     let ended = write_export(alloc, desk, &mut text);
-    expect(stop, ended.is_ok(), case);
-    expect_bytes(stop, text.as_slice(), EXPORT.as_bytes(), case);
-    let mut text = Vec::new(alloc);
+    expect_text(stop, ended, text.as_slice(), EXPORT, case);
+    text.clear();
     let ended = write_agreements(alloc, desk, &mut text);
-    expect(stop, ended.is_ok(), case);
-    expect_bytes(stop, text.as_slice(), AGREEMENTS.as_bytes(), case);
-    let mut text = Vec::new(alloc);
+    expect_text(stop, ended, text.as_slice(), AGREEMENTS, case);
+    text.clear();
     let ended = write_gaps(alloc, desk, &mut text);
-    expect(stop, ended.is_ok(), case);
-    expect_bytes(stop, text.as_slice(), GAPS.as_bytes(), case);
+    expect_text(stop, ended, text.as_slice(), GAPS, case);
 }
 
 #[test]

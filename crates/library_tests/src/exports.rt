@@ -1,7 +1,7 @@
 //! A desk is listed as text, and a new desk that is given its export is listed alike.
 
+use crate::asking::run;
 use crate::cases::{expect, expect_bytes, made};
-use desk_batch::run_batch;
 use desk_export::list_text::{Listed, write_list};
 use desk_listing::listing::ListedDesk;
 use desk_store::DeskStore;
@@ -75,8 +75,7 @@ fn expect_lists<D: ListedDesk>(
 ) {
     let rules = Precedence::none(alloc);
     let mut answers = Vec::new(alloc);
-    let mut input = requests.as_bytes();
-    let ended = run_batch(alloc, desk, &rules, &mut input, &mut answers);
+    let ended = run(alloc, desk, &rules, &mut requests.as_bytes(), &mut answers);
     expect(stop, ended.is_ok(), case);
     expect_list(alloc, stop, desk, Listed::Requests, EXPORT, case);
     expect_list(alloc, stop, desk, Listed::Agreements, AGREEMENTS, case);

@@ -118,16 +118,16 @@ pub fn act_on_files<D: Disk + Drop>(
     act(alloc, opened, call, output)
 }
 
-// Closes files, whether or not their log can be copied.
-fn close<D: Disk + Drop>(opened: Opened<FileStore<D>>) -> Files<D> {
+/// Closes files, whether or not their log can be copied, and says whether it could.
+pub fn close<D: Disk + Drop>(opened: Opened<FileStore<D>>) -> (Files<D>, bool) {
     match opened {
         Opened::Desk(desk) => match desk.close_files() {
-            Ok(files) => files,
-            Err((_, store)) => store.close(),
+            Ok(files) => (files, true),
+            Err((_, store)) => (store.close(), false),
         },
         Opened::Connection(connection) => match connection.close_files() {
-            Ok(files) => files,
-            Err((_, store)) => store.close(),
+            Ok(files) => (files, true),
+            Err((_, store)) => (store.close(), false),
         },
     }
 }
@@ -139,7 +139,8 @@ fn act_and_close<D: Disk + Drop>(
     output: &mut Vec<u8>,
 ) -> (Files<D>, End) {
     let (opened, end) = act_on_files(alloc, opened, call, output);
-    (close(opened), end)
+    let (files, _) = close(opened);
+    (files, end)
 }
 
 fn ask<D: Disk + Drop>(

@@ -64,7 +64,7 @@ fn ask_lists<D: TestDesk + Drop, R: Abort + Env>(alloc: Global, rt: &R) {
     let exchanges = ask_list::<D, R>(alloc, rt, "exchanges", EXCHANGES);
     let waivers = ask_list::<D, R>(alloc, rt, "waivers", WAIVERS);
     let drain = ask_behind::<D, R>(alloc, rt, FORTY, "drain", DRAIN);
-    let is_one = steps || three || questions || exchanges || waivers || drain;
+    let is_one = steps | three | questions | exchanges | waivers | drain;
     expect(rt, is_one, "no cases of this name");
 }
 
@@ -76,7 +76,7 @@ fn make_calls<D: TestDesk + Drop, R: Abort + Env>(alloc: Global, rt: &R) {
     let migration = ask_behind::<D, R>(alloc, rt, FIRST_FILES, "migration", MIGRATION);
     let rows = ask_behind::<D, R>(alloc, rt, FORTY, "rows", DRAINED_ROWS);
     let order = ask_list::<D, R>(alloc, rt, "order", ORDER);
-    let is_one = calls || refused || versions || migration || rows || order;
+    let is_one = calls | refused | versions | migration | rows | order;
     expect(rt, is_one, "no cases of this name");
 }
 

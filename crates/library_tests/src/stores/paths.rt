@@ -5,7 +5,7 @@
 use crate::asking::expect_asked;
 use crate::cases::expect;
 use crate::disks::failing_files;
-use crate::files::{Call, Opened, act_on_files};
+use crate::files::{Call, Opened, act_on_files, close};
 use desk_store::{DeskStore, MigrateAnswer, migrate, migrate_files};
 use price_rules::precedence::Precedence;
 use sqlite::{FileStore, Files, Unknown};
@@ -15,19 +15,6 @@ use std::process::Abort;
 
 // In the folder that the test is run in.
 const PATH: &str = "shop.db";
-
-fn close<D: Disk + Drop>(stop: &impl Abort, opened: Opened<FileStore<D>>) -> Files<D> {
-    match opened {
-        Opened::Desk(desk) => match desk.close_files() {
-            Ok(files) => files,
-            Err(_) => stop.panic("a desk that does not close"),
-        },
-        Opened::Connection(connection) => {
-            drop(connection);
-            stop.panic("no desk")
-        }
-    }
-}
 
 fn ask_and_close<D: Disk + Drop>(
     alloc: Global,
@@ -41,7 +28,9 @@ fn ask_and_close<D: Disk + Drop>(
     let call = Call::Ask(&rules, request);
     let (opened, ended) = act_on_files(alloc, Opened::Desk(desk), call, &mut output);
     expect_asked(stop, ended, output.as_slice(), answers, request);
-    close(stop, opened)
+    let (files, is_closed) = close(opened);
+    expect(stop, is_closed, "a desk that does not close");
+    files
 }
 
 fn ask<S: Start>(rt: &HostRuntime, stop: &impl Abort, start: S, request: &str, answers: &str) {

@@ -1,7 +1,7 @@
 //! The calls that give something, each with what its line says.
 
 use crate::tables::answers::{are_all, are_items, is_found};
-use crate::tables::sample::{offer, party, record};
+use crate::tables::sample::{agreement, offer, record};
 use crate::tables::words::{is_whole, isbn, name, term, whole, word};
 use desk_tables::work::Work;
 use onix_message::StoreFault;
@@ -25,11 +25,11 @@ fn series_by_parties<S: Alter>(
     line: &str,
     wanted: &str,
 ) -> Result<bool, StoreFault> {
-    let addressee = party(alloc, "5012345678900")?;
-    match party(alloc, word(line, 1)) {
-        Ok(sender) => is_found(work.series_by_parties(&sender, Some(&addressee)), wanted),
-        Err(fault) => Err(fault),
-    }
+    let row = agreement(alloc, "north", word(line, 1))?;
+    let found = work.series_by_parties(&row.sender, row.addressee.as_ref());
+    let answer = is_found(found, wanted);
+    drop(row);
+    answer
 }
 
 // The calls that are given a number of `north`.

@@ -32,8 +32,8 @@ fn territory(alloc: Global, included: &str, regions: &str) -> Result<Territory, 
     }
 }
 
-/// The party with this GLN.
-pub fn party(alloc: Global, value: &str) -> Result<Party, StoreFault> {
+// The party with this GLN.
+fn party(alloc: Global, value: &str) -> Result<Party, StoreFault> {
     Ok(Party {
         id_type: code("06")?,
         id_value: text(alloc, value)?,

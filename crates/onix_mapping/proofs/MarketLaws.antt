@@ -2,10 +2,15 @@
 use Rattle.std.proofs.Common.{◌≡◌, ℕ, Bool, true, false, List, [], ◌∷◌, ◌++◌, Option, Some, None, refl, sym, ap}
 use Rattle.std.proofs.lemmas.List.{append-nil}
 use Rattle.std.proofs.lemmas.Option.{same_Some}
-use Rattle.onix_mapping.specs.Markets.{IsFilled, joined_outcome, supply_record}
+use Rattle.std.specs.Option.{option_map_or}
+use Rattle.onix_mapping.specs.Markets.{IsFilled, supply_record}
 use Rattle.onix_mapping.specs.Notes.{Note, foreign}
-use Rattle.onix_mapping.specs.Outcomes.{outcome_reason, outcome_records}
+use Rattle.onix_mapping.specs.Outcomes.{Outcome, left_out, outcome_reason, outcome_records, written}
 use Rattle.onix_mapping.specs.declared.notes.Foreign.TheVariants.{LongMarkets}
+
+-- what comes of the fields of Markets that are left
+abbrev pub joined_outcome : Option (List (List ℕ)) → List Note → Outcome
+joined_outcome made notes = option_map_or (λ fields. written (supply_record fields ∷ []) notes) made (left_out (foreign LongMarkets []))
 
 pub filled-reason : (b : Bool) (o : Option (List (List ℕ))) (made : List (List ℕ)) (notes : List Note) → b ≡ true → IsFilled b made o → None ≡ outcome_reason (joined_outcome o notes)
 filled-reason true None made notes is f = cc f

@@ -1,18 +1,20 @@
 -- What becomes of each Price of a SupplyDetail that is written.
 use Rattle.std.proofs.Common.{◌≡◌, ℕ, Bool, true, false, List, [], ◌∷◌, Option, Some, None, refl}
-use Rattle.std.specs.Prelude.{if◌then◌else◌}
+use Rattle.std.specs.Prelude.{codes, if◌then◌else◌, is_some}
 use Rattle.std.specs.List.{AllByRecursion}
 use Rattle.onix_outline.specs.Nodes.{Nodes}
 use Rattle.onix_message.specs.declared.row.Opening.{Opening}
-use Rattle.onix_mapping.specs.Details.{around_in, detail_by, detail_outcome, detail_record, prices_in}
-use Rattle.onix_mapping.specs.Elements.{Composite}
-use Rattle.onix_mapping.specs.Markets.{markets_in, markets_outcome}
+use Rattle.onix_mapping.specs.Details.{around_in, detail_fields, detail_outcome, detail_refusal, prices_in}
+use Rattle.onix_mapping.specs.Elements.{Composite, first}
 use Rattle.onix_mapping.specs.Notes.{Reason}
-use Rattle.onix_mapping.specs.Outcomes.{Outcome, all_records, notes_below, nothing, outcome_reason, outcome_records}
-use Rattle.onix_mapping.specs.PriceFates.{HasDetails, HasPrices, IsPrice}
+use Rattle.onix_mapping.specs.Outcomes.{all_records, notes_below, nothing, outcome_reason, outcome_records}
+use Rattle.onix_mapping.specs.PriceFates.{HasDetails, HasPrices, HasSupplies, IsPrice}
 use Rattle.onix_mapping.specs.Prices.{Around, is_nothing, outcome_of, price_fields, price_outcome, reasons_against}
-use Rattle.onix_mapping.specs.Records.{first_some}
-use Rattle.onix_mapping.specs.Supplies.{detail_in, details_in, supply_outcome}
+use Rattle.onix_mapping.specs.ProductRecords.{fate_of, supplies_in, written_notes}
+use Rattle.onix_mapping.specs.Products.{identifier_notes, notification_in, own_reason, product_record, reference_in, right_pairs}
+use Rattle.onix_mapping.specs.Records.{first_some, is_field}
+use Rattle.onix_mapping.specs.declared.product_records.Fate.TheVariants as fate
+use Rattle.onix_mapping.specs.Supplies.{detail_in, details_in, supplies_reason, supply_markets, supply_outcome}
 
 reason-is : (around : Around) (nodes : Nodes) (why : Option Reason) → IsPrice around nodes (outcome_of why around nodes)
 reason-is around nodes None = (price_fields around nodes, refl)
@@ -30,26 +32,38 @@ prices-are around [] = tt
 prices-are around (c ∷ cs) = (price-is around c.below, prices-are around cs)
 
 pub detail-has : (o : Opening) (preferred : List ℕ) (nodes : Nodes) → outcome_reason (detail_outcome o preferred nodes) ≡ None → HasPrices o preferred nodes
-detail-has o preferred nodes e = go (detail_record preferred nodes) refl e
+detail-has o preferred nodes e = go (detail_refusal preferred nodes) refl
   where
-    go : (r : Option (List (List ℕ))) → detail_record preferred nodes ≡ r → outcome_reason (detail_by r o preferred nodes) ≡ None → HasPrices o preferred nodes
-    go None is f = absurd cc
-    go (Some own) is f = record { own = own; records = rw is refl; notes = rw is refl; each = prices-are (around_in o nodes) (prices_in nodes) }
+    go : (why : Option Reason) → detail_refusal preferred nodes ≡ why → HasPrices o preferred nodes
+    go (Some why) is = let no' = rw is at e in absurd cc
+    go None is = record { own = codes "SupplyDetail" ∷ detail_fields preferred nodes; records = rw is refl; notes = rw is refl; each = prices-are (around_in o nodes) (prices_in nodes) }
 
 pub supply-has : (o : Opening) (preferred : List ℕ) (nodes : Nodes) → outcome_reason (supply_outcome o preferred nodes) ≡ None → HasDetails o preferred nodes
-supply-has o preferred nodes e = go (details_in nodes) refl (outcome_reason (markets_outcome (markets_in nodes))) refl (all_records (detail_in o preferred) (details_in nodes)) refl
+supply-has o preferred nodes e = go (is_some (first (details_in nodes))) refl (outcome_reason (supply_markets nodes)) refl (all_records (detail_in o preferred) (details_in nodes)) refl
   where
-    markets : Outcome
-    markets = markets_outcome (markets_in nodes)
+    go : (some : Bool) → is_some (first (details_in nodes)) ≡ some → (why : Option Reason) → outcome_reason (supply_markets nodes) ≡ why → (rs : List (List (List ℕ))) → all_records (detail_in o preferred) (details_in nodes) ≡ rs
+        → HasDetails o preferred nodes
+    go false d why m rs r = let no' = rw d at e in absurd cc
+    go true d (Some reason) m rs r = let no' = rw (d, m) at e in absurd cc
+    go true d None m [] r = let no' = rw (d, m, r) at e in absurd cc
+    go true d None m (y ∷ rs) r = record {
+      own = outcome_records (supply_markets nodes);
+      markets = notes_below (supply_markets nodes);
+      records = rw (d, m, r) refl;
+      notes = rw (d, m, r) refl;
+    }
 
-    go : (ds : List Composite) → details_in nodes ≡ ds → (why : Option Reason) → outcome_reason (markets_outcome (markets_in nodes)) ≡ why → (rs : List (List (List ℕ))) → all_records (detail_in o preferred) (details_in nodes) ≡ rs → HasDetails o preferred nodes
-    go [] d why m rs r = let no' = rw d at e in absurd cc
-    go (x ∷ ds) d (Some reason) m rs r = let no' = rw (d, m) at e in absurd cc
-    go (x ∷ ds) d None m [] r = let r' = rw d at r in let no' = rw (d, m, r') at e in absurd cc
-    go (x ∷ ds) d None m (y ∷ rs) r =
-        let r' = rw d at r in record {
-          own = outcome_records (markets_outcome (markets_in nodes));
-          markets = notes_below (markets_outcome (markets_in nodes));
-          records = rw (d, m, r') refl;
-          notes = rw (d, m, r') refl;
-        }
+pub product-has : (o : Opening) (preferred : List ℕ) (c : Composite) → fate_of o preferred c.below ≡ fate.Written → HasSupplies o preferred c
+product-has o preferred c e = go (is_field (reference_in c.below)) refl (own_reason c.below) refl (supplies_reason o preferred (supplies_in c.below)) refl
+  where
+    go : (stands : Bool) → is_field (reference_in c.below) ≡ stands → (own : Option Reason) → own_reason c.below ≡ own → (below : Option Reason) → supplies_reason o preferred (supplies_in c.below) ≡ below → HasSupplies o preferred c
+    go false f own w below b = let no' = rw f at e in absurd cc
+    go true f (Some own) w below b = let no' = rw (f, w) at e in absurd cc
+    go true f None w (Some below) b = let no' = rw (f, w, b) at e in absurd cc
+    go true f None w None b = record {
+      own = product_record (notification_in c.below) (right_pairs c.below) c.below;
+      before = identifier_notes c.below;
+      behind = written_notes c.below c.element;
+      records = rw (f, w, b) refl;
+      notes = rw (f, w, b) refl;
+    }

@@ -2,7 +2,7 @@
 use Rattle.std.proofs.Common.{◌≡◌, ℕ, List, [], ◌∷◌, ◌++◌, Bool, true, false, Option, Some, None, map, length, refl, sym, ap, ◌∙◌, subst}
 use Rattle.std.specs.Prelude.{◌==◌, ◌&&◌, ◌||◌, not, if◌then◌else◌, option_map, codes, is_some}
 use Rattle.std.specs.List.{AllByRecursion, flat_map, list_all}
-use Rattle.std.specs.Option.{option_or, unwrap_or}
+use Rattle.std.specs.Option.{option_map_or, option_or, unwrap_or}
 use Rattle.std.specs.Str.{bytes_eq, is_utf8}
 use Rattle.std.proofs.lemmas.Bool.{and_from, and_parts}
 use Rattle.std.proofs.lemmas.List.{append-nil, map-append}
@@ -34,17 +34,19 @@ use Rattle.onix_message.proofs.FrontRows.{bind-some}
 use Rattle.onix_terms.specs.Code.{code2_of}
 use Rattle.onix_terms.specs.Territory.{countries_text, territory_of, world_text}
 use Rattle.onix_terms.specs.declared.territory.Territory.{Territory}
-use Rattle.onix_mapping.specs.Details.{around_in, detail_by, detail_fields, detail_record, price_in, prices_in, supplier_pair}
-use Rattle.onix_mapping.specs.Elements.{Composite}
-use Rattle.onix_mapping.specs.Markets.{first_held, held_area, held_fields, held_outcome, joined, joined_outcome, market_reason, markets_in, markets_outcome, supply_record, territories_of, union_fields}
-use Rattle.onix_mapping.specs.Notes.{Note, Reason, wrong}
-use Rattle.onix_mapping.specs.Outcomes.{Outcome, all_notes, all_records, nothing, notes_below, outcome_reason, outcome_records}
+use Rattle.onix_mapping.specs.Details.{around_in, detail_fields, detail_reasons, detail_refusal, price_in, prices_in}
+use Rattle.onix_mapping.specs.Elements.{Composite, each_at, first}
+use Rattle.onix_mapping.specs.Markets.{first_held, held_area, held_fields, held_outcome, market_reason, markets_outcome, supply_record, territories_of, union_fields}
+use Rattle.onix_mapping.proofs.MarketLaws.{joined_outcome}
+use Rattle.onix_mapping.specs.Notes.{Note, Reason, foreign, wrong}
+use Rattle.onix_mapping.specs.Outcomes.{Outcome, all_notes, all_records, left_out, nothing, outcome_reason, outcome_records, written_unless}
 use Rattle.onix_mapping.specs.Prices.{Around, early_reasons, field_reasons, is_nothing, outcome_of, price_fields, price_outcome, reasons_against, refusal}
-use Rattle.onix_mapping.specs.ProductRecords.{forms, reason_below, records_below, small_forms, smaller_forms, standing_fate, standing_records, too_large_notes, why_emptied}
-use Rattle.onix_mapping.specs.Products.{dropping, identifier_reason, identifiers_in, is_code, is_deletion, is_there, notification_in, or_reference, own_reason, pair_by, pair_reason, product_record, reference_in, right_pair, right_pairs, type_of, value_of, value_written}
-use Rattle.onix_mapping.specs.Records.{clean, first_some, is_field, said, term_said, unless, unread}
+use Rattle.onix_mapping.specs.ProductRecords.{forms, small_forms, smaller_forms, standing_fate, standing_records, supplies_in, too_large_notes, why_emptied}
+use Rattle.onix_mapping.specs.Products.{dropping, identifier_reason, identifiers_in, is_code, is_there, notification_in, or_reference, own_reason, pair_reason, product_record, reference_in, right_pair, right_pairs, type_of, value_of, value_written}
+use Rattle.onix_mapping.specs.Records.{clean, first_some, if_empty, is_field, said, term_said, unless, unread}
 use Rattle.onix_mapping.specs.Rows.{AreOf, AreProducts, references_of}
-use Rattle.onix_mapping.specs.Supplies.{behind_markets, detail_in, details_in, supplies_in, supplies_records, supply_by, supply_in, with_details}
+use Rattle.onix_mapping.specs.Supplies.{detail_in, detailed_outcome, details_in, supplies_reason, supply_in, supply_markets, supply_outcome}
+use Rattle.onix_mapping.specs.declared.notes.Foreign.TheVariants as other
 use Rattle.onix_mapping.specs.Territories.{Area, area_fields, area_in, area_refusal, area_reasons, market_of, unheld}
 use Rattle.onix_mapping.specs.Unions.{union}
 use Rattle.onix_mapping.specs.declared.notes.Wrong.TheVariants as bad
@@ -190,23 +192,22 @@ one-detail o fields d ps prices all utf8 is reads =
     as-rows o _ (detail_rows (record d { prices = ps })) _ (sym (append-nil (detail_rows (record d { prices = ps }))))
     (one-first o (codes "SupplyDetail" ∷ fields) (row.SupplyDetail (record d { prices = [] })) prices (map row.Price ps) first (named-utf8 (codes "SupplyDetail") fields refl utf8) reads)
 
-detail-rows : (o : Opening) (preferred : List ℕ) (nodes : Nodes) (r : Option (List (List ℕ))) → detail_record preferred nodes ≡ r → AreDetails o (outcome_records (detail_by r o preferred nodes))
-detail-rows o preferred nodes None e = ([], no-rows o)
-detail-rows o preferred nodes (Some own) e =
-    let (pair, chosen, g) = bind-some (supplier_pair preferred nodes) _ own e in
-    let (d, read, h) = bind-some (said detail_of (detail_fields pair nodes)) _ own g in
-    let s = said-read detail_of (detail_fields pair nodes) d read in
-    let (ps, prices) = prices-rows o nodes (prices_in nodes) in
-    let same : codes "SupplyDetail" ∷ detail_fields pair nodes ≡ own = same_Some _ own h in (
+detail-rows : (o : Opening) (preferred : List ℕ) (nodes : Nodes) (why : Option Reason) → detail_refusal preferred nodes ≡ why
+    → AreDetails o (outcome_records (written_unless why ((codes "SupplyDetail" ∷ detail_fields preferred nodes) ∷ all_records (price_in o nodes) (prices_in nodes)) (all_notes (price_in o nodes) (prices_in nodes))))
+detail-rows o preferred nodes (Some why) e = ([], no-rows o)
+detail-rows o preferred nodes None e =
+    let fields = detail_fields preferred nodes in
+    let (d, read) = taken (said detail_of fields) (unwrap_or (first_some (detail_reasons preferred nodes)) (wrong bad.SupplyDetail [])) e in
+    let s = said-read detail_of fields d read in
+    let (ps, prices) = prices-rows o nodes (prices_in nodes) in (
       record d { prices = ps } ∷ [],
-      subst (λ (k : List (List ℕ)). Reads o (k ∷ all_records (price_in o nodes) (prices_in nodes)) (flat_map detail_rows (record d { prices = ps } ∷ []))) same
-          (one-detail o (detail_fields pair nodes) d ps (all_records (price_in o nodes) (prices_in nodes)) s.clean s.utf8 s.is prices),
+      one-detail o fields d ps (all_records (price_in o nodes) (prices_in nodes)) s.clean s.utf8 s.is prices,
     )
 
 details-rows : (o : Opening) (preferred : List ℕ) (cs : List Composite) → AreDetails o (all_records (detail_in o preferred) cs)
 details-rows o preferred [] = ([], no-rows o)
 details-rows o preferred (c ∷ cs) =
-    let (ds, e) = detail-rows o preferred c.below (detail_record preferred c.below) refl in
+    let (ds, e) = detail-rows o preferred c.below (detail_refusal preferred c.below) refl in
     let (es, f) = details-rows o preferred cs in (
       ds ++ es,
       as-rows o _ (flat_map detail_rows ds ++ flat_map detail_rows es) (flat_map detail_rows (ds ++ es)) (sym (flat_map-append detail_rows ds es))
@@ -240,14 +241,15 @@ union-row o t fields e =
     let (u, of, made) = bind-some (territory_of (countries_text t.included) (world_text t.world) (countries_text t.excluded)) _ s is in
     subst (λ (k : List (List ℕ)). IsSupply o (supply_record k)) same (supply-is o (territory_fields t) s all (territory-utf8 t u of) is)
 
-joined-row : (o : Opening) (a : Area) (s : ProductSupply) → market_of a ≡ Some s → (t : Option Territory) (fields : List (List ℕ)) → joined a t ≡ Some fields → IsSupply o (supply_record fields)
+joined-row : (o : Opening) (a : Area) (s : ProductSupply) → market_of a ≡ Some s → (t : Option Territory) (fields : List (List ℕ)) → option_map_or union_fields t (Some (area_fields a)) ≡ Some fields
+    → IsSupply o (supply_record fields)
 joined-row o a s held None fields e = subst (λ (k : List (List ℕ)). IsSupply o (supply_record k)) (same_Some _ fields e) (stands-row o a s held)
 joined-row o a s held (Some t) fields e = union-row o t fields e
 
 held-row : (o : Opening) (a : Area) (s : ProductSupply) → market_of a ≡ Some s → (ts : List Territory) (fields : List (List ℕ)) → held_fields a ts ≡ Some fields → IsSupply o (supply_record fields)
 held-row o a s held ts fields e = go (length ts == 1) e
   where
-    go : (one : Bool) → (if one then Some (area_fields a) else joined a (union ts)) ≡ Some fields → IsSupply o (supply_record fields)
+    go : (one : Bool) → (if one then Some (area_fields a) else option_map_or union_fields (union ts) (Some (area_fields a))) ≡ Some fields → IsSupply o (supply_record fields)
     go true f = subst (λ (k : List (List ℕ)). IsSupply o (supply_record k)) (same_Some _ fields f) (stands-row o a s held)
     go false f = joined-row o a s held (union ts) fields f
 
@@ -280,18 +282,19 @@ joined-markets : (o : Opening) (made : Option (List (List ℕ))) (notes : List N
 joined-markets o None notes each e = cc e
 joined-markets o (Some fields) notes each e = (supply_record fields, refl, each fields refl)
 
-held-markets : (o : Opening) (ms : List Composite) (first : Option Area) → first_held ms ≡ first → outcome_reason (held_outcome first ms) ≡ None → AreMarkets o (held_outcome first ms)
-held-markets o ms None is e = cc e
-held-markets o ms (Some a) is e =
+held-markets : (o : Opening) (ms : List Composite) (foreign : Bool) (notes : List Note) (first : Option Area) → first_held ms ≡ first → outcome_reason (held_outcome first (territories_of ms) foreign notes) ≡ None
+    → AreMarkets o (held_outcome first (territories_of ms) foreign notes)
+held-markets o ms foreign notes None is e = cc e
+held-markets o ms foreign notes (Some a) is e =
     let (s, held) = held-market ms a is in
-    joined-markets o (held_fields a (territories_of ms)) _ (λ fields made. held-row o a s held (territories_of ms) fields made) e
+    joined-markets o (held_fields a (territories_of ms)) notes (λ fields made. held-row o a s held (territories_of ms) fields made) e
 
 world-supply : (s : ProductSupply) × (supply_of ([] ∷ [] ∷ [] ∷ []) ≡ Some s)
 world-supply = (record { market = record { included = []; world = true; excluded = [] }; details = [] }, refl)
 
 markets-rows : (o : Opening) (ms : List Composite) → outcome_reason (markets_outcome ms) ≡ None → AreMarkets o (markets_outcome ms)
 markets-rows o [] e = let (s, is) = world-supply in (supply_record ([] ∷ [] ∷ [] ∷ []), refl, supply-is o ([] ∷ [] ∷ [] ∷ []) s refl empty-fields is)
-markets-rows o (m ∷ ms) e = held-markets o (m ∷ ms) (first_held (m ∷ ms)) refl e
+markets-rows o (m ∷ ms) e = held-markets o (m ∷ ms) _ _ (first_held (m ∷ ms)) refl e
 
 -- ---- ProductSupplys
 
@@ -317,22 +320,23 @@ never-empty : (o : Opening) (fields : List (List ℕ)) (records : Records) (ds :
 never-empty o fields records [] reads none = let are = reads.are in cc are
 never-empty o fields records (d ∷ ds) reads none = cc none
 
-detailed-rows : (o : Opening) (markets : Outcome) → AreMarkets o markets → (notes more : List Note) (below : Records) → AreDetails o below
-    → AreSupplies o (outcome_records (with_details (outcome_records markets) notes below more))
-detailed-rows o markets are notes more [] details = no-supplies o
-detailed-rows o markets (fields, same, is) notes more (detail ∷ below) (ds, reads) =
+detailed-rows : (o : Opening) (preferred : List ℕ) (nodes : Nodes) (notes : List Note) (why : Option Reason) → outcome_reason (supply_markets nodes) ≡ why
+    → (below : Records) → all_records (detail_in o preferred) (details_in nodes) ≡ below
+    → AreSupplies o (outcome_records (written_unless (first_some (why ∷ if_empty below (Some (wrong bad.NoDetailLeft [])) ∷ [])) (outcome_records (supply_markets nodes) ++ below) notes))
+detailed-rows o preferred nodes notes (Some why) m below d = no-supplies o
+detailed-rows o preferred nodes notes None m [] d = no-supplies o
+detailed-rows o preferred nodes notes None m (detail ∷ below) d =
+    let (fields, same, is) = markets-rows o (each_at "Market" nodes) m in
+    let (ds, reads) = subst (λ (k : Records). AreDetails o k) d (details-rows o preferred (details_in nodes)) in
     subst (λ (k : Records). AreSupplies o (k ++ (detail ∷ below))) (sym same)
     (one-supply o fields is ds (detail ∷ below) (never-empty o detail below ds reads) reads)
 
-behind-rows : (o : Opening) (preferred : List ℕ) (ds ms : List Composite) (why : Option Reason) → outcome_reason (markets_outcome ms) ≡ why
-    → AreSupplies o (outcome_records (behind_markets o preferred why (markets_outcome ms) ds))
-behind-rows o preferred ds ms (Some reason) e = no-supplies o
-behind-rows o preferred ds ms None e =
-    detailed-rows o (markets_outcome ms) (markets-rows o ms e) (notes_below (markets_outcome ms)) (all_notes (detail_in o preferred) ds) (all_records (detail_in o preferred) ds) (details-rows o preferred ds)
-
-supply-rows : (o : Opening) (preferred : List ℕ) (ds : List Composite) (nodes : Nodes) → AreSupplies o (outcome_records (supply_by o preferred ds nodes))
-supply-rows o preferred [] nodes = no-supplies o
-supply-rows o preferred (d ∷ ds) nodes = behind-rows o preferred (d ∷ ds) (markets_in nodes) (outcome_reason (markets_outcome (markets_in nodes))) refl
+supply-rows : (o : Opening) (preferred : List ℕ) (nodes : Nodes) → AreSupplies o (outcome_records (supply_outcome o preferred nodes))
+supply-rows o preferred nodes = go (is_some (first (details_in nodes)))
+  where
+    go : (some : Bool) → AreSupplies o (outcome_records (if some then detailed_outcome o preferred nodes else left_out (foreign other.NoSupplyDetail [])))
+    go true = detailed-rows o preferred nodes _ (outcome_reason (supply_markets nodes)) refl (all_records (detail_in o preferred) (details_in nodes)) refl
+    go false = no-supplies o
 
 all-joined : {A : Type 0} (P : A → Type 0) (xs ys : List A) → AllByRecursion P xs → AllByRecursion P ys → AllByRecursion P (xs ++ ys)
 all-joined P [] ys f g = g
@@ -341,20 +345,13 @@ all-joined P (x ∷ xs) ys f g = (f.0, all-joined P xs ys f.1 g)
 supplies-rows : (o : Opening) (preferred : List ℕ) (cs : List Composite) → AreSupplies o (all_records (supply_in o preferred) cs)
 supplies-rows o preferred [] = no-supplies o
 supplies-rows o preferred (c ∷ cs) =
-    let s = supply-rows o preferred (details_in c.below) c.below in
+    let s = supply-rows o preferred c.below in
     let t = supplies-rows o preferred cs in record {
       supplies = s.supplies ++ t.supplies;
       reads = as-rows o _ (flat_map supply_rows s.supplies ++ flat_map supply_rows t.supplies) (flat_map supply_rows (s.supplies ++ t.supplies)) (sym (flat_map-append supply_rows s.supplies t.supplies))
           (both o (outcome_records (supply_in o preferred c)) (all_records (supply_in o preferred) cs) (flat_map supply_rows s.supplies) (flat_map supply_rows t.supplies) s.reads t.reads);
       details = all-joined HasDetails s.supplies t.supplies s.details t.details;
     }
-
-below-rows : (o : Opening) (preferred : List ℕ) (nodes : Nodes) → AreSupplies o (records_below o preferred nodes)
-below-rows o preferred nodes = go (is_deletion nodes)
-  where
-    go : (deletes : Bool) → AreSupplies o (if deletes then [] else supplies_records o preferred nodes)
-    go true = no-supplies o
-    go false = supplies-rows o preferred (supplies_in nodes)
 
 -- ---- the record of a Product
 
@@ -434,7 +431,8 @@ pair-right kind written stands e rest r =
     let (a, b) = both-none (unread (term_said code2_of) bad.IdentifierType kind) (unless (is_field written) bad.IdentifierValue stands) e in
     one-pair kind written rest (code-is kind (unless-none (is_some (term_said code2_of kind)) bad.IdentifierType kind a)) (field-is written (unless-none (is_field written) bad.IdentifierValue stands b)) r
 
-right-is : (c : Composite) (there : Bool) (reason : Option Reason) → is_there c ≡ there → identifier_reason c ≡ reason → (rest : List (List ℕ)) → ArePairs rest → ArePairs (pair_by c reason ++ rest)
+right-is : (c : Composite) (there : Bool) (reason : Option Reason) → is_there c ≡ there → identifier_reason c ≡ reason → (rest : List (List ℕ)) → ArePairs rest
+    → ArePairs (option_map_or (λ reason. []) reason (if is_there c then type_of c ∷ value_written c ∷ [] else []) ++ rest)
 right-is c there (Some reason) t e rest r = r
 right-is c true None t e rest r =
     let none : pair_reason (type_of c) (value_written c) (value_of c) ≡ None = rw t at e in
@@ -500,12 +498,17 @@ own-code nodes e = go (unread (term_said code2_of) bad.NotificationType (notific
     go None is f = code-is (notification_in nodes) (unless-none (is_some (term_said code2_of (notification_in nodes))) bad.NotificationType (notification_in nodes) is)
     go (Some r) is f = let no = rw is at f in cc no
 
-own-rows : (o : Opening) (preferred : List ℕ) (nodes : Nodes) → IsField (reference_in nodes) → (own : Option Reason) → own_reason nodes ≡ own → (below : Option Reason)
-    → AreOf o (standing_records o preferred own below nodes) (reference_in nodes ∷ [])
-own-rows o preferred nodes f (Some own) e below = emptied-rows o nodes f (right_pairs nodes) (right-pairs (identifiers_in nodes))
-own-rows o preferred nodes f None e (Some below) = emptied-rows o nodes f (right_pairs nodes) (right-pairs (identifiers_in nodes))
-own-rows o preferred nodes f None e None =
-    standing-rows o nodes f (notification_in nodes) (own-code nodes e) (right_pairs nodes) (right-pairs (identifiers_in nodes)) (records_below o preferred nodes) (below-rows o preferred nodes)
+former-none : {A : Type 0} (x y : Option A) → option_or x y ≡ None → x ≡ None
+former-none None y e = refl
+former-none (Some x) y e = cc e
+
+own-rows : (o : Opening) (preferred : List ℕ) (nodes : Nodes) → IsField (reference_in nodes) → (why : Option Reason) → why_emptied o preferred nodes ≡ why
+    → AreOf o (standing_records o preferred why nodes) (reference_in nodes ∷ [])
+own-rows o preferred nodes f (Some why) e = emptied-rows o nodes f (right_pairs nodes) (right-pairs (identifiers_in nodes))
+own-rows o preferred nodes f None e =
+    let own = former-none (own_reason nodes) (supplies_reason o preferred (supplies_in nodes)) e in
+    standing-rows o nodes f (notification_in nodes) (own-code nodes own) (right_pairs nodes) (right-pairs (identifiers_in nodes)) (all_records (supply_in o preferred) (supplies_in nodes))
+    (supplies-rows o preferred (supplies_in nodes))
 
 -- no products of no records
 none-rows : (o : Opening) → AreOf o [] []
@@ -518,8 +521,8 @@ product-rows o preferred c = go (is_field (reference_in c.below)) refl
     nodes : Nodes
     nodes = c.below
 
-    whole : IsField (reference_in nodes) → AreOf o (standing_records o preferred (own_reason nodes) (reason_below o preferred nodes) nodes) (reference_in nodes ∷ [])
-    whole f = own-rows o preferred nodes f (own_reason nodes) refl (reason_below o preferred nodes)
+    whole : IsField (reference_in nodes) → AreOf o (standing_records o preferred (why_emptied o preferred nodes) nodes) (reference_in nodes ∷ [])
+    whole f = own-rows o preferred nodes f (why_emptied o preferred nodes) refl
 
     small : IsField (reference_in nodes) → (notes : List Note) → AllByRecursion (λ f. AreOf o f.records (reference_in nodes ∷ [])) (small_forms notes nodes)
     small f notes = (emptied-rows o nodes f (right_pairs nodes) (right-pairs (identifiers_in nodes)), (emptied-rows o nodes f [] no-pairs, tt))

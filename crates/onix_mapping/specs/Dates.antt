@@ -10,8 +10,7 @@ use Rattle.xml_text.specs.Grammar.{is_filled}
 use Rattle.onix_outline.specs.Nodes.{Nodes, no_nodes, node}
 use Rattle.onix_terms.specs.Day.{day_of}
 use Rattle.onix_terms.specs.Options.{◌>>=◌}
-use Rattle.onix_mapping.specs.Elements.{each_at, some_at}
-use Rattle.onix_mapping.specs.Identifiers.{is_text}
+use Rattle.onix_mapping.specs.Elements.{each_at, some_at, text_at}
 use Rattle.onix_mapping.specs.Notes.{Reason, foreign, is_wrong, wrong}
 use Rattle.onix_mapping.specs.Records.{first_some, term_said}
 use Rattle.onix_mapping.specs.declared.dates.Days.{Days}
@@ -170,12 +169,12 @@ module _ (nodes : Nodes) where
   -- nothing.
   abbrev pub days_of : Dated
   days_of =
-      let role = some_at "PriceDateRole" nodes in
-      if is_text (codes "14") role
+      let role = text_at "PriceDateRole" nodes in
+      if bytes_eq role (codes "14")
       then result_map_both (λ d. days d.first None) (λ e. e) (one_day (codes "14"))
-      else if is_text (codes "15") role
+      else if bytes_eq role (codes "15")
       then result_map_both (λ d. days None d.last) (λ e. e) (one_day (codes "15"))
-      else if is_text (codes "24") role then both_days (codes "24")
+      else if bytes_eq role (codes "24") then both_days (codes "24")
       else Ok (days None None)
 
 -- ---- several PriceDates

@@ -57,6 +57,10 @@ some_at name nodes = text_in (codes name) nodes
 abbrev pub each_at : String → Nodes → List Composite
 each_at name nodes = composites (codes name) nodes
 
+-- what stands in the first of them, and nothing where there is none
+abbrev pub below_at : String → Nodes → Nodes
+below_at name nodes = below_of (first (each_at name nodes))
+
 -- ---- lines
 
 -- a line, as the element that it begins

@@ -1,19 +1,18 @@
 -- The Header: what the first record of each part of the message says, or why the message is
 -- refused.
-use Rattle.std.specs.Prelude.{ℕ, ◌+◌, ◌-◌, ◌*◌, Bool, ◌&&◌, List, [], ◌∷◌, Option, Some, None}
-use Rattle.std.specs.Prelude.{Result, Ok, Err, if◌then◌else◌, codes, decimal, is_some}
+use Rattle.std.specs.Prelude.{ℕ, ◌+◌, ◌-◌, ◌*◌, List, [], ◌∷◌, Option, Some, None, find}
+use Rattle.std.specs.Prelude.{Result, Ok, Err, if◌then◌else◌, codes, decimal, option_map}
 use Rattle.std.specs.List.{list_all, list_any}
-use Rattle.std.specs.Option.{ok_or}
+use Rattle.std.specs.Option.{ok_or, option_map_or}
 use Rattle.std.specs.Str.{is_utf8}
 use Rattle.onix_outline.specs.Nodes.{Nodes, no_nodes}
 use Rattle.onix_message.specs.Opening.{opening_of}
 use Rattle.onix_message.specs.declared.row.Opening.{Opening}
 use Rattle.onix_terms.specs.Number.{number_from, number_of}
-use Rattle.onix_mapping.specs.Elements.{Composite, below_of, each_at, first, some_at}
-use Rattle.onix_mapping.specs.Elements.{text_at}
-use Rattle.onix_mapping.specs.Identifiers.{Identifier, chosen, identifiers_in, is_text}
-use Rattle.onix_mapping.specs.Parties.{Pair, addressee_kind, pair_of, sender_kind}
-use Rattle.onix_mapping.specs.Records.{Fields}
+use Rattle.onix_mapping.specs.Elements.{Composite, below_at, each_at, some_at, text_at}
+use Rattle.onix_mapping.specs.Identifiers.{chosen, identifiers_in}
+use Rattle.onix_mapping.specs.Parties.{Pair, is_whole, pair, same_pair}
+use Rattle.onix_mapping.specs.Records.{Fields, term_said}
 use Rattle.onix_mapping.specs.declared.header.Refusal.{Refusal}
 use Rattle.onix_mapping.specs.declared.header.Refusal.TheVariants as why
 
@@ -34,25 +33,11 @@ abbrev pub ◌>>=◌ : {A B : Type 0} → Result A Refusal → (A → Result B R
 (Err e) >>= f = Err e
 (Ok x) >>= f = f x
 
+-- an identifier that is written has both a type and a value
+abbrev pub if_whole : Pair → Result Pair Refusal
+if_whole i = if is_whole i then Ok i else Err why.Malformed
+
 -- ---- sender
-
-module _ (nodes : Nodes) where
-  -- what stands in the Sender
-  abbrev pub sender_below : Nodes
-  sender_below = below_of (first (each_at "Sender" nodes))
-
-  -- the identifiers of the sender
-  abbrev pub sender_ids : List Identifier
-  sender_ids = identifiers_in sender_kind sender_below
-
--- an identifier with both a type and a value
-abbrev pub is_whole : Identifier → Bool
-is_whole i = is_some i.id_type && is_some i.id_value
-
--- the identifier that is written
-abbrev pub named_sender : Option Identifier → Result Pair Refusal
-named_sender None = Err why.NoSender
-named_sender (Some i) = ok_or (pair_of (Some i)) why.Malformed
 
 -- what the caller gives, else what the Header says
 abbrev pub given_or : {A : Type 0} → Option A → Result A Refusal → Result A Refusal
@@ -61,51 +46,49 @@ given_or None said = said
 
 -- the type and the value of the sender: where the Header has a whole identifier, or the caller
 -- gives none, the one that is chosen
+abbrev pub sender_of : Choices → List Pair → Result Pair Refusal
+sender_of c ids =
+    let named = option_map_or if_whole (chosen c.id_type ids) (Err why.NoSender) in
+    if list_any is_whole ids then named else given_or c.sender named
+
 abbrev pub sender_in : Choices → Nodes → Result Pair Refusal
 sender_in c nodes =
-    let named = named_sender (chosen c.id_type (sender_ids nodes)) in
-    if list_any is_whole (sender_ids nodes) then named else given_or c.sender named
+    sender_of c
+    (identifiers_in (codes "SenderIdentifier") (codes "SenderIDType") (below_at "Sender" nodes))
 
 -- ---- addressee
 
-module _ (p : Pair) where
-  -- an identifier of that type and value
-  abbrev pub is_pair : Identifier → Bool
-  is_pair i = is_text p.id_type i.id_type && is_text p.id_value i.id_value
+-- the identifiers of an addressee
+abbrev pub addressee_ids : Nodes → List Pair
+addressee_ids nodes =
+    identifiers_in (codes "AddresseeIdentifier") (codes "AddresseeIDType") nodes
 
-  -- an addressee with such an identifier
-  abbrev pub has_pair : Nodes → Bool
-  has_pair nodes = list_any is_pair (identifiers_in addressee_kind nodes)
-
--- the first addressee that the caller means
-abbrev pub meant : Option Pair → List Composite → Result Nodes Refusal
-meant None addressees = Err why.SeveralAddressees
-meant (Some p) [] = Err why.NoSuchAddressee
-meant (Some p) (a ∷ more) = if has_pair p a.below then Ok a.below else meant (Some p) more
+-- the first addressee that has this identifier
+abbrev pub meant : Pair → List Composite → Result Nodes Refusal
+meant p addressees =
+    let found = find (λ a. list_any (same_pair p) (addressee_ids a.below)) addressees in
+    ok_or (option_map (λ a. a.below) found) why.NoSuchAddressee
 
 -- what stands in the addressee: of one it is that, of several the one that the caller means
 abbrev pub addressee_in : Option Pair → List Composite → Result Nodes Refusal
 addressee_in p [] = Ok no_nodes
 addressee_in p (a ∷ []) = Ok a.below
-addressee_in p (a ∷ b ∷ more) = meant p (a ∷ b ∷ more)
+addressee_in None several = Err why.SeveralAddressees
+addressee_in (Some p) several = meant p several
 
 -- the type and the value of the addressee, both empty where there is none
 abbrev pub addressee_pair : Choices → Nodes → Result Pair Refusal
 addressee_pair c nodes = do
   below ← addressee_in c.addressee (each_at "Addressee" nodes)
-  ok_or (pair_of (chosen c.id_type (identifiers_in addressee_kind below))) why.Malformed
+  option_map_or if_whole (chosen c.id_type (addressee_ids below)) (Ok (pair [] []))
 
 -- ---- number
-
--- the number that a text writes
-abbrev pub number_said : List ℕ → Option ℕ
-number_said text = if is_utf8 text then number_of text else None
 
 -- the number of the Header with what is added to it
 abbrev pub added : ℕ → Option (List ℕ) → Result ℕ Refusal
 added offset None = Err why.NoNumber
 added offset (Some text) = do
-  n ← ok_or (number_said text) why.WrongNumber
+  n ← ok_or (term_said number_of text) why.WrongNumber
   ok_or (number_from (n + offset)) why.NumberTooGreat
 
 -- the message of this number has so many parts, and the last of them this number: so the first has

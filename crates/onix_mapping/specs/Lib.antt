@@ -1,6 +1,6 @@
 pub mod Depths
+pub mod Parties
 pub mod Identifiers
-pub mod Views
 pub mod Next
 pub mod Elements
 pub mod Notes
@@ -12,7 +12,6 @@ pub mod Dates
 pub mod DateViews
 pub mod Prices
 pub mod PriceViews
-pub mod Parties
 pub mod Details
 pub mod PartyViews
 pub mod Header

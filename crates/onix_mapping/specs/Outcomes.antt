@@ -12,6 +12,11 @@ pub data Outcome : Type 0 where
   written : Records → List Note → Outcome
   left_out : Reason → Outcome
 
+-- records that are written with notes, unless there is a reason that leaves them out
+abbrev pub written_unless : Option Reason → Records → List Note → Outcome
+written_unless None records notes = written records notes
+written_unless (Some reason) records notes = left_out reason
+
 -- its records
 abbrev pub outcome_records : Outcome → Records
 outcome_records (written records notes) = records

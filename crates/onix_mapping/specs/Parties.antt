@@ -1,9 +1,9 @@
--- The type and the value of the identifier of a sender, an addressee or a supplier.
-use Rattle.std.specs.Prelude.{ℕ, List, [], Option, Some, None, codes}
-use Rattle.onix_terms.specs.Options.{◌>>=◌}
-use Rattle.onix_mapping.specs.Identifiers.{Identifier, Kind}
+-- The type and the value of an identifier of a sender, an addressee or a supplier.
+use Rattle.std.specs.Prelude.{ℕ, Bool, ◌&&◌, ◌||◌, List}
+use Rattle.std.specs.Str.{bytes_eq}
+use Rattle.xml_text.specs.Grammar.{is_filled}
 
--- the type and the value of an identifier
+-- the type and the value of an identifier, each empty where it has none
 pub record Pair : Type 0 where
   pub id_type : List ℕ
   pub id_value : List ℕ
@@ -12,22 +12,13 @@ pub record Pair : Type 0 where
 abbrev pub pair : List ℕ → List ℕ → Pair
 pair id_type id_value = record { id_type = id_type; id_value = id_value }
 
--- those of an identifier, both empty where there is none; nothing, where it has no type or no value
-abbrev pub pair_of : Option Identifier → Option Pair
-pair_of None = Some (pair [] [])
-pair_of (Some i) = do
-  id_type ← i.id_type
-  id_value ← i.id_value
-  Some (pair id_type id_value)
+-- one with neither is as none
+abbrev pub is_there : Pair → Bool
+is_there i = is_filled i.id_type || is_filled i.id_value
 
--- the identifiers of a supplier
-abbrev pub supplier_kind : Kind
-supplier_kind = record { name = codes "SupplierIdentifier"; type_name = codes "SupplierIDType" }
+-- one with both is whole
+abbrev pub is_whole : Pair → Bool
+is_whole i = is_filled i.id_type && is_filled i.id_value
 
--- the identifiers of a sender
-abbrev pub sender_kind : Kind
-sender_kind = record { name = codes "SenderIdentifier"; type_name = codes "SenderIDType" }
-
--- the identifiers of an addressee
-abbrev pub addressee_kind : Kind
-addressee_kind = record { name = codes "AddresseeIdentifier"; type_name = codes "AddresseeIDType" }
+abbrev pub same_pair : Pair → Pair → Bool
+same_pair i j = bytes_eq i.id_type j.id_type && bytes_eq i.id_value j.id_value

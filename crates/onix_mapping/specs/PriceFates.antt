@@ -1,4 +1,4 @@
--- What becomes of each Price of a Product.
+-- What becomes of each ProductSupply, SupplyDetail and Price of a Product.
 use Rattle.std.specs.Prelude.{◌≡◌, ℕ, true, List, [], ◌∷◌, ◌++◌, ⊤, codes}
 use Rattle.std.specs.List.{AllByRecursion}
 use Rattle.onix_outline.specs.Nodes.{Nodes}
@@ -8,7 +8,9 @@ use Rattle.onix_mapping.specs.Notes.{Note}
 use Rattle.onix_mapping.specs.Outcomes.{Outcome, all_notes, all_records, left_out, notes_below}
 use Rattle.onix_mapping.specs.Outcomes.{nothing, outcome_records, written}
 use Rattle.onix_mapping.specs.Prices.{Around, is_nothing}
-use Rattle.onix_mapping.specs.Supplies.{detail_in, details_in, supply_outcome}
+use Rattle.onix_mapping.specs.Elements.{Composite}
+use Rattle.onix_mapping.specs.ProductRecords.{product_notes, product_records, supplies_in}
+use Rattle.onix_mapping.specs.Supplies.{detail_in, details_in, supply_in, supply_outcome}
 
 -- a Price comes to nothing, by the rule, to one record, or to one note that it is left out
 abbrev pub IsPrice : Around → Nodes → Outcome → Type 0
@@ -35,3 +37,13 @@ pub record HasDetails (o : Opening) (preferred : List ℕ) (nodes : Nodes) : Typ
       ≡ own ++ all_records (detail_in o preferred) (details_in nodes)
   pub notes : notes_below (supply_outcome o preferred nodes)
       ≡ markets ++ all_notes (detail_in o preferred) (details_in nodes)
+
+-- a Product is written with what its ProductSupplys come to, in order
+pub record HasSupplies (o : Opening) (preferred : List ℕ) (c : Composite) : Type 0 where
+  pub own : List (List ℕ)
+  pub before : List Note
+  pub behind : List Note
+  pub records : product_records o preferred c.below
+      ≡ own ∷ all_records (supply_in o preferred) (supplies_in c.below)
+  pub notes : product_notes o preferred c
+      ≡ before ++ (all_notes (supply_in o preferred) (supplies_in c.below) ++ behind)

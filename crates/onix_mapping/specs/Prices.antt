@@ -1,10 +1,11 @@
 -- A Price: the record that is written of it, or why it is left out.
+use Prim.Native.String.{String}
 use Rattle.std.specs.Prelude.{ℕ, Bool, false, ◌+◌, ◌&&◌, ◌==◌, nat_lt, drop, length, position, take}
 use Rattle.std.specs.Prelude.{List, [], ◌∷◌, ◌++◌, Option, Some, None, if◌then◌else◌, codes}
-use Rattle.std.specs.Prelude.{option_map, option_and_then, is_none, is_some}
+use Rattle.std.specs.Prelude.{find, map, not, option_map, is_none, is_some}
 use Rattle.std.specs.Char.{is_ascii_digit}
 use Rattle.std.specs.List.{flat_map, list_all}
-use Rattle.std.specs.Option.{option_or, option_to_list, unwrap_or}
+use Rattle.std.specs.Option.{option_map_or, option_or, option_to_list, unwrap_or}
 use Rattle.std.specs.Result.{result_err, result_unwrap_or}
 use Rattle.std.specs.Str.{bytes_eq}
 use Rattle.onix_outline.specs.Composites.{text_in}
@@ -17,13 +18,12 @@ use Rattle.onix_terms.specs.Code.{code2_of, currency_of}
 use Rattle.onix_terms.specs.Quantity.{quantity_of}
 use Rattle.onix_mapping.specs.Dates.{days, days_in}
 use Rattle.onix_mapping.specs.declared.dates.Days.{Days}
-use Rattle.onix_mapping.specs.Elements.{Composite, composites, each_at, first, some_at}
-use Rattle.onix_mapping.specs.Elements.{text_at, text_or_empty}
-use Rattle.onix_mapping.specs.Identifiers.{is_text}
+use Rattle.onix_mapping.specs.Elements.{composites, each_at, first, some_at, text_at}
 use Rattle.onix_mapping.specs.Notes.{Note, Reason, Reasons, foreign, is_wrong, note}
 use Rattle.onix_mapping.specs.Notes.{wrong}
-use Rattle.onix_mapping.specs.Outcomes.{Outcome, left_out, nothing, written}
-use Rattle.onix_mapping.specs.Records.{Fields, first_some, said, term_said, unread}
+use Rattle.onix_mapping.specs.Outcomes.{Outcome, nothing, written_unless}
+use Rattle.onix_mapping.specs.Records.{Fields, first_some, option_filter, refused, said, term_said}
+use Rattle.onix_mapping.specs.Records.{unread}
 use Rattle.onix_mapping.specs.Territories.{Area, area_fields, area_in, area_refusal}
 use Rattle.onix_mapping.specs.Territories.{territory_notes, unheld}
 use Rattle.onix_mapping.specs.declared.notes.Foreign.{Foreign}
@@ -45,19 +45,17 @@ pub record Around : Type 0 where
 
 -- ---- the record
 
+abbrev pub are_zeros : List ℕ → Bool
+are_zeros text = list_all (λ b. b == 48) text
+
 -- a text with its point there, without the zeros behind the third decimal
 abbrev pub cut_zeros : Option ℕ → List ℕ → List ℕ
 cut_zeros None text = text
-cut_zeros (Some at) text =
-    if list_all (λ b. b == 48) (drop (at + 4) text) then take (at + 4) text else text
+cut_zeros (Some at) text = if are_zeros (drop (at + 4) text) then take (at + 4) text else text
 
 -- where an amount has its point
 abbrev pub point_in : List ℕ → Option ℕ
 point_in text = position (λ b. b == 46) text
-
--- a quantity; one of zeros alone is as absent
-abbrev pub unless_zeros : List ℕ → Option (List ℕ)
-unless_zeros text = if list_all (λ b. b == 48) text then None else Some text
 
 module _ (nodes : Nodes) where
   -- the days of a Price whose PriceDates are right
@@ -69,9 +67,9 @@ module _ (nodes : Nodes) where
   amount_written =
       cut_zeros (point_in (text_at "PriceAmount" nodes)) (text_at "PriceAmount" nodes)
 
-  -- the MinimumOrderQuantity of a Price
+  -- the MinimumOrderQuantity of a Price: one of zeros alone is as absent
   abbrev pub own_minimum : Option (List ℕ)
-  own_minimum = option_and_then unless_zeros (some_at "MinimumOrderQuantity" nodes)
+  own_minimum = option_filter (λ text. not (are_zeros text)) (some_at "MinimumOrderQuantity" nodes)
 
 -- The fields that each Price has behind its name, empty where it has none: type, amount, currency,
 -- territory, the first and the last day.
@@ -88,13 +86,8 @@ price_fields around nodes =
 
 -- ---- why a Price is left out
 
--- the type of the first of some composites that has another one than 00, the empty text where that
--- has none
-abbrev pub other_type : List ℕ → List Composite → Option (List ℕ)
-other_type name [] = None
-other_type name (c ∷ cs) =
-    if is_text (codes "00") (text_in name c.below) then other_type name cs
-    else Some (text_or_empty name c.below)
+abbrev pub is_other : List ℕ → Bool
+is_other code = not (bytes_eq code (codes "00"))
 
 -- what stands behind the digits at the front
 abbrev pub behind_digits : List ℕ → List ℕ
@@ -111,73 +104,50 @@ abbrev pub has_more_decimals : List ℕ → Bool
 has_more_decimals [] = false
 has_more_decimals (b ∷ text) = is_ascii_digit b && is_long_part (behind_digits text)
 
-abbrev pub is_zero : Option ℕ → Bool
-is_zero None = false
-is_zero (Some n) = n == 0
-
--- a reason, where it is foreign, and where it is wrong
-abbrev pub if_foreign : Reason → Option Reason
-if_foreign reason = if is_wrong reason.why then None else Some reason
-
-abbrev pub if_wrong : Reason → Option Reason
-if_wrong reason = if is_wrong reason.why then Some reason else None
+-- an amount of 0, which a choice by price would always take
+abbrev pub is_zero : List ℕ → Bool
+is_zero amount = option_map_or (λ n. n == 0) (term_said amount_of amount) false
 
 module _ (nodes : Nodes) where
-  -- the text of an element, where it is another than 00
-  abbrev pub other_in : List ℕ → Option (List ℕ)
-  other_in name =
-      option_and_then (λ text. if bytes_eq text (codes "00") then None else Some text)
-      (text_in name nodes)
+  -- the first type other than 00 of composites of this name, the empty text of one without
+  abbrev pub other_type : String → String → Option (List ℕ)
+  other_type name type_name =
+      find is_other (map (λ c. text_at type_name c.below) (each_at name nodes))
 
   -- whether there is such a composite, of which the text does not count
-  abbrev pub mark_in : List ℕ → Option (List ℕ)
-  mark_in name = option_map (λ c. []) (first (composites name nodes))
+  abbrev pub mark_in : String → Option (List ℕ)
+  mark_in name = option_map (λ c. []) (first (each_at name nodes))
 
-  -- the name of an element, where it has a text
-  abbrev pub named : List ℕ → Option (List ℕ)
-  named name = option_map (λ text. name) (text_in name nodes)
-
-  -- an amount that has more decimals than the desk knows
-  abbrev pub long_amount : Option (List ℕ)
-  long_amount =
-      if has_more_decimals (amount_written nodes) then Some (amount_written nodes) else None
-
-  -- an amount of 0, which a choice by price would always take
-  abbrev pub no_charge : Option (List ℕ)
-  no_charge =
-      if is_zero (term_said amount_of (amount_written nodes)) then Some (amount_written nodes)
-      else None
-
-  -- the elements of ONIX 2.1 that say what a Price is, each where it is there
-  abbrev pub old_elements : List (Option (List ℕ))
-  old_elements =
-      named (codes "PriceTypeCode") ∷ named (codes "PriceEffectiveFrom")
-      ∷ named (codes "PriceEffectiveUntil") ∷ named (codes "CountryCode") ∷ []
+  -- the name of the first of the elements of ONIX 2.1 that say what a Price is
+  abbrev pub old_element : Option (List ℕ)
+  old_element =
+      find (λ name. is_some (text_in name nodes))
+      (codes "PriceTypeCode" ∷ codes "PriceEffectiveFrom" ∷ codes "PriceEffectiveUntil"
+      ∷ codes "CountryCode" ∷ [])
 
   -- for where, for how much and between which days a Price holds; behind those the elements of
   -- ONIX 2.1, and dates that are none
   abbrev pub late_reasons : Reasons
   late_reasons =
       unheld (area_in nodes)
-      ∷ option_map (foreign MoreDecimals) long_amount
-      ∷ option_map (foreign NoCharge) no_charge
-      ∷ option_and_then if_foreign (result_err (days_in nodes))
-      ∷ option_map (wrong bad.OldElement) (first_some old_elements)
-      ∷ option_and_then if_wrong (result_err (days_in nodes))
+      ∷ option_map (foreign MoreDecimals)
+      (option_filter has_more_decimals (Some (amount_written nodes)))
+      ∷ option_map (foreign NoCharge) (option_filter is_zero (Some (amount_written nodes)))
+      ∷ option_filter (λ r. not (is_wrong r.why)) (result_err (days_in nodes))
+      ∷ option_map (wrong bad.OldElement) old_element
+      ∷ option_filter (λ r. is_wrong r.why) (result_err (days_in nodes))
       ∷ []
 
   -- why a Price is another than the desk knows, each where it holds
   abbrev pub early_reasons : Reasons
   early_reasons =
-      option_map (foreign PriceQualifier) (other_in (codes "PriceQualifier"))
-      ∷ option_map (foreign PricePer) (other_in (codes "PricePer"))
-      ∷ option_map (foreign PriceCondition)
-      (other_type (codes "PriceConditionType") (each_at "PriceCondition" nodes))
-      ∷ option_map (foreign PriceConstraint)
-      (other_type (codes "PriceConstraintType") (each_at "PriceConstraint" nodes))
-      ∷ option_map (foreign PriceCoded) (mark_in (codes "PriceCoded"))
+      option_map (foreign PriceQualifier) (option_filter is_other (some_at "PriceQualifier" nodes))
+      ∷ option_map (foreign PricePer) (option_filter is_other (some_at "PricePer" nodes))
+      ∷ option_map (foreign PriceCondition) (other_type "PriceCondition" "PriceConditionType")
+      ∷ option_map (foreign PriceConstraint) (other_type "PriceConstraint" "PriceConstraintType")
+      ∷ option_map (foreign PriceCoded) (mark_in "PriceCoded")
       ∷ option_map (foreign CurrencyZone) (some_at "CurrencyZone" nodes)
-      ∷ option_map (foreign EpubLicense) (mark_in (codes "EpubLicense"))
+      ∷ option_map (foreign EpubLicense) (mark_in "EpubLicense")
       ∷ late_reasons
 
 -- Which fields of a Price the desk does not take, each where it does not: it is outside its
@@ -198,8 +168,8 @@ module _ (around : Around) (nodes : Nodes) where
   -- if it is one of those
   abbrev pub refusal : Option Reason
   refusal =
-      if is_some (said (price_of around.opening) (price_fields around nodes)) then None
-      else Some (unwrap_or (first_some (field_reasons around.opening nodes)) (wrong bad.Price []))
+      refused (is_some (said (price_of around.opening) (price_fields around nodes)))
+      (field_reasons around.opening nodes) bad.Price
 
   -- why a Price is left out, each where it holds: what is both foreign and wrong is foreign
   abbrev pub reasons_against : Reasons
@@ -219,10 +189,9 @@ discount_notes nodes =
     ++ unread_notes (codes "DiscountCoded") DiscountCoded nodes
 
 abbrev pub outcome_of : Option Reason → Around → Nodes → Outcome
-outcome_of None around nodes =
-    written ((codes "Price" ∷ price_fields around nodes) ∷ [])
+outcome_of why around nodes =
+    written_unless why ((codes "Price" ∷ price_fields around nodes) ∷ [])
     (territory_notes (area_in nodes) ++ discount_notes nodes)
-outcome_of (Some why) around nodes = left_out why
 
 module _ (around : Around) (nodes : Nodes) where
   -- A Price without an amount and without PriceCoded is nothing, whatever else stands in it, where
@@ -230,7 +199,7 @@ module _ (around : Around) (nodes : Nodes) where
   abbrev pub is_nothing : Bool
   is_nothing =
       around.is_unpriced
-      && (is_none (some_at "PriceAmount" nodes) && is_none (mark_in nodes (codes "PriceCoded")))
+      && (is_none (some_at "PriceAmount" nodes) && is_none (mark_in nodes "PriceCoded"))
 
   -- what a Price comes to
   abbrev pub price_outcome : Outcome

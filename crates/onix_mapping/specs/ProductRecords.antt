@@ -2,17 +2,18 @@
 use Rattle.std.specs.Prelude.{ℕ, Bool, ◌||◌, List, [], ◌∷◌, ◌++◌, Option, Some, None, if◌then◌else◌}
 use Rattle.std.specs.Prelude.{codes}
 use Rattle.std.specs.List.{list_any}
-use Rattle.std.specs.Option.{option_or}
+use Rattle.std.specs.Option.{option_map_or, option_or}
 use Rattle.std.specs.Str.{bytes_eq}
 use Rattle.onix_outline.specs.Nodes.{Nodes}
 use Rattle.onix_message.specs.declared.row.Opening.{Opening}
-use Rattle.onix_mapping.specs.Elements.{Composite, Element}
+use Rattle.onix_mapping.specs.Elements.{Composite, Element, each_at}
 use Rattle.onix_mapping.specs.Notes.{Note, Reason, foreign, is_wrong, note, reason_notes, wrong}
+use Rattle.onix_mapping.specs.Outcomes.{all_notes, all_records}
 use Rattle.onix_mapping.specs.Products.{bare_record, emptied_record, has_isbn, identifier_notes}
 use Rattle.onix_mapping.specs.Products.{is_deletion, notification_in, own_reason, product_record}
 use Rattle.onix_mapping.specs.Products.{reference_in, right_pairs}
 use Rattle.onix_mapping.specs.Records.{Records, is_field}
-use Rattle.onix_mapping.specs.Supplies.{supplies_notes, supplies_reason, supplies_records}
+use Rattle.onix_mapping.specs.Supplies.{supplies_reason, supply_in}
 use Rattle.onix_mapping.specs.declared.notes.Foreign.TheVariants as other
 use Rattle.onix_mapping.specs.declared.notes.Wrong.TheVariants as bad
 use Rattle.onix_mapping.specs.declared.product_records.Fate.{Fate}
@@ -27,6 +28,10 @@ is_followed notification =
     ∷ codes "05" ∷ [])
 
 module _ (nodes : Nodes) where
+  -- its ProductSupplys: nothing below a deletion is looked at but its identifiers
+  abbrev pub supplies_in : List Composite
+  supplies_in = if is_deletion nodes then [] else each_at "ProductSupply" nodes
+
   -- that the desk will not find a product by an ISBN
   abbrev pub isbn_reason : Option Reason
   isbn_reason =
@@ -41,58 +46,46 @@ module _ (nodes : Nodes) where
   abbrev pub written_notes : Element → List Note
   written_notes product = reason_notes product isbn_reason ++ reason_notes product ignored_reason
 
--- whether it is written as it stands, emptied or left out
+-- whether it is emptied for such a reason or stands
 abbrev pub standing_fate : Option Reason → Fate
 standing_fate None = fate.Written
 standing_fate (Some reason) = fate.Emptied
 
 module _ (o : Opening) (preferred : List ℕ) where
-  -- ---- supplies: nothing below a deletion is looked at but its identifiers
+  -- why a Product is emptied, but for its size: for its own fields, or since none of its supplies
+  -- is left
+  abbrev pub why_emptied : Nodes → Option Reason
+  why_emptied nodes =
+      option_or (own_reason nodes) (supplies_reason o preferred (supplies_in nodes))
 
-  abbrev pub records_below : Nodes → Records
-  records_below nodes = if is_deletion nodes then [] else supplies_records o preferred nodes
+  -- its records, where it is emptied for such a reason or stands
+  abbrev pub standing_records : Option Reason → Nodes → Records
+  standing_records (Some reason) nodes = emptied_record nodes ∷ []
+  standing_records None nodes =
+      product_record (notification_in nodes) (right_pairs nodes) nodes
+      ∷ all_records (supply_in o preferred) (supplies_in nodes)
 
-  abbrev pub notes_on_supplies : Nodes → List Note
-  notes_on_supplies nodes = if is_deletion nodes then [] else supplies_notes o preferred nodes
-
-  abbrev pub reason_below : Nodes → Option Reason
-  reason_below nodes = if is_deletion nodes then None else supplies_reason o preferred nodes
-
-  -- ---- a Product with a RecordReference that the desk would take
-
-  -- its records: those of a product that is emptied, where its own fields or its supplies say why
-  abbrev pub standing_records : Option Reason → Option Reason → Nodes → Records
-  standing_records (Some own) below nodes = emptied_record nodes ∷ []
-  standing_records None (Some below) nodes = emptied_record nodes ∷ []
-  standing_records None None nodes =
-      product_record (notification_in nodes) (right_pairs nodes) nodes ∷ records_below nodes
-
-  -- the notes on it behind those on its identifiers
-  abbrev pub standing_notes : Option Reason → Option Reason → Composite → List Note
-  standing_notes (Some own) below c = note c.element own ∷ []
-  standing_notes None (Some below) c = notes_on_supplies c.below ++ note c.element below ∷ []
-  standing_notes None None c = notes_on_supplies c.below ++ written_notes c.below c.element
-
-  -- ---- what a Product comes to
-
-  -- the records of a Product: none of one without a RecordReference that the desk would take
+  -- its records: none of one without a RecordReference that the desk would take
   abbrev pub product_records : Nodes → Records
   product_records nodes =
-      if is_field (reference_in nodes)
-      then standing_records (own_reason nodes) (reason_below nodes) nodes else []
+      if is_field (reference_in nodes) then standing_records (why_emptied nodes) nodes else []
 
-  -- the notes on it
+  -- the notes on its supplies and on itself, where its own fields do not empty it
+  abbrev pub notes_behind : Composite → List Note
+  notes_behind c =
+      all_notes (supply_in o preferred) (supplies_in c.below)
+      ++ option_map_or (λ reason. note c.element reason ∷ [])
+      (supplies_reason o preferred (supplies_in c.below)) (written_notes c.below c.element)
+
+  -- all notes on it
   abbrev pub product_notes : Composite → List Note
   product_notes c =
       if is_field (reference_in c.below)
       then identifier_notes c.below
-      ++ standing_notes (own_reason c.below) (reason_below c.below) c
+      ++ option_map_or (λ reason. note c.element reason ∷ []) (own_reason c.below) (notes_behind c)
       else note c.element (wrong bad.RecordReference (reference_in c.below)) ∷ []
 
-  -- why it is emptied, but for its size
-  abbrev pub why_emptied : Nodes → Option Reason
-  why_emptied nodes = option_or (own_reason nodes) (reason_below nodes)
-
+  -- whether it is written as it stands, emptied or left out
   abbrev pub fate_of : Nodes → Fate
   fate_of nodes =
       if is_field (reference_in nodes) then standing_fate (why_emptied nodes) else fate.LeftOut

@@ -3,6 +3,7 @@ use Rattle.std.specs.Prelude.{◌≡◌, ℕ, Bool, true, false, ◌&&◌, ◌||
 use Rattle.std.specs.Prelude.{List, [], ◌∷◌, Option, Some, None, if◌then◌else◌, codes, is_some}
 use Rattle.std.specs.List.{flat_map, list_any}
 use Rattle.std.specs.Char.{is_ascii_digit}
+use Rattle.std.specs.Option.{option_map_or}
 use Rattle.std.specs.Str.{bytes_eq, chars, is_utf8}
 use Rattle.xml_text.specs.Characters.{within}
 use Rattle.xml_text.specs.Grammar.{is_filled}
@@ -73,12 +74,10 @@ module _ (identifier : Composite) where
   identifier_reason = if is_there then pair_reason type_of value_written value_of else None
 
   -- the type and the value of one that is written
-  abbrev pub pair_by : Option Reason → Fields
-  pair_by (Some reason) = []
-  pair_by None = if is_there then type_of ∷ value_written ∷ [] else []
-
   abbrev pub right_pair : Fields
-  right_pair = pair_by identifier_reason
+  right_pair =
+      option_map_or (λ reason. []) identifier_reason
+      (if is_there then type_of ∷ value_written ∷ [] else [])
 
   -- whether the desk would find the product by it as an ISBN
   abbrev pub is_isbn : Bool

@@ -1,14 +1,12 @@
 -- What the texts of an element say to the desk, as the fields of a record.
-use Rattle.std.specs.Prelude.{◌≡◌, ℕ, Bool, ◌&&◌, List, [], ◌∷◌, Option, Some, None, Result, Ok}
-use Rattle.std.specs.Prelude.{Err, if◌then◌else◌, is_some}
+use Rattle.std.specs.Prelude.{ℕ, Bool, ◌&&◌, List, [], ◌∷◌, Option, Some, None, if◌then◌else◌}
+use Rattle.std.specs.Prelude.{is_some}
 use Rattle.std.specs.List.{list_all}
-use Rattle.std.specs.Option.{option_or}
+use Rattle.std.specs.Option.{option_or, unwrap_or}
 use Rattle.std.specs.Str.{is_utf8}
 use Rattle.xml_text.specs.Grammar.{is_filled}
 use Rattle.onix_message.specs.Fields.{is_clean}
-use Rattle.onix_message.specs.declared.row.RowFault.{RowFault}
-use Rattle.onix_message.specs.declared.row.RowFault.TheVariants as fault
-use Rattle.onix_mapping.specs.Notes.{Reason, wrong}
+use Rattle.onix_mapping.specs.Notes.{Reason, Reasons, wrong}
 use Rattle.onix_mapping.specs.declared.notes.Wrong.{Wrong}
 
 -- the fields of a record
@@ -46,15 +44,25 @@ unless holds why text = if holds then None else Some (wrong why text)
 abbrev pub unread : {A : Type 0} → (List ℕ → Option A) → Wrong → List ℕ → Option Reason
 unread read why text = unless (is_some (read text)) why text
 
--- the first of some reasons that holds
+-- the first of some reasons that holds, or of some values that is there
 abbrev pub first_some : {A : Type 0} → List (Option A) → Option A
 first_some [] = None
 first_some (x ∷ xs) = option_or x (first_some xs)
 
--- ---- what a call gives
+-- why the desk does not take something, where it does not: for the first of these reasons, else for
+-- another
+abbrev pub refused : Bool → Reasons → Wrong → Option Reason
+refused taken reasons why =
+    if taken then None else Some (unwrap_or (first_some reasons) (wrong why []))
 
--- a call put these fields into a buffer, which are those that are asked for, unless memory ran out
-abbrev pub Fills : Result (Unit {0}) RowFault → Fields → Option (Fields) → Type 0
-Fills (Ok u) fields wanted = wanted ≡ Some fields
-Fills (Err fault.Wrong) fields wanted = wanted ≡ None
-Fills (Err fault.Memory) fields wanted = Unit {0}
+-- ---- values that may not be there
+
+-- a value, where that holds of it
+abbrev pub option_filter : {A : Type 0} → (A → Bool) → Option A → Option A
+option_filter holds None = None
+option_filter holds (Some x) = if holds x then Some x else None
+
+-- something, where a list is empty
+abbrev pub if_empty : {A B : Type 0} → List A → Option B → Option B
+if_empty [] x = x
+if_empty (a ∷ more) x = None

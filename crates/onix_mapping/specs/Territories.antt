@@ -1,15 +1,16 @@
 -- Where a Market or a Price holds: what its Territory says, and what of that the desk can hold.
-use Rattle.std.specs.Prelude.{ℕ, Bool, true, false, List, [], ◌∷◌, ◌++◌, Option, Some, None}
+use Rattle.std.specs.Prelude.{ℕ, ◌||◌, List, [], ◌∷◌, ◌++◌, Option, None}
 use Rattle.std.specs.Prelude.{if◌then◌else◌, is_some, map, option_map}
-use Rattle.std.specs.Option.{option_map_or, option_or, unwrap_or}
+use Rattle.std.specs.Option.{option_map_or, option_or}
+use Rattle.xml_text.specs.Grammar.{is_filled}
 use Rattle.onix_outline.specs.Nodes.{Nodes}
 use Rattle.onix_message.specs.Supply.{supply_of}
 use Rattle.onix_message.specs.declared.parts.ProductSupply.{ProductSupply}
 use Rattle.onix_terms.specs.Territory.{countries_of, words_of, world_text}
-use Rattle.onix_mapping.specs.Elements.{Element, below_of, each_at, element_view, first}
+use Rattle.onix_mapping.specs.Elements.{Element, below_at, each_at, element_view, first}
 use Rattle.onix_mapping.specs.Elements.{text_at}
-use Rattle.onix_mapping.specs.Notes.{Note, Reason, Reasons, foreign, note, wrong}
-use Rattle.onix_mapping.specs.Records.{Fields, first_some, said, term_said, unless}
+use Rattle.onix_mapping.specs.Notes.{Note, Reason, Reasons, foreign, note}
+use Rattle.onix_mapping.specs.Records.{Fields, refused, said, term_said, unread}
 use Rattle.onix_mapping.specs.Regions.{IsRenamed, countries_written, names_world, other_names}
 use Rattle.onix_mapping.specs.Regions.{other_regions, region_of_no_country}
 use Rattle.onix_mapping.specs.declared.notes.Foreign.{Foreign}
@@ -33,10 +34,9 @@ pub record Area : Type 0 where
 -- where a Market or a Price with these elements holds: its first Territory says it
 abbrev pub area_in : Nodes → Area
 area_in nodes =
-    let found = first (each_at "Territory" nodes) in
-    let below = below_of found in
+    let below = below_at "Territory" nodes in
     record {
-      territory = option_map (λ c. c.element) found;
+      territory = option_map (λ c. c.element) (first (each_at "Territory" nodes));
       included = text_at "CountriesIncluded" below;
       regions_included = text_at "RegionsIncluded" below;
       excluded = text_at "CountriesExcluded" below;
@@ -45,22 +45,21 @@ area_in nodes =
 
 -- ---- what the desk cannot hold
 
-abbrev pub is_empty : List ℕ → Bool
-is_empty [] = true
-is_empty (b ∷ text) = false
-
 -- a note for each of some words
 abbrev pub word_notes : Element → Foreign → List (List ℕ) → List Note
 word_notes element why words = map (λ word. note element (foreign why word)) words
+
+-- the countries that a text names, as it is written
+abbrev pub countries_said : List ℕ → Option (List (List ℕ))
+countries_said text = term_said countries_of (countries_written text)
 
 module _ (a : Area) where
   -- the first of the regions that are included, where neither a country nor the world is: without
   -- them the territory would be the world
   abbrev pub region_alone : Option (List ℕ)
   region_alone =
-      if is_empty a.included
-      then (if names_world a.regions_included then None else first (words_of a.regions_included))
-      else None
+      if is_filled a.included || names_world a.regions_included then None
+      else first (words_of a.regions_included)
 
   -- why the desk cannot hold a territory, whatever is left out of it: it would be another one, and
   -- not only a smaller one or one without whole countries
@@ -78,17 +77,14 @@ module _ (a : Area) where
       countries_written a.included ∷ world_text (names_world a.regions_included)
       ∷ countries_written a.excluded ∷ []
 
-  abbrev pub area_notes : Element → List Note
-  area_notes e =
-      word_notes e RegionIncluded (other_regions a.regions_included)
-      ++ (word_notes e RegionExcluded (other_regions a.regions_excluded)
-      ++ (word_notes e CountryName (other_names a.included)
-      ++ word_notes e CountryName (other_names a.excluded)))
-
   -- Notes on a territory that the desk can hold. Beside a country or the world a region that is
   -- included is left out, and one that is excluded is a part of a country.
   abbrev pub territory_notes : List Note
-  territory_notes = option_map_or area_notes a.territory []
+  territory_notes =
+      option_map_or (λ e. word_notes e RegionIncluded (other_regions a.regions_included)
+      ++ (word_notes e RegionExcluded (other_regions a.regions_excluded)
+      ++ (word_notes e CountryName (other_names a.included)
+      ++ word_notes e CountryName (other_names a.excluded)))) a.territory []
 
   -- the market of a territory, as the desk reads it
   abbrev pub market_of : Option ProductSupply
@@ -97,17 +93,12 @@ module _ (a : Area) where
   -- why the desk does not take a territory, each where it does not
   abbrev pub area_reasons : Reasons
   area_reasons =
-      unless (is_some (term_said countries_of (countries_written a.included)))
-      CountriesIncluded a.included
-      ∷ unless (is_some (term_said countries_of (countries_written a.excluded)))
-      CountriesExcluded a.excluded
-      ∷ []
+      unread countries_said CountriesIncluded a.included
+      ∷ unread countries_said CountriesExcluded a.excluded ∷ []
 
   -- why the desk does not take a territory, where it does not
   abbrev pub area_refusal : Option Reason
-  area_refusal =
-      if is_some market_of then None
-      else Some (unwrap_or (first_some area_reasons) (wrong Territory []))
+  area_refusal = refused (is_some market_of) area_reasons Territory
 
 -- ---- without where it lies in memory
 

@@ -15,8 +15,7 @@ ghost use Rattle.onix_outline.specs.Nodes.{Nodes};
 ghost use Rattle.onix_outline.specs.Outline.{outline};
 ghost use Rattle.onix_outline.specs.Views.{line_views};
 
-use crate::elements::next_composite;
-use crate::identifiers::is_text;
+use crate::elements::{next_composite, text_or_empty};
 use crate::notes::{Foreign, Reason, Why, Wrong};
 use crate::records::utf8_text;
 use onix_outline::{Line, first_node, text_in};
@@ -352,22 +351,22 @@ fn role_days<'a>(depth: usize, lines: &'a [Line]) -> Result<Days, Reason<'a>>
     ensures { (nodes : Nodes) → line_views lines.now ≡ outline depth nodes
         → days_read result ≡ days_of nodes }
 {
-    let role = text_in(depth, b"PriceDateRole", lines);
-    if is_text(b"14", role) {
+    let role = text_or_empty(depth, b"PriceDateRole", lines);
+    if role == b"14".as_slice() {
         let days = one_day(b"14", depth, lines)?;
         return Ok(Days {
             first: days.first,
             last: None,
         });
     }
-    if is_text(b"15", role) {
+    if role == b"15".as_slice() {
         let days = one_day(b"15", depth, lines)?;
         return Ok(Days {
             first: None,
             last: days.last,
         });
     }
-    if is_text(b"24", role) {
+    if role == b"24".as_slice() {
         return both_days(b"24", depth, lines);
     }
     Ok(NO_DAYS)

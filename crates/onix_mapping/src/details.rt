@@ -1,22 +1,21 @@
 //! SupplyDetails.
 
-ghost use Rattle.std.specs.Prelude.{◌≡◌, ◌++◌, ◌∷◌, ◌+◌, ◌<◌, [], ℕ, List, None, Some, IfOk, OnOk, true, map, codes, option_map};
+ghost use Rattle.std.specs.Prelude.{◌≡◌, ◌++◌, ◌∷◌, ◌+◌, ◌<◌, [], ℕ, List, None, Some, IfOk, OnOk, true, is_some, map, codes};
 ghost use Rattle.std.specs.List.{list_all};
 ghost use Rattle.std.specs.Option.{unwrap_or};
 ghost use Rattle.std.specs.Str.{is_utf8};
-ghost use Rattle.onix_mapping.specs.Details.{around_in, default_minimum, detail_by, detail_fields, detail_outcome, detail_reasons, detail_record, detail_refusal, identifier_reasons, name_reason, price_in, prices_in, supplier_identifier, supplier_in, supplier_pair, unpriced_in, unpriced_price};
+ghost use Rattle.onix_mapping.specs.Details.{around_in, default_minimum, detail_fields, detail_outcome, detail_reasons, detail_refusal, identifier_reasons, name_reason, price_in, prices_in, supplier_id, supplier_in, unpriced_in, unpriced_price};
 ghost use Rattle.onix_mapping.specs.Elements.{composites, first, text_or_empty, below_of};
-ghost use Rattle.onix_mapping.specs.Notes.{note_views, reason_view};
-ghost use Rattle.onix_mapping.specs.Outcomes.{all_notes, all_records, notes_below, outcome_reason, outcome_records};
+ghost use Rattle.onix_mapping.specs.Notes.{note_views, reason_view, wrong};
+ghost use Rattle.onix_mapping.specs.Outcomes.{all_notes, all_records, notes_below, outcome_reason, outcome_records, written_unless};
 ghost use Rattle.onix_mapping.specs.PartyViews.{pair_view};
 ghost use Rattle.onix_mapping.specs.PriceViews.{reason_read, text_view};
 ghost use Rattle.onix_mapping.specs.Prices.{around_view};
-ghost use Rattle.onix_mapping.specs.Records.{Fills, first_some, said, term_said, unread};
+ghost use Rattle.onix_mapping.specs.Records.{first_some, said, term_said, unread};
 ghost use Rattle.onix_mapping.specs.declared.notes.Wrong.TheVariants as bad;
 ghost use Rattle.onix_message.specs.Fields.{optional};
 ghost use Rattle.onix_message.specs.declared.row.Opening.{Opening as Said};
 ghost use Rattle.onix_terms.specs.Code.{code2_of};
-ghost use Rattle.onix_mapping.specs.Views.{identifier_view};
 ghost use Rattle.onix_message.specs.Detail.{detail_of};
 ghost use Rattle.onix_message.specs.Gives.{Gives};
 ghost use Rattle.onix_outline.specs.Nodes.{Nodes};
@@ -24,9 +23,9 @@ ghost use Rattle.onix_outline.specs.Outline.{outline};
 ghost use Rattle.onix_outline.specs.Views.{line_views};
 
 use crate::elements::{first_composite, next_composite, text_or_empty};
-use crate::identifiers::{Identifier, SUPPLIER, choose_identifier};
+use crate::identifiers::{SUPPLIER, choose_identifier, is_there};
 use crate::notes::{Note, Reason, Why, Wrong};
-use crate::parties::{Pair, pair_of};
+use crate::parties::{NO_PAIR, Pair};
 use crate::prices::{Around, add_price, fill_record};
 use crate::records::{code_said, former, is_field, may_be_empty, quantity_said, unless};
 use csv_records::buffer::RecordBuffer;
@@ -93,31 +92,31 @@ fn unpriced_in<'a>(depth: usize, lines: &'a [Line]) -> Option<&'a [u8]>
 }
 
 // The identifier of the supplier that is chosen.
-fn supplier_identifier<'a>(
-    preferred: &[u8],
-    depth: usize,
-    lines: &'a [Line],
-) -> Option<Identifier<'a>>
+fn supplier_id<'a>(preferred: &[u8], depth: usize, lines: &'a [Line]) -> Pair<'a>
     requires { depth < 999 }
     ensures { (nodes : Nodes) → line_views lines.now ≡ outline depth nodes
-        → option_map identifier_view result ≡ supplier_identifier preferred.now nodes }
+        → pair_view result ≡ supplier_id preferred.now nodes }
 {
     let supplier = lines_below(b"Supplier", depth, lines);
-    choose_identifier(SUPPLIER, preferred, depth + 1, supplier)
+    match choose_identifier(SUPPLIER, preferred, depth + 1, supplier) {
+        Some(identifier) => identifier,
+        None => NO_PAIR,
+    }
 }
 
-// The texts of the fields of a SupplyDetail.
-fn detail_texts<'a>(pair: Pair<'a>, depth: usize, lines: &'a [Line]) -> [&'a [u8]; 6]
+// The texts of the fields of a SupplyDetail whose supplier has this identifier.
+fn detail_texts<'a>(supplier: Pair<'a>, depth: usize, lines: &'a [Line]) -> [&'a [u8]; 6]
     requires { depth < 1000 }
-    ensures { (nodes : Nodes) → line_views lines.now ≡ outline depth nodes
-        → map (λ t. t.now) result ≡ detail_fields (pair_view pair.entry) nodes }
+    ensures { (nodes : Nodes) (preferred : List ℕ) → line_views lines.now ≡ outline depth nodes
+        → pair_view supplier.entry ≡ supplier_id preferred nodes
+        → map (λ t. t.now) result ≡ detail_fields preferred nodes }
 {
-    let supplier = lines_below(b"Supplier", depth, lines);
+    let below = lines_below(b"Supplier", depth, lines);
     [
-        text_or_empty(depth + 1, b"SupplierRole", supplier),
-        pair.id_type,
-        pair.id_value,
-        text_or_empty(depth + 1, b"SupplierName", supplier),
+        text_or_empty(depth + 1, b"SupplierRole", below),
+        supplier.id_type,
+        supplier.id_value,
+        text_or_empty(depth + 1, b"SupplierName", below),
         text_or_empty(depth, b"ProductAvailability", lines),
         unpriced_in(depth, lines).unwrap_or(b""),
     ]
@@ -132,49 +131,65 @@ fn read_said(alloc: Global, from: &Record<'_>) -> Result<SupplyDetail, RowFault>
     read_detail(alloc, &fields)
 }
 
-// Whether the desk reads a SupplyDetail of the record in the list. `Wrong` exactly where it does
-// not.
-fn check_detail(alloc: Global, fields: &FieldBuffer) -> Result<(), RowFault>
+// Whether the desk reads a SupplyDetail of the record in the list.
+fn is_taken(alloc: Global, fields: &FieldBuffer) -> Result<bool, AllocError>
     ensures { (behind : List (List ℕ)) → fields.now ≡ codes "SupplyDetail" ∷ behind
         → list_all is_utf8 behind ≡ true
-        → Gives result (option_map (λ d. tt) (said detail_of behind)) }
+        → IfOk result (λ is. is ≡ is_some (said detail_of behind)) }
 {
     let record = fields.as_record();
     let Some((_, behind)) = record.split_first() else {
-        return Err(RowFault::Wrong);
+        return Ok(false);
     };
-    let _detail = read_said(alloc, &behind)?;
-    Ok(())
+    match read_said(alloc, &behind) {
+        Ok(_) => Ok(true),
+        Err(RowFault::Wrong) => Ok(false),
+        Err(RowFault::Memory) => Err(AllocError),
+    }
 }
 
-// Puts the record of these fields in place of what the list held.
-fn fill_texts(alloc: Global, fields: &mut FieldBuffer, texts: &[&[u8]]) -> Result<(), RowFault>
-    ensures record { OnOk result (fields.new ≡ codes "SupplyDetail" ∷ map (λ t. t.now) texts.now) }
-    ensures taken { Gives result
-        (option_map (λ d. tt) (said detail_of (map (λ t. t.now) texts.now))) }
+// Puts the record of these fields in place of what the list held, and says whether the desk takes
+// it.
+fn take_texts(alloc: Global, fields: &mut FieldBuffer, texts: &[&[u8]]) -> Result<bool, AllocError>
+    ensures record { IfOk result (λ is. is ≡ true
+        → fields.new ≡ codes "SupplyDetail" ∷ map (λ t. t.now) texts.now) }
+    ensures taken { IfOk result
+        (λ is. is ≡ is_some (said detail_of (map (λ t. t.now) texts.now))) }
 {
-    fill_record(fields, "SupplyDetail", texts)?;
-    check_detail(alloc, fields)
+    match fill_record(fields, "SupplyDetail", texts) {
+        Ok(()) => is_taken(alloc, fields),
+        Err(RowFault::Wrong) => Ok(false),
+        Err(RowFault::Memory) => Err(AllocError),
+    }
 }
 
-// Puts the record of a SupplyDetail with this identifier of the supplier in place of what the list
-// held. `Wrong` exactly where the desk would not take it.
-fn fill_detail<'a>(
+// Adds the record of a SupplyDetail whose supplier has this identifier, or gives the reason for
+// which the desk would not take it.
+fn write_detail<'a>(
     alloc: Global,
-    supplier: Option<Identifier<'a>>,
+    supplier: Pair<'a>,
     depth: usize,
     lines: &'a [Line],
     fields: &mut FieldBuffer,
-) -> Result<(), RowFault>
+    records: &mut RecordBuffer,
+) -> Result<Option<Reason<'a>>, AllocError>
     requires { depth < 999 }
-    ensures { (nodes : Nodes) (preferred : List ℕ) → line_views lines.now ≡ outline depth nodes
-        → option_map identifier_view supplier.entry ≡ supplier_identifier preferred nodes
-        → Fills result fields.new (detail_record preferred nodes) }
+    ensures reason { (nodes : Nodes) (preferred : List ℕ)
+        → line_views lines.now ≡ outline depth nodes
+        → pair_view supplier.entry ≡ supplier_id preferred nodes
+        → IfOk result (λ why. reason_read why ≡ detail_refusal preferred nodes) }
+    ensures record { (nodes : Nodes) (preferred : List ℕ)
+        → line_views lines.now ≡ outline depth nodes
+        → pair_view supplier.entry ≡ supplier_id preferred nodes
+        → OnOk result (records.new ≡ records.old ++ outcome_records
+        (written_unless (detail_refusal preferred nodes)
+        ((codes "SupplyDetail" ∷ detail_fields preferred nodes) ∷ []) [])) }
 {
-    match pair_of(supplier) {
-        Some(pair) => fill_texts(alloc, fields, &detail_texts(pair, depth, lines)),
-        None => Err(RowFault::Wrong),
+    if take_texts(alloc, fields, &detail_texts(supplier, depth, lines))? {
+        records.push(&fields.as_record())?;
+        return Ok(None);
     }
+    Ok(Some(detail_refusal(supplier, depth, lines)))
 }
 
 // A text, empty where there is none.
@@ -188,20 +203,18 @@ fn text_or_none<'a>(text: Option<&'a [u8]>) -> &'a [u8]
 }
 
 // What is wrong with the identifier of a supplier, who has this name.
-fn identifier_reason<'a>(supplier: Option<Identifier<'a>>, name: &[u8]) -> Option<Reason<'a>>
-    ensures { reason_read result ≡ first_some
-        (identifier_reasons (option_map identifier_view supplier.entry) name.now) }
+fn identifier_reason<'a>(supplier: Pair<'a>, name: &[u8]) -> Option<Reason<'a>>
+    ensures { reason_read result
+        ≡ first_some (identifier_reasons (pair_view supplier.entry) name.now) }
 {
-    match supplier {
-        None => unless(!name.is_empty(), Wrong::Supplier, b""),
-        Some(identifier) => {
-            let id_type = text_or_none(identifier.id_type);
-            let typed = unless(code_said(id_type).is_some(), Wrong::SupplierType, id_type);
-            let id_value = text_or_none(identifier.id_value);
-            let valued = unless(is_field(id_value), Wrong::SupplierValue, id_value);
-            former(typed, former(valued, None))
-        }
+    if !is_there(supplier) {
+        return former(unless(!name.is_empty(), Wrong::Supplier, b""), None);
     }
+    let id_type = supplier.id_type;
+    let typed = unless(code_said(id_type).is_some(), Wrong::SupplierType, id_type);
+    let id_value = supplier.id_value;
+    let valued = unless(is_field(id_value), Wrong::SupplierValue, id_value);
+    former(typed, former(valued, None))
 }
 
 // That the SupplierRole is no code.
@@ -217,14 +230,10 @@ fn role_reason<'a>(depth: usize, lines: &'a [Line]) -> Option<Reason<'a>>
 }
 
 // What is wrong with the identifier of the supplier, or that there is neither one nor a name.
-fn supplier_reason<'a>(
-    supplier: Option<Identifier<'a>>,
-    depth: usize,
-    lines: &'a [Line],
-) -> Option<Reason<'a>>
+fn supplier_reason<'a>(supplier: Pair<'a>, depth: usize, lines: &'a [Line]) -> Option<Reason<'a>>
     requires { depth < 999 }
     ensures { (nodes : Nodes) → line_views lines.now ≡ outline depth nodes → reason_read result
-        ≡ first_some (identifier_reasons (option_map identifier_view supplier.entry)
+        ≡ first_some (identifier_reasons (pair_view supplier.entry)
         (text_or_empty (codes "SupplierName") (supplier_in nodes))) }
 {
     let below = lines_below(b"Supplier", depth, lines);
@@ -266,14 +275,10 @@ fn unpriced_reason<'a>(depth: usize, lines: &'a [Line]) -> Option<Reason<'a>>
 }
 
 // The first field of a SupplyDetail that the desk would not take.
-fn detail_reason<'a>(
-    supplier: Option<Identifier<'a>>,
-    depth: usize,
-    lines: &'a [Line],
-) -> Option<Reason<'a>>
+fn detail_reason<'a>(supplier: Pair<'a>, depth: usize, lines: &'a [Line]) -> Option<Reason<'a>>
     requires { depth < 999 }
     ensures { (nodes : Nodes) (preferred : List ℕ) → line_views lines.now ≡ outline depth nodes
-        → option_map identifier_view supplier.entry ≡ supplier_identifier preferred nodes
+        → pair_view supplier.entry ≡ supplier_id preferred nodes
         → reason_read result ≡ first_some (detail_reasons preferred nodes) }
 {
     let last = former(unpriced_reason(depth, lines), None);
@@ -284,15 +289,12 @@ fn detail_reason<'a>(
 }
 
 // Why a SupplyDetail that the desk would not take is left out.
-fn detail_refusal<'a>(
-    supplier: Option<Identifier<'a>>,
-    depth: usize,
-    lines: &'a [Line],
-) -> Reason<'a>
+fn detail_refusal<'a>(supplier: Pair<'a>, depth: usize, lines: &'a [Line]) -> Reason<'a>
     requires { depth < 999 }
     ensures { (nodes : Nodes) (preferred : List ℕ) → line_views lines.now ≡ outline depth nodes
-        → option_map identifier_view supplier.entry ≡ supplier_identifier preferred nodes
-        → reason_view result ≡ detail_refusal preferred nodes }
+        → pair_view supplier.entry ≡ supplier_id preferred nodes
+        → reason_view result
+        ≡ unwrap_or (first_some (detail_reasons preferred nodes)) (wrong bad.SupplyDetail []) }
 {
     match detail_reason(supplier, depth, lines) {
         Some(reason) => reason,
@@ -380,15 +382,11 @@ pub(crate) fn add_detail<'a>(
         → OnOk result (note_views notes.new.items ≡ note_views notes.old.items
         ++ notes_below (detail_outcome opening.now preferred.now nodes)) }
 {
-    let supplier = supplier_identifier(preferred, depth, lines);
-    match fill_detail(alloc, supplier, depth, lines, fields) {
-        Ok(()) => {
-            records.push(&fields.as_record())?;
-            let around = around_in(opening, depth, lines);
-            add_prices(alloc, &around, depth, lines, fields, records, notes)?;
-            Ok(None)
-        }
-        Err(RowFault::Wrong) => Ok(Some(detail_refusal(supplier, depth, lines))),
-        Err(RowFault::Memory) => Err(AllocError),
+    let supplier = supplier_id(preferred, depth, lines);
+    let refused = write_detail(alloc, supplier, depth, lines, fields, records)?;
+    if refused.is_none() {
+        let around = around_in(opening, depth, lines);
+        add_prices(alloc, &around, depth, lines, fields, records, notes)?;
     }
+    Ok(refused)
 }

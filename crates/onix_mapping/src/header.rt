@@ -1,26 +1,26 @@
 //! The Header.
 
-ghost use Rattle.std.specs.Prelude.{◌≡◌, ◌+◌, ◌∷◌, ◌<◌, List, ℕ, IsErrOf, OnOk, Some, true, false, codes, decimal, map, option_map};
-ghost use Rattle.std.specs.Option.{ok_or};
+ghost use Rattle.std.specs.Prelude.{◌≡◌, ◌+◌, ◌∷◌, ◌<◌, List, ℕ, Err, IsErrOf, OnOk, Some, true, false, codes, decimal, map, option_map};
+ghost use Rattle.std.specs.Option.{ok_or, option_map_or};
 ghost use Rattle.std.specs.Str.{is_utf8};
 ghost use Rattle.std.specs.List.{list_all, list_any};
 ghost use Rattle.onix_mapping.specs.Elements.{composites};
-ghost use Rattle.onix_mapping.specs.Header.{added, addressee_pair, addressee_in, first_number, has_pair, heading_in, is_pair, is_whole, meant, message_fields, named_sender, number_in, number_said, opening_said, sender_below, sender_in};
+ghost use Rattle.onix_mapping.specs.Header.{added, addressee_ids, addressee_pair, addressee_in, first_number, heading_in, if_whole, meant, message_fields, number_in, opening_said, sender_in, sender_of};
 ghost use Rattle.onix_mapping.specs.HeaderViews.{choices_view, pair_read, AreLines, IsHeading, IsOpening};
 ghost use Rattle.onix_mapping.specs.PartyViews.{pair_view};
 ghost use Rattle.onix_mapping.specs.Identifiers.{identifiers_in};
 ghost use Rattle.onix_mapping.specs.PriceViews.{text_view};
-ghost use Rattle.onix_mapping.specs.Views.{identifier_view, kind_view};
+ghost use Rattle.onix_mapping.specs.Parties.{is_whole, same_pair};
+ghost use Rattle.onix_mapping.specs.Records.{term_said};
+ghost use Rattle.onix_terms.specs.Number.{number_of};
 ghost use Rattle.onix_outline.specs.Nodes.{Nodes};
 ghost use Rattle.onix_outline.specs.Outline.{outline};
 ghost use Rattle.onix_outline.specs.Views.{line_views};
 
 use crate::details::lines_below;
 use crate::elements::{next_composite, text_or_empty};
-use crate::identifiers::{
-    ADDRESSEE, Identifier, Kind, SENDER, choose_identifier, is_text, next_identifier,
-};
-use crate::parties::{Pair, pair_of};
+use crate::identifiers::{ADDRESSEE, Kind, SENDER, choose_identifier, next_identifier};
+use crate::parties::{NO_PAIR, Pair};
 use crate::prices::fill_record;
 use crate::records::utf8_text;
 use csv_records::fields::FieldBuffer;
@@ -98,15 +98,33 @@ pub struct Heading<'a> {
     pub opening: Opening,
 }
 
+// Whether an identifier has both a type and a value.
+fn is_whole(identifier: Pair<'_>) -> bool
+    ensures { result ≡ is_whole (pair_view identifier.entry) }
+{
+    !identifier.id_type.is_empty() && !identifier.id_value.is_empty()
+}
+
+// An identifier that is written, where it has both a type and a value.
+fn if_whole<'a>(identifier: Pair<'a>) -> Result<Pair<'a>, Refusal>
+    ensures { pair_read result ≡ if_whole (pair_view identifier.entry) }
+{
+    if is_whole(identifier) {
+        Ok(identifier)
+    } else {
+        Err(Refusal::Malformed)
+    }
+}
+
 // Whether one of the identifiers has both a type and a value.
 fn has_whole(kind: Kind, depth: usize, lines: &[Line]) -> bool
     requires { depth < 1000 }
     ensures { (nodes : Nodes) → line_views lines.now ≡ outline depth nodes
-        → result ≡ list_any is_whole (identifiers_in (kind_view kind) nodes) }
+        → result ≡ list_any is_whole (identifiers_in kind.name.now kind.type_name.now nodes) }
 {
     let mut rest = lines;
     while let Some((found, behind)) = next_identifier(kind, depth, rest) {
-        if found.id_type.is_some() && found.id_value.is_some() {
+        if is_whole(found) {
             return true;
         }
         rest = behind;
@@ -114,16 +132,14 @@ fn has_whole(kind: Kind, depth: usize, lines: &[Line]) -> bool
     false
 }
 
-// The two fields of the identifier that is written.
-fn named_sender<'a>(found: Option<Identifier<'a>>) -> Result<Pair<'a>, Refusal>
-    ensures { pair_read result ≡ named_sender (option_map identifier_view found.entry) }
+// The identifier of the sender that is written.
+fn named_sender<'a>(found: Option<Pair<'a>>) -> Result<Pair<'a>, Refusal>
+    ensures { pair_read result
+        ≡ option_map_or if_whole (option_map pair_view found.entry) (Err Refusal.NoSender) }
 {
-    if found.is_none() {
-        return Err(Refusal::NoSender);
-    }
-    match pair_of(found) {
-        Some(pair) => Ok(pair),
-        None => Err(Refusal::Malformed),
+    match found {
+        Some(identifier) => if_whole(identifier),
+        None => Err(Refusal::NoSender),
     }
 }
 
@@ -134,8 +150,9 @@ fn sender_of<'a>(
     lines: &'a [Line],
 ) -> Result<Pair<'a>, Refusal>
     requires { depth < 1000 }
-    ensures { (nodes : Nodes) → line_views lines.now ≡ outline depth (sender_below nodes)
-        → pair_read result ≡ sender_in (choices_view choices.now) nodes }
+    ensures { (nodes : Nodes) → line_views lines.now ≡ outline depth nodes
+        → pair_read result ≡ sender_of (choices_view choices.now)
+        (identifiers_in (codes "SenderIdentifier") (codes "SenderIDType") nodes) }
 {
     if !has_whole(SENDER, depth, lines) {
         if let Some(given) = choices.sender {
@@ -159,22 +176,22 @@ fn sender_in<'a>(
     sender_of(choices, depth + 1, sender)
 }
 
-// Whether an identifier has that type and value.
-fn is_pair(pair: Pair<'_>, found: Identifier<'_>) -> bool
-    ensures { result ≡ is_pair (pair_view pair.entry) (identifier_view found.entry) }
+// Whether two identifiers have the same type and value.
+fn same_pair(pair: Pair<'_>, found: Pair<'_>) -> bool
+    ensures { result ≡ same_pair (pair_view pair.entry) (pair_view found.entry) }
 {
-    is_text(pair.id_type, found.id_type) && is_text(pair.id_value, found.id_value)
+    pair.id_type == found.id_type && pair.id_value == found.id_value
 }
 
 // Whether one of the identifiers has that type and value.
 fn has_pair(pair: Pair<'_>, depth: usize, lines: &[Line]) -> bool
     requires { depth < 1000 }
     ensures { (nodes : Nodes) → line_views lines.now ≡ outline depth nodes
-        → result ≡ has_pair (pair_view pair.entry) nodes }
+        → result ≡ list_any (same_pair (pair_view pair.entry)) (addressee_ids nodes) }
 {
     let mut rest = lines;
     while let Some((found, behind)) = next_identifier(ADDRESSEE, depth, rest) {
-        if is_pair(pair, found) {
+        if same_pair(pair, found) {
             return true;
         }
         rest = behind;
@@ -187,7 +204,7 @@ fn meant<'a>(pair: Pair<'_>, depth: usize, lines: &'a [Line]) -> Result<&'a [Lin
     requires { depth < 999 }
     ensures { (nodes : Nodes) → line_views lines.now ≡ outline depth nodes
         → AreLines result (depth + 1)
-        (meant (Some (pair_view pair.entry)) (composites (codes "Addressee") nodes)) }
+        (meant (pair_view pair.entry) (composites (codes "Addressee") nodes)) }
 {
     let mut rest = lines;
     while let Some((found, behind)) = next_composite(b"Addressee", depth, rest) {
@@ -233,15 +250,15 @@ fn addressee_pair<'a>(
         → pair_read result ≡ addressee_pair (choices_view choices.now) nodes }
 {
     let addressee = addressee_lines(choices.addressee, depth, lines)?;
-    match pair_of(choose_identifier(ADDRESSEE, choices.id_type, depth + 1, addressee)) {
-        Some(pair) => Ok(pair),
-        None => Err(Refusal::Malformed),
+    match choose_identifier(ADDRESSEE, choices.id_type, depth + 1, addressee) {
+        Some(identifier) => if_whole(identifier),
+        None => Ok(NO_PAIR),
     }
 }
 
 // The number that a text writes.
 fn read_number(text: &[u8]) -> Result<Number, Refusal>
-    ensures { result ≡ ok_or (number_said text.now) Refusal.WrongNumber }
+    ensures { result ≡ ok_or (term_said number_of text.now) Refusal.WrongNumber }
 {
     match utf8_text(text) {
         Some(text) => Number::read(text).ok_or(Refusal::WrongNumber),

@@ -5,10 +5,10 @@ ghost use Rattle.std.specs.Prelude.{◌≡◌, ◌↔◌, ◌+◌, ◌<◌, ◌�
 ghost use Rattle.onix_mapping.specs.Header.{Choices, Heading, heading_in};
 ghost use Rattle.std.specs.List.{AllByRecursion};
 ghost use Rattle.onix_mapping.specs.Elements.{Composite};
-ghost use Rattle.onix_mapping.specs.ProductRecords.{forms};
+ghost use Rattle.onix_mapping.specs.ProductRecords.{fate_of, forms};
 ghost use Rattle.onix_mapping.specs.Details.{detail_outcome};
 ghost use Rattle.onix_mapping.specs.Outcomes.{outcome_reason};
-ghost use Rattle.onix_mapping.specs.PriceFates.{HasDetails, HasPrices};
+ghost use Rattle.onix_mapping.specs.PriceFates.{HasDetails, HasPrices, HasSupplies};
 ghost use Rattle.onix_mapping.specs.Supplies.{supply_outcome};
 ghost use Rattle.onix_mapping.specs.Rows.{AreOf, AreProducts, message_records, numbered, part_record, references_of};
 ghost use Rattle.onix_mapping.specs.Unions.{union};
@@ -22,6 +22,7 @@ ghost use Rattle.onix_terms.specs.Code.{country_of};
 ghost use Rattle.onix_terms.specs.Territory.{IsIn};
 ghost use Rattle.onix_terms.specs.declared.territory.Territory.{Territory};
 
+use crate::product_records::Fate;
 use onix_terms::laws::number_reads_back;
 
 /// A country lies in the union of territories exactly where it lies in one of them; without a union
@@ -66,8 +67,9 @@ pub fn records_are_products()
 }
 
 /// No Price is lost: in a SupplyDetail that is not left out each Price, in order, is nothing by the
-/// rule, one record, or has one note; and a ProductSupply that is not left out has what its
-/// SupplyDetails come to, in order, each its records or one note.
+/// rule, one record, or has one note; a ProductSupply that is not left out has what its
+/// SupplyDetails come to, in order, each its records or one note; and a Product that is neither
+/// emptied nor left out has what its ProductSupplys come to, in the same way.
 pub fn prices_stand_or_are_told()
     ensures details { (o : Opening) (preferred : List ℕ) (nodes : Nodes)
         → outcome_reason (detail_outcome o preferred nodes) ≡ None
@@ -75,4 +77,6 @@ pub fn prices_stand_or_are_told()
     ensures supplies { (o : Opening) (preferred : List ℕ) (nodes : Nodes)
         → outcome_reason (supply_outcome o preferred nodes) ≡ None
         → HasDetails o preferred nodes }
+    ensures products { (o : Opening) (preferred : List ℕ) (c : Composite)
+        → fate_of o preferred c.below ≡ Fate.Written → HasSupplies o preferred c }
 {}

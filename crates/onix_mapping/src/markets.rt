@@ -1,10 +1,10 @@
 //! The Markets of a ProductSupply, as one.
 
-ghost use Rattle.std.specs.Prelude.{◌≡◌, ◌++◌, ◌∷◌, ◌<◌, ◌||◌, [], List, None, Some, IfOk, OnOk, option_map, option_to_list};
-ghost use Rattle.std.specs.List.{flat_map};
+ghost use Rattle.std.specs.Prelude.{◌≡◌, ◌++◌, ◌∷◌, ◌<◌, ◌||◌, [], List, None, Some, IfOk, OnOk, codes, false, option_map, option_to_list};
+ghost use Rattle.std.specs.List.{flat_map, list_any};
 ghost use Rattle.std.specs.Option.{option_or};
-ghost use Rattle.onix_mapping.specs.Elements.{Composite as Told, Tells};
-ghost use Rattle.onix_mapping.specs.Markets.{IsFilled, IsHeld, first_held, found_outcome, held_area, held_fields, held_outcome, is_foreign_market, joined_outcome, market_notes, markets_in, markets_outcome, no_market, one_is_foreign, supply_record, territories_of, territory_of};
+ghost use Rattle.onix_mapping.specs.Elements.{Composite as Told, Tells, composites};
+ghost use Rattle.onix_mapping.specs.Markets.{IsFilled, IsHeld, first_held, held_area, held_fields, held_outcome, is_foreign_market, market_notes, markets_outcome, no_market, some_outcome, supply_record, territories_of, territory_of};
 ghost use Rattle.onix_mapping.specs.Notes.{Note as Said, foreign, note_views, reason_view};
 ghost use Rattle.onix_mapping.specs.Outcomes.{notes_below, outcome_reason, outcome_records};
 ghost use Rattle.onix_mapping.specs.PriceViews.{reason_read};
@@ -108,14 +108,16 @@ fn take_markets<'a>(
 ) -> Result<Held<'a>, AllocError>
     requires { depth < 999 }
     ensures territories { (nodes : Nodes) → line_views lines.now ≡ outline depth nodes
-        → IfOk result (λ h. h.territories ≡ territories_of (markets_in nodes)) }
+        → IfOk result (λ h. h.territories ≡ territories_of (composites (codes "Market") nodes)) }
     ensures first { (nodes : Nodes) → line_views lines.now ≡ outline depth nodes
-        → IfOk result (λ h. option_map area_view h.first ≡ first_held (markets_in nodes)) }
+        → IfOk result (λ h. option_map area_view h.first
+        ≡ first_held (composites (codes "Market") nodes)) }
     ensures foreign { (nodes : Nodes) → line_views lines.now ≡ outline depth nodes
-        → IfOk result (λ h. h.some_foreign ≡ one_is_foreign (markets_in nodes)) }
+        → IfOk result (λ h. h.some_foreign
+        ≡ list_any is_foreign_market (composites (codes "Market") nodes)) }
     ensures notes { (nodes : Nodes) → line_views lines.now ≡ outline depth nodes
-        → OnOk result (note_views notes.new.items
-        ≡ note_views notes.old.items ++ flat_map market_notes (markets_in nodes)) }
+        → OnOk result (note_views notes.new.items ≡ note_views notes.old.items
+        ++ flat_map market_notes (composites (codes "Market") nodes)) }
 {
     let mut held = Held {
         territories: Items::new(alloc),
@@ -185,10 +187,10 @@ fn add_first(
     records: &mut RecordBuffer,
 ) -> Result<Option<Reason<'static>>, AllocError>
     ensures reason { (notes : List Said) → IfOk result (λ why. reason_read why ≡ outcome_reason
-        (joined_outcome (held_fields (area_view first.now) territories.now) notes)) }
+        (held_outcome (Some (area_view first.now)) territories.now false notes)) }
     ensures records { (notes : List Said) → OnOk result (records.new ≡ records.old
         ++ outcome_records
-        (joined_outcome (held_fields (area_view first.now) territories.now) notes)) }
+        (held_outcome (Some (area_view first.now)) territories.now false notes)) }
 {
     let is_filled = fill_held(alloc, fields, first, territories)?;
     if is_filled {
@@ -206,11 +208,11 @@ fn add_held<'a>(
     records: &mut RecordBuffer,
 ) -> Result<Option<Reason<'a>>, AllocError>
     ensures reason { (notes : List Said) → IfOk result (λ why. reason_read why ≡ outcome_reason
-        (found_outcome (option_map area_view held.now.first) held.now.territories
+        (held_outcome (option_map area_view held.now.first) held.now.territories
         held.now.some_foreign notes)) }
     ensures records { (notes : List Said) → OnOk result (records.new
         ≡ records.old ++ outcome_records
-        (found_outcome (option_map area_view held.now.first) held.now.territories
+        (held_outcome (option_map area_view held.now.first) held.now.territories
         held.now.some_foreign notes)) }
 {
     let Some(first) = &held.first else {
@@ -244,13 +246,13 @@ fn add_some<'a>(
     requires { depth < 999 }
     ensures reason { (nodes : Nodes) → line_views lines.now ≡ outline depth nodes
         → IfOk result (λ why. reason_read why
-        ≡ outcome_reason (held_outcome (first_held (markets_in nodes)) (markets_in nodes))) }
+        ≡ outcome_reason (some_outcome (composites (codes "Market") nodes))) }
     ensures records { (nodes : Nodes) → line_views lines.now ≡ outline depth nodes
         → OnOk result (records.new ≡ records.old
-        ++ outcome_records (held_outcome (first_held (markets_in nodes)) (markets_in nodes))) }
+        ++ outcome_records (some_outcome (composites (codes "Market") nodes))) }
     ensures notes { (nodes : Nodes) → line_views lines.now ≡ outline depth nodes
-        → OnOk result (note_views notes.new.items
-        ≡ note_views notes.old.items ++ flat_map market_notes (markets_in nodes)) }
+        → OnOk result (note_views notes.new.items ≡ note_views notes.old.items
+        ++ flat_map market_notes (composites (codes "Market") nodes)) }
 {
     let held = take_markets(alloc, depth, lines, notes)?;
     add_held(alloc, &held, fields, records)
@@ -270,13 +272,13 @@ pub(crate) fn add_markets<'a>(
     requires { depth < 999 }
     ensures reason { (nodes : Nodes) → line_views lines.now ≡ outline depth nodes
         → IfOk result (λ why. reason_read why
-        ≡ outcome_reason (markets_outcome (markets_in nodes))) }
+        ≡ outcome_reason (markets_outcome (composites (codes "Market") nodes))) }
     ensures records { (nodes : Nodes) → line_views lines.now ≡ outline depth nodes
         → OnOk result (records.new
-        ≡ records.old ++ outcome_records (markets_outcome (markets_in nodes))) }
+        ≡ records.old ++ outcome_records (markets_outcome (composites (codes "Market") nodes))) }
     ensures notes { (nodes : Nodes) → line_views lines.now ≡ outline depth nodes
-        → IfOk result (λ why. why ≡ None → note_views notes.new.items
-        ≡ note_views notes.old.items ++ notes_below (markets_outcome (markets_in nodes))) }
+        → IfOk result (λ why. why ≡ None → note_views notes.new.items ≡ note_views notes.old.items
+        ++ notes_below (markets_outcome (composites (codes "Market") nodes))) }
 {
     if next_composite(b"Market", depth, lines).is_none() {
         add_world(fields, records)?;

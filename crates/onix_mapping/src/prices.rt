@@ -1,31 +1,30 @@
 //! Prices.
 
-ghost use Rattle.std.specs.Prelude.{◌≡◌, ◌++◌, ◌∷◌, ◌<◌, [], ℕ, List, None, IfOk, IsErrOf, OnOk, false, true, is_some, map, codes, option_and_then, option_map};
+ghost use Rattle.std.specs.Prelude.{◌≡◌, ◌++◌, ◌∷◌, ◌<◌, [], ℕ, List, None, Some, IfOk, IsErrOf, OnOk, false, true, find, is_some, map, not, codes, option_map};
 ghost use Rattle.std.specs.List.{list_all};
 ghost use Rattle.std.specs.Option.{option_or, option_to_list};
 ghost use Rattle.std.specs.Result.{result_err, result_unwrap_or};
 ghost use Rattle.std.specs.Str.{is_utf8};
 ghost use Rattle.onix_mapping.specs.DateViews.{dated_view};
 ghost use Rattle.onix_mapping.specs.Dates.{days, days_in};
-ghost use Rattle.onix_mapping.specs.Elements.{Composite as Told, Tells, composites};
-ghost use Rattle.onix_mapping.specs.Notes.{foreign, note_views, wrong};
+ghost use Rattle.onix_mapping.specs.Elements.{Composite as Told, Tells, composites, first, text_or_empty};
+ghost use Rattle.onix_mapping.specs.Notes.{foreign, is_wrong, note_views, wrong};
 ghost use Rattle.onix_mapping.specs.Outcomes.{notes_below, outcome_notes, outcome_records};
 ghost use Rattle.onix_mapping.specs.PriceViews.{reason_read, text_view};
-ghost use Rattle.onix_mapping.specs.Prices.{amount_written, around_view, behind_digits, cut_zeros, early_reasons, eight_fields, has_more_decimals, if_foreign, if_wrong, is_long_part, is_nothing, is_zero, late_reasons, long_amount, mark_in, named, no_charge, old_elements, other_in, other_type, outcome_of, own_minimum, point_in, price_fields, price_outcome, reasons_against, refusal, right_days, unless_zeros};
-ghost use Rattle.onix_mapping.specs.Records.{first_some, said, term_said};
+ghost use Rattle.onix_mapping.specs.Prices.{amount_written, around_view, behind_digits, cut_zeros, early_reasons, eight_fields, has_more_decimals, is_long_part, is_nothing, is_other, is_zero, late_reasons, old_element, outcome_of, own_minimum, point_in, price_fields, price_outcome, reasons_against, refusal, right_days};
+ghost use Rattle.onix_mapping.specs.Records.{first_some, option_filter, said};
 ghost use Rattle.onix_mapping.specs.Territories.{AreRenamed, area_in, area_view};
 ghost use Rattle.onix_mapping.specs.declared.notes.Wrong.TheVariants.{OldElement};
 ghost use Rattle.onix_message.specs.Gives.{Gives};
 ghost use Rattle.onix_message.specs.Price.{day_field, price_of};
+ghost use Rattle.onix_outline.specs.Composites.{text_in};
 ghost use Rattle.onix_outline.specs.Nodes.{Nodes};
 ghost use Rattle.onix_outline.specs.Outline.{outline};
 ghost use Rattle.onix_outline.specs.Views.{line_views};
-ghost use Rattle.onix_terms.specs.Amount.{amount_of};
 
 use crate::dates::{Dated, Days, days_in};
 use crate::discounts::push_discounts;
 use crate::elements::{Composite, first_composite, next_composite, text_or_empty};
-use crate::identifiers::is_text;
 use crate::notes::{Foreign, Note, Reason, Why, Wrong, push_reason};
 use crate::records::{amount_said, are_zeros, former, push_texts};
 use crate::refusals::{field_reason, or_refused};
@@ -54,17 +53,19 @@ pub struct Around<'a, 'b> {
     pub minimum: Option<&'b [u8]>,
 }
 
+fn is_other(code: &[u8]) -> bool
+    ensures { result ≡ is_other code.now }
+{
+    code != b"00".as_slice()
+}
+
 // The text of an element, where it is another than 00.
 fn other_in<'a>(name: &[u8], depth: usize, lines: &'a [Line]) -> Option<&'a [u8]>
     ensures { (nodes : Nodes) → line_views lines.now ≡ outline depth nodes
-        → text_view result ≡ other_in nodes name.now }
+        → text_view result ≡ option_filter is_other (text_in name.now nodes) }
 {
     match text_in(depth, name, lines) {
-        Some(text) => if text == b"00".as_slice() {
-            None
-        } else {
-            Some(text)
-        },
+        Some(text) => if is_other(text) { Some(text) } else { None },
         None => None,
     }
 }
@@ -78,12 +79,14 @@ fn other_type<'a>(
 ) -> Option<&'a [u8]>
     requires { depth < 1000 }
     ensures { (nodes : Nodes) → line_views lines.now ≡ outline depth nodes
-        → text_view result ≡ other_type type_name.now (composites name.now nodes) }
+        → text_view result ≡ find is_other
+        (map (λ c. text_or_empty type_name.now c.below) (composites name.now nodes)) }
 {
     let mut rest = lines;
     while let Some((found, behind)) = next_composite(name, depth, rest) {
-        if !is_text(b"00", text_in(depth + 1, type_name, found.below)) {
-            return Some(text_or_empty(depth + 1, type_name, found.below));
+        let code = text_or_empty(depth + 1, type_name, found.below);
+        if is_other(code) {
+            return Some(code);
         }
         rest = behind;
     }
@@ -94,7 +97,7 @@ fn other_type<'a>(
 fn mark_in(name: &[u8], depth: usize, lines: &[Line]) -> Option<&'static [u8]>
     requires { depth < 1000 }
     ensures { (nodes : Nodes) → line_views lines.now ≡ outline depth nodes
-        → text_view result ≡ mark_in nodes name.now }
+        → text_view result ≡ option_map (λ c. []) (first (composites name.now nodes)) }
 {
     match first_composite(name, depth, lines) {
         Some(_) => Some(b""),
@@ -166,7 +169,8 @@ pub(crate) fn amount_written<'a>(depth: usize, lines: &'a [Line]) -> &'a [u8]
 // An amount that has more decimals than the desk knows.
 fn long_amount<'a>(amount: &'a [u8]) -> Option<&'a [u8]>
     ensures { (nodes : Nodes) → amount.now ≡ amount_written nodes
-        → text_view result ≡ long_amount nodes }
+        → text_view result
+        ≡ option_filter has_more_decimals (Some (amount_written nodes)) }
 {
     if has_more_decimals(amount) {
         Some(amount)
@@ -176,7 +180,7 @@ fn long_amount<'a>(amount: &'a [u8]) -> Option<&'a [u8]>
 }
 
 fn is_zero(amount: &[u8]) -> bool
-    ensures { result ≡ is_zero (term_said amount_of amount.now) }
+    ensures { result ≡ is_zero amount.now }
 {
     match amount_said(amount) {
         None => false,
@@ -187,37 +191,36 @@ fn is_zero(amount: &[u8]) -> bool
 // An amount of 0.
 fn no_charge<'a>(amount: &'a [u8]) -> Option<&'a [u8]>
     ensures { (nodes : Nodes) → amount.now ≡ amount_written nodes
-        → text_view result ≡ no_charge nodes }
+        → text_view result ≡ option_filter is_zero (Some (amount_written nodes)) }
 {
     if is_zero(amount) { Some(amount) } else { None }
 }
 
-// The name of an element, where it has a text.
-fn named(name: &'static [u8], depth: usize, lines: &[Line]) -> Option<&'static [u8]>
+fn has_text(name: &[u8], depth: usize, lines: &[Line]) -> bool
     ensures { (nodes : Nodes) → line_views lines.now ≡ outline depth nodes
-        → text_view result ≡ named nodes name.now }
+        → result ≡ is_some (text_in name.now nodes) }
 {
-    match text_in(depth, name, lines) {
-        Some(_) => Some(name),
-        None => None,
-    }
+    text_in(depth, name, lines).is_some()
 }
 
 // The first of the elements of ONIX 2.1 that is there.
 fn old_element(depth: usize, lines: &[Line]) -> Option<&'static [u8]>
     ensures { (nodes : Nodes) → line_views lines.now ≡ outline depth nodes
-        → text_view result ≡ first_some (old_elements nodes) }
+        → text_view result ≡ old_element nodes }
 {
-    if let Some(name) = named(b"PriceTypeCode", depth, lines) {
-        return Some(name);
+    if has_text(b"PriceTypeCode", depth, lines) {
+        return Some(b"PriceTypeCode");
     }
-    if let Some(name) = named(b"PriceEffectiveFrom", depth, lines) {
-        return Some(name);
+    if has_text(b"PriceEffectiveFrom", depth, lines) {
+        return Some(b"PriceEffectiveFrom");
     }
-    if let Some(name) = named(b"PriceEffectiveUntil", depth, lines) {
-        return Some(name);
+    if has_text(b"PriceEffectiveUntil", depth, lines) {
+        return Some(b"PriceEffectiveUntil");
     }
-    named(b"CountryCode", depth, lines)
+    if has_text(b"CountryCode", depth, lines) {
+        return Some(b"CountryCode");
+    }
+    None
 }
 
 // A foreign reason, where there is a text that is one.
@@ -253,7 +256,8 @@ fn wrong_date<'a>(dated: &Dated<'a>) -> Option<Reason<'a>>
 }
 
 fn if_foreign<'a>(reason: Option<Reason<'a>>) -> Option<Reason<'a>>
-    ensures { reason_read result ≡ option_and_then if_foreign (reason_read reason.entry) }
+    ensures { reason_read result
+        ≡ option_filter (λ r. not (is_wrong r.why)) (reason_read reason.entry) }
 {
     match reason {
         Some(reason) => if reason.why.is_wrong() {
@@ -266,7 +270,7 @@ fn if_foreign<'a>(reason: Option<Reason<'a>>) -> Option<Reason<'a>>
 }
 
 fn if_wrong<'a>(reason: Option<Reason<'a>>) -> Option<Reason<'a>>
-    ensures { reason_read result ≡ option_and_then if_wrong (reason_read reason.entry) }
+    ensures { reason_read result ≡ option_filter (λ r. is_wrong r.why) (reason_read reason.entry) }
 {
     match reason {
         Some(reason) => if reason.why.is_wrong() {

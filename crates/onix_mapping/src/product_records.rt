@@ -3,9 +3,12 @@
 ghost use Rattle.std.specs.Prelude.{◌≡◌, ◌++◌, ◌∷◌, ◌<◌, [], None, IfOk, OnOk};
 ghost use Rattle.onix_mapping.specs.Depths.{LinesFit};
 ghost use Rattle.onix_mapping.specs.Elements.{Composite as Told, Tells, element_view};
-ghost use Rattle.onix_mapping.specs.Notes.{note_views};
+ghost use Rattle.onix_mapping.specs.Notes.{note, note_views};
+ghost use Rattle.onix_mapping.specs.Outcomes.{all_notes, all_records};
 ghost use Rattle.onix_mapping.specs.PriceViews.{reason_read};
-ghost use Rattle.onix_mapping.specs.ProductRecords.{fate_of, ignored_reason, is_followed, isbn_reason, notes_on_supplies, product_notes, product_records, reason_below, records_below, standing_fate, standing_notes, standing_records, too_large_notes, why_emptied, written_notes};
+ghost use Rattle.onix_mapping.specs.ProductRecords.{fate_of, ignored_reason, is_followed, isbn_reason, notes_behind, product_notes, product_records, standing_fate, standing_records, supplies_in, too_large_notes, why_emptied, written_notes};
+ghost use Rattle.onix_mapping.specs.Supplies.{supplies_reason, supply_in};
+ghost use Rattle.std.specs.Option.{option_map_or};
 ghost use Rattle.onix_mapping.specs.Products.{bare_record, emptied_record, has_isbn, dropping, notification_in, own_reason, product_record, right_pairs};
 ghost use Rattle.onix_outline.specs.Nodes.{Nodes};
 ghost use Rattle.onix_outline.specs.Outline.{outline};
@@ -142,12 +145,14 @@ fn add_below<'a>(
 ) -> Result<Option<Reason<'a>>, AllocError>
     requires { depth < 997 }
     ensures reason { (nodes : Nodes) → line_views lines.now ≡ outline depth nodes
-        → IfOk result (λ why. reason_read why ≡ reason_below opening.now preferred.now nodes) }
+        → IfOk result (λ why. reason_read why
+        ≡ supplies_reason opening.now preferred.now (supplies_in nodes)) }
     ensures records { (nodes : Nodes) → line_views lines.now ≡ outline depth nodes
-        → OnOk result (records.new ≡ records.old ++ records_below opening.now preferred.now nodes) }
+        → OnOk result (records.new ≡ records.old
+        ++ all_records (supply_in opening.now preferred.now) (supplies_in nodes)) }
     ensures notes { (nodes : Nodes) → line_views lines.now ≡ outline depth nodes
-        → OnOk result (note_views notes.new.items
-        ≡ note_views notes.old.items ++ notes_on_supplies opening.now preferred.now nodes) }
+        → OnOk result (note_views notes.new.items ≡ note_views notes.old.items
+        ++ all_notes (supply_in opening.now preferred.now) (supplies_in nodes)) }
 {
     if is_deletion(depth, lines) {
         return Ok(None);
@@ -170,17 +175,17 @@ fn add_sound<'a>(
     notes: &mut Vec<Note<'a>>,
 ) -> Result<Fate, AllocError>
     requires { depth < 997 }
-    ensures fate { (c : Told) → Tells product.entry depth c → IfOk result (λ f. f
-        ≡ standing_fate (reason_below opening.now preferred.now c.below)) }
+    ensures fate { (c : Told) → Tells product.entry depth c
+        → IfOk result (λ f. f ≡ standing_fate
+        (supplies_reason opening.now preferred.now (supplies_in c.below))) }
     ensures records { (c : Told) → Tells product.entry depth c
         → identifiers.now.pairs ≡ right_pairs c.below
-        → OnOk result (records.new ≡ records.old ++ standing_records opening.now
-        preferred.now None (reason_below opening.now preferred.now c.below) c.below) }
+        → OnOk result (records.new ≡ records.old ++ standing_records opening.now preferred.now
+        (supplies_reason opening.now preferred.now (supplies_in c.below)) c.below) }
     ensures notes { (c : Told) → Tells product.entry depth c
         → identifiers.now.has_isbn ≡ has_isbn c.below
         → OnOk result (note_views notes.new.items ≡ note_views notes.old.items
-        ++ standing_notes opening.now preferred.now None
-        (reason_below opening.now preferred.now c.below) c) }
+        ++ notes_behind opening.now preferred.now c) }
 {
     let count = records.len();
     let lines = product.below;
@@ -219,15 +224,14 @@ fn add_standing<'a>(
         ≡ standing_fate (why_emptied opening.now preferred.now c.below)) }
     ensures records { (c : Told) → Tells product.entry depth c
         → identifiers.now.pairs ≡ right_pairs c.below
-        → OnOk result (records.new ≡ records.old ++ standing_records opening.now
-        preferred.now (own_reason c.below) (reason_below opening.now preferred.now c.below)
-        c.below) }
+        → OnOk result (records.new ≡ records.old ++ standing_records opening.now preferred.now
+        (why_emptied opening.now preferred.now c.below) c.below) }
     ensures notes { (c : Told) → Tells product.entry depth c
         → identifiers.now.pairs ≡ right_pairs c.below
         → identifiers.now.has_isbn ≡ has_isbn c.below
         → OnOk result (note_views notes.new.items ≡ note_views notes.old.items
-        ++ standing_notes opening.now preferred.now (own_reason c.below)
-        (reason_below opening.now preferred.now c.below) c) }
+        ++ option_map_or (λ reason. note c.element reason ∷ []) (own_reason c.below)
+        (notes_behind opening.now preferred.now c)) }
 {
     match own_reason(&identifiers.pairs, depth, product.below) {
         Some(reason) => {

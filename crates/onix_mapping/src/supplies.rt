@@ -1,14 +1,14 @@
 //! The supplies of a Product.
 
-ghost use Rattle.std.specs.Prelude.{◌≡◌, ◌++◌, ◌<◌, [], None, IfOk, OnOk};
-ghost use Rattle.onix_mapping.specs.Elements.{Composite as Told, Tells};
+ghost use Rattle.std.specs.Prelude.{◌≡◌, ◌++◌, ◌<◌, [], None, IfOk, OnOk, codes};
+ghost use Rattle.onix_mapping.specs.Elements.{Composite as Told, Element, Tells, composites, element_view};
 ghost use Rattle.onix_mapping.specs.Notes.{foreign, note_views, reason_view, wrong};
-ghost use Rattle.onix_mapping.specs.Outcomes.{all_notes, all_records, notes_below, outcome_notes, outcome_reason, outcome_records};
+ghost use Rattle.onix_mapping.specs.Outcomes.{Outcome, all_notes, all_records, notes_below, outcome_notes, outcome_reason, outcome_records};
 ghost use Rattle.onix_mapping.specs.PriceViews.{reason_read};
-ghost use Rattle.onix_mapping.specs.Markets.{markets_in, markets_outcome};
+ghost use Rattle.onix_mapping.specs.Records.{option_filter};
 ghost use Rattle.onix_mapping.specs.declared.notes.Foreign.TheVariants as other;
 ghost use Rattle.onix_mapping.specs.declared.notes.Wrong.TheVariants as bad;
-ghost use Rattle.onix_mapping.specs.Supplies.{by_markets, detail_in, details_in, first_lost, lost_by, none_left, supplies_notes, supplies_reason, supplies_records, supply_in, supply_outcome};
+ghost use Rattle.onix_mapping.specs.Supplies.{detail_in, details_in, detailed_outcome, first_lost, is_lost, none_left, supplies_reason, supply_in, supply_outcome};
 ghost use Rattle.onix_outline.specs.Nodes.{Nodes};
 ghost use Rattle.onix_outline.specs.Outline.{outline};
 ghost use Rattle.onix_outline.specs.Views.{line_views};
@@ -16,7 +16,7 @@ ghost use Rattle.onix_outline.specs.Views.{line_views};
 use crate::details::add_detail;
 use crate::elements::{Composite, next_composite};
 use crate::markets::add_markets;
-use crate::notes::{Foreign, Note, Reason, Why, Wrong, push_reason};
+use crate::notes::{Foreign, Note, Reason, Why, Wrong, push_note, push_reason};
 use crate::records::former;
 use csv_records::buffer::RecordBuffer;
 use csv_records::fields::FieldBuffer;
@@ -123,18 +123,15 @@ fn add_detailed<'a>(
 ) -> Result<Option<Reason<'a>>, AllocError>
     requires { depth < 998 }
     ensures reason { (nodes : Nodes) → line_views lines.now ≡ outline depth nodes
-        → IfOk result (λ why. reason_read why ≡ outcome_reason
-        (by_markets opening.now preferred.now (markets_outcome (markets_in nodes))
-        (details_in nodes))) }
+        → IfOk result (λ why. reason_read why
+        ≡ outcome_reason (detailed_outcome opening.now preferred.now nodes)) }
     ensures records { (nodes : Nodes) → line_views lines.now ≡ outline depth nodes
-        → OnOk result (records.new ≡ records.old ++ outcome_records
-        (by_markets opening.now preferred.now (markets_outcome (markets_in nodes))
-        (details_in nodes))) }
+        → OnOk result (records.new ≡ records.old
+        ++ outcome_records (detailed_outcome opening.now preferred.now nodes)) }
     ensures notes { (nodes : Nodes) → line_views lines.now ≡ outline depth nodes
         → IfOk result (λ why. why ≡ None → note_views notes.new.items
-        ≡ note_views notes.old.items ++ notes_below
-        (by_markets opening.now preferred.now (markets_outcome (markets_in nodes))
-        (details_in nodes))) }
+        ≡ note_views notes.old.items
+        ++ notes_below (detailed_outcome opening.now preferred.now nodes)) }
 {
     let count = records.len();
     if let Some(reason) = add_markets(alloc, depth, lines, fields, records, notes)? {
@@ -183,6 +180,25 @@ fn add_supply<'a>(
     )
 }
 
+// Adds the note on an element that is left out for this reason, else the notes below it.
+fn push_outcome<'a>(
+    notes: &mut Vec<Note<'a>>,
+    line: &'a Line,
+    refused: Option<Reason<'a>>,
+    below: &Vec<Note<'a>>,
+) -> Result<(), AllocError>
+    ensures { (element : Element) (outcome : Outcome) → element_view line.now ≡ element
+        → reason_read refused.entry ≡ outcome_reason outcome
+        → (refused.entry ≡ None → note_views below.now.items ≡ notes_below outcome)
+        → OnOk result (note_views notes.new.items
+        ≡ note_views notes.old.items ++ outcome_notes element outcome) }
+{
+    match refused {
+        None => notes.extend_from_slice(below),
+        Some(reason) => push_note(notes, line, reason),
+    }
+}
+
 // Adds what comes of a ProductSupply: its records, and notes on what is left out. It gives the
 // reason for which it is left out.
 fn add_one_supply<'a>(
@@ -215,17 +231,13 @@ fn add_one_supply<'a>(
         records,
         &mut below,
     )?;
-    if refused.is_none() {
-        notes.extend_from_slice(&below)?;
-    } else {
-        push_reason(notes, supply.line, refused)?;
-    }
+    push_outcome(notes, supply.line, refused, &below)?;
     Ok(refused)
 }
 
 // The reason for which a ProductSupply that has a SupplyDetail is left out.
 fn lost_by<'a>(refused: Option<Reason<'a>>) -> Option<Reason<'a>>
-    ensures { reason_read result ≡ lost_by (reason_read refused.entry) }
+    ensures { reason_read result ≡ option_filter (λ r. is_lost r.why) (reason_read refused.entry) }
 {
     match refused {
         None => None,
@@ -250,13 +262,14 @@ fn add_each<'a>(
 ) -> Result<Option<Reason<'a>>, AllocError>
     requires { depth < 997 }
     ensures lost { (nodes : Nodes) → line_views lines.now ≡ outline depth nodes
-        → IfOk result (λ why. reason_read why ≡ first_lost opening.now preferred.now nodes) }
+        → IfOk result (λ why. reason_read why ≡ first_lost opening.now preferred.now
+        (composites (codes "ProductSupply") nodes)) }
     ensures records { (nodes : Nodes) → line_views lines.now ≡ outline depth nodes
-        → OnOk result (records.new
-        ≡ records.old ++ supplies_records opening.now preferred.now nodes) }
+        → OnOk result (records.new ≡ records.old ++ all_records
+        (supply_in opening.now preferred.now) (composites (codes "ProductSupply") nodes)) }
     ensures notes { (nodes : Nodes) → line_views lines.now ≡ outline depth nodes
-        → OnOk result (note_views notes.new.items
-        ≡ note_views notes.old.items ++ supplies_notes opening.now preferred.now nodes) }
+        → OnOk result (note_views notes.new.items ≡ note_views notes.old.items ++ all_notes
+        (supply_in opening.now preferred.now) (composites (codes "ProductSupply") nodes)) }
 {
     let mut lost = None;
     let mut rest = lines;
@@ -305,13 +318,14 @@ pub(crate) fn add_supplies<'a>(
 ) -> Result<Option<Reason<'a>>, AllocError>
     requires { depth < 997 }
     ensures reason { (nodes : Nodes) → line_views lines.now ≡ outline depth nodes
-        → IfOk result (λ why. reason_read why ≡ supplies_reason opening.now preferred.now nodes) }
+        → IfOk result (λ why. reason_read why ≡ supplies_reason opening.now preferred.now
+        (composites (codes "ProductSupply") nodes)) }
     ensures records { (nodes : Nodes) → line_views lines.now ≡ outline depth nodes
-        → OnOk result (records.new
-        ≡ records.old ++ supplies_records opening.now preferred.now nodes) }
+        → OnOk result (records.new ≡ records.old ++ all_records
+        (supply_in opening.now preferred.now) (composites (codes "ProductSupply") nodes)) }
     ensures notes { (nodes : Nodes) → line_views lines.now ≡ outline depth nodes
-        → OnOk result (note_views notes.new.items
-        ≡ note_views notes.old.items ++ supplies_notes opening.now preferred.now nodes) }
+        → OnOk result (note_views notes.new.items ≡ note_views notes.old.items ++ all_notes
+        (supply_in opening.now preferred.now) (composites (codes "ProductSupply") nodes)) }
 {
     let count = records.len();
     let lost = add_each(

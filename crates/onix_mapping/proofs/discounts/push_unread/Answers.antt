@@ -1,7 +1,7 @@
 use Rattle.std.proofs.Common.{◌≡◌, [], List, ◌∷◌, ◌++◌, ◌∙◌, ap, sym}
 use Rattle.std.proofs.lemmas.List.{append-nil}
 use Rattle.std.specs.List.{flat_map}
-use Rattle.onix_mapping.specs.Elements.{Composite, composites, element_view}
+use Rattle.onix_mapping.specs.Elements.{Composite, composites}
 use Rattle.onix_mapping.specs.Notes.{Note, foreign, note, note_views}
 use Rattle.onix_mapping.proofs.ElementLaws.{one-more}
 use Rattle.onix_mapping.proofs.discounts.push_unread.Goals as goal

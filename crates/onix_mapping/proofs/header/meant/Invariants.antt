@@ -1,4 +1,4 @@
-use Rattle.std.proofs.Common.{◌≡◌, Some, length}
+use Rattle.std.proofs.Common.{◌≡◌, length}
 use Rattle.std.specs.Prelude.{codes}
 use Rattle.onix_mapping.specs.Elements.{composites}
 use Rattle.onix_mapping.specs.Header.{meant}
@@ -11,7 +11,7 @@ use Rattle.onix_mapping.proofs.header.meant.Given as goal
 abbrev pub invariant-loop-found : goal.invariant-loop-found
 invariant-loop-found l = (nodes : Nodes) → line_views l.lines ≡ outline l.depth nodes
     → (left : Nodes) × (line_views l.rest ≡ outline l.depth left)
-    × (meant (Some (pair_view l.pair)) (composites (codes "Addressee") left) ≡ meant (Some (pair_view l.pair)) (composites (codes "Addressee") nodes))
+    × (meant (pair_view l.pair) (composites (codes "Addressee") left) ≡ meant (pair_view l.pair) (composites (codes "Addressee") nodes))
 
 abbrev pub decreases-loop-found : goal.decreases-loop-found
 decreases-loop-found l = length l.rest

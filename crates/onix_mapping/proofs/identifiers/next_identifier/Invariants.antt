@@ -1,6 +1,5 @@
 use Rattle.std.proofs.Common.{◌≡◌, ◌≤◌, length}
 use Rattle.onix_mapping.specs.Identifiers.{identifiers_in}
-use Rattle.onix_mapping.specs.Views.{kind_view}
 use Rattle.onix_outline.specs.Nodes.{Nodes}
 use Rattle.onix_outline.specs.Outline.{outline}
 use Rattle.onix_outline.specs.Views.{line_views}
@@ -9,7 +8,7 @@ use Rattle.onix_mapping.proofs.identifiers.next_identifier.Given as goal
 abbrev pub invariant-loop-node : goal.invariant-loop-node
 invariant-loop-node l = record {
   others : (nodes : Nodes) → line_views l.lines ≡ outline l.depth nodes
-      → (left : Nodes) × (line_views l.rest ≡ outline l.depth left) × (identifiers_in (kind_view l.kind) left ≡ identifiers_in (kind_view l.kind) nodes);
+      → (left : Nodes) × (line_views l.rest ≡ outline l.depth left) × (identifiers_in l.kind.name.now l.kind.type_name.now left ≡ identifiers_in l.kind.name.now l.kind.type_name.now nodes);
   shorter : length l.rest ≤ length l.lines;
 }
 

@@ -1,7 +1,9 @@
+use Rattle.std.specs.Prelude.{codes}
+use Rattle.onix_mapping.specs.Elements.{composites}
 use Rattle.std.specs.List.{flat_map}
-use Rattle.onix_mapping.specs.Markets.{market_notes, markets_in}
+use Rattle.onix_mapping.specs.Markets.{market_notes}
 use Rattle.onix_mapping.proofs.markets.add_some.Goals as goal
 
 pub returns-clause-reason : goal.returns-clause-reason
 returns-clause-reason c nodes told =
-    rw (c.in_ok-held.ensures.first nodes told, c.in_ok-held.ensures.territories nodes told, c.in_ok-held.ensures.foreign nodes told) at (c.add_held.ensures.reason (flat_map market_notes (markets_in nodes)))
+    rw (c.in_ok-held.ensures.first nodes told, c.in_ok-held.ensures.territories nodes told, c.in_ok-held.ensures.foreign nodes told) at (c.add_held.ensures.reason (flat_map market_notes (composites (codes "Market") nodes)))

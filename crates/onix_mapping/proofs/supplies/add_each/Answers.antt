@@ -2,7 +2,10 @@ use Rattle.std.proofs.Common.{ap, ◌∙◌}
 use Rattle.std.specs.Option.{option_or}
 use Rattle.onix_mapping.specs.Outcomes.{outcome_notes, outcome_reason, outcome_records}
 use Rattle.onix_mapping.specs.PriceViews.{reason_read}
-use Rattle.onix_mapping.specs.Supplies.{lost_by, supply_in}
+use Rattle.std.proofs.Common.{Option}
+use Rattle.onix_mapping.specs.Notes.{Reason}
+use Rattle.onix_mapping.specs.Records.{option_filter}
+use Rattle.onix_mapping.specs.Supplies.{is_lost, supply_in}
 use Rattle.onix_mapping.proofs.ElementLaws.{first-more, one-deeper, one-more}
 use Rattle.onix_mapping.proofs.supplies.add_each.Goals as goal
 
@@ -13,10 +16,10 @@ loop-supply-preserved c nodes told =
     let below = one-deeper c.in-Some.supply c.args.depth s tells in
     let opening = c.args.opening.now in
     let preferred = c.args.preferred.now in
-    let lost = c.former-lost.ensures ∙ ap (option_or (reason_read c.loop-supply.lost)) (c.lost_by.ensures ∙ ap lost_by (c.in_ok-refused.ensures.reason s below)) in (
+    let lost = c.former-lost.ensures ∙ ap (option_or (reason_read c.loop-supply.lost)) (c.lost_by.ensures ∙ ap (λ (why : Option Reason). option_filter (λ r. is_lost r.why) why) (c.in_ok-refused.ensures.reason s below)) in (
       others,
       told_others,
       one-more (λ x. outcome_records (supply_in opening preferred x)) _ _ _ s _ _ parts (c.in_ok-refused.ensures.records s below) rs,
       one-more (λ x. outcome_notes x.element (supply_in opening preferred x)) _ _ _ s _ _ parts (c.in_ok-refused.ensures.notes s below) ns,
-      first-more (λ x. lost_by (outcome_reason (supply_in opening preferred x))) (reason_read c.loop-supply.lost) _ _ s _ _ parts lost ls,
+      first-more (λ x. option_filter (λ r. is_lost r.why) (outcome_reason (supply_in opening preferred x))) (reason_read c.loop-supply.lost) _ _ s _ _ parts lost ls,
     )

@@ -18,7 +18,7 @@ use Rattle.desk_http.proofs.PathLemmas.{asks_by}
 use Rattle.desk_http.specs.Serves.{AreWanted, TakesWanted}
 use Rattle.http_requests.specs.Head.{HasHead, IsRefused}
 use Rattle.http_requests.specs.Steps.{Gives, IfRefused}
-use Rattle.http_requests.specs.KnownLemmas.{IfSome-all, IfSome-map}
+use Rattle.http_requests.proofs.KnownLemmas.{IfSome-all, IfSome-map}
 
 -- what holds of the bytes that follow says what holds of the input
 pub known_then : (P Q : List ℕ → Type 0) (a b : Option (List ℕ)) (bytes : List ℕ) → Consumes a b bytes

@@ -1,3 +1,4 @@
+pub mod KnownLemmas
 pub mod BufferLemmas
 pub mod EmptyLineLemmas
 pub mod FieldLemmas

@@ -3,4 +3,3 @@ pub mod Head
 pub mod HeadRead
 pub mod Posted
 pub mod Steps
-pub mod KnownLemmas

@@ -3,7 +3,7 @@ use Rattle.sqlite.specs.Held.{state}
 use Rattle.catalogue_rules.specs.Records.{ByReference}
 use Rattle.desk_tables.specs.RecordAnswers.{AreRecordsInOrder}
 use Rattle.desk_tables.specs.Rows.{DeskRows, unchanged}
-use Rattle.catalogue_store.specs.AchievesLemmas.{achieves_call, achieves_then, does}
+use Rattle.catalogue_store.proofs.AchievesLemmas.{achieves_call, achieves_then, does}
 use Rattle.catalogue_store.specs.ReadRecords.{AreReadOf}
 use Rattle.catalogue_store.proofs.CatalogueLemmas.{catalogue_read}
 use Rattle.catalogue_store.proofs.catalogues.read_catalogue.Goals as goal

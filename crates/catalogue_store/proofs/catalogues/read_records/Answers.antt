@@ -7,7 +7,7 @@ use Rattle.catalogue_rules.specs.Records.{ByReference}
 use Rattle.catalogue_rules.specs.declared.entry.Entry.{Entry}
 use Rattle.desk_tables.specs.Rows.{DeskRows}
 use Rattle.catalogue_store.specs.Holding.{HoldsEntry}
-use Rattle.catalogue_store.specs.AchievesLemmas.{achieves_as, achieves_failed, achieves_nothing, achieves_stopped, achieves_then, does, handed_on}
+use Rattle.catalogue_store.proofs.AchievesLemmas.{achieves_as, achieves_failed, achieves_nothing, achieves_stopped, achieves_then, does, handed_on}
 use Rattle.catalogue_store.specs.ReadRecords.{AreReadOf}
 use Rattle.catalogue_store.proofs.Additions.{take_push}
 use Rattle.catalogue_store.proofs.CatalogueLemmas.{none_read, one_more_read}

@@ -12,13 +12,13 @@ use Rattle.catalogue_rules.specs.Records.{ByReference}
 use Rattle.onix_message.specs.declared.effects.Effect.{Effect}
 use Rattle.desk_tables.specs.RecordAnswers.{has_minimums}
 use Rattle.desk_tables.specs.Rows.{DeskRows}
-use Rattle.catalogue_store.specs.AchievesLemmas.{achieves_as, achieves_failed, achieves_then, does, handed_on}
+use Rattle.catalogue_store.proofs.AchievesLemmas.{achieves_as, achieves_failed, achieves_then, does, handed_on}
 use Rattle.catalogue_store.specs.AppliedProducts.{IsCatalogueReadAs}
 use Rattle.catalogue_store.specs.Holding.{HoldsCatalogue, IsApplied}
-use Rattle.catalogue_store.specs.MinimumLemmas.{held_without_minimums, none_after_first}
+use Rattle.catalogue_store.proofs.MinimumLemmas.{held_without_minimums, none_after_first}
 use Rattle.catalogue_store.specs.Runs.{AppliesSome, AreApplied}
 use Rattle.catalogue_store.specs.Storable.{IsStorableProduct}
-use Rattle.catalogue_store.specs.StorableLemmas.{contents-storable}
+use Rattle.catalogue_store.proofs.StorableLemmas.{contents-storable}
 use Rattle.catalogue_store.specs.declared.runs.Step.{Step}
 use Rattle.catalogue_store.proofs.RunLemmas.{applied_then, none_applied}
 use Rattle.catalogue_store.proofs.messages.apply_message.Goals as goal

@@ -3,9 +3,9 @@ use Rattle.sqlite.specs.Held.{state}
 use Rattle.desk_tables.specs.RecordChanges.{has_minimums_of}
 use Rattle.desk_tables.specs.Rows.{DeskRows}
 use Rattle.desk_tables.specs.declared.records.RecordRow.{RecordRow}
-use Rattle.catalogue_store.specs.AchievesLemmas.{achieves_as, does}
+use Rattle.catalogue_store.proofs.AchievesLemmas.{achieves_as, does}
 use Rattle.catalogue_store.specs.AppliedProducts.{IsChanged}
-use Rattle.catalogue_store.specs.MinimumLemmas.{records_without_minimums}
+use Rattle.catalogue_store.proofs.MinimumLemmas.{records_without_minimums}
 use Rattle.catalogue_store.specs.ReadRows.{IsReadAs}
 use Rattle.catalogue_store.proofs.ProductLemmas.{product_applied}
 use Rattle.catalogue_store.proofs.messages.apply_product.Goals as goal

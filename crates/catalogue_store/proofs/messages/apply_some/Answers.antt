@@ -3,7 +3,7 @@ use Rattle.sqlite.specs.Held.{state}
 use Rattle.onix_message.specs.declared.parts.ProductIdentifier.{ProductIdentifier}
 use Rattle.onix_message.specs.declared.effects.Effect.{Effect}
 use Rattle.desk_tables.specs.Rows.{DeskRows}
-use Rattle.catalogue_store.specs.AchievesLemmas.{achieves_as, achieves_failed, achieves_then, does, handed_on}
+use Rattle.catalogue_store.proofs.AchievesLemmas.{achieves_as, achieves_failed, achieves_then, does, handed_on}
 use Rattle.catalogue_store.specs.ReadRows.{Finds}
 use Rattle.catalogue_store.specs.Runs.{brings_new, AppliesFound, AppliesRun, AppliesSome}
 use Rattle.catalogue_store.specs.Storable.{IsStorableProduct}

@@ -3,7 +3,7 @@ use Rattle.sqlite.specs.Held.{state}
 use Rattle.desk_tables.specs.Rows.{DeskRows}
 use Rattle.catalogue_rules.specs.declared.change.Change.{Change}
 use Rattle.catalogue_rules.specs.declared.change.Change.TheVariants.{Delete, Replace, Update}
-use Rattle.catalogue_store.specs.AchievesLemmas.{achieves_also, achieves_nothing, does}
+use Rattle.catalogue_store.proofs.AchievesLemmas.{achieves_also, achieves_nothing, does}
 use Rattle.catalogue_store.specs.AppliedProducts.{IsChanged}
 use Rattle.catalogue_store.proofs.HoldingLemmas.{became_itself}
 use Rattle.catalogue_store.specs.ReadRows.{IsReadAs}

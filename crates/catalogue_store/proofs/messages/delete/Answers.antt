@@ -2,7 +2,7 @@ use Rattle.std.proofs.Common.{None, sym, ◌∙◌, rules}
 use Rattle.sqlite.specs.Held.{state}
 use Rattle.desk_tables.specs.Rows.{DeskRows}
 use Rattle.catalogue_store.specs.Holding.{Became}
-use Rattle.catalogue_store.specs.AchievesLemmas.{achieves_also, achieves_nothing, does}
+use Rattle.catalogue_store.proofs.AchievesLemmas.{achieves_also, achieves_nothing, does}
 use Rattle.catalogue_store.proofs.ProductLemmas.{deleted_unknown}
 use Rattle.catalogue_store.proofs.messages.delete.Goals as goal
 

@@ -4,7 +4,7 @@ use Rattle.desk_tables.specs.Rows.{DeskRows}
 use Rattle.catalogue_rules.specs.declared.entry.Entry.{Entry}
 use Rattle.catalogue_store.specs.Holding.{Became}
 use Rattle.catalogue_store.specs.Storable.{AreStorable}
-use Rattle.catalogue_store.specs.AchievesLemmas.{achieves_as, achieves_then, does}
+use Rattle.catalogue_store.proofs.AchievesLemmas.{achieves_as, achieves_then, does}
 use Rattle.catalogue_store.specs.ReadRows.{HoldsSupplies, IsReadAs}
 use Rattle.catalogue_store.proofs.HoldingLemmas.{became_itself, record_stays}
 use Rattle.catalogue_store.proofs.messages.keep_record.Goals as goal

@@ -2,7 +2,7 @@ use Rattle.std.proofs.Common.{◌≡◌, Bool, false, true, refl, sym, ◌∙◌
 use Rattle.sqlite.specs.Held.{state}
 use Rattle.desk_tables.specs.RecordAnswers.{has_minimums}
 use Rattle.desk_tables.specs.Rows.{DeskRows, unchanged}
-use Rattle.catalogue_store.specs.AchievesLemmas.{achieves_also, achieves_call, achieves_nothing, does}
+use Rattle.catalogue_store.proofs.AchievesLemmas.{achieves_also, achieves_call, achieves_nothing, does}
 use Rattle.catalogue_store.proofs.messages.may_have_minimums.Goals as goal
 
 pub returns-then-among-clause-does : goal.returns-then-among-clause-does

@@ -4,7 +4,7 @@ use Rattle.desk_tables.specs.Rows.{DeskRows}
 use Rattle.catalogue_rules.specs.declared.entry.Entry.{Entry}
 use Rattle.catalogue_store.specs.Holding.{Became, HoldsEntry}
 use Rattle.catalogue_store.specs.Storable.{AreStorable}
-use Rattle.catalogue_store.specs.AchievesLemmas.{achieves_also, does}
+use Rattle.catalogue_store.proofs.AchievesLemmas.{achieves_also, does}
 use Rattle.catalogue_store.specs.ReadRows.{IsFound, IsReadAs, is_there}
 use Rattle.catalogue_store.specs.declared.reading.FoundRecord.TheVariants.{SameIdentifiers}
 use Rattle.catalogue_store.proofs.ProductLemmas.{replaced_known, replaced_unknown}

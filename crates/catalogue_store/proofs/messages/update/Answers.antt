@@ -4,7 +4,7 @@ use Rattle.desk_tables.specs.Rows.{DeskRows}
 use Rattle.catalogue_rules.specs.declared.entry.Entry.{Entry}
 use Rattle.catalogue_store.specs.Holding.{Became, HoldsEntry}
 use Rattle.catalogue_store.specs.Storable.{AreStorable}
-use Rattle.catalogue_store.specs.AchievesLemmas.{achieves_also, achieves_nothing, does}
+use Rattle.catalogue_store.proofs.AchievesLemmas.{achieves_also, achieves_nothing, does}
 use Rattle.catalogue_store.proofs.ProductLemmas.{updated_empty, updated_known, updated_unknown}
 use Rattle.catalogue_store.specs.ReadRows.{IsReadAs}
 use Rattle.catalogue_store.proofs.messages.update.Goals as goal

@@ -3,7 +3,7 @@ use Rattle.std.proofs.lemmas.Bool.Decides.{nat_tests}
 use Rattle.sqlite.specs.Held.{state}
 use Rattle.desk_tables.specs.ArticleAnswers.{AreArticlesOf}
 use Rattle.desk_tables.specs.Rows.{DeskRows, unchanged}
-use Rattle.catalogue_store.specs.AchievesLemmas.{achieves_as, achieves_call, does}
+use Rattle.catalogue_store.proofs.AchievesLemmas.{achieves_as, achieves_call, does}
 use Rattle.catalogue_store.specs.ReadRows.{Finds}
 use Rattle.catalogue_store.specs.declared.reading.FoundRecord.{FoundRecord}
 use Rattle.catalogue_store.specs.declared.reading.FoundRecord.TheVariants.{Absent}

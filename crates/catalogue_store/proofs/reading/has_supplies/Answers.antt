@@ -3,7 +3,7 @@ use Rattle.std.specs.List.{AllZip}
 use Rattle.sqlite.specs.Held.{state}
 use Rattle.desk_tables.specs.ArticleAnswers.{AreOfferRowsOf}
 use Rattle.desk_tables.specs.Rows.{DeskRows, unchanged}
-use Rattle.catalogue_store.specs.AchievesLemmas.{achieves_as, achieves_call, achieves_failed, achieves_then, does, handed_on}
+use Rattle.catalogue_store.proofs.AchievesLemmas.{achieves_as, achieves_call, achieves_failed, achieves_then, does, handed_on}
 use Rattle.catalogue_store.specs.ReadRows.{HasPricesOf, HoldsSupplies, AreReadAs, IsReadAs}
 use Rattle.catalogue_store.proofs.ReadLemmas.{supplies_held}
 use Rattle.catalogue_store.proofs.reading.has_supplies.Goals as goal

@@ -3,7 +3,7 @@ use Rattle.sqlite.specs.Held.{state}
 use Rattle.onix_message.specs.declared.parts.Price.{Price}
 use Rattle.desk_tables.specs.RecordChanges.{has_minimums_of}
 use Rattle.desk_tables.specs.Rows.{DeskRows, unchanged}
-use Rattle.catalogue_store.specs.AchievesLemmas.{achieves_also, achieves_call, does}
+use Rattle.catalogue_store.proofs.AchievesLemmas.{achieves_also, achieves_call, does}
 use Rattle.catalogue_store.specs.ReadRows.{HasPricesOf}
 use Rattle.catalogue_store.proofs.reading.read_own_prices.Goals as goal
 

@@ -6,7 +6,7 @@ use Rattle.onix_message.specs.declared.faults.StoreFault.TheVariants.{Memory}
 use Rattle.onix_message.specs.declared.parts.Price.{Price}
 use Rattle.desk_tables.specs.RecordChanges.{has_minimums_of}
 use Rattle.desk_tables.specs.Rows.{DeskRows}
-use Rattle.catalogue_store.specs.AchievesLemmas.{achieves_as, achieves_failed, achieves_nothing, achieves_stopped, achieves_then, does, handed_on}
+use Rattle.catalogue_store.proofs.AchievesLemmas.{achieves_as, achieves_failed, achieves_nothing, achieves_stopped, achieves_then, does, handed_on}
 use Rattle.catalogue_store.specs.ReadRows.{AreReadAs, HasPricesOf}
 use Rattle.catalogue_store.proofs.ReadLemmas.{one_read_as, prices_read}
 use Rattle.catalogue_store.proofs.reading.read_prices.Goals as goal

@@ -3,7 +3,7 @@ use Rattle.std.specs.List.{AllZip}
 use Rattle.sqlite.specs.Held.{state}
 use Rattle.desk_tables.specs.ArticleAnswers.{AreArticlesOf, AreOfferRowsOf}
 use Rattle.desk_tables.specs.Rows.{DeskRows, unchanged}
-use Rattle.catalogue_store.specs.AchievesLemmas.{achieves_answers, achieves_call, achieves_call_failed, achieves_calls, achieves_failed, achieves_then, does, handed_on}
+use Rattle.catalogue_store.proofs.AchievesLemmas.{achieves_answers, achieves_call, achieves_call_failed, achieves_calls, achieves_failed, achieves_then, does, handed_on}
 use Rattle.catalogue_store.specs.ReadRows.{HasPricesOf, AreReadAs}
 use Rattle.catalogue_store.proofs.ReadLemmas.{entry_read, read_whole}
 use Rattle.catalogue_store.proofs.reading.read_record.Goals as goal

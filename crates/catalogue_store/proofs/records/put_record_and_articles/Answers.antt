@@ -3,7 +3,7 @@ use Rattle.sqlite.specs.Held.{state}
 use Rattle.desk_tables.specs.RecordChanges.{with_articles, with_new_record}
 use Rattle.desk_tables.specs.Rows.{DeskRows}
 use Rattle.desk_tables.specs.Transactions.{NoAnswer}
-use Rattle.catalogue_store.specs.AchievesLemmas.{achieves_added, achieves_call, achieves_then, does}
+use Rattle.catalogue_store.proofs.AchievesLemmas.{achieves_added, achieves_call, achieves_then, does}
 use Rattle.catalogue_store.proofs.Additions.{identified_put}
 use Rattle.catalogue_store.proofs.records.put_record_and_articles.Goals as goal
 

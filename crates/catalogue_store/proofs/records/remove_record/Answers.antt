@@ -4,7 +4,7 @@ use Rattle.desk_tables.specs.RecordChanges.{without_record}
 use Rattle.desk_tables.specs.Rows.{DeskRows}
 use Rattle.desk_tables.specs.Transactions.{NoAnswer}
 use Rattle.catalogue_store.specs.Holding.{Became}
-use Rattle.catalogue_store.specs.AchievesLemmas.{achieves_also, achieves_call, does}
+use Rattle.catalogue_store.proofs.AchievesLemmas.{achieves_also, achieves_call, does}
 use Rattle.catalogue_store.proofs.BecameLemmas.{record_removed}
 use Rattle.catalogue_store.proofs.records.remove_record.Goals as goal
 

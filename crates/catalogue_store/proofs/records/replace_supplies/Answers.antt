@@ -4,7 +4,7 @@ use Rattle.desk_tables.specs.RecordChanges.{without_offers}
 use Rattle.desk_tables.specs.Rows.{DeskRows}
 use Rattle.desk_tables.specs.Transactions.{NoAnswer}
 use Rattle.catalogue_store.specs.Holding.{Became}
-use Rattle.catalogue_store.specs.AchievesLemmas.{achieves_call, achieves_then, does}
+use Rattle.catalogue_store.proofs.AchievesLemmas.{achieves_call, achieves_then, does}
 use Rattle.catalogue_store.specs.WrittenRows.{with_supplies}
 use Rattle.catalogue_store.proofs.BecameLemmas.{supplies_replaced}
 use Rattle.catalogue_store.proofs.records.replace_supplies.Goals as goal

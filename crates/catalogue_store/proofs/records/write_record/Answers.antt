@@ -3,7 +3,7 @@ use Rattle.sqlite.specs.Held.{state}
 use Rattle.catalogue_rules.specs.declared.entry.Entry.{Entry}
 use Rattle.desk_tables.specs.Rows.{DeskRows}
 use Rattle.catalogue_store.specs.Holding.{Became}
-use Rattle.catalogue_store.specs.AchievesLemmas.{achieves_then, does}
+use Rattle.catalogue_store.proofs.AchievesLemmas.{achieves_then, does}
 use Rattle.catalogue_store.specs.WrittenRows.{with_identified, with_supplies}
 use Rattle.catalogue_store.proofs.BecameLemmas.{record_written}
 use Rattle.catalogue_store.proofs.records.write_record.Goals as goal

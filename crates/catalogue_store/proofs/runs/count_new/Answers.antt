@@ -4,7 +4,7 @@ use Rattle.std.specs.Str.{bytes_eq}
 use Rattle.sqlite.specs.Held.{state}
 use Rattle.onix_message.specs.declared.parts.Product.{Product}
 use Rattle.desk_tables.specs.Rows.{DeskRows}
-use Rattle.catalogue_store.specs.AchievesLemmas.{achieves_as, achieves_failed, achieves_nothing, achieves_then, does, handed_on}
+use Rattle.catalogue_store.proofs.AchievesLemmas.{achieves_as, achieves_failed, achieves_nothing, achieves_then, does, handed_on}
 use Rattle.catalogue_store.specs.Holding.{HoldsCatalogue}
 use Rattle.catalogue_store.specs.Runs.{AreNew, AreNewIn, IsNewIn}
 use Rattle.catalogue_store.proofs.Additions.{take_push}

@@ -2,7 +2,7 @@ use Rattle.std.proofs.Common.{◌≡◌, Err, ap, ◌∙◌, rules}
 use Rattle.sqlite.specs.Held.{state}
 use Rattle.desk_tables.specs.RecordChanges.{with_offers, with_prices}
 use Rattle.desk_tables.specs.Rows.{DeskRows}
-use Rattle.catalogue_store.specs.AchievesLemmas.{achieves_added, achieves_stopped, achieves_then, does, handed_on}
+use Rattle.catalogue_store.proofs.AchievesLemmas.{achieves_added, achieves_stopped, achieves_then, does, handed_on}
 use Rattle.catalogue_store.specs.WrittenRows.{offers_of}
 use Rattle.catalogue_store.proofs.runs.put_offers_and_prices.Goals as goal
 

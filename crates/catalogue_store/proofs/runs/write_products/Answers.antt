@@ -1,7 +1,7 @@
 use Rattle.std.proofs.Common.{◌≡◌, ap, ◌∙◌, rules}
 use Rattle.sqlite.specs.Held.{state}
 use Rattle.desk_tables.specs.Rows.{DeskRows}
-use Rattle.catalogue_store.specs.AchievesLemmas.{achieves_then, does}
+use Rattle.catalogue_store.proofs.AchievesLemmas.{achieves_then, does}
 use Rattle.catalogue_store.specs.Runs.{with_identifiers_of, with_supplies_of}
 use Rattle.catalogue_store.proofs.runs.write_products.Goals as goal
 

@@ -4,7 +4,7 @@ use Rattle.desk_http.specs.Asks.{asks_of, most_behind, request_at}
 use Rattle.desk_http.specs.Routing.{route_asked}
 use Rattle.http_requests.specs.declared.fault.InputFault.TheVariants.{Refused}
 use Rattle.http_requests.specs.Steps.{Gives}
-use Rattle.http_requests.specs.KnownLemmas.{IfSome-all, IfSome-map, gives_next, gives_refused}
+use Rattle.http_requests.proofs.KnownLemmas.{IfSome-all, IfSome-map, gives_next, gives_refused}
 use Rattle.desk_http.proofs.request.read_behind.Goals as goal
 
 pub returns-in-Ok-clause-gives : goal.returns-in-Ok-clause-gives

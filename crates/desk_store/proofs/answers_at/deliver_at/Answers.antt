@@ -1,6 +1,6 @@
 use Rattle.std.proofs.Common.{◌≡◌, ℕ, List, Option, sym, subst, ◌∙◌, rules}
 use Rattle.sqlite.specs.Held.{state}
-use Rattle.catalogue_store.specs.AchievesLemmas.{achieves_as, achieves_then, does}
+use Rattle.catalogue_store.proofs.AchievesLemmas.{achieves_as, achieves_then, does}
 use Rattle.desk_tables.specs.Rows.{DeskRows}
 use Rattle.onix_message.specs.declared.parts.Product.{Product}
 use Rattle.series_rules.specs.declared.answers.DeliveryAnswer.{DeliveryAnswer}

@@ -1,6 +1,6 @@
 use Rattle.std.proofs.Common.{◌≡◌, ℕ, List, Option, None, Some, Ok, sym, refl, ◌∙◌, ap, rules}
 use Rattle.sqlite.specs.Held.{state}
-use Rattle.catalogue_store.specs.AchievesLemmas.{achieves_as, achieves_call, achieves_call_failed, achieves_then, does, handed_on}
+use Rattle.catalogue_store.proofs.AchievesLemmas.{achieves_as, achieves_call, achieves_call_failed, achieves_then, does, handed_on}
 use Rattle.desk_tables.specs.Rows.{DeskRows, applied_at, held_at}
 use Rattle.onix_message.specs.declared.effects.Effect.{Effect}
 use Rattle.desk_store.specs.declared.answers_at.Stored.{Stored}

@@ -1,6 +1,6 @@
 use Rattle.std.proofs.Common.{◌≡◌, ◌+◌, ℕ, List, Ok, refl, ap, ◌∙◌, rules}
 use Rattle.sqlite.specs.Held.{state}
-use Rattle.catalogue_store.specs.AchievesLemmas.{achieves_as, achieves_call_failed, achieves_calls, does, handed_on}
+use Rattle.catalogue_store.proofs.AchievesLemmas.{achieves_as, achieves_call_failed, achieves_calls, does, handed_on}
 use Rattle.desk_tables.specs.Rows.{DeskRows, AppliedRow, with_applied, with_next}
 use Rattle.desk_tables.specs.Transactions.{NoAnswer}
 use Rattle.desk_store.specs.Changes.{Applies, AppliesAt}

@@ -3,7 +3,7 @@ use Rattle.sqlite.specs.Held.{state}
 use Rattle.catalogue_rules.specs.Records.{ByReference}
 use Rattle.onix_message.specs.declared.effects.Effect.{Effect}
 use Rattle.catalogue_store.specs.Holding.{HoldsCatalogue, IsApplied}
-use Rattle.catalogue_store.specs.AchievesLemmas.{achieves_also, does}
+use Rattle.catalogue_store.proofs.AchievesLemmas.{achieves_also, does}
 use Rattle.desk_tables.specs.Rows.{DeskRows}
 use Rattle.onix_message.specs.declared.parts.Product.{Product}
 use Rattle.desk_store.proofs.Applied.{message_applied}

@@ -1,6 +1,6 @@
 use Rattle.std.proofs.Common.{rules}
 use Rattle.sqlite.specs.Held.{state}
-use Rattle.catalogue_store.specs.AchievesLemmas.{achieves_as, does}
+use Rattle.catalogue_store.proofs.AchievesLemmas.{achieves_as, does}
 use Rattle.desk_store.specs.Changes.{AppliesAt}
 use Rattle.desk_store.proofs.applying.apply_text.Goals as goal
 

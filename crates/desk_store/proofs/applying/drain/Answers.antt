@@ -1,6 +1,6 @@
 use Rattle.std.proofs.Common.{◌≡◌, ◌+◌, Bool, Ok, true, false, arith, subst, rules, sym, ◌∙◌}
 use Rattle.sqlite.specs.Held.{state}
-use Rattle.catalogue_store.specs.AchievesLemmas.{achieves_as, achieves_failed, achieves_nothing, achieves_stopped, achieves_then, does, handed_on}
+use Rattle.catalogue_store.proofs.AchievesLemmas.{achieves_as, achieves_failed, achieves_nothing, achieves_stopped, achieves_then, does, handed_on}
 use Rattle.desk_tables.specs.Rows.{DeskRows}
 use Rattle.onix_message.specs.declared.faults.StoreFault.TheVariants.{Unusable}
 use Rattle.desk_store.specs.Changes.{Drains, DrainsOne}

@@ -1,6 +1,6 @@
 use Rattle.std.proofs.Common.{◌≡◌, ℕ, List, Option, Ok, sym, ◌∙◌, true, false, subst, rules}
 use Rattle.sqlite.specs.Held.{state}
-use Rattle.catalogue_store.specs.AchievesLemmas.{achieves_as, achieves_call, achieves_failed, achieves_then, does, handed_on}
+use Rattle.catalogue_store.proofs.AchievesLemmas.{achieves_as, achieves_call, achieves_failed, achieves_then, does, handed_on}
 use Rattle.desk_tables.specs.Rows.{DeskRows, held_at, without_held}
 use Rattle.desk_store.specs.Changes.{AppliesText, DrainsOne}
 use Rattle.desk_store.proofs.Applied.{moved_one, moved_none}

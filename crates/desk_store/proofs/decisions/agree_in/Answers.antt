@@ -1,7 +1,7 @@
 use Rattle.std.proofs.Common.{◌≡◌, Option, Some, None, Ok, refl, sym, ap, ◌∙◌, rules}
 use Rattle.sqlite.specs.Held.{state}
 use Rattle.catalogue_store.specs.Achieves.{Achieves}
-use Rattle.catalogue_store.specs.AchievesLemmas.{achieves_as, achieves_call, achieves_call_failed, achieves_calls, does, handed_on}
+use Rattle.catalogue_store.proofs.AchievesLemmas.{achieves_as, achieves_call, achieves_call_failed, achieves_calls, does, handed_on}
 use Rattle.desk_tables.specs.Rows.{DeskRows, series_at, series_between, with_series}
 use Rattle.desk_tables.specs.Transactions.{NoAnswer}
 use Rattle.desk_tables.specs.declared.series.SeriesRow.{SeriesRow}

@@ -1,7 +1,7 @@
 use Rattle.std.proofs.Common.{◌≡◌, ℕ, List, Option, None, Some, Ok, rules, sym, ap, ◌∙◌}
 use Rattle.std.specs.Prelude.{option_map}
 use Rattle.sqlite.specs.Held.{state}
-use Rattle.catalogue_store.specs.AchievesLemmas.{achieves_as, does}
+use Rattle.catalogue_store.proofs.AchievesLemmas.{achieves_as, does}
 use Rattle.desk_tables.specs.Rows.{DeskRows}
 use Rattle.desk_store.specs.Answering.{IsStored}
 use Rattle.desk_store.specs.declared.answers_at.Stored.{Stored}

@@ -2,7 +2,7 @@ use Rattle.std.proofs.Common.{◌≡◌, Option, Some, None, Ok, sym, ◌∙◌,
 use Rattle.sqlite.specs.Held.{state}
 use Rattle.catalogue_rules.specs.Records.{ByReference}
 use Rattle.catalogue_store.specs.Holding.{HoldsCatalogue}
-use Rattle.catalogue_store.specs.AchievesLemmas.{achieves_as, achieves_call, achieves_failed, achieves_then, does, handed_on}
+use Rattle.catalogue_store.proofs.AchievesLemmas.{achieves_as, achieves_call, achieves_failed, achieves_then, does, handed_on}
 use Rattle.desk_tables.specs.Rows.{DeskRows, series_at}
 use Rattle.desk_tables.specs.declared.series.SeriesRow.{SeriesRow}
 use Rattle.series_rules.specs.Answers.{catalogue_answer}

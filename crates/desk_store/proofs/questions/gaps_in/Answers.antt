@@ -1,6 +1,6 @@
 use Rattle.std.proofs.Common.{◌≡◌, ℕ, List, Option, Some, None, Ok, Vec, refl, rules, sym, ◌∙◌, subst}
 use Rattle.sqlite.specs.Held.{state}
-use Rattle.catalogue_store.specs.AchievesLemmas.{achieves_as, achieves_call, achieves_call_failed, achieves_calls, achieves_stopped, does, handed_on}
+use Rattle.catalogue_store.proofs.AchievesLemmas.{achieves_as, achieves_call, achieves_call_failed, achieves_calls, achieves_stopped, does, handed_on}
 use Rattle.desk_tables.specs.Rows.{AreHeldNumbers, DeskRows, series_at}
 use Rattle.desk_tables.specs.declared.series.SeriesRow.{SeriesRow}
 use Rattle.series_rules.specs.Gaps.{AreRisingFrom}

@@ -1,7 +1,7 @@
 use Rattle.std.proofs.Common.{◌≡◌, ◌++◌, ℕ, List, Err, arith, refl, rules, take}
 use Rattle.http_requests.specs.Posted.{body_of, records_behind, records_in}
 use Rattle.http_requests.specs.Steps.{Gives}
-use Rattle.http_requests.specs.KnownLemmas.{IfSome-all, IfSome-map, fault_gives, gives_next}
+use Rattle.http_requests.proofs.KnownLemmas.{IfSome-all, IfSome-map, fault_gives, gives_next}
 use Rattle.http_requests.proofs.PostedLemmas.{body_short, body_there}
 use Rattle.http_requests.proofs.body.read_body_records.Goals as goal
 

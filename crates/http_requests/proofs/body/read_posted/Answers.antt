@@ -1,7 +1,7 @@
 use Rattle.std.proofs.Common.{◌++◌, refl, sym}
 use Rattle.http_requests.specs.Posted.{most_posted, records_behind, records_posted, size_asked}
 use Rattle.http_requests.specs.Steps.{Gives}
-use Rattle.http_requests.specs.KnownLemmas.{IfSome-all, IfSome-map, gives_next}
+use Rattle.http_requests.proofs.KnownLemmas.{IfSome-all, IfSome-map, gives_next}
 use Rattle.http_requests.proofs.body.read_posted.Goals as goal
 
 pub returns-in-Ok-clause-gives : goal.returns-in-Ok-clause-gives

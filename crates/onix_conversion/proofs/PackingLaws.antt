@@ -23,6 +23,7 @@ use Rattle.onix_conversion.specs.private.Stages.{after_product as product_taken}
 use Rattle.onix_conversion.specs.private.Stages as run
 use Rattle.onix_conversion.specs.Tallies.{place_of, refused_for}
 use Rattle.onix_conversion.specs.declared.rejection.Rejection.{Rejection}
+use Rattle.onix_conversion.proofs.Endings.{ended_at, ended_by, joined}
 use Rattle.onix_conversion.proofs.TextLaws.{closed, grown, room, text_first}
 
 -- what f makes of a value, if there is one
@@ -65,7 +66,7 @@ written_is k o h header before w =
 
 joined_is : {P N : Type 0} (k : Keeping P N) (h : Heading) (header : Nodes) (before : Taken P N) (w : Work) (records : List (List (List ℕ)))
     → held (run.grown (seen k h header before w).begun (length records) (records_text records)) (seen k h header before w).parts (seen k h header before w).notes
-    ≡ seen k h header before (defined.joined w records)
+    ≡ seen k h header before (joined w records)
 joined_is k h header before w records =
     let count : 1 + length (w.begun ++ records) ≡ 1 + length w.begun + length records = omega (arith, length-append w.begun records) in
     rw (count, grown (first_record h header w.full) w.begun records) refl
@@ -164,12 +165,12 @@ pub ended_is : {P N : Type 0} (k : Keeping P N) (o : Options) (h : Heading) (hea
 ended_is {P} {N} k o h header before w = by (refused_for o.wrong w.tally)
   where
     go : (beyond : Option Position) → w.beyond ≡ beyond
-        → run.ended_at k o.choices.parts (seen k h header before w) w.beyond ≡ result_map (behind k before) (defined.ended_at (terms o h header) w w.beyond)
+        → run.ended_at k o.choices.parts (seen k h header before w) w.beyond ≡ result_map (behind k before) (ended_at (terms o h header) w w.beyond)
     go (Some place) e = rw e refl
     go None e =
         rw e (ap (λ (ps : P). Ok (taken ps (fold k.with_note before.notes w.notes) w.tally.wrong)) (all_written_is k o h header before w))
 
     by : (refused : Option Rejection)
-        → run.ended_by k o.choices.parts (seen k h header before w) refused ≡ result_map (behind k before) (defined.ended_by (terms o h header) w refused)
+        → run.ended_by k o.choices.parts (seen k h header before w) refused ≡ result_map (behind k before) (ended_by (terms o h header) w refused)
     by (Some rejection) = refl
     by None = go w.beyond refl

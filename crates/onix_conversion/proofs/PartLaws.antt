@@ -16,8 +16,9 @@ use Rattle.onix_mapping.specs.declared.header.Refusal.TheVariants as denied
 use Rattle.onix_mapping.specs.declared.notes.Wrong.TheVariants.{TooLarge}
 use Rattle.onix_conversion.specs.declared.rejection.Rejection.{Rejection}
 use Rattle.onix_conversion.specs.Messages.{fits, message_text}
-use Rattle.onix_conversion.specs.Packing.{Converted, ProductNote, Terms, Work, after_product, after_products, all_written, beyond_at, converted, ended, ended_at, ended_by, joined, noted, turned, with_forms, with_part, written}
+use Rattle.onix_conversion.specs.Packing.{Converted, ProductNote, Terms, Work, after_product, after_products, all_written, beyond_at, ended, noted, turned, with_forms, with_part, written}
 use Rattle.onix_conversion.specs.Parts.{AreFit, AreFull, Fate, IsFirst, IsFull, IsRight, Placed, fate_notes, part_texts, placed, placed_records, standing}
+use Rattle.onix_conversion.proofs.Endings.{converted, ended_at, ended_by, joined}
 use Rattle.onix_conversion.specs.Tallies.{place_of, refused_for}
 
 -- ---- texts of parts

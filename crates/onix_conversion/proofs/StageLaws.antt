@@ -16,8 +16,9 @@ use Rattle.onix_mapping.specs.Header.{Heading, heading_in, message_fields}
 use Rattle.onix_mapping.specs.declared.header.Refusal.{Refusal}
 use Rattle.onix_conversion.specs.declared.rejection.Rejection.{Rejection}
 use Rattle.onix_conversion.specs.declared.rejection.Rejection.TheVariants as why
-use Rattle.onix_conversion.specs.Conversion.{Options, composite, conversion, header_in, header_refused, packed_unless, products_in, refused_behind, terms}
+use Rattle.onix_conversion.specs.Conversion.{Options, composite, conversion, header_in, header_refused, products_in, refused_behind, terms}
 use Rattle.onix_conversion.specs.private.Whole.{by_heading, by_refusal, decided, first_refusal}
+use Rattle.onix_conversion.proofs.Endings.{packed_unless}
 use Rattle.onix_conversion.specs.Keeping.{Keeping}
 use Rattle.onix_conversion.specs.Packing.{Converted, Work, after_products, no_work}
 use Rattle.onix_conversion.specs.Tallies.{no_tally, place_of}

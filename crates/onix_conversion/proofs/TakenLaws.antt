@@ -23,7 +23,8 @@ use Rattle.onix_conversion.specs.private.Whole.{by_header, by_heading, by_refusa
 use Rattle.onix_conversion.proofs.StageLaws.{decides}
 use Rattle.onix_conversion.specs.declared.rejection.Rejection.{Rejection}
 use Rattle.onix_conversion.specs.Messages.{empty_messages, fits, message, message_text}
-use Rattle.onix_conversion.specs.Packing.{Converted, Terms, Work, after_products, all_written, converted, no_work}
+use Rattle.onix_conversion.specs.Packing.{Converted, Terms, Work, after_products, all_written, no_work}
+use Rattle.onix_conversion.proofs.Endings.{converted}
 use Rattle.onix_conversion.specs.Parts.{AreFit, AreParts, Fate, IsFirst, IsRight, Placed, part_texts, placed_by, placed_records, references_in, standing}
 use Rattle.onix_conversion.specs.Taken.{AreTaken, IsTaken}
 use Rattle.onix_conversion.proofs.FirstRecords.{empty_fits, filled_message, no_mark}

@@ -2,8 +2,7 @@
 -- out, or why it is refused.
 use Rattle.std.specs.Prelude.{ℕ, ◌+◌, Bool, true, false, List, ◌∷◌, Option, Some, None}
 use Rattle.std.specs.Prelude.{Result, Ok, Err, if◌then◌else◌, codes, decimal, option_map}
-use Rattle.std.specs.Option.{option_or}
-use Rattle.std.specs.Result.{result_err}
+use Rattle.std.specs.Option.{option_map_or}
 use Rattle.std.specs.Str.{bytes_eq}
 use Rattle.onix_outline.specs.Composites.{has_stranger}
 use Rattle.onix_outline.specs.Names.{stranger}
@@ -70,16 +69,13 @@ refused_behind (node name tag text below rest) =
     else if bytes_eq name stranger then Some (why.OtherNamespace tag.place)
     else refused_behind rest
 
-abbrev pub packed_unless : Option Rejection → Terms → List Composite → Result Converted Rejection
-packed_unless (Some rejection) t products = Err rejection
-packed_unless None t products = ended t (after_products t no_work products)
-
 -- what comes of a Header that says so, and of the elements behind it
 abbrev pub headed : Options → Composite → Nodes → Result Heading Refusal
     → Result Converted Rejection
 headed o header rest (Err refusal) = Err (header_refused header refusal)
 headed o header rest (Ok h) =
-    packed_unless (refused_behind rest) (terms o h header.below) (products_in rest)
+    let t = terms o h header.below in
+    option_map_or Err (refused_behind rest) (ended t (after_products t no_work (products_in rest)))
 
 -- What comes of the elements in the root of a message. It is refused for the first of them that is:
 -- a Product before the Header, what the Header says, a second one, or an element of another

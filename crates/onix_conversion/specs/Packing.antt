@@ -1,7 +1,7 @@
 -- The products of a message, packed into its parts one after the other.
 use Rattle.std.specs.Prelude.{ℕ, ◌+◌, ◌-◌, List, [], ◌∷◌, ◌++◌, Option, Some, None, Result, Ok, Err}
 use Rattle.std.specs.Prelude.{if◌then◌else◌, nat_lt, map, fold, option_map}
-use Rattle.std.specs.Option.{unwrap_or}
+use Rattle.std.specs.Option.{option_map_or, option_or, unwrap_or}
 use Rattle.xml_text.specs.declared.position.Position.{Position}
 use Rattle.onix_message.specs.declared.row.Opening.{Opening}
 use Rattle.onix_mapping.specs.Elements.{Composite}
@@ -28,9 +28,6 @@ pub record Converted : Type 0 where
   pub parts : List (List ℕ)
   pub notes : List ProductNote
   pub wrong : ℕ
-
-abbrev pub converted : List (List ℕ) → List ProductNote → ℕ → Converted
-converted parts notes wrong = record { parts = parts; notes = notes; wrong = wrong }
 
 -- What holds for all parts of a message: the record with which the part behind so many begins and
 -- what that says, how many parts there are, the type of identifier that is preferred, and how many
@@ -66,12 +63,8 @@ with_part most full text parts = if nat_lt full most then parts ++ text ∷ [] e
 -- the place of the first product for which there is no part, where a product at this place begins
 -- the part behind so many
 abbrev pub beyond_at : ℕ → ℕ → Option Position → Position → Option Position
-beyond_at most full (Some earlier) place = Some earlier
-beyond_at most full None place = if nat_lt full most then None else Some place
-
--- a product in the part that was begun
-abbrev pub joined : Work → Records → Work
-joined w records = record w { begun = w.begun ++ records }
+beyond_at most full earlier place =
+    option_or earlier (if nat_lt full most then None else Some place)
 
 -- notes on a product of this reference
 abbrev pub product_notes : List ℕ → List Note → List ProductNote
@@ -102,7 +95,8 @@ module _ (t : Terms) (w : Work) where
   -- into the next; nothing, where that has no room for them either
   abbrev pub packed : Position → Records → Option Work
   packed place records =
-      if fits (t.first w.full) (w.begun ++ records) then Some (joined w records)
+      if fits (t.first w.full) (w.begun ++ records)
+      then Some (record w { begun = w.begun ++ records })
       else if fits (t.first (w.full + 1)) records then Some (turned place records)
       else None
 
@@ -124,18 +118,13 @@ module _ (t : Terms) (w : Work) where
   abbrev pub all_written : List (List ℕ)
   all_written = written ++ empty_messages t.first (w.full + 1) (t.most - (w.full + 1))
 
-  -- a message that needs more parts than there are is refused
-  abbrev pub ended_at : Option Position → Result Converted Rejection
-  ended_at (Some place) = Err (why.Parts (w.full + 1) place)
-  ended_at None = Ok (converted all_written w.notes w.tally.wrong)
-
-  -- and before it one of which too many products are wrong
-  abbrev pub ended_by : Option Rejection → Result Converted Rejection
-  ended_by (Some rejection) = Err rejection
-  ended_by None = ended_at w.beyond
-
+  -- A message is refused of which too many products are wrong, and then one that needs more parts
+  -- than there are.
   abbrev pub ended : Result Converted Rejection
-  ended = ended_by (refused_for t.allowed w.tally)
+  ended =
+      option_map_or Err (refused_for t.allowed w.tally)
+      (option_map_or (λ place. Err (why.Parts (w.full + 1) place)) w.beyond
+      (Ok (record { parts = all_written; notes = w.notes; wrong = w.tally.wrong })))
 
 -- the products in order
 abbrev pub after_products : Terms → Work → List Composite → Work

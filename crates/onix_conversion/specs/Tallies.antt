@@ -29,12 +29,11 @@ with_wrong t c = record t {
       (Some (record { reference = reference_in c.below; place = place_of c }));
 }
 
-abbrev pub with_product : Tally → Tally
-with_product t = record t { products = t.products + 1 }
-
 -- with one more that has these notes: it is wrong where one of them says so
 abbrev pub tallied : Tally → Composite → List Note → Tally
-tallied t c notes = with_product (if has_wrong notes then with_wrong t c else t)
+tallied t c notes =
+    let counted = if has_wrong notes then with_wrong t c else t in
+    record counted { products = counted.products + 1 }
 
 -- Few are up to ten, or one in a hundred; and up to one, or half of all.
 abbrev pub too_many : Allowed → ℕ → ℕ → Bool
@@ -44,11 +43,8 @@ too_many FewWrong wrong products =
     || (nat_lt 1 wrong && nat_lt products (2 * wrong))
 too_many AllWrong wrong products = false
 
--- that so many are wrong of so many, and the first of them
-abbrev pub rejection : Tally → WrongProduct → Rejection
-rejection t p = why.Wrong t.wrong t.products p.reference p.place
-
 -- why a message is refused, where more products are wrong than are allowed
 abbrev pub refused_for : Allowed → Tally → Option Rejection
 refused_for allowed t =
-    if too_many allowed t.wrong t.products then option_map (rejection t) t.first else None
+    if too_many allowed t.wrong t.products
+    then option_map (λ p. why.Wrong t.wrong t.products p.reference p.place) t.first else None

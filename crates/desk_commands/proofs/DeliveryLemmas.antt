@@ -87,36 +87,42 @@ module _ {D : Type 0} {k : DeskKind} (seen : D → View k) (rules : List Rule) (
   module _ (named : Holdings) (told : Option (List ℕ)) (names : List (List ℕ)) (have : All HasRecords texts) (tells : TellsTexts named told names texts) (less : length texts < length names) (status : ℕ) (three : status ≡ 3) where
     -- at the next file nothing was asked
     unasked : new ≡ mid → Appends before holds [] → DeliverEnds (Asked seen rules old new) (Appends was holds) named told names status
-    unasked same nothing = (
-      texts,
-      omega (arith, less),
-      have,
-      tells,
-      deliveries_end (Asked seen rules old new) (Appends was holds) (map delivery_of texts) (nat_lt (length texts) (length names)) status record {
-        steps = steps;
-        text = text;
-        stop = ended;
-        talk = talk;
-        were_asked = subst (λ d. Asked seen rules old d steps) (sym same) asked;
-        was_written = subst (Appends was holds) (append-nil text) (Appends-trans was before holds text [] wrote nothing);
-        result_is = three ∙ sym (ap (λ b. if b then 3 else talk_status steps ended) (is_less (length texts) (length names) less));
-      },
-    )
+    unasked same nothing =
+        let ends = deliveries_end (Asked seen rules old new) (Appends was holds) (map delivery_of texts) (nat_lt (length texts) (length names)) status record {
+          steps = steps;
+          text = text;
+          stop = ended;
+          talk = talk;
+          were_asked = subst (λ d. Asked seen rules old d steps) (sym same) asked;
+          was_written = subst (Appends was holds) (append-nil text) (Appends-trans was before holds text [] wrote nothing);
+          result_is = three ∙ sym (ap (λ b. if b then 3 else talk_status steps ended) (is_less (length texts) (length names) less));
+        } in (
+          texts,
+          omega (arith, less),
+          have,
+          tells,
+          ends.0,
+          ends.1,
+          ends.2,
+        )
 
     -- a fault ended it at the next file
     pub stopped_at : (file : List ℕ) (f : DeliveryFault) → TellsTexts named told names (texts ++ file ∷ []) → Delivers (Asked seen rules mid new) (Appends before holds) file (Err f)
         → DeliverEnds (Asked seen rules old new) (Appends was holds) named told names status
     stopped_at file fault.Unreadable more is = unasked is.0 is.1
     stopped_at file (fault.Records f) more is = unasked is.1 is.2
-    stopped_at file (fault.Request f) more is = (
-      texts ++ file ∷ [],
-      omega (arith, less, length-append texts (file ∷ [])),
-      All-push HasRecords texts file have is.0,
-      more,
-      deliveries_end (Asked seen rules old new) (Appends was holds) (map delivery_of (texts ++ file ∷ [])) (nat_lt (length (texts ++ file ∷ [])) (length names)) status
-          (one_file file (stop_of f) (RequestGives (Err f)) _ is.1 (stop_is f is.1.steps is.1.stop is.1.result_is)
-          (three_by (nat_lt (length (texts ++ file ∷ [])) (length names)) status (talk_status (steps ++ is.1.steps) (stop_of f)) three (stop_status f (steps ++ is.1.steps)))),
-    )
+    stopped_at file (fault.Request f) more is =
+        let ends = deliveries_end (Asked seen rules old new) (Appends was holds) (map delivery_of (texts ++ file ∷ [])) (nat_lt (length (texts ++ file ∷ [])) (length names)) status
+        (one_file file (stop_of f) (RequestGives (Err f)) (λ all stop. status ≡ (if nat_lt (length (texts ++ file ∷ [])) (length names) then 3 else talk_status all stop)) is.1 (stop_is f is.1.steps is.1.stop is.1.result_is)
+        (three_by (nat_lt (length (texts ++ file ∷ [])) (length names)) status (talk_status (steps ++ is.1.steps) (stop_of f)) three (stop_status f (steps ++ is.1.steps)))) in (
+          texts ++ file ∷ [],
+          omega (arith, less, length-append texts (file ∷ [])),
+          All-push HasRecords texts file have is.0,
+          more,
+          ends.0,
+          ends.1,
+          ends.2,
+        )
 
 -- a file that could not be opened was not asked
 pub unopened_delivers : (asked : List Step → Type 0) (written : List ℕ → Type 0) (text : List ℕ) (f : DeliveryFault) → IsUnasked f → asked [] → written [] → Delivers asked written text (Err f)

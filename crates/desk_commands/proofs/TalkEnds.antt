@@ -1,5 +1,5 @@
 -- How a talk ends a command.
-use Rattle.std.proofs.Common.{◌≡◌, ◌∙◌, ◌+◌, ℕ, suc, Bool, true, false, List, [], Result, Ok, Err, refl, sym, ap, length, nat_eq}
+use Rattle.std.proofs.Common.{◌≡◌, ◌∙◌, ◌+◌, ℕ, Bool, true, false, List, [], Result, Ok, Err, refl, sym, ap, arith, length, nat_eq}
 use Rattle.std.specs.Prelude.{if◌then◌else◌}
 use Rattle.series_rules.specs.Steps.{Step}
 use Rattle.series_rules.specs.declared.requests.Request.{Request}
@@ -20,7 +20,7 @@ talk_status steps _ = 3
 
 -- how many requests were answered before the fault
 answered_before : {rs : List Request} {steps : List Step} {text : List ℕ} {f : StoreFault} → Talk rs steps text (failed f) → (done : ℕ) × (length steps ≡ done + 1)
-answered_before (next talk) = let more = answered_before talk in (more.0 + 1, ap suc more.1)
+answered_before (next talk) = let more = answered_before talk in let counted = more.1 in (more.0 + 1, omega (arith, counted))
 answered_before fault = (0, refl)
 
 -- what a talk gives, and its status

@@ -1,6 +1,8 @@
 use Rattle.std.proofs.Common.{◌≡◌, ◌+◌, ◌++◌, ◌∷◌, ◌∙◌, ℕ, List, [], Some, ap, length, length-append, map, not, nat_eq, sym, arith, refl}
 use Rattle.std.specs.Borrow.{Bor}
 use Rattle.std.specs.Prelude.{nat_lt, slice_get, slice_index_or, if◌then◌else◌}
+use Rattle.std.specs.Io.KnownBytes.{Appends}
+use Rattle.series_rules.specs.Steps.{Asked}
 use Rattle.std.proofs.lemmas.List.{length-map}
 use Rattle.std.proofs.lemmas.List.Elements.{All-nil, All-push}
 use Rattle.std.proofs.KnownBytes.{Appends-nil}
@@ -80,18 +82,22 @@ returns-clause-end g c =
     let inv = c.loop-name.invariant in
     let names = map (λ (name : Bor (List ℕ)). name.now) c.args.names.now in
     let count = length-map c.args.names.now (λ (name : Bor (List ℕ)). name.now) in
-    let all : length inv.texts ≡ length names = omega (arith, inv.counted, count) in (
+    let all : length inv.texts ≡ length names = omega (arith, inv.counted, count) in
+    let ends = deliveries_end (Asked g.D.Desk.seen c.args.precedence.now c.args.desk.now c.loop-name.desk) (Appends (g.W.Write.contents c.args.output.now) (g.W.Write.contents c.loop-name.output)) (map delivery_of inv.texts)
+    (nat_lt (length inv.texts) (length names)) c.refusal_status.result record {
+      steps = inv.steps;
+      text = inv.text;
+      stop = ended;
+      talk = inv.talk;
+      were_asked = inv.asked;
+      was_written = inv.wrote;
+      result_is = status_by _ _ _ c.refusal_status.ensures.is inv.refused ∙ sym (ap (λ b. if b then 3 else talk_status inv.steps ended) (not_less (length inv.texts) (length names) all));
+    } in (
       inv.texts,
       omega (arith, all),
       inv.have,
       inv.tells,
-      deliveries_end _ _ (map delivery_of inv.texts) (nat_lt (length inv.texts) (length names)) c.refusal_status.result record {
-        steps = inv.steps;
-        text = inv.text;
-        stop = ended;
-        talk = inv.talk;
-        were_asked = inv.asked;
-        was_written = inv.wrote;
-        result_is = status_by _ _ _ c.refusal_status.ensures.is inv.refused ∙ sym (ap (λ b. if b then 3 else talk_status inv.steps ended) (not_less (length inv.texts) (length names) all));
-      },
+      ends.0,
+      ends.1,
+      ends.2,
     )

@@ -19,7 +19,7 @@ ghost use Rattle.series_rules.specs.declared.requests.Request.{Request};
 use crate::committing::{ask_agree, ask_deliver, ask_waive};
 use crate::listing::{ask_agreements, ask_text};
 use crate::opening::{OpenFault, connect, prepare};
-use crate::questions::{ask_catalogue, ask_gaps, ask_offers};
+use crate::questions::{ask_catalogue, ask_gaps, ask_offers, collect_offers};
 use catalogue_rules::catalogue::Catalogue;
 use csv_records::records::Records;
 use desk_listing::listing::ListedDesk;
@@ -32,6 +32,7 @@ use onix_terms::items::Items;
 use onix_terms::number::Number;
 use onix_terms::series_name::SeriesName;
 use onix_terms::text::Text;
+use price_rules::collector::OfferCollector;
 use price_rules::offer::Offer;
 use series_rules::answers::{AgreeAnswer, DeliveryAnswer, GapReport, WaiveAnswer};
 use series_rules::desk::Desk;
@@ -292,8 +293,16 @@ impl<S: Alter> Desk for DeskStore<S> {
         ask_waive(self.alloc, &mut self.tables, series, number)
     }
 
+    fn collect_offers<C: OfferCollector>(
+        &mut self,
+        isbn: &Isbn13,
+        collector: C,
+    ) -> Result<C, StoreFault> {
+        collect_offers(&mut self.tables, isbn, collector)
+    }
+
     fn offers_of(&mut self, isbn: &Isbn13) -> Result<Items<Offer>, StoreFault> {
-        ask_offers(&mut self.tables, isbn)
+        ask_offers(self.alloc, &mut self.tables, isbn)
     }
 
     fn gaps(&mut self, series: &SeriesName) -> Result<Option<GapReport>, StoreFault> {

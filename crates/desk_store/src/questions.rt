@@ -1,6 +1,6 @@
 //! Questions, each in a transaction that is let go.
 
-ghost use Rattle.std.specs.Prelude.{IfOk, IsTrue};
+ghost use Rattle.std.specs.Prelude.{IfOk, IsTrue, fold};
 ghost use Rattle.sqlite.specs.Held.{state};
 ghost use Rattle.catalogue_store.specs.Achieves.{Does};
 ghost use Rattle.desk_store.specs.Desks.{OnlyAnswers, Reports};
@@ -20,6 +20,7 @@ use onix_terms::isbn13::Isbn13;
 use onix_terms::items::Items;
 use onix_terms::number::Number;
 use onix_terms::series_name::SeriesName;
+use price_rules::collector::OfferCollector;
 use price_rules::offer::Offer;
 use series_rules::answers::GapReport;
 use series_rules::gaps::gap_report;
@@ -57,8 +58,23 @@ pub(crate) fn ask_catalogue<S: Alter>(
     catalogue_in(alloc, &mut work, series)
 }
 
-/// Asks for the offers of an article.
+/// Gives a collector the offers of an article, and gives it back.
+pub(crate) fn collect_offers<S: Alter, C: OfferCollector>(
+    tables: &mut Tables<S>,
+    isbn: &Isbn13,
+    collector: C,
+) -> Result<C, StoreFault>
+    ensures { Tells (λ L. fold C.collected collector (offers_after L isbn.now))
+        (seen_in (state S.Store tables.old.connection))
+        (seen_in (state S.Store tables.new.connection)) result }
+{
+    let mut work = tables.work()?;
+    work.collect_offers(isbn, collector)
+}
+
+/// Asks for the list of these offers.
 pub(crate) fn ask_offers<S: Alter>(
+    alloc: Global,
     tables: &mut Tables<S>,
     isbn: &Isbn13,
 ) -> Result<Items<Offer>, StoreFault>
@@ -67,7 +83,7 @@ pub(crate) fn ask_offers<S: Alter>(
         (seen_in (state S.Store tables.new.connection)) result }
 {
     let mut work = tables.work()?;
-    work.offers_by_article(isbn)
+    work.offers_by_article(alloc, isbn)
 }
 
 // The numbers rise, from the first one on.

@@ -1,6 +1,6 @@
 -- What was collected of offers for an answer about prices.
 use Rattle.std.proofs.Common.{◌≡◌, List, [], ◌∷◌, ◌++◌, Option, Some, None, append_assoc, fold, option_map, sym, refl, ap, ◌∙◌}
-use Rattle.std.specs.Prelude.{Result, Ok, Err, slice_get}
+use Rattle.std.specs.Prelude.{slice_get}
 use Rattle.std.proofs.lemmas.List.{append-nil}
 use Rattle.onix_terms.specs.Options.{◌>>=◌}
 use Rattle.price_rules.specs.BestOffer.{best_offer, offer_of_choice}

@@ -58,6 +58,7 @@ module _ (o : Opening) (preferred : List ℕ) where
       if is_some (first (details_in nodes)) then detailed_outcome nodes
       else left_out (foreign other.NoSupplyDetail [])
 
+  -- what a ProductSupply comes to
   abbrev pub supply_in : Composite → Outcome
   supply_in supply = supply_outcome supply.below
 

@@ -1,5 +1,5 @@
 -- Cutting records into pieces.
-use Rattle.std.specs.Prelude.{ℕ, List, [], ◌∷◌}
+use Rattle.std.specs.Prelude.{List, [], ◌∷◌}
 use Rattle.desk_texts.specs.Records.{Records}
 
 -- a piece that is done, if it has a record

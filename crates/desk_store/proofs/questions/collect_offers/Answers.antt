@@ -1,6 +1,6 @@
 use Rattle.std.proofs.Common.{◌≡◌, List, ap, fold, rules, subst, ◌∙◌}
 use Rattle.sqlite.specs.Held.{state}
-use Rattle.catalogue_store.specs.AchievesLemmas.{achieves_also, achieves_call}
+use Rattle.catalogue_store.proofs.AchievesLemmas.{achieves_also, achieves_call}
 use Rattle.desk_tables.specs.ArticleAnswers.{AreOffersOfArticle}
 use Rattle.desk_tables.specs.Rows.{DeskRows, unchanged}
 use Rattle.price_rules.specs.declared.offer.Offer.{Offer}

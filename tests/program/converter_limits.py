@@ -54,7 +54,7 @@ def records(room: Room) -> Iterator[Outcome]:
 def long_references(size: int) -> list[str]:
     """References of products whose message has that many bytes."""
     count = size // 1_024
-    names = [f"R{number:04}".ljust(999, "x") for number in range(count)]
+    names = [f"R{number:04}".ljust(990, "x") for number in range(count)]
     missing = size - len(message_of(*names))
     last, missing = min(missing, 25), missing - min(missing, 25)
     names[0] += "y" * last

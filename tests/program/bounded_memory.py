@@ -16,6 +16,7 @@ ISBN, OTHER_ISBN = "9781234567897", "9780000000002"
 TERMS = "country=GB&currency=GBP&type=02"
 CALENDAR = f"/articles/{ISBN}/calendar?from=20250301&to=20260228&{TERMS}"
 PRICE = f"/articles/{{}}/price?day=20250401&{TERMS}"
+CHOICE = f"/articles/{ISBN}/choice?day=20250401&{TERMS}"
 CATALOGUE = "/series/north/catalogue"
 GAPS = "/series/north/gaps"
 
@@ -26,6 +27,10 @@ MESSAGES, PRODUCTS = 4, 4_999
 
 # What the desk may have more than it has at the start.
 MORE = 2_000_000
+
+# How many bytes an offer a price and a choice may take, with what their lists grow into. A list of all offers takes
+# more, as a calendar does.
+ANSWERED = 450
 
 
 def offers(number: int) -> bytes:
@@ -89,3 +94,21 @@ def want_of_memory(room: Room) -> Iterator[Outcome]:
     number = MESSAGES + 1
     line = f"gaps,north,first=1,next={number + 1},greatest={number},held=0,missing=0\n"
     yield Outcome("want of memory: nothing is lost", gaps(room), Ran(0, line.encode()))
+
+
+def offers_that_are_not_held(room: Room) -> Iterator[Outcome]:
+    """A price and a choice have no room for the offers of the article, and want none."""
+    batch(room, AGREEMENT + b"".join(offers(number) for number in range(1, MESSAGES + 1)))
+    room.write("rules.toml", b'[[rule]]\nseries = "*"\ncodes = ["21"]\n')
+    with serving(room, [*WORDS, "--rules", "rules.toml"], 3) as desk:
+        process = desk.process.pid
+        bound(process, data_of(process) + ANSWERED * MESSAGES * PRODUCTS)
+        wanted = (
+            f'200 {{"answer":"choice","choice":{{"amount":"12.990","availability":"21","place":1,"reference":"R1-0",'
+            f'"rule":1,"series":"north"}},"isbn":"{ISBN}"}}'
+        )
+        yield Outcome("offers that are not held: a choice", ask(desk, CHOICE), wanted)
+        status, _, body = ask(desk, PRICE.format(ISBN)).partition(" ")
+        found = status, len(json.loads(body).get("offers", []))
+        yield Outcome("offers that are not held: a price", found, ("200", MESSAGES * PRODUCTS))
+        yield Outcome("offers that are not held: a calendar", ask(desk, CALENDAR), MEMORY)

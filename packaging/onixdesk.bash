@@ -21,9 +21,10 @@ _onixdesk() {
         convert:--parts | convert:--number | convert:--number-offset | convert:--sender | convert:--addressee | convert:--id-type) return ;;
         convert:--wrong) COMPREPLY=($(compgen -W "none few all" -- "$cur")); return ;;
         convert:-o | export:-o) _filedir -d; return ;;
+        convert:--titles) _filedir; return ;;
     esac
     case $command:$cur in
-        convert:-*) COMPREPLY=($(compgen -W "--parts --number --number-offset --sender --addressee --id-type --wrong -o --help" -- "$cur")) ;;
+        convert:-*) COMPREPLY=($(compgen -W "--parts --number --number-offset --sender --addressee --id-type --wrong -o --titles --help" -- "$cur")) ;;
         export:*) COMPREPLY=($(compgen -W "-o --help" -- "$cur")) ;;
         serve:*) COMPREPLY=($(compgen -W "--port --batches --requests --help" -- "$cur")) ;;
         help:*) COMPREPLY=($(compgen -W "$all" -- "$cur")) ;;

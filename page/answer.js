@@ -15,6 +15,7 @@ import { changesOf } from "./quantities.js";
 import { messagesNotes } from "./reports.js";
 import { wholesalerOf } from "./settings.js";
 import { keep, recall } from "./storage.js";
+import { titleSaid } from "./titles.js";
 import { formatter, say } from "./wording.js";
 
 const KEY = "onixdesk-order";
@@ -51,6 +52,17 @@ function untilNotes({ choice, holds, question }, settings) {
   if (until.then === null) return [say("article.untilNone", { last, from, wholesaler })];
   const amount = money(until.then, question.currency);
   return [say("article.until", { last, from, wholesaler, amount })];
+}
+
+/**
+ * Puts nodes and texts into a place that has other words, and says whether it had: a screen reader reads what is put
+ * there anew, even if it is the same.
+ */
+function putWhereNew(place, nodes) {
+  const words = nodes.map((node) => node.textContent ?? node).join("");
+  if (place.textContent === words) return false;
+  place.replaceChildren(...nodes);
+  return true;
 }
 
 export class Answer {
@@ -91,7 +103,7 @@ export class Answer {
     found("article-status").replaceChildren(words);
     found("answer-time").textContent = "";
     found("answer").hidden = true;
-    for (const id of ["notes", "offers", "references-table"]) found(id).replaceChildren();
+    for (const id of ["title", "notes", "offers", "references-table"]) found(id).replaceChildren();
   }
 
   /** Shows the offers and the choice of a question; `before` is what was said until it changed. */
@@ -107,7 +119,7 @@ export class Answer {
     found("answer").hidden = answer.offers.length === 0;
   }
 
-  /** Adds what is known of the shown answer by now: `copies`, `types` or `holds`. */
+  /** Adds what is known of the shown answer by now: `copies`, `types`, `holds` or `title`. */
   add(parts) {
     Object.assign(this.#shown, parts);
     this.#draw();
@@ -165,11 +177,7 @@ export class Answer {
       element("p", { class: "decision" }, ...sentence),
       this.#details(),
     ];
-    const words = status.map(({ textContent }) => textContent).join("");
-    // A screen reader reads what is put there anew, even if it is the same.
-    if (found("article-status").textContent === words) return;
-    found("verdict").className = `verdict ${kindOfAnswer(this.#shown)}`;
-    found("article-status").replaceChildren(...status);
+    if (putWhereNew(found("article-status"), status)) found("verdict").className = `verdict ${kindOfAnswer(this.#shown)}`;
   }
 
   /** The offers, in the order that the buyer chose. */
@@ -179,8 +187,15 @@ export class Answer {
 
   #draw() {
     if (this.#shown === undefined) return;
+    this.#drawTitle();
     this.#drawNotes();
     this.#drawOffers();
+  }
+
+  #drawTitle() {
+    const { title } = this.#shown;
+    const nodes = title === undefined ? [] : titleSaid(title, this.#place.settings);
+    putWhereNew(found("title"), nodes);
   }
 
   #drawNotes() {
@@ -198,9 +213,7 @@ export class Answer {
     ].filter((words) => words !== undefined);
     const notes = [...all.map((words) => [words]), ...messagesNotes(series, reports)];
     const items = notes.map((parts) => element("li", { class: "note" }, ...parts));
-    const place = found("notes");
-    if (place.textContent === items.map(({ textContent }) => textContent).join("")) return;
-    place.replaceChildren(...items);
+    putWhereNew(found("notes"), items);
   }
 
   #drawOffers() {

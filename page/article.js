@@ -12,6 +12,7 @@ import { Form, markAll, refuse, textsFor } from "./form.js";
 import { keyOf } from "./offers.js";
 import { changesOf, firstQuantities } from "./quantities.js";
 import { holdsUntil } from "./spans.js";
+import { titlesOf } from "./titles.js";
 import { say } from "./wording.js";
 
 const MINUTE = 60_000;
@@ -250,8 +251,10 @@ export class Article {
     await this.#whileWanted(async (signal) => {
       const calendar = this.#askForCalendar(values, signal);
       if (this.#answered === undefined) await this.#askForDay(values, asked, signal);
-      if (this.#answered === undefined || this.#answered.offers.length === 0) return;
-      await Promise.all([this.#showCalendar(values, await calendar), this.#askForMore(signal)]);
+      if (this.#answered === undefined) return;
+      const title = this.#askForTitle(signal);
+      if (this.#answered.offers.length === 0) await title;
+      else await Promise.all([title, this.#showCalendar(values, await calendar), this.#askForMore(signal)]);
     });
   }
 
@@ -284,6 +287,14 @@ export class Article {
     }
     this.#answered = { ...day, asked, checked: Date.now() };
     this.#answer.show(this.#answered);
+  }
+
+  /** Shows what a feed said of the book, behind the answer. */
+  async #askForTitle(signal) {
+    const { title, question: { isbn } } = this.#answered;
+    if (!this.#settings.hasTitles || title !== undefined) return;
+    const titles = await titlesOf([isbn], signal);
+    this.#answer.add({ title: titles.get(isbn) });
   }
 
   /** Says what the desk refused; after a fault of its own the shown answer is not asked for anew. */
@@ -336,7 +347,7 @@ export class Article {
       if (state(day) === state(this.#answered)) this.#answer.noteTime(day.time);
       else {
         const before = this.#answer.inWords();
-        this.#answered = { ...day, asked, checked: Date.now() };
+        this.#answered = { ...day, title: this.#answered.title, asked, checked: Date.now() };
         this.#answer.show(this.#answered, before);
       }
       if (this.#answered.offers.length === 0) return;

@@ -8,6 +8,7 @@ import { Order } from "./order.js";
 import { Reports } from "./reports.js";
 import { Scanner } from "./scan.js";
 import { loadRules, loadSettings, loadWords } from "./settings.js";
+import { areTitlesKept } from "./titles.js";
 import { formatter, labelAll, say, sayCount, speak } from "./wording.js";
 
 const found = (id) => document.getElementById(id);
@@ -83,8 +84,8 @@ function scanIn(article) {
 
 async function start() {
   const { settings, problems } = await loadSettings();
-  const [words, rules] = await Promise.all([loadWords(settings.language), loadRules()]);
-  settings.rules = rules;
+  const [words, rules, hasTitles] = await Promise.all([loadWords(settings.language), loadRules(), areTitlesKept()]);
+  Object.assign(settings, { rules, hasTitles });
   speak(settings.language, words.texts);
   document.documentElement.lang = settings.language;
   labelAll(document);

@@ -5,15 +5,19 @@ import { element } from "./elements.js";
 import { amountCell, csvOf, linesToPaste } from "./order-file.js";
 import { kindOf } from "./price-types.js";
 import { wholesalerOf } from "./settings.js";
+import { titleTexts } from "./titles.js";
 import { say, wordsOfCode } from "./wording.js";
 
-const CELLS = ["isbn", "copies", "wholesaler", "price", "sum", "currency", "availability", "reference", "note"];
+const CELLS = ["isbn", "copies", "wholesaler", "price", "sum", "currency", "availability", "reference", "note", "title"];
 const UNPRINTED = "unprinted";
 
 // As long as a browser may take to begin with a file.
 const KEPT = 60_000;
 
 const found = (id) => document.getElementById(id);
+
+/** The names of the columns; that of titles, where the shop keeps some, is the last one. */
+const namesOf = ({ hasTitles }) => CELLS.filter((name) => name !== "title" || hasTitles);
 
 function cellsOf({ book, state: { offer } }, { settings, currency }) {
   const cells = {
@@ -26,15 +30,16 @@ function cellsOf({ book, state: { offer } }, { settings, currency }) {
     availability: wordsOfCode("availabilities", offer.availability) ?? offer.availability,
     reference: offer.reference,
     note: book.note,
+    title: titleTexts(book.title ?? {}).join(" · "),
   };
-  return CELLS.map((name) => cells[name]);
+  return namesOf(settings).map((name) => cells[name]);
 }
 
 /** Hands the browser a file of an order; gives its name. */
 export function download(rows, { series, day, type, ...context }) {
   const name = say("order.fileName", { day, series: series === undefined ? "" : `-${series}` });
   const isRetail = kindOf(type) === "retail";
-  const columns = CELLS.map((column) => (column === "price" && isRetail ? "retail" : column));
+  const columns = namesOf(context.settings).map((column) => (column === "price" && isRetail ? "retail" : column));
   const head = columns.map((column) => say(`order.columns.${column}`));
   const text = csvOf([head, ...rows.map((row) => cellsOf(row, context))]);
   const url = URL.createObjectURL(new Blob([text], { type: "text/csv" }));

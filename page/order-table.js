@@ -10,9 +10,10 @@ import { marksOf } from "./offers-table.js";
 import { LEFT_OUT, unpricedBeside } from "./order-answers.js";
 import { changesOf } from "./quantities.js";
 import { wholesalerOf } from "./settings.js";
+import { titleNodes } from "./titles.js";
 import { formatter, say, wordsOfCode } from "./wording.js";
 
-const COLUMNS = ["lines", "isbn", "copies", "wholesaler", "availability", "price", "sum", "note"];
+const COLUMNS = ["lines", "isbn", "title", "copies", "wholesaler", "availability", "price", "sum", "note"];
 
 // The value of the shop's own choice, which no key of an offer is.
 const RULES = "";
@@ -24,12 +25,16 @@ export function linesInWords({ lines }) {
   return lines.join(", ");
 }
 
-const AMOUNTS = ["copies", "price", "sum"];
+const CLASSES = { title: "title", copies: "amount", price: "amount", sum: "amount" };
 
-function columnsOf({ isRetail }) {
-  return COLUMNS.map((column) => ({
+/** The names of the columns; that of titles where the shop keeps some. */
+const namesOf = ({ settings }) => COLUMNS.filter((column) => column !== "title" || settings.hasTitles);
+
+function columnsOf(context) {
+  const { isRetail } = context;
+  return namesOf(context).map((column) => ({
     name: say(`order.columns.${column === "price" && isRetail ? "retail" : column}`),
-    className: AMOUNTS.includes(column) ? "amount" : undefined,
+    className: CLASSES[column],
   }));
 }
 
@@ -162,6 +167,7 @@ function rowOf(book, state, context) {
     cells: [
       [linesInWords(book)],
       [element("bdi", { class: "isbn" }, book.wrong === undefined ? book.isbn : book.written)],
+      ...(context.settings.hasTitles ? [book.title === undefined ? [] : titleNodes(book.title)] : []),
       [book.copies === undefined ? "" : formatter(Intl.NumberFormat).format(book.copies)],
       wholesalerCell(book, state, context),
       ...amounts,
@@ -170,18 +176,16 @@ function rowOf(book, state, context) {
   };
 }
 
-// The wholesaler's cell, and those behind it that have nothing where there is no offer.
-const [WHOLESALER, NOTE] = ["wholesaler", "note"].map((name) => COLUMNS.indexOf(name));
-
 /** A row with its marks; where there is no offer, the reason for it has the room of what would be said of one. */
-function marked(row, book, { offer }) {
+function marked(row, book, { offer }, context) {
   row.dataset.book = book.id;
   row.tabIndex = -1;
   if (offer !== undefined) row.dataset.series = offer.series;
   else {
     const cells = [...row.cells];
-    cells.slice(WHOLESALER + 1, NOTE).forEach((cell) => cell.remove());
-    cells[WHOLESALER].colSpan = NOTE - WHOLESALER;
+    const [wholesaler, note] = ["wholesaler", "note"].map((name) => namesOf(context).indexOf(name));
+    cells.slice(wholesaler + 1, note).forEach((cell) => cell.remove());
+    cells[wholesaler].colSpan = note - wholesaler;
   }
   return row;
 }
@@ -193,14 +197,14 @@ function marked(row, book, { offer }) {
  */
 export function orderTable(heading, rows, context) {
   const made = table(heading, columnsOf(context), rows.map(({ book, state }) => rowOf(book, state, context)));
-  [...made.tBodies[0].rows].forEach((row, at) => marked(row, rows[at].book, rows[at].state));
+  [...made.tBodies[0].rows].forEach((row, at) => marked(row, rows[at].book, rows[at].state, context));
   return made;
 }
 
 /** Draws the row of a book anew, where its field keeps the focus. */
 export function redraw(row, book, state, context) {
   const hadFocus = row.contains(document.activeElement);
-  const made = marked(tableRow(columnsOf(context), rowOf(book, state, context)), book, state);
+  const made = marked(tableRow(columnsOf(context), rowOf(book, state, context)), book, state, context);
   row.replaceWith(made);
   if (hadFocus) made.querySelector("select")?.focus();
 }

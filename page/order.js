@@ -9,6 +9,7 @@ import { OrderQuestion } from "./order-question.js";
 import { OrderResults, showAge, showChecking, showCopies, showProgress, summaryOf } from "./order-results.js";
 import { copyLines, download, printRows } from "./order-saving.js";
 import { wholesalerOf } from "./settings.js";
+import { fileOf, titlesOf } from "./titles.js";
 import { say, sayCount } from "./wording.js";
 
 const MOST_BYTES = 1_000_000;
@@ -192,6 +193,20 @@ export class Order {
     });
   }
 
+  /** Asks what feeds said of the books, once the desk has answered. */
+  async #askTitles(signal) {
+    const books = this.#settings.hasTitles ? this.#list.askable().filter(({ title }) => title === undefined) : [];
+    const files = new Set(books.map(({ isbn }) => fileOf(isbn)));
+    await eachOf([...files], async (file) => {
+      const those = books.filter(({ isbn }) => fileOf(isbn) === file);
+      const titles = await titlesOf(those.map(({ isbn }) => isbn), signal);
+      for (const book of those) {
+        book.title = titles.get(book.isbn);
+        this.#results.drawSoon(this.#list, book);
+      }
+    });
+  }
+
   /** Asks whether other numbers of copies are better, once nothing else is asked: an order does not wait for it. */
   async #askCopies(asking) {
     const list = this.#list;
@@ -215,6 +230,7 @@ export class Order {
     try {
       const asking = new OrderAsking(this.#list.question, this.#asking.signal, this.#watch);
       await act(asking);
+      await this.#askTitles(this.#asking.signal);
       await this.#askCopies(asking);
     } catch (fault) {
       if (!isAbandoned(fault)) throw fault;

@@ -4,11 +4,11 @@ const isText = (value) => typeof value === "string";
 const isTable = (value) => typeof value === "object" && value !== null && !Array.isArray(value);
 
 // Where a shop may add what the page has no words for: codes, and a language's own forms for counts.
-const CODES = ["priceTypes", "availabilities"];
+const CODES = { priceTypes: /^\d\d$/, availabilities: /^\d\d$/, roles: /^[A-Z]\d\d$/ };
 const FORMS = ["zero", "one", "two", "few", "many", "other"];
 
 function isAddition(path, key, shipped) {
-  if (CODES.includes(path)) return /^\d\d$/.test(key);
+  if (Object.hasOwn(CODES, path)) return CODES[path].test(key);
   return Object.hasOwn(shipped, "other") && FORMS.includes(key);
 }
 

@@ -62,7 +62,9 @@ def build(crate: str, words: list[str], to: Path, room: Path) -> None:
             raise RuntimeError(why or f"rt try ended with status {tried.returncode} and wrote nothing")
         # `rt try` runs a program in a folder of its own, where it is the file `program`.
         (built,) = room.glob("*/*/program")
-        shutil.copy2(built, to)
+        shutil.copyfile(built, to)
+        # A test runs it as another user.
+        to.chmod(0o755)
         os.close(opened)
     finally:
         tried.terminate()

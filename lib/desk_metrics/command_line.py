@@ -6,9 +6,10 @@ from functools import partial
 from pathlib import Path
 
 from command_lines.ending import DONE, FAILED, end_orderly, status_of, teller
+from command_lines.files import alone, put
 from command_lines.parsing import count, parser_of
 from desk_metrics.gathering import Gathering
-from desk_metrics.kept import Standing, alone, put
+from desk_metrics.kept import Standing
 from desk_metrics.watched import Places, by_desk, names_in
 from onixdesk_inbox.command_line import series
 from onixdesk_inbox.settings import Settings, address

@@ -1,29 +1,10 @@
-"""The folder of the metrics: what is written there, each file whole, and what is kept from run to run."""
+"""What is kept from run to run."""
 
 import contextlib
-import fcntl
 import json
-import os
-from collections.abc import Iterator
 from pathlib import Path
 
-
-def put(file: Path, text: str) -> None:
-    """Writes a file beside, under a name that no collector reads, and then gives it its own."""
-    new = file.with_name(f"{file.name}.new")
-    new.write_text(text, encoding="utf-8")
-    os.replace(new, file)
-
-
-@contextlib.contextmanager
-def alone(folder: Path) -> Iterator[None]:
-    """Waits until no other run is at work there."""
-    opened = os.open(folder, os.O_RDONLY | os.O_DIRECTORY | os.O_CLOEXEC)
-    try:
-        fcntl.flock(opened, fcntl.LOCK_EX)
-        yield
-    finally:
-        os.close(opened)
+from command_lines.files import put
 
 
 class Standing:

@@ -98,3 +98,19 @@ def feed_of(source: Path) -> Iterator[Feed]:
         yield feed
     finally:
         feed.end()
+
+
+def unpack(source: Path, most: int, seconds: float) -> Path:
+    """Unpacks a file beside itself, without its last ending. Damage where it is damaged, or has more than so many
+    bytes."""
+    target = source.with_suffix("")
+    feed = Feed(source)
+    with target.open("xb") as file:
+        with subprocess.Popen(["head", "-c", str(most + 1)], stdin=feed.output, stdout=file):
+            try:
+                feed.give(seconds)
+            finally:
+                feed.end()
+    if target.stat().st_size > most:
+        raise Damage(f"it unpacks to more than {most} bytes")
+    return target

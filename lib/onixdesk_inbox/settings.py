@@ -19,7 +19,7 @@ OWN = "own"
 ANY = "any"
 
 # Words of the converter that the inbox gives itself.
-RESERVED = re.compile(r"-o.*|--number(=.*)?|-h|--help|--?")
+RESERVED = re.compile(r"-o.*|--(number|titles)(=.*)?|-h|--help|--?")
 OFFSET = re.compile(r"--number-offset(=.*)?")
 
 
@@ -42,6 +42,8 @@ class Settings:
     unchanged_seconds: int = 60
     conversion_seconds: int = 1800
     state_bytes: int = 10_000_000_000
+    # Where the rows of titles are handed over, if they are.
+    titles: Path | None = None
 
     @property
     def parts(self) -> int:
@@ -112,6 +114,12 @@ def count_of_bytes(value: str) -> int:
     return int(value)
 
 
+def folder(value: str) -> Path | None:
+    if value and not value.startswith("/"):
+        raise ValueError("TITLES is a folder, which begins with /, or nothing")
+    return Path(value) if value else None
+
+
 READERS: dict[str, tuple[str, Callable[[str], object]]] = {
     "DESK": ("desk", address),
     "WORDS": ("words", words),
@@ -120,6 +128,7 @@ READERS: dict[str, tuple[str, Callable[[str], object]]] = {
     "UNCHANGED_SECONDS": ("unchanged_seconds", seconds),
     "CONVERSION_SECONDS": ("conversion_seconds", some_seconds),
     "STATE_BYTES": ("state_bytes", count_of_bytes),
+    "TITLES": ("titles", folder),
 }
 
 

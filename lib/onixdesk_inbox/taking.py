@@ -7,6 +7,7 @@ from pathlib import Path
 from command_lines.ending import Fault
 from onixdesk_inbox.conversion import NOTHING_SAID, Converter, Said
 from onixdesk_inbox.desk import LONGEST_MESSAGE, REASONS, Desk
+from onixdesk_inbox.handing import Handing
 from onixdesk_inbox.names import RECORDS, kept_name, shown
 from onixdesk_inbox.numbers import Numbers
 from onixdesk_inbox.posting import Quicker, post
@@ -45,13 +46,21 @@ class Taker:
     def take(self, copied: Copied) -> Taken:
         """Takes a file to its end. Fault, where it has to be taken again."""
         try:
-            taken = self.deliver(copied)
+            taken = self.with_titles(copied, self.deliver(copied))
         except Refusal as refusal:
             taken = Taken(str(refusal), is_refused=True)
         kept = self.archive(copied, taken.is_refused)
         if kept != kept_name(copied.name):
             taken = replace(taken, said=f"{taken.said}; kept as {kept}")
         return taken
+
+    def with_titles(self, copied: Copied, taken: Taken) -> Taken:
+        """Hands over the titles of a file that the desk has, where the shop wants them."""
+        if copied.is_records or not self.settings.titles:
+            return taken
+        work = self.state.work
+        handing = Handing(self.converter, self.settings, work.folder / "titles")
+        return replace(taken, no_titles=handing.fault_of(copied.name, copied.source, work.answer))
 
     def archive(self, copied: Copied, is_refused: bool) -> str:
         """Moves the file to those that are at their end, and gives the name that it has there."""

@@ -10,6 +10,7 @@ from dataclasses import asdict, dataclass
 from pathlib import Path
 from typing import TextIO
 
+from command_lines.files import put
 from onixdesk_inbox.names import printable, shown
 from onixdesk_inbox.verdicts import Left, Taken
 
@@ -48,6 +49,8 @@ class Voice:
             self.of_file(WARNING, name, f"done, {counted(taken.wrong_products)} wrong: {taken.said}")
         else:
             self.of_file(NOTICE, name, f"done: {taken.said}")
+        if taken.no_titles:
+            self.of_file(WARNING, name, f"no titles: {taken.no_titles}")
 
 
 def counted(products: int) -> str:
@@ -120,7 +123,4 @@ class Told:
         return has_long
 
     def keep(self) -> None:
-        kept = {name: asdict(lying) for name, lying in self.lying.items()}
-        beside = self.path.with_name("told.new")
-        beside.write_text(json.dumps(kept), encoding="ascii")
-        os.replace(beside, self.path)
+        put(self.path, json.dumps({name: asdict(lying) for name, lying in self.lying.items()}))

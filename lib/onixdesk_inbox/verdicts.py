@@ -6,12 +6,14 @@ from dataclasses import dataclass
 @dataclass(frozen=True)
 class Taken:
     """A file that is at its end, in `done` or, refused, in `refused`; what there is to say of it, and how many of its
-    products the converter found wrong. Of one that is done something may be amiss, as of one that is refused."""
+    products the converter found wrong. Of one that is done something may be amiss, as of one that is refused; and why its
+    titles were not handed over."""
 
     said: str
     is_refused: bool = False
     is_amiss: bool = False
     wrong_products: int = 0
+    no_titles: str = ""
 
 
 @dataclass(frozen=True)

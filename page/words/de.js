@@ -179,6 +179,7 @@ export const texts = {
       save: "Bestellung",
       currency: "Währung",
       reference: "Referenz",
+      title: "Titel, wie zuletzt gemeldet (nicht bewiesen)",
     },
     inCatalogue: "Im Katalog nachsehen",
     wholesalerOf: "Lieferant von {isbn}",
@@ -394,6 +395,20 @@ export const texts = {
     notObject: "words.json ist kein Objekt mit Wörtern.",
     unknown: "„{place}“ ist kein Name von Wörtern, die die Seite hat.",
     kind: "„{place}“ ist {value}; so etwas hat die Seite dort nicht.",
+  },
+
+  titles: {
+    said: "so zuletzt in einer Meldung von {wholesaler}; nicht bewiesen",
+    none: "keine Meldung nennt einen Titel",
+  },
+
+  // Codeliste 17 von ONIX, zum Teil.
+  roles: {
+    A01: "Autor",
+    A12: "Illustration",
+    B01: "Hrsg.",
+    B06: "Übersetzung",
+    E07: "gelesen von",
   },
 
   // Codeliste 58 von ONIX.

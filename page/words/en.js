@@ -179,6 +179,7 @@ export const texts = {
       save: "Order",
       currency: "Currency",
       reference: "Reference",
+      title: "Title, as a feed said last (not proved)",
     },
     inCatalogue: "Look it up in the catalogue",
     wholesalerOf: "Wholesaler of {isbn}",
@@ -394,6 +395,20 @@ export const texts = {
     notObject: "words.json is not an object of words.",
     unknown: "“{place}” is no name of words that the page has.",
     kind: "“{place}” is {value}, which is not what the page has there.",
+  },
+
+  titles: {
+    said: "as a feed of {wholesaler} said last; not proved",
+    none: "no feed has said a title",
+  },
+
+  // Code list 17 of ONIX, in part.
+  roles: {
+    A01: "author",
+    A12: "illustrator",
+    B01: "editor",
+    B06: "translator",
+    E07: "reader",
   },
 
   // Code list 58 of ONIX.

@@ -118,9 +118,9 @@ SURROUNDED = [
 
 def surrounded(site: Site, browser: Browser) -> Iterator[Outcome]:
     """The ISBN is taken out of what stands around it."""
-    browser.open("")
     for typed in SURROUNDED:
-        browser.run("location.hash = '#article'")
+        browser.open("")
+        browser.wait(lambda: browser.run(FOCUS)[0] == "isbn")
         browser.run("document.getElementById('isbn').value = arguments[0]", typed)
         browser.one("#question button.main").click()
         came = browser.wait(lambda: f"isbn={ISBN}&" in browser.run("return location.hash"), 10)

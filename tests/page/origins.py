@@ -224,8 +224,9 @@ def recorded_hosts(site: Site, browser: Browser) -> Iterator[Outcome]:
     hosts = {urlsplit(address)[:2] for address in addresses}
     yield Outcome("the hosts that the browser asked", hosts, {("https", site.own_host())})
     lines = [line.split(" ") for line in site.requests()[asked:]]
-    kinds = {(status, method, host) for status, method, host, _ in lines}
-    yield Outcome("what nginx was asked for", kinds, {("200", "GET", NAME)})
+    # No titles are kept, which the page asks at the mark that stands there where some are.
+    kinds = {(status, method, host, target == "/titles.json") for status, method, host, target in lines}
+    yield Outcome("what nginx was asked for", kinds, {("200", "GET", NAME, False), ("204", "GET", NAME, True)})
     desk = [target.partition("?")[0] for _, _, _, target in lines if target.startswith("/desk/")]
     wanted = {f"/desk/articles/{ISBN}/{what}" for what in ("price", "choice", "calendar")}
     wanted |= {f"/desk/series/{name}/gaps" for name in ("north", "south", "west")}

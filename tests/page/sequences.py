@@ -10,7 +10,7 @@ from typing import NamedTuple
 
 from tests.page import (
     articles, calendars, days, hostile, isbns, keyboard, misleading, order_screens, orders, origins, passwords,
-    pictures, prices, refusals, reports, screens, stops,
+    pictures, prices, refusals, reports, screens, stops, titles,
 )
 from tests.page.browser import Browser, browsing
 from tests.page.site import Site, running
@@ -33,7 +33,7 @@ SEQUENCES = [
     Sequence("minutes", [*reports.OVER_TIME, *passwords.CASES, *origins.AT_THE_END]),
     Sequence("questions", [*articles.CASES, *isbns.CASES, *days.CASES, *prices.CASES]),
     Sequence("views", [*calendars.CASES, *reports.CASES, *hostile.CASES, *refusals.CASES]),
-    Sequence("orders", [*orders.CASES, *order_screens.CASES]),
+    Sequence("orders", [*orders.CASES, *order_screens.CASES, *titles.CASES]),
     Sequence("misleading", misleading.CASES),
     Sequence("screens", [*keyboard.CASES, *screens.CASES, *origins.CASES]),
 ]

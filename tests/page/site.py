@@ -105,6 +105,8 @@ class Site:
         (self.page / "words.json").rename(self.own / "words.json")
         (self.page / "desk.json").unlink()
         self.write_settings()
+        self.titles = room.path("titles")
+        self.titles.mkdir(exist_ok=True)
         self.rules = room.path("rules.toml")
         shutil.copy(RULES, self.rules)
         self._prepare()
@@ -136,6 +138,7 @@ class Site:
             ("/opt/onixdesk/page", str(self.page)),
             ("/etc/onixdesk/page", str(self.own)),
             ("/etc/onixdesk/rules.toml", str(self.rules)),
+            ("/var/lib/onixdesk-titles", str(self.titles)),
         ]:
             if written not in text:
                 raise ValueError(f"examples/page/nginx.conf does not have {written}")

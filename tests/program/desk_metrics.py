@@ -12,7 +12,7 @@ from collections.abc import Iterator
 from contextlib import contextmanager
 from pathlib import Path
 
-from desk_metrics import kept
+from command_lines import files
 from desk_metrics.exposition import METRICS, Samples, escaped
 from tests.program.databases import batch
 from tests.program.inboxes import CONNECTIONS, MALFORMED, WORDS, Inbox
@@ -267,7 +267,7 @@ def replaced_whole(room: Room) -> Iterator[Outcome]:
 
     os.replace = noted  # type: ignore[assignment]
     try:
-        kept.put(room.path(FILE), "anew\n")
+        files.put(room.path(FILE), "anew\n")
     finally:
         os.replace = replace
     yield Outcome("replaced whole: by a rename", (renamed[0][0].endswith(".prom"), renamed[0][1] != "anew\n"), (False, True))
@@ -277,7 +277,7 @@ def replaced_whole(room: Room) -> Iterator[Outcome]:
 def alone(room: Room) -> Iterator[Outcome]:
     """Of two runs the second waits."""
     write(room)
-    with listening(None) as port, kept.alone(room.path("metrics")):
+    with listening(None) as port, files.alone(room.path("metrics")):
         thread = threading.Thread(target=write, args=(room, "--seconds", "1", "--desk", at(port), "north"))
         thread.start()
         thread.join(1)

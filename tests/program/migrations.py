@@ -1,6 +1,6 @@
 """Database files of version 1, made by SQLite from statements that are not the desk's: they are refused
 until they are migrated, and then the desk in them goes on. Files of version 2 made so, which have the tables
-alone and no index beside their keys, are answered as those that a desk makes."""
+alone and no index beside their keys, are answered as those that a desk makes, and get the index."""
 
 from collections.abc import Iterator
 from functools import partial
@@ -49,15 +49,44 @@ def check(case: Case, room: Room) -> Iterator[Outcome]:
     yield Outcome(f"goes on: {case.name}", came, (Ran(case.status, case.answers), []))
 
 
+def indexes(room: Room) -> list[Row]:
+    """The indexes beside those of keys, with their columns."""
+    return rows(
+        room,
+        "SELECT s.name, s.tbl_name, c.name FROM sqlite_schema s, pragma_index_info(s.name) c"
+        " WHERE s.type = 'index' AND s.sql IS NOT NULL",
+    )
+
+
+INDEX: list[Row] = [("article_by_value", "article", "id_value"), ("article_by_value", "article", "id_type")]
+
+
 def without_index(case: Case, room: Room) -> Iterator[Outcome]:
-    """The tables of version 2 with the same rows."""
+    """The tables of version 2 with the same rows: a migration leaves them, and whatever opens them makes the index."""
     execute(room, f"{case.made} {MINIMUM} UPDATE meta SET amount = 2;")
-    indexes = rows(room, "SELECT name FROM sqlite_schema WHERE type = 'index' AND sql IS NOT NULL")
-    came = indexes, batch(room, case.asked), complaints(room)
-    wanted: list[Row] = []
-    yield Outcome(f"without an index: {case.name}", came, (wanted, Ran(case.status, case.answers), []))
-    came_again = room.run("--db", DATABASE, "migrate")
-    yield Outcome(f"without an index, migrated: {case.name}", came_again, Ran(0, b"schema 2\n"))
+    kept = all_rows(room)
+    came = room.run("--db", DATABASE, "migrate"), indexes(room), all_rows(room)
+    yield Outcome(f"without an index, migrated: {case.name}", came, (Ran(0, b"schema 2\n"), [], kept))
+    came = batch(room, b""), indexes(room), complaints(room), all_rows(room)
+    yield Outcome(f"without an index, opened: {case.name}", came, (Ran(0), INDEX, [], kept))
+    execute(room, "DROP INDEX article_by_value")
+    came = batch(room, case.asked), indexes(room), complaints(room)
+    yield Outcome(f"without an index: {case.name}", came, (Ran(case.status, case.answers), INDEX, []))
+
+
+STRANGER = """
+CREATE TABLE meta (item TEXT NOT NULL PRIMARY KEY, amount INTEGER NOT NULL) STRICT;
+INSERT INTO meta (item, amount) VALUES ('version', 2);
+CREATE TABLE price_minimum (item TEXT) STRICT;
+"""
+
+
+def without_articles(room: Room) -> Iterator[Outcome]:
+    """Where the index cannot be made, since its table is not there, the file is refused and stays."""
+    execute(room, STRANGER)
+    kept = room.path(DATABASE).read_bytes()
+    came = batch(room, b""), room.path(DATABASE).read_bytes() == kept
+    yield Outcome("without an index and articles", came, (Ran(3, b"", b"onixdesk: storage: unusable\n"), True))
 
 
 def keys(room: Room, table: str, file: str) -> list[list[Row]]:

@@ -18,12 +18,13 @@ MAY_IMPORT: dict[str, set[str]] = {
     "lib/desk_follow": {"command_lines", "desk_copy", "psycopg2"},
     "lib/onixdesk_inbox": {"command_lines"},
     "lib/desk_metrics": {"command_lines", "onixdesk_inbox"},
+    "lib/onixdesk_titles": {"command_lines", "onixdesk_inbox"},
     "tools": set(),
     "bench": {"tools"},
     # The tests of the page drive a browser.
     "tests": {
-        "bench", "command_lines", "desk_copy", "desk_follow", "desk_metrics", "desk_restore", "onixdesk_inbox", "psycopg2",
-        "selenium", "tools",
+        "bench", "command_lines", "desk_copy", "desk_follow", "desk_metrics", "desk_restore", "onixdesk_inbox",
+        "onixdesk_titles", "psycopg2", "selenium", "tools",
     },
 }
 

@@ -14,7 +14,8 @@ from tools.root import ROOT
 # The documents with a block that installs, by the first of its lines.
 BLOCKS = [
     ("docs/HTTP.md", "useradd "),
-    ("docs/INBOX.md", "adduser --system"),
+    ("docs/INBOX.md", "adduser --system --group --no-create-home --home /nonexistent onixdesk-inbox"),
+    ("docs/INBOX.md", "adduser --system --group --no-create-home --home /nonexistent onixdesk-titles"),
     ("docs/RELIABILITY.md", "install -m 755 examples/mail/mail.sh"),
     ("docs/METRICS.md", "install -m 644 examples/metrics/"),
 ]

@@ -28,14 +28,26 @@ LAYERS = {
     ),
     "Feeds": (
         "from XML to messages",
-        ["named_files", "xml_text", "onix_outline", "onix_mapping", "feed_tests", "onix_conversion", "onix_files"],
+        [
+            "named_files",
+            "xml_text",
+            "onix_outline",
+            "onix_mapping",
+            "feed_tests",
+            "onix_conversion",
+            "onix_titles",
+            "onix_files",
+        ],
     ),
-    "Tables": ("a desk in a file", ["desk_tables", "catalogue_store", "desk_store"]),
+    "Tables": (
+        "a desk in a file",
+        ["desk_tables", "catalogue_store", "desk_rows", "desk_versions", "desk_store", "desk_stops"],
+    ),
     "Rules": (
         "what is answered",
         ["price_rules", "catalogue_rules", "series_rules", "desk_listing", "desk_memory"],
     ),
-    "Words": ("what a message says", ["csv_records", "onix_terms", "onix_message"]),
+    "Words": ("what a message says", ["csv_records", "onix_terms", "onix_records", "onix_message"]),
 }
 
 

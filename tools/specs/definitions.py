@@ -9,6 +9,9 @@ COMMENT = re.compile(r"(?:  )?-- (.*)")
 # Those of a section with parameters are indented.
 DEFINITION = re.compile(r"(?:  )?(?:abbrev pub|unfoldable pub|pub record|pub data) (\S+)")
 
+# A lemma that a function outside of its crate needs for a law.
+LEMMA = re.compile(r"pub ([\w-]+) :")
+
 # Lemmas have no name that a contract cites, and private definitions no public contract.
 LEFT_OUT = re.compile(r"Lib|private|private\..*|.*Lemmas")
 
@@ -28,13 +31,16 @@ class Name:
 
 @dataclass
 class File:
-    """A file of specs/: what its first line says of it, and its definitions in their order."""
+    """A file of specs/: what its first line says of it, and its definitions in their order: the comment of each, what
+    it cites of other files, and the words of its own; and what it hands on."""
 
     crate: str
     name: str
     about: str
     comments: dict[str, str]
     cited: dict[str, set[Name]]
+    own: dict[str, set[str]]
+    handed_on: set[Name]
 
 
 def imported(text: str) -> dict[str, tuple[str, str, str]]:
@@ -66,19 +72,26 @@ def names_in(text: str, imports: dict[str, tuple[str, str, str]]) -> set[Name]:
 def read_file(crate: str, name: str, text: str) -> File:
     lines = text.splitlines()
     first = COMMENT.match(lines[0])
-    file = File(crate, name, first[1] if first else "", {}, {})
+    file = File(crate, name, first[1] if first else "", {}, {}, {}, set())
     imports = imported(text)
+    for line in lines:
+        if line.startswith("pub use "):
+            file.handed_on |= {Name(*found) for found in imported(line).values()}
     comment, word = [], None
     for line in lines:
         if said := COMMENT.match(line):
             comment.append(said[1])
             continue
-        if found := DEFINITION.match(line):
+        found = DEFINITION.match(line)
+        if found:
+            file.comments[found[1]] = " ".join(comment)
+        if found := found or LEMMA.match(line):
             word = found[1]
-            file.comments[word] = " ".join(comment)
             file.cited[word] = set()
+            file.own[word] = set()
         if word and not line.startswith("use "):
             file.cited[word] |= names_in(line, imports)
+            file.own[word] |= set(re.split(r"[\s(){}\[\],;.]+", line))
         comment = []
     return file
 

@@ -11,9 +11,9 @@ use Rattle.std.specs.String.{string_bytes, string_cmp, string_cmp_total}
 use Rattle.std.proofs.lemmas.Cmp.{nat_list_cmp_total}
 use Rattle.std.proofs.lemmas.List.Elements.{All-head, All-map, All-tail, All-weaker}
 use Rattle.std.proofs.lemmas.Map.Views.{All-found}
-use Rattle.onix_message.specs.DetailCount.{detail_count}
-use Rattle.onix_message.specs.declared.parts.Product.{Product}
-use Rattle.onix_message.specs.declared.parts.ProductSupply.{ProductSupply}
+use Rattle.onix_records.specs.DetailCount.{detail_count}
+use Rattle.onix_records.specs.declared.parts.Product.{Product}
+use Rattle.onix_records.specs.declared.parts.ProductSupply.{ProductSupply}
 use Rattle.catalogue_rules.specs.Records.{ByReference, EachHas, HasFewDetails, map_of}
 use Rattle.catalogue_rules.specs.Effects.{after, after_product, change_of, entry_after, updated}
 use Rattle.catalogue_rules.specs.Plans.{Changes, IsPlan, entry_now}

@@ -4,9 +4,9 @@ use Rattle.std.specs.List.{flat_map}
 use Rattle.std.proofs.lemmas.Grind.{flat_map-append}
 use Rattle.std.proofs.lemmas.List.{append-nil, length-append, length-map, take_more}
 use Rattle.std.proofs.lemmas.List.Sums.{fold-append, sum_by-cons}
-use Rattle.onix_message.specs.DetailCount.{detail_count}
-use Rattle.onix_message.specs.declared.parts.ProductSupply.{ProductSupply}
-use Rattle.onix_message.specs.declared.parts.SupplyDetail.{SupplyDetail}
+use Rattle.onix_records.specs.DetailCount.{detail_count}
+use Rattle.onix_records.specs.declared.parts.ProductSupply.{ProductSupply}
+use Rattle.onix_records.specs.declared.parts.SupplyDetail.{SupplyDetail}
 use Rattle.onix_terms.specs.declared.territory.Territory.{Territory}
 use Rattle.catalogue_rules.specs.Offers.{entry_details, offer_of, offers_from, supply_details}
 

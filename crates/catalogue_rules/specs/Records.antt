@@ -5,7 +5,7 @@ use Rattle.std.specs.FinMap.{FinMap, entries, from_entries, get}
 use Rattle.std.specs.Ordering.{nat_cmp}
 use Rattle.std.specs.Cmp.Lexicographic.{slice_cmp}
 use Rattle.std.specs.String.{string_bytes}
-use Rattle.onix_message.specs.DetailCount.{detail_count}
+use Rattle.onix_records.specs.DetailCount.{detail_count}
 use Rattle.catalogue_rules.specs.declared.entry.Entry.{Entry}
 
 -- a finite map from references to what is kept of each record

@@ -2,7 +2,7 @@
 
 ghost use Rattle.std.specs.Prelude.{◌≡◌, ℕ, List, OnOk, OnErr, fold, true};
 ghost use Rattle.std.specs.FinMap as map;
-ghost use Rattle.onix_message.specs.Product as product;
+ghost use Rattle.onix_records.specs.Product as product;
 ghost use Rattle.catalogue_rules.specs.ArticleIndex.{IsIndexOf, ListsArticles, ListsAsBefore, is_listed, offers_there};
 ghost use Rattle.catalogue_rules.specs.Effects.{after};
 ghost use Rattle.catalogue_rules.specs.Offers.{offers_in};
@@ -11,8 +11,9 @@ ghost use Rattle.catalogue_rules.specs.Records.{ByReference};
 use crate::catalogue::Catalogue;
 use crate::listing::Listing;
 use crate::offers::collect_record;
+use onix_message::articles::is_article_type;
 use onix_message::contents::Contents;
-use onix_message::parts::{Product, ProductIdentifier, is_article_type};
+use onix_message::parts::{Product, ProductIdentifier};
 use onix_terms::isbn13::Isbn13;
 use onix_terms::series_name::SeriesName;
 use onix_terms::text::Text;

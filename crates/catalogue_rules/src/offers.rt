@@ -1,12 +1,13 @@
 //! The offers that the records of a catalogue make of an article.
 
 ghost use Rattle.std.specs.Prelude.{◌≡◌, ◌+◌, ◌<◌, ◌^◌, IfOk, OnOk, fold, length};
-ghost use Rattle.onix_message.specs.DetailCount.{detail_count};
+ghost use Rattle.onix_records.specs.DetailCount.{detail_count};
 ghost use Rattle.catalogue_rules.specs.Records.{HasFewDetails};
 ghost use Rattle.catalogue_rules.specs.Offers.{entry_offers, has_article, is_article, offer_of, offers_from, record_offers, supply_details};
 
 use crate::entry::Entry;
-use onix_message::parts::{ProductIdentifier, ProductSupply, SupplyDetail, is_article_type};
+use onix_message::articles::is_article_type;
+use onix_message::parts::{ProductIdentifier, ProductSupply, SupplyDetail};
 use onix_terms::isbn13::Isbn13;
 use onix_terms::plain::Plain;
 use onix_terms::series_name::SeriesName;

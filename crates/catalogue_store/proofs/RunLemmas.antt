@@ -7,7 +7,7 @@ use Rattle.std.specs.Str.{bytes_eq}
 use Rattle.std.proofs.lemmas.List.{append_assoc}
 use Rattle.std.proofs.lemmas.List.Elements.{filter-append}
 use Rattle.std.proofs.lemmas.Slice.Eq.{bytes_eq-Decides}
-use Rattle.onix_message.specs.declared.parts.Product.{Product}
+use Rattle.onix_records.specs.declared.parts.Product.{Product}
 use Rattle.catalogue_rules.specs.Effects.{after as after_all, after_product, change_of, counted, effect_from, entry_after, no_effect, with_entry}
 use Rattle.catalogue_rules.specs.Records.{ByReference}
 use Rattle.catalogue_rules.specs.declared.change.Change.{Change}
@@ -15,7 +15,7 @@ use Rattle.catalogue_rules.specs.declared.change.Change.TheVariants.{Delete, Ign
 use Rattle.catalogue_rules.specs.declared.entry.Entry.{Entry}
 use Rattle.catalogue_rules.proofs.Lookups.{changed_there}
 use Rattle.catalogue_rules.proofs.Plans.{changes_at-with_entry}
-use Rattle.onix_message.specs.declared.effects.Effect.{Effect}
+use Rattle.onix_records.specs.declared.effects.Effect.{Effect}
 use Rattle.desk_tables.specs.RecordRows.{minimum_row, offer_row, price_row}
 use Rattle.desk_tables.specs.Rows.{DeskRows}
 use Rattle.desk_tables.specs.declared.records.RecordRow.{RecordRow}

@@ -1,11 +1,11 @@
 -- What each function makes of the rows, in the transaction that it is lent.
 use Rattle.std.specs.Prelude.{◌≡◌, ◌≢◌, [], ℕ, Bool, List, None, Some, false}
 use Rattle.std.specs.List.{AllZip}
-use Rattle.onix_message.specs.declared.parts.Price.{Price}
-use Rattle.onix_message.specs.declared.parts.Product.{Product}
-use Rattle.onix_message.specs.declared.parts.ProductIdentifier.{ProductIdentifier}
-use Rattle.onix_message.specs.declared.parts.ProductSupply.{ProductSupply}
-use Rattle.onix_message.specs.declared.effects.Effect.{Effect}
+use Rattle.onix_records.specs.declared.parts.Price.{Price}
+use Rattle.onix_records.specs.declared.parts.Product.{Product}
+use Rattle.onix_records.specs.declared.parts.ProductIdentifier.{ProductIdentifier}
+use Rattle.onix_records.specs.declared.parts.ProductSupply.{ProductSupply}
+use Rattle.onix_records.specs.declared.effects.Effect.{Effect}
 use Rattle.catalogue_rules.specs.Records.{ByReference}
 use Rattle.catalogue_rules.specs.declared.change.Change.{Change}
 use Rattle.catalogue_rules.specs.declared.entry.Entry.{Entry}

@@ -1,7 +1,7 @@
 -- The command line of the program: its options, and its commands with the options and operands of
 -- each.
 use Prim.Native.String.{String}
-use Rattle.std.specs.Prelude.{◌≡◌, ◌∷◌, ℕ, true, false, List, [], Result, Some, IfOk, IsOkAnd, codes}
+use Rattle.std.specs.Prelude.{◌≡◌, ◌∷◌, ℕ, true, false, List, [], Some, codes}
 use Rattle.clap.specs.Lexer.{usize_max}
 use Rattle.clap.specs.Simple.{App, Shape, app_of, new_rule, new_shape}
 use Rattle.clap.specs.Walk.{Rule, Text, is_empty, rule_of}
@@ -67,6 +67,7 @@ convert_command = command_of "convert" (
     ∷ text_option (codes "id-type")
     ∷ text_option (codes "wrong")
     ∷ short_option (codes "folder") 111
+    ∷ text_option (codes "titles")
     ∷ some_operands (codes "file") 0
     ∷ [])
 
@@ -140,10 +141,3 @@ IsProgram a c = (app_of c ≡ a) × ((fields_of c).has_globals ≡ false)
 -- the command is that, without commands of its own
 abbrev pub IsCommand : Shape → Command → Type 0
 IsCommand s c = IsProgram (record { top = s; subs = [] }) c
-
--- where a program is the result, the option or command is there, and is added to the program before
--- it
-abbrev pub AddsMade : {A E : Type 0} → (Command → A → Command → Type 0) → Command
-    → Result A E → Result Command E → Type 0
-AddsMade adds program part result =
-    IfOk result (λ made. IsOkAnd part (λ part. adds program part made))

@@ -5,11 +5,11 @@ ghost use Rattle.std.specs.List.{list_all};
 ghost use Rattle.onix_terms.specs.Code.{code2_of};
 ghost use Rattle.onix_terms.specs.Digits.{digits_of};
 ghost use Rattle.onix_terms.specs.Number.{number_of};
-ghost use Rattle.onix_message.specs.Fields.{is_control};
+ghost use Rattle.onix_records.specs.Fields.{is_control};
 ghost use Rattle.onix_mapping.specs.PartyViews.{pair_view};
 ghost use Rattle.onix_conversion.specs.Views.{options_view};
 ghost use Rattle.onix_conversion.specs.declared.options.Allowed.TheVariants.{FewWrong};
-ghost use Rattle.command_line.specs.ConvertWords.{AreOptions, AsksFor, AsksNothing, IsOf, IsUnread, allowed_of, asked_view, files_named, identifier_of, is_value, word_as, word_or};
+ghost use Rattle.command_line.specs.ConvertWords.{AreOptions, AsksFor, AsksNothing, IsOf, IsUnread, allowed_of, asked_view, files_named, has_input, identifier_of, is_value, word_as, word_or};
 ghost use Rattle.command_line.specs.Words.{words_in};
 
 use crate::words::{text_in, texts_in};
@@ -74,6 +74,8 @@ const IDENTIFIER: &str =
 #[derive(Drop)]
 pub struct Conversion<'a> {
     pub run: Run<'a>,
+    /// The file that takes the titles, where they are asked for.
+    pub titles: Option<&'a str>,
     pub files: Vec<&'a str>,
 }
 
@@ -86,6 +88,8 @@ pub enum BadWords<'a> {
     NoFolder,
     /// `--number` with several FILEs.
     OneNumber,
+    /// `--titles` with standard input, which cannot be read again.
+    InputTitles,
     /// Memory ran out.
     Memory,
 }
@@ -113,6 +117,10 @@ impl<'a> BadWords<'a> {
             BadWords::OneNumber => {
                 String::from_str(alloc, "error: --number is for one FILE alone\n")
             }
+            BadWords::InputTitles => String::from_str(
+                alloc,
+                "error: --titles is for FILEs with names, not for standard input\n",
+            ),
             BadWords::Memory => Err(AllocError),
         }
     }
@@ -295,9 +303,23 @@ fn options_of<'a>(words: &ArgMatches<'a>) -> Result<Options<'a>, BadWords<'a>>
     Ok(Options { choices, wrong })
 }
 
+// Whether standard input is among FILEs.
+fn has_input(files: &[&str]) -> bool
+    ensures { result ≡ has_input (map (λ name. name.now) files.now) }
+{
+    let mut rest = files;
+    while let [first, tail @ ..] = rest {
+        if *first == STANDARD_INPUT {
+            return true;
+        }
+        rest = tail;
+    }
+    false
+}
+
 /// What words that clap let pass ask of `convert`: each is read by its rule, and what is not there has
 /// its default. Of words that break their rules it tells one, and else that several FILEs need a folder
-/// or have no number in common.
+/// or have no number in common, or that the titles of standard input are not to be had.
 pub fn conversion_of<'a>(
     alloc: Global,
     words: &ArgMatches<'a>,
@@ -317,8 +339,13 @@ pub fn conversion_of<'a>(
     if files.len() > 1 && options.choices.number.is_some() {
         return Err(BadWords::OneNumber);
     }
+    let titles = text_in(words, "titles");
+    if titles.is_some() && has_input(files.as_slice()) {
+        return Err(BadWords::InputTitles);
+    }
     Ok(Conversion {
         run: Run { options, folder },
+        titles,
         files,
     })
 }

@@ -5,7 +5,7 @@ use Rattle.sqlite.specs.Files.{IsCleanLeft}
 use Rattle.sqlite_disk.specs.declared.Disk.{Ghosts}
 use Rattle.sqlite_wal.specs.Recovery.{Image}
 use Rattle.desk_tables.specs.Rows.{DeskRows}
-use Rattle.desk_store.specs.Openings.{KeepsFiles}
+use Rattle.desk_versions.specs.Openings.{KeepsFiles}
 use Rattle.database_files.specs.Databases.{AreSettled}
 use Rattle.database_files.specs.declared.files.FilesLeft.{FilesLeft}
 use Rattle.database_files.specs.declared.files.FilesLeft.TheVariants.{NotOpened, Unopened, Untouched}

@@ -7,7 +7,7 @@ ghost use Rattle.database_files.specs.Leftovers.{HasNoFiles};
 use crate::database::look_at;
 use crate::files::FilesLeft;
 use command_line::invocation::Database;
-use onix_message::StoreFault;
+use onix_records::StoreFault;
 use program_lines::fault::Fault;
 use sqlite::{Files, Options};
 use sqlite_disk::Disk;

@@ -1,7 +1,7 @@
 //! The database files at paths of the file system.
 
 use crate::databases::Databases;
-use onix_message::StoreFault;
+use onix_records::StoreFault;
 use sqlite::{FileFrom, Files, Start};
 use sqlite_std_file::OpenError;
 use std::io::ErrorKind;

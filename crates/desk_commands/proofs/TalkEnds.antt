@@ -3,7 +3,7 @@ use Rattle.std.proofs.Common.{◌≡◌, ◌∙◌, ◌+◌, ℕ, Bool, true, fa
 use Rattle.std.specs.Prelude.{if◌then◌else◌}
 use Rattle.series_rules.specs.Steps.{Step}
 use Rattle.series_rules.specs.declared.requests.Request.{Request}
-use Rattle.onix_message.specs.declared.faults.StoreFault.{StoreFault}
+use Rattle.onix_records.specs.declared.faults.StoreFault.{StoreFault}
 use Rattle.desk_batch.specs.Batch.{BatchGives, RequestGives, RunsBatch}
 use Rattle.desk_texts.specs.Requests.{requests_of}
 use Rattle.desk_batch.specs.Talks.{Stop, Talk, Talks, cut, ended, failed, fault, next, refusals_in, unsaid}

@@ -12,11 +12,11 @@ use Rattle.std.proofs.lemmas.Bool.Decides.{nat_tests}
 use Rattle.std.proofs.lemmas.List.Folds.{find-append}
 use Rattle.std.proofs.lemmas.Slice.Eq.{bytes_eq-Decides}
 use Rattle.onix_terms.specs.declared.party.Party.{Party}
-use Rattle.onix_message.specs.Message.{message_of}
+use Rattle.onix_records.specs.Message.{message_of}
 use Rattle.desk_export.specs.MessageRecords.{message_records, numbered_header}
-use Rattle.onix_message.specs.declared.agreements.Agreement.{Agreement}
-use Rattle.onix_message.specs.declared.parts.Header.{Header}
-use Rattle.onix_message.specs.declared.parts.Product.{Product}
+use Rattle.onix_records.specs.declared.agreements.Agreement.{Agreement}
+use Rattle.onix_records.specs.declared.parts.Header.{Header}
+use Rattle.onix_records.specs.declared.parts.Product.{Product}
 use Rattle.price_rules.specs.declared.precedence.Rule.{Rule}
 use Rattle.series_rules.proofs.AgreementLemmas.{agreements_are_distinct, between_by_name, between_has_parties, named_has_name, named_stays, parties_are}
 use Rattle.series_rules.specs.Agreements.{agreements_of, between, has_name, has_parties, named, with_agreement}

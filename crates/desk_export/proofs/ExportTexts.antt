@@ -10,19 +10,19 @@ use Rattle.std.proofs.lemmas.List.Folds.{list_all-append}
 use Rattle.std.proofs.lemmas.Slice.Eq.{bytes_eq-Decides}
 use Rattle.csv.specs.Reading.{strip_bom}
 use Rattle.csv_records.specs.RecordTexts.{AllFilled, records_text}
-use Rattle.onix_message.specs.ContentsText.{end_record}
-use Rattle.onix_message.specs.Detail.{detail_records}
-use Rattle.onix_message.specs.Message.{message_of}
+use Rattle.onix_records.specs.ContentsText.{end_record}
+use Rattle.onix_records.specs.Detail.{detail_records}
+use Rattle.onix_records.specs.Message.{message_of}
 use Rattle.desk_export.specs.MessageRecords.{message_record, message_records}
-use Rattle.onix_message.specs.Price.{price_record}
-use Rattle.onix_message.specs.Product.{content_records, product_records}
-use Rattle.onix_message.specs.Supply.{supplies_records, supply_records}
-use Rattle.onix_message.specs.declared.agreements.Agreement.{Agreement}
-use Rattle.onix_message.specs.declared.parts.Header.{Header}
-use Rattle.onix_message.specs.declared.parts.Price.{Price}
-use Rattle.onix_message.specs.declared.parts.Product.{Product}
-use Rattle.onix_message.specs.declared.parts.ProductSupply.{ProductSupply}
-use Rattle.onix_message.specs.declared.parts.SupplyDetail.{SupplyDetail}
+use Rattle.onix_records.specs.Price.{price_record}
+use Rattle.onix_records.specs.Product.{content_records, product_records}
+use Rattle.onix_records.specs.Supply.{supplies_records, supply_records}
+use Rattle.onix_records.specs.declared.agreements.Agreement.{Agreement}
+use Rattle.onix_records.specs.declared.parts.Header.{Header}
+use Rattle.onix_records.specs.declared.parts.Price.{Price}
+use Rattle.onix_records.specs.declared.parts.Product.{Product}
+use Rattle.onix_records.specs.declared.parts.ProductSupply.{ProductSupply}
+use Rattle.onix_records.specs.declared.parts.SupplyDetail.{SupplyDetail}
 use Rattle.series_rules.proofs.Elements.{In}
 use Rattle.desk_export.proofs.FilledRecords.{ReadLaw, filled_append, filled_contents, strip_first}
 use Rattle.desk_export.proofs.MapEntries.{get_in}

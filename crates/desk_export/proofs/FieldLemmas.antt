@@ -9,8 +9,8 @@ use Rattle.onix_terms.specs.Number.{number_of}
 use Rattle.onix_terms.specs.Digits.{digits_of}
 use Rattle.onix_terms.specs.Options.{◌>>=◌, nonempty}
 use Rattle.onix_terms.specs.declared.party.Party.{Party}
-use Rattle.onix_message.specs.Fields.{is_clean, optional, optional_party, party_fields, party_of}
-use Rattle.onix_message.proofs.FrontRows.{bind-some}
+use Rattle.onix_records.specs.Fields.{is_clean, optional, optional_party, party_fields, party_of}
+use Rattle.onix_records.proofs.FrontRows.{bind-some}
 
 -- what the laws of numbers say
 pub record NumberLaws : Type 0 where

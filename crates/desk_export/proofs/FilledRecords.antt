@@ -5,15 +5,15 @@ use Rattle.std.specs.List.{flat_map}
 use Rattle.csv.specs.Reading.{strip_bom}
 use Rattle.csv_records.specs.RecordTexts.{AllFilled, records_of, records_text}
 use Rattle.onix_terms.specs.declared.party.Party.{Party}
-use Rattle.onix_message.specs.ContentsText.{contents_text}
-use Rattle.onix_message.specs.Detail.{detail_records}
-use Rattle.onix_message.specs.Price.{price_record}
-use Rattle.onix_message.specs.Product.{content_records, product_records}
-use Rattle.onix_message.specs.Supply.{supplies_records, supply_records}
-use Rattle.onix_message.specs.declared.parts.Price.{Price}
-use Rattle.onix_message.specs.declared.parts.Product.{Product}
-use Rattle.onix_message.specs.declared.parts.ProductSupply.{ProductSupply}
-use Rattle.onix_message.specs.declared.parts.SupplyDetail.{SupplyDetail}
+use Rattle.onix_records.specs.ContentsText.{contents_text}
+use Rattle.onix_records.specs.Detail.{detail_records}
+use Rattle.onix_records.specs.Price.{price_record}
+use Rattle.onix_records.specs.Product.{content_records, product_records}
+use Rattle.onix_records.specs.Supply.{supplies_records, supply_records}
+use Rattle.onix_records.specs.declared.parts.Price.{Price}
+use Rattle.onix_records.specs.declared.parts.Product.{Product}
+use Rattle.onix_records.specs.declared.parts.ProductSupply.{ProductSupply}
+use Rattle.onix_records.specs.declared.parts.SupplyDetail.{SupplyDetail}
 use Rattle.desk_export.specs.MessageRecords.{framed_by, message_record, message_records}
 
 abbrev Record : Type 0

@@ -9,29 +9,29 @@ use Rattle.onix_terms.specs.Code.{code2_of, currency_of}
 use Rattle.onix_terms.specs.Digits.{digits_of}
 use Rattle.onix_terms.specs.Number.{number_of}
 use Rattle.onix_terms.specs.declared.party.Party.{Party}
-use Rattle.onix_message.specs.ContentsText.{IsContents, end_record, framed, plain_opening}
-use Rattle.onix_message.specs.Detail.{detail_of}
-use Rattle.onix_message.specs.Fields.{is_clean, optional, optional_party, party_of, party_fields}
-use Rattle.onix_message.specs.Grammar.{IsMessage}
-use Rattle.onix_message.specs.Message.{message_of}
+use Rattle.onix_records.specs.ContentsText.{IsContents, end_record, framed, plain_opening}
+use Rattle.onix_records.specs.Detail.{detail_of}
+use Rattle.onix_records.specs.Fields.{is_clean, optional, optional_party, party_of, party_fields}
+use Rattle.onix_records.specs.Grammar.{IsMessage}
+use Rattle.onix_records.specs.Message.{message_of}
 use Rattle.desk_export.specs.MessageRecords.{message_record, message_records, numbered_header}
-use Rattle.onix_message.specs.PartRows.{rows_after}
-use Rattle.onix_message.specs.Opening.{form_of, opening_fields, opening_from, opening_of}
-use Rattle.onix_message.specs.Price.{price_from, price_of}
-use Rattle.onix_message.specs.Product.{content_records, product_of}
-use Rattle.onix_message.specs.Row.{end_of, message_row, row_of}
-use Rattle.onix_message.specs.Supply.{supply_of}
-use Rattle.onix_message.specs.declared.parts.Header.{Header}
-use Rattle.onix_message.specs.declared.parts.Price.{Price}
-use Rattle.onix_message.specs.declared.parts.Product.{Product}
-use Rattle.onix_message.specs.declared.row.Form.TheVariants as form
-use Rattle.onix_message.specs.declared.row.Opening.{Opening}
-use Rattle.onix_message.specs.declared.row.Row.{Row}
-use Rattle.onix_message.specs.declared.row.Row.TheVariants as row
-use Rattle.onix_message.proofs.CleanTexts.{digits-clean}
-use Rattle.onix_message.proofs.FrontRows.{bind-some}
-use Rattle.onix_message.proofs.Fronts.{cons-parts, reads-length}
-use Rattle.onix_message.proofs.RowParts.{message-computed, message-meant}
+use Rattle.onix_records.specs.PartRows.{rows_after}
+use Rattle.onix_records.specs.Opening.{form_of, opening_fields, opening_from, opening_of}
+use Rattle.onix_records.specs.Price.{price_from, price_of}
+use Rattle.onix_records.specs.Product.{content_records, product_of}
+use Rattle.onix_records.specs.Row.{end_of, message_row, row_of}
+use Rattle.onix_records.specs.Supply.{supply_of}
+use Rattle.onix_records.specs.declared.parts.Header.{Header}
+use Rattle.onix_records.specs.declared.parts.Price.{Price}
+use Rattle.onix_records.specs.declared.parts.Product.{Product}
+use Rattle.onix_records.specs.declared.row.Form.TheVariants as form
+use Rattle.onix_records.specs.declared.row.Opening.{Opening}
+use Rattle.onix_records.specs.declared.row.Row.{Row}
+use Rattle.onix_records.specs.declared.row.Row.TheVariants as row
+use Rattle.onix_records.proofs.CleanTexts.{digits-clean}
+use Rattle.onix_records.proofs.FrontRows.{bind-some}
+use Rattle.onix_records.proofs.Fronts.{cons-parts, reads-length}
+use Rattle.onix_records.proofs.RowParts.{message-computed, message-meant}
 use Rattle.desk_export.proofs.FieldLemmas.{NumberLaws, bind-at, clean-parts, mapped-some, optional-some, party-fields, party-same}
 
 abbrev Fields : Type 0

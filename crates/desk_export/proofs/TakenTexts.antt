@@ -8,7 +8,7 @@ use Rattle.std.specs.List.{flat_map}
 use Rattle.std.proofs.lemmas.Grind.{flat_map-append}
 use Rattle.std.proofs.lemmas.List.{map-append}
 use Rattle.csv_records.proofs.CutFacts.{take-get}
-use Rattle.onix_message.specs.declared.agreements.Agreement.{Agreement}
+use Rattle.onix_records.specs.declared.agreements.Agreement.{Agreement}
 use Rattle.series_rules.proofs.AgreementLemmas.{named_has_name}
 use Rattle.series_rules.proofs.Elements.{In, in_map}
 use Rattle.series_rules.proofs.OfferLemmas.{get-by_name}
@@ -23,10 +23,16 @@ use Rattle.series_rules.specs.declared.answers.GapReport.{GapReport}
 use Rattle.series_rules.specs.declared.requests.Request.{Request}
 use Rattle.series_rules.specs.declared.requests.Request.TheVariants.{Agree}
 use Rattle.desk_listing.specs.Listing.{agreements_by_name}
-use Rattle.desk_export.specs.Exporting.{IsDone, IsTaken, TakesAll, end_after, requests_between, texts_of}
+use Rattle.desk_export.specs.Exporting.{IsTaken, TakesAll, end_after, requests_between, texts_of}
 use Rattle.desk_export.specs.Exports.{requests_at, requests_from, series_requests}
 use Rattle.desk_export.specs.RequestRecords.{request_text}
 use Rattle.desk_export.proofs.MapEntries.{get_in}
+
+-- what a call takes that ends without a fault
+abbrev pub IsDone : {T : Type 0} {k : DeskKind} → (T → T → List ℕ → Type 0)
+    → (List Request → List (List ℕ)) → View k → View k → T → T → Type 0
+IsDone takes texts old new from to =
+    IsTaken {A = ⊤} {F = ⊤} takes (λ L. ⊤) texts old new from to (Ok tt)
 
 -- ---- texts
 

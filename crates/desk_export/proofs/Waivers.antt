@@ -3,10 +3,10 @@ use Rattle.std.proofs.Common.{◌≡◌, ◌∷◌, ◌∙◌, [], ℕ, List, tr
 use Rattle.std.specs.Str.{bytes_eq}
 use Rattle.std.proofs.lemmas.Slice.Eq.{bytes_eq-Decides}
 use Rattle.csv_records.specs.RecordTexts.{records_text}
-use Rattle.onix_message.specs.ContentsText.{contents_text}
-use Rattle.onix_message.specs.Product.{content_records, product_records}
-use Rattle.onix_message.specs.declared.agreements.Agreement.{Agreement}
-use Rattle.onix_message.specs.declared.parts.Product.{Product}
+use Rattle.onix_records.specs.ContentsText.{contents_text}
+use Rattle.onix_records.specs.Product.{content_records, product_records}
+use Rattle.onix_records.specs.declared.agreements.Agreement.{Agreement}
+use Rattle.onix_records.specs.declared.parts.Product.{Product}
 use Rattle.series_rules.specs.declared.requests.Request.TheVariants.{Waive}
 use Rattle.series_rules.specs.declared.requests.Standing.{Standing}
 use Rattle.series_rules.specs.declared.requests.Standing.TheVariants.{Message, Waived}

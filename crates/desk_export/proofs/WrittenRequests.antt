@@ -7,10 +7,10 @@ use Rattle.std.proofs.lemmas.Option.{same_Some}
 use Rattle.csv_records.specs.RecordTexts.{records_of}
 use Rattle.onix_terms.specs.Number.{number_of}
 use Rattle.onix_terms.specs.SeriesName.{series_name_of}
-use Rattle.onix_message.specs.Fields.{is_clean, optional_party, party_fields, party_of}
-use Rattle.onix_message.specs.declared.agreements.Agreement.{Agreement}
-use Rattle.onix_message.proofs.CleanTexts.{digits-clean}
-use Rattle.onix_message.proofs.FrontRows.{bind-some}
+use Rattle.onix_records.specs.Fields.{is_clean, optional_party, party_fields, party_of}
+use Rattle.onix_records.specs.declared.agreements.Agreement.{Agreement}
+use Rattle.onix_records.proofs.CleanTexts.{digits-clean}
+use Rattle.onix_records.proofs.FrontRows.{bind-some}
 use Rattle.desk_export.proofs.FieldLemmas.{NumberLaws, bind-at, clean-parts, mapped-some, party-fields, party-same}
 use Rattle.series_rules.specs.declared.requests.Request.{Request}
 use Rattle.series_rules.specs.declared.requests.Request.TheVariants as request

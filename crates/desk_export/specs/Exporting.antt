@@ -1,6 +1,6 @@
 -- What is asked of a desk and what is taken while it is listed.
-use Rattle.std.specs.Prelude.{◌≡◌, ◌+◌, ◌-◌, ◌++◌, ℕ, List, [], ◌∷◌, Option, Some, None, Result, Ok, OnOk, map, ⊤}
-use Rattle.onix_message.specs.declared.agreements.Agreement.{Agreement}
+use Rattle.std.specs.Prelude.{◌≡◌, ◌+◌, ◌-◌, ◌++◌, ℕ, List, [], ◌∷◌, Option, Some, None, Result, OnOk, map}
+use Rattle.onix_records.specs.declared.agreements.Agreement.{Agreement}
 use Rattle.series_rules.specs.Views.{DeskKind, Stays, View}
 use Rattle.series_rules.specs.declared.requests.Request.{Request}
 use Rattle.desk_export.specs.Exports.{requests_from}
@@ -25,12 +25,6 @@ pub record IsTaken {A F T : Type 0} {k : DeskKind} (takes : T → T → List ℕ
   pub stays : new.sound → Stays old new
   pub taken : (L : List Request) → old.stands_for L → new.sound → IsSo L
       → OnOk result (TakesAll takes from to (texts L))
-
--- the same, of what was done without a fault
-abbrev pub IsDone : {T : Type 0} {k : DeskKind} → (T → T → List ℕ → Type 0)
-    → (List Request → List (List ℕ)) → View k → View k → T → T → Type 0
-IsDone takes texts old new from to =
-    IsTaken {A = ⊤} {F = ⊤} takes (λ L. ⊤) texts old new from to (Ok tt)
 
 -- the number behind the greatest that has something, or else the first
 abbrev pub end_after : ℕ → Option ℕ → ℕ

@@ -4,7 +4,7 @@ use Rattle.std.specs.FinMap.{entries}
 use Rattle.std.specs.List.{flat_map, range_with_len}
 use Rattle.onix_terms.specs.declared.party.Party.{Party}
 use Rattle.desk_export.specs.MessageRecords.{message_records}
-use Rattle.onix_message.specs.declared.agreements.Agreement.{Agreement}
+use Rattle.onix_records.specs.declared.agreements.Agreement.{Agreement}
 use Rattle.price_rules.specs.declared.precedence.Rule.{Rule}
 use Rattle.series_rules.specs.Agreements.{agreements_of, between}
 use Rattle.series_rules.specs.Answers.{answers, followed_by}

@@ -2,11 +2,11 @@
 -- at no time, without defaults.
 use Rattle.std.specs.Prelude.{ℕ, List, [], ◌∷◌, ◌++◌, Option, Some, None, codes, decimal, length}
 use Rattle.onix_terms.specs.declared.party.Party.{Party}
-use Rattle.onix_message.specs.ContentsText.{end_record}
-use Rattle.onix_message.specs.Fields.{party_fields}
-use Rattle.onix_message.specs.Product.{content_records}
-use Rattle.onix_message.specs.declared.parts.Header.{Header}
-use Rattle.onix_message.specs.declared.parts.Product.{Product}
+use Rattle.onix_records.specs.ContentsText.{end_record}
+use Rattle.onix_records.specs.Fields.{party_fields}
+use Rattle.onix_records.specs.Product.{content_records}
+use Rattle.onix_records.specs.declared.parts.Header.{Header}
+use Rattle.onix_records.specs.declared.parts.Product.{Product}
 
 -- the header of such a message
 abbrev pub numbered_header : Party → Option Party → ℕ → Header

@@ -1,8 +1,8 @@
 -- Requests that change a desk, as records of a batch.
 use Rattle.std.specs.Prelude.{ℕ, List, [], ◌∷◌, ◌++◌, codes, decimal}
 use Rattle.csv_records.specs.RecordTexts.{records_text}
-use Rattle.onix_message.specs.Fields.{party_fields}
-use Rattle.onix_message.specs.declared.agreements.Agreement.{Agreement}
+use Rattle.onix_records.specs.Fields.{party_fields}
+use Rattle.onix_records.specs.declared.agreements.Agreement.{Agreement}
 use Rattle.series_rules.specs.declared.requests.Request.{Request}
 use Rattle.series_rules.specs.declared.requests.Request.TheVariants.{Agree, Deliver, Waive}
 

@@ -12,7 +12,7 @@ use crate::request_text::{write_agreement, write_standing};
 use crate::taking::TakesTexts;
 use csv_records::reading::LIMIT;
 use desk_listing::listing::ListedDesk;
-use onix_message::{Agreement, StoreFault};
+use onix_records::{Agreement, StoreFault};
 use onix_terms::number::Number;
 use onix_terms::series_name::SeriesName;
 use series_rules::answers::GapReport;

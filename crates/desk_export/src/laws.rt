@@ -2,16 +2,16 @@
 
 ghost use Rattle.std.specs.Prelude.{◌≡◌, ℕ, List, Some, length};
 ghost use Rattle.std.specs.List.{AllByRecursion};
-ghost use Rattle.onix_message.specs.Message.{message_of};
-ghost use Rattle.onix_message.specs.declared.parts.Header.{Header};
-ghost use Rattle.onix_message.specs.declared.parts.Product.{Product};
+ghost use Rattle.onix_records.specs.Message.{message_of};
+ghost use Rattle.onix_records.specs.declared.parts.Header.{Header};
+ghost use Rattle.onix_records.specs.declared.parts.Product.{Product};
 ghost use Rattle.desk_texts.specs.Requests.{requests_of};
 ghost use Rattle.desk_export.specs.Exports.{ExportIsTrue};
 ghost use Rattle.desk_export.specs.MessageRecords.{message_records, numbered_header};
 ghost use Rattle.desk_export.specs.RequestTexts.{CanBeWritten, ExportIsRead};
 
 use csv_records::laws::one_text;
-use onix_message::laws::contents_of_messages;
+use onix_records::laws::contents_of_messages;
 use onix_terms::laws::{number_reads_back, terms_are_in_range, texts_are_themselves};
 
 /// A message with a number is read again from the records that are written of its parties, its

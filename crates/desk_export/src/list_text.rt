@@ -13,7 +13,7 @@ use crate::taking::TakesTexts;
 use csv_records::streams::WriteFault;
 use desk_listing::listing::ListedDesk;
 use desk_texts::answer_text::write_answer;
-use onix_message::{Agreement, StoreFault};
+use onix_records::{Agreement, StoreFault};
 use series_rules::answers::Answer;
 use std::alloc::Global;
 use std::io::Write;

@@ -3,8 +3,8 @@
 ghost use Rattle.std.specs.Prelude.{◌≡◌, ◌∷◌, ◌++◌, [], IfOk, List, OnOk};
 ghost use Rattle.std.specs.String.{string_bytes};
 ghost use Rattle.csv_records.specs.RecordTexts.{records_of, records_text};
-ghost use Rattle.onix_message.specs.ContentsText.{contents_text};
-ghost use Rattle.onix_message.specs.declared.parts.Product.{Product};
+ghost use Rattle.onix_records.specs.ContentsText.{contents_text};
+ghost use Rattle.onix_records.specs.declared.parts.Product.{Product};
 ghost use Rattle.desk_export.specs.MessageRecords.{framed_by, message_record, message_records};
 
 use csv_records::buffer::RecordBuffer;
@@ -12,7 +12,7 @@ use csv_records::laws::one_text;
 use csv_records::reading::{RecordReader, append_records};
 use csv_records::writing::write_records;
 use itoa::Buffer;
-use onix_message::Agreement;
+use onix_records::Agreement;
 use onix_terms::number::Number;
 use std::alloc::{AllocError, Global};
 

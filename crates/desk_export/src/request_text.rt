@@ -13,7 +13,7 @@ use crate::message_text::write_message;
 use csv_records::buffer::RecordBuffer;
 use csv_records::writing::write_records;
 use itoa::Buffer;
-use onix_message::Agreement;
+use onix_records::Agreement;
 use onix_terms::number::Number;
 use onix_terms::series_name::SeriesName;
 use std::alloc::{AllocError, Global};

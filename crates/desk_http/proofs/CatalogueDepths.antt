@@ -3,9 +3,9 @@ use Rattle.std.proofs.Common.{◌≤◌, ℕ, List, Option, Some, None, arith, r
 use Rattle.serde_json.specs.Data.{depth, string}
 use Rattle.onix_terms.specs.declared.party.Party.{Party}
 use Rattle.onix_terms.specs.declared.territory.Territory.{Territory}
-use Rattle.onix_message.specs.declared.parts.Price.{Price}
-use Rattle.onix_message.specs.declared.parts.ProductSupply.{ProductSupply}
-use Rattle.onix_message.specs.declared.parts.SupplyDetail.{SupplyDetail}
+use Rattle.onix_records.specs.declared.parts.Price.{Price}
+use Rattle.onix_records.specs.declared.parts.ProductSupply.{ProductSupply}
+use Rattle.onix_records.specs.declared.parts.SupplyDetail.{SupplyDetail}
 use Rattle.catalogue_rules.specs.Records.{ByReference, records_of}
 use Rattle.catalogue_rules.specs.declared.entry.Entry.{Entry}
 use Rattle.desk_http.specs.CatalogueJson.{catalogue, detail, entry, identifier, party, price, supply, territory}

@@ -2,7 +2,7 @@
 use Prim.Native.String.{String}
 use Rattle.std.specs.Prelude.{ℕ, List, [], ◌∷◌}
 use Rattle.serde_json.specs.Data.{Data, string}
-use Rattle.onix_message.specs.declared.effects.Effect.{Effect}
+use Rattle.onix_records.specs.declared.effects.Effect.{Effect}
 use Rattle.series_rules.specs.declared.answers.AgreeAnswer.{AgreeAnswer}
 use Rattle.series_rules.specs.declared.answers.AgreeAnswer.TheVariants.{Agreed, NameTaken, SeriesTaken}
 use Rattle.series_rules.specs.declared.answers.DeliveryAnswer.{DeliveryAnswer}

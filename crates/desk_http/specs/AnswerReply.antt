@@ -1,7 +1,7 @@
 -- The reply to each answer of a desk, and to its faults.
 use Rattle.std.specs.Prelude.{ℕ, List, codes}
-use Rattle.onix_message.specs.declared.faults.StoreFault.{StoreFault}
-use Rattle.onix_message.specs.declared.faults.StoreFault.TheVariants.{Disk, Memory, Size, Unusable}
+use Rattle.onix_records.specs.declared.faults.StoreFault.{StoreFault}
+use Rattle.onix_records.specs.declared.faults.StoreFault.TheVariants.{Disk, Memory, Size, Unusable}
 use Rattle.series_rules.specs.declared.answers.AgreeAnswer.{AgreeAnswer}
 use Rattle.series_rules.specs.declared.answers.AgreeAnswer.TheVariants.{Agreed}
 use Rattle.series_rules.specs.declared.answers.DeliveryAnswer.{DeliveryAnswer}

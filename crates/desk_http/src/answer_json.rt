@@ -19,7 +19,7 @@ use crate::members::{object_of, object_with};
 use crate::offer_json::choice_json;
 use crate::texts::offers_text;
 use crate::to_json::{ToJson, array_of};
-use onix_message::Effect;
+use onix_records::Effect;
 use onix_terms::number::Number;
 use onix_terms::series_name::SeriesName;
 use serde_json::{Value, json};

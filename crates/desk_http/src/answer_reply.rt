@@ -7,7 +7,7 @@ ghost use Rattle.desk_http.specs.AnswerJson.{answer_json};
 ghost use Rattle.desk_http.specs.AnswerReply.{agree_status, delivery_status, fault_kind, reply_of_answer, status_of, waiver_status};
 
 use crate::answer_json::answer_text;
-use onix_message::StoreFault;
+use onix_records::StoreFault;
 use series_rules::answers::{AgreeAnswer, Answer, DeliveryAnswer, WaiveAnswer};
 use std::alloc::{AllocError, Global};
 

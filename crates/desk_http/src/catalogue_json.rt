@@ -10,7 +10,7 @@ use crate::members::{object_of, object_with};
 use crate::to_json::{ToJson, array_of};
 use catalogue_rules::catalogue::Catalogue;
 use catalogue_rules::entry::Entry;
-use onix_message::parts::{Price, ProductSupply, SupplyDetail};
+use onix_records::parts::{Price, ProductSupply, SupplyDetail};
 use onix_terms::series_name::SeriesName;
 use onix_terms::territory::Territory;
 use serde_json::{Value, json};

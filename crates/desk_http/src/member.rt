@@ -1,6 +1,6 @@
 //! The members of objects, before an object has them.
 
-use onix_message::parts::ProductIdentifier;
+use onix_records::parts::ProductIdentifier;
 use onix_terms::amount::Amount;
 use onix_terms::code::{Code2, Country};
 use onix_terms::day::Day;

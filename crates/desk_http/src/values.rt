@@ -7,7 +7,7 @@ ghost use Rattle.desk_http.specs.CatalogueJson.{identifier, party as party_data,
 ghost use Rattle.desk_http.specs.Json as json;
 
 use crate::to_json::ToJson;
-use onix_message::parts::ProductIdentifier;
+use onix_records::parts::ProductIdentifier;
 use onix_terms::amount::Amount;
 use onix_terms::code::{Code2, Country};
 use onix_terms::day::Day;

@@ -1,8 +1,8 @@
 -- What stands after a list of requests, as a desk lists it.
 use Rattle.std.specs.Prelude.{ℕ, List, Option, map, option_map, codes}
 use Rattle.std.specs.FinMap.{entries}
-use Rattle.onix_message.specs.declared.agreements.Agreement.{Agreement}
-use Rattle.onix_message.specs.ContentsText.{contents_text}
+use Rattle.onix_records.specs.declared.agreements.Agreement.{Agreement}
+use Rattle.onix_records.specs.ContentsText.{contents_text}
 use Rattle.series_rules.specs.Agreements.{agreements_of}
 use Rattle.series_rules.specs.Firsts.{first_at}
 use Rattle.series_rules.specs.Offers.{by_name}

@@ -3,7 +3,7 @@
 ghost use Rattle.desk_listing.specs.Listing.{agreements_by_name, text_after};
 ghost use Rattle.series_rules.specs.Views.{Tells};
 
-use onix_message::{Agreement, StoreFault};
+use onix_records::{Agreement, StoreFault};
 use onix_terms::items::Items;
 use onix_terms::number::Number;
 use onix_terms::series_name::SeriesName;

@@ -1,8 +1,8 @@
 -- A call of the desk that ran out of memory, whose fault is handed on.
 use Rattle.std.proofs.Common.{List, Ok, Err, Result, subst, sym, ◌≡◌}
 use Rattle.std.specs.Result.{IsErrAnd}
-use Rattle.onix_message.specs.declared.faults.StoreFault.{StoreFault}
-use Rattle.onix_message.specs.declared.faults.StoreFault.TheVariants.{Memory}
+use Rattle.onix_records.specs.declared.faults.StoreFault.{StoreFault}
+use Rattle.onix_records.specs.declared.faults.StoreFault.TheVariants.{Memory}
 use Rattle.series_rules.specs.Views.{Asks, DeskKind, View}
 use Rattle.series_rules.specs.declared.requests.Request.{Request}
 

@@ -9,7 +9,7 @@ use Rattle.std.proofs.lemmas.Bool.Decides.{nat_tests}
 use Rattle.std.proofs.lemmas.List.{take-append-le}
 use Rattle.std.proofs.lemmas.Option.{slice_get_within}
 use Rattle.onix_terms.specs.Number.{number_from}
-use Rattle.onix_message.specs.declared.effects.Effect.{Effect}
+use Rattle.onix_records.specs.declared.effects.Effect.{Effect}
 use Rattle.series_rules.specs.Answers.{placed_answer}
 use Rattle.catalogue_rules.specs.ArticleIndex.{IsIndexOf}
 use Rattle.desk_memory.specs.Folded.{IsFold, IsFolded}

@@ -5,7 +5,7 @@ use Rattle.std.specs.BTreeMap.{is_at}
 use Rattle.std.specs.Option.{option_or}
 use Rattle.std.proofs.lemmas.Bool.Decides.{nat_tests}
 use Rattle.desk_memory.proofs.EqualContents.{same_contents_itself}
-use Rattle.onix_message.specs.declared.parts.Product.{Product}
+use Rattle.onix_records.specs.declared.parts.Product.{Product}
 use Rattle.series_rules.specs.Answers.{answer_against, placed_answer}
 use Rattle.desk_memory.specs.Stands.{with_standing}
 use Rattle.series_rules.specs.declared.requests.Standing.{Standing}

@@ -3,7 +3,7 @@ use Rattle.std.specs.Prelude.{ℕ, List, Option}
 use Rattle.std.specs.BTreeMap.{is_at}
 use Rattle.std.specs.Map.{lookup}
 use Rattle.std.specs.Ordering.{nat_cmp}
-use Rattle.onix_message.specs.declared.agreements.Agreement.{Agreement}
+use Rattle.onix_records.specs.declared.agreements.Agreement.{Agreement}
 use Rattle.series_rules.specs.declared.requests.Standing.{Standing}
 
 -- an agreed series, and what stands at its numbers, in order of number

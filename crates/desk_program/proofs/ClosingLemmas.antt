@@ -16,6 +16,7 @@ use Rattle.sqlite_trees.specs.Props.{Trees-set}
 use Rattle.sqlite_trees.specs.Tree.{Trees}
 use Rattle.sqlite_wal.specs.Reads.{AreClean}
 use Rattle.sqlite_wal.specs.Recovery.{Image}
+use Rattle.desk_tables.proofs.MissingIndex.{lacks_again}
 use Rattle.desk_tables.proofs.OneSchema.{no_meta_again}
 use Rattle.desk_tables.specs.Rows.{DeskRows}
 use Rattle.desk_tables.specs.Schema.{is_meta}
@@ -24,10 +25,10 @@ use Rattle.price_rules.specs.declared.precedence.Rule.{Rule}
 use Rattle.series_rules.specs.Steps.{Leads, Step}
 use Rattle.series_rules.specs.Views.{LeavesOnly, View}
 use Rattle.series_rules.specs.declared.requests.Request.{Request}
-use Rattle.desk_store.proofs.ComesTo.{come_rows, rows_come}
-use Rattle.desk_store.specs.Desks.{AreRowsOf, KeepsRequests}
-use Rattle.desk_store.specs.Openings.{AreFilesOf, AreFoundAs, HoldRowsOf, KeepsFiles, TakesFound}
-use Rattle.desk_store.specs.Seen.{in_tables, seen_in}
+use Rattle.desk_rows.proofs.ComesTo.{come_rows, rows_come, stored}
+use Rattle.desk_rows.specs.Desks.{AreRowsOf, KeepsRequests}
+use Rattle.desk_versions.specs.Openings.{AreFilesOf, AreFoundAs, HoldRowsOf, KeepsFiles, TakesFound}
+use Rattle.desk_rows.specs.Seen.{in_tables, seen_in}
 use Rattle.desk_program.proofs.EndLemmas.{ComesOf, ComesTo, leads_between, same_refl, task_as}
 use Rattle.desk_program.specs.Closings.{Closes, RunsAndCloses}
 use Rattle.database_files.specs.Databases.{AreSettled}
@@ -56,10 +57,10 @@ has_meta db was sound found same meta false is = absurd (no_bool (sym meta ∙ n
 
 -- a database with a table `meta` is what the desk that was opened holds
 holds_meta : (image : Image) (s : State) → TakesFound image s → (d : Trees) → HoldMeta image d → (seen_in s).holds d
-holds_meta image s taken d (db, sound, trees, both, meta) = λ up.
+holds_meta image s taken d (db, sound, trees, both, meta, whole) = λ up.
     let (was, found, as_found, stays) = taken.found in
     let same : was.trees ≡ d = found_trees image d was.trees both as_found in
-    let only = stays (has_meta db was sound found (trees ∙ sym same) meta (list_any is_meta was.schema.tables) refl) in
+    let only = stays (has_meta db was sound found (trees ∙ sym same) meta (list_any is_meta was.schema.tables) refl) (lacks_again db was sound found (sym (trees ∙ sym same)) ∙ whole) in
     ap (λ (x : Database). x.trees) (only.0 up).2 ∙ same
 
 -- a desk that was opened comes to what the files held
@@ -81,7 +82,7 @@ opened_comes image s stands alone taken = record {
 closed_alone : {D : Type 0} (g : Ghosts D) (c : Held (FileStore D g)) (files : Files D) → IsCopied c files → (M : List Request) → KeepsRequests (file_state c) M → LeavesOnly (seen_files g files) M
 closed_alone g c files copied M keeps = λ d may.
     let same : d ≡ (file_state c).committed.trees = ∥∥₁_elim (copied.left may.0 may.1).both (Trees-set _ _) (may.2.1 (file_state c).committed.trees) in
-    rows_come d M (subst (λ x. AreRowsOf x M) (sym same) ((file_state c).committed, refl, (keeps copied.was_open).2))
+    rows_come d M (subst (λ x. AreRowsOf x M) (sym same) ((file_state c).committed, refl, stored (file_state c).committed M (keeps copied.was_open).2))
 
 pub closed_comes : {D : Type 0} (g : Ghosts D) (c : Held (FileStore D g)) (files : Files D)
     → (AreClean g files.log files.db → IsCopied c files × ((L : List Request) → KeepsRequests (file_state c) L → HoldRowsOf (image_of g files) L))

@@ -6,7 +6,7 @@ use Rattle.series_rules.specs.Views.{DeskKind, LeavesOnly, View}
 use Rattle.series_rules.specs.declared.requests.Request.{Request}
 use Rattle.desk_export.proofs.FolderLemmas.{none_named}
 use Rattle.desk_export.specs.Asking.{IsAsked}
-use Rattle.desk_store.specs.Seen.{in_tables, seen_in}
+use Rattle.desk_rows.specs.Seen.{in_tables, seen_in}
 use Rattle.sqlite.specs.Files.{file_state}
 use Rattle.named_files.specs.Holdings.{Holdings}
 use Rattle.command_line.specs.declared.invocation.Listing.{Listing}

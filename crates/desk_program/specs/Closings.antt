@@ -10,9 +10,9 @@ use Rattle.price_rules.specs.declared.precedence.Rule.{Rule}
 use Rattle.series_rules.specs.Steps.{Leads}
 use Rattle.series_rules.specs.Views.{View}
 use Rattle.series_rules.specs.declared.requests.Request.{Request}
-use Rattle.desk_store.specs.Desks.{KeepsRequests}
-use Rattle.desk_store.specs.Openings.{HoldRowsOf}
-use Rattle.desk_store.specs.Seen.{in_tables, seen_in}
+use Rattle.desk_rows.specs.Desks.{KeepsRequests}
+use Rattle.desk_versions.specs.Openings.{HoldRowsOf}
+use Rattle.desk_rows.specs.Seen.{in_tables, seen_in}
 use Rattle.named_files.specs.Holdings.{Holdings}
 use Rattle.desk_commands.specs.TaskEnds.{TaskEnds}
 use Rattle.command_line.specs.declared.invocation.Task.{Task}

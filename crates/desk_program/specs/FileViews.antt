@@ -1,5 +1,5 @@
 -- The two files of a desk, as a desk is seen: before they are opened, and as a command leaves them.
-use Rattle.std.specs.Prelude.{◌≡◌, List, true}
+use Rattle.std.specs.Prelude.{◌≡◌, List, false, true}
 use Rattle.std.specs.List.{list_any}
 use Rattle.sqlite.specs.Effect.{Database, IsDatabase}
 use Rattle.sqlite.specs.Files.{HoldsDatabase, image_of, over_files}
@@ -11,22 +11,24 @@ use Rattle.sqlite_trees.specs.View.{IsClean}
 use Rattle.sqlite_wal.specs.Files.{outcomes}
 use Rattle.sqlite_wal.specs.Reads.{AreClean}
 use Rattle.sqlite_wal.specs.Recovery.{Image}
-use Rattle.desk_tables.specs.Schema.{is_meta}
+use Rattle.desk_tables.specs.Schema.{is_meta, lacks_index}
 use Rattle.series_rules.specs.Content.{SameContent, same_trans}
 use Rattle.series_rules.specs.Views.{View}
 use Rattle.series_rules.specs.declared.requests.Request.{Request}
-use Rattle.desk_store.specs.Desks.{AreRowsOf}
-use Rattle.desk_store.specs.Openings.{AreFilesOf, AreFoundAs, HoldRowsOf}
-use Rattle.desk_store.specs.Seen.{in_tables}
+use Rattle.desk_rows.specs.Desks.{AreRowsOf}
+use Rattle.desk_versions.specs.Openings.{AreFilesOf, AreFoundAs, HoldRowsOf}
+use Rattle.desk_rows.specs.Seen.{in_tables}
 
--- two files hold these trees, those of a database with a table `meta` of a desk
+-- two files hold these trees, those of a database with a table `meta` of a desk, of which the index
+-- is not missing
 abbrev pub HoldMeta : Image → Trees → Type 0
 HoldMeta image d =
     (db : Database) × IsDatabase db × (db.trees ≡ d) × ∥ HoldsDatabase image d ∥₁
-    × (list_any is_meta db.schema.tables ≡ true)
+    × (list_any is_meta db.schema.tables ≡ true) × (lacks_index db.schema ≡ false)
 
 -- two files before they are opened: they hold what a list comes to, and once they are opened only
--- the rows of such a list are left. A database without a table `meta` may get the tables of a desk
+-- the rows of such a list are left. A database without a table `meta` may get the tables of a desk,
+-- and one that lacks the index may get it
 abbrev pub seen_image : Image → View in_tables
 seen_image image = record {
   sound = Unit {0};

@@ -14,7 +14,7 @@ use Rattle.desk_export.specs.PartTexts.{AreInFolder, MayBeInFolder}
 use Rattle.desk_export.specs.RequestTexts.{batch_text}
 use Rattle.named_files.specs.Holdings.{Holdings, MayName}
 use Rattle.named_files.specs.PartFiles.{files_of, numbered}
-use Rattle.desk_store.specs.Seen.{in_tables, seen_in}
+use Rattle.desk_rows.specs.Seen.{in_tables, seen_in}
 use Rattle.command_line.specs.declared.invocation.Listing.{Listing}
 use Rattle.command_line.specs.declared.invocation.Listing.TheVariants.{Agreements, Export, Gaps}
 use Rattle.desk_program.specs.Closings.{Closes}

@@ -7,10 +7,10 @@ use Rattle.sqlite_wal.specs.Reads.{AreClean}
 use Rattle.sqlite_wal.specs.Recovery.{Image}
 use Rattle.series_rules.specs.declared.requests.Request.{Request}
 use Rattle.desk_store.specs.ClosedFiles.{HoldOneDatabase}
-use Rattle.desk_store.specs.Migrations.{AreFilesOfEither, AreMigrated, IsTrueAnswer, MakesSecond}
-use Rattle.desk_store.specs.Openings.{AreEmptyFiles, AreFilesWith, HoldRowsOf}
-use Rattle.desk_store.specs.declared.migrating.MigrateAnswer.{MigrateAnswer}
-use Rattle.desk_store.specs.declared.migrating.MigrateAnswer.TheVariants.{Migrated, AlreadyTwo}
+use Rattle.desk_versions.specs.Migrations.{AreFilesOfEither, AreMigrated, IsTrueAnswer, MakesSecond}
+use Rattle.desk_versions.specs.Openings.{AreEmptyFiles, AreFilesWith, HoldRowsOf}
+use Rattle.desk_versions.specs.declared.migration.MigrateAnswer.{MigrateAnswer}
+use Rattle.desk_versions.specs.declared.migration.MigrateAnswer.TheVariants.{Migrated, AlreadyTwo}
 use Rattle.database_files.specs.Leftovers.{LeavesUndone}
 use Rattle.program_lines.specs.Printing.{PrintEnds}
 use Rattle.database_files.specs.declared.files.FilesLeft.{FilesLeft}

@@ -5,8 +5,8 @@ use Rattle.sqlite_wal.specs.Reads.{AreClean}
 use Rattle.sqlite_wal.specs.Recovery.{Image}
 use Rattle.series_rules.specs.Views.{View}
 use Rattle.desk_store.specs.ClosedFiles.{HoldOneDatabase}
-use Rattle.desk_store.specs.Openings.{MakesNothing}
-use Rattle.desk_store.specs.Seen.{in_tables}
+use Rattle.desk_versions.specs.Openings.{MakesIndex}
+use Rattle.desk_rows.specs.Seen.{in_tables}
 use Rattle.desk_program.specs.FileViews.{seen_files, seen_store}
 use Rattle.database_files.specs.Leftovers.{LeavesUndone}
 use Rattle.database_files.specs.declared.files.FilesLeft.{FilesLeft}
@@ -23,4 +23,4 @@ EndsOverFiles {g = g} ends image written status (Closed files) =
     ends (seen_files g files) status × (AreClean g files.log files.db → HoldOneDatabase g files)
 EndsOverFiles ends image written status (Unclosed store) =
     (status ≡ 3) × (own : ℕ) × ends (seen_store store) own
-EndsOverFiles ends image written status left = LeavesUndone image MakesNothing written status left
+EndsOverFiles ends image written status left = LeavesUndone image MakesIndex written status left

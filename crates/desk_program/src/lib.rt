@@ -4,6 +4,7 @@
 //! the texts of clap.
 #![tactic(auto)]
 
+mod converting;
 pub mod help;
 pub mod listing;
 pub mod migrate;

@@ -8,7 +8,7 @@ ghost use Rattle.database_files.specs.Databases.{AreSettled};
 ghost use Rattle.desk_program.specs.FileEnds.{ActionEnds, FileEnds, InvocationEnds, NewDeskEnds, ReadsRules, RunEnds};
 ghost use Rattle.desk_program.specs.MigrationEnd.{MigrateEnds};
 
-use crate::{help, listing, migrate};
+use crate::{converting, help, listing, migrate};
 use command_line::invocation::{self, Action, Database, Invocation, Reading, Task};
 use database_files::databases::{Databases, open_database};
 use database_files::files::{FilesLeft, fault_of};
@@ -19,7 +19,6 @@ use desk_commands::task::{port_of, run_task};
 use desk_memory::MemoryDesk;
 use desk_store::DeskStore;
 use named_files::NamedFiles;
-use onix_files::convert_files;
 use price_rules::precedence::Precedence;
 use program_lines::fault::{Fault, report};
 use rules_file::checking;
@@ -208,8 +207,7 @@ fn run_action<O: Databases, K: OpenDesks, F: NamedFiles, R: Read, W: Write, E: W
             (status, FilesLeft::Untouched(databases))
         }
         Action::Convert(conversion) => {
-            let names = conversion.files.as_slice();
-            let status = convert_files(rt, &conversion.run, names, files, input, output, errors);
+            let status = converting::run(rt, conversion, files, input, output, errors);
             (status, FilesLeft::Untouched(databases))
         }
         Action::CheckRules { file } => {

@@ -10,22 +10,22 @@ ghost use Rattle.sqlite_std_file.specs.File.{IsFresh};
 ghost use Rattle.sqlite_trees.specs.Tree.{Trees};
 ghost use Rattle.sqlite_wal.specs.Files.{image_at};
 ghost use Rattle.sqlite_wal.specs.Reads.{AreClean};
-ghost use Rattle.desk_store.specs.Desks.{AreRowsOf, KeepsRequests};
-ghost use Rattle.desk_store.specs.Openings.{AreFilesOf, AreItsTrees, HasNoMeta, HoldRowsOf, IsFaultFor, IsOther, IsReady, KeepsFiles, KeepsStore, LeavesOne, MakesNothing, ShowsOnly, Spares, TakesFound, TellsFiles, TellsFound, left_in};
-ghost use Rattle.desk_store.specs.Seen.{in_tables};
+ghost use Rattle.desk_rows.specs.Desks.{AreRowsOf, KeepsRequests};
+ghost use Rattle.desk_versions.specs.Openings.{AreFilesOf, AreItsTrees, HasNoMeta, HoldRowsOf, IsFaultFor, IsOther, IsReady, KeepsFiles, KeepsStore, LeavesOne, MakesIndex, ShowsOnly, Spares, TakesFound, TellsFiles, TellsFound, left_in};
+ghost use Rattle.desk_rows.specs.Seen.{in_tables};
 ghost use Rattle.series_rules.specs.Views.{LeavesOnly};
 ghost use Rattle.series_rules.specs.declared.requests.Request.{Request};
 
 use crate::committing::{ask_agree, ask_deliver, ask_waive};
-use crate::listing::{ask_agreements, ask_text};
-use crate::opening::{OpenFault, connect, prepare};
-use crate::questions::{ask_catalogue, ask_gaps, ask_offers, collect_offers};
 use catalogue_rules::catalogue::Catalogue;
 use csv_records::records::Records;
 use desk_listing::listing::ListedDesk;
+use desk_rows::listing::{ask_agreements, ask_text};
+use desk_rows::questions::{ask_catalogue, ask_gaps, ask_offers, collect_offers};
 use desk_tables::rows::fault::fault_of;
 use desk_tables::rows::laws::same_trees_hold_the_same_rows;
 use desk_tables::tables::Tables;
+use desk_versions::opening::{OpenFault, connect, prepare};
 use onix_message::{Agreement, StoreFault};
 use onix_terms::isbn13::Isbn13;
 use onix_terms::items::Items;
@@ -62,7 +62,7 @@ impl<S: Alter + Drop> DeskStore<S> {
             (LeavesOne (S.Store.recovers e.1)) (HasNoMeta (state S.Store connection)) e.0)) }
         ensures left { IfErr result (λ e. IsTrue (S.Store.view e.1).is_clean
             → IsTrue (state S.Store connection).is_open
-            → Spares MakesNothing (λ db. ShowsOnly db (state S.Store connection)) AreItsTrees
+            → Spares MakesIndex (λ db. ShowsOnly db (state S.Store connection)) AreItsTrees
             (S.Store.recovers e.1)) }
     {
         let mut tables = Tables::new(connection);
@@ -144,7 +144,7 @@ impl<D: Disk + Drop> DeskStore<FileStore<D>> {
         ensures left { IfErr result (λ e. IsCleanLeft e.1
             → IsTrue (file_state connection).is_open
             → KeepsStore
-            (Spares MakesNothing (λ db. ShowsOnly db (file_state connection)) AreItsTrees) e.1) }
+            (Spares MakesIndex (λ db. ShowsOnly db (file_state connection)) AreItsTrees) e.1) }
     {
         match DeskStore::over(alloc, connection) {
             Ok(desk) => Ok(desk),
@@ -176,7 +176,7 @@ impl<D: Disk + Drop> DeskStore<FileStore<D>> {
         ensures fault { IfErr result (λ e. IsCleanLeft e.1
             → TellsFiles IsFaultFor (image_of D.Disk files) (left_in e.1) e.0) }
         ensures left { IfErr result (λ e. IsCleanLeft e.1
-            → KeepsFiles (λ were. were ≡ files) MakesNothing (image_of D.Disk files) e.1) }
+            → KeepsFiles (λ were. were ≡ files) MakesIndex (image_of D.Disk files) e.1) }
     {
         DeskStore::open_files_with(alloc, files, Options::new(1))
     }
@@ -203,7 +203,7 @@ impl<D: Disk + Drop> DeskStore<FileStore<D>> {
         ensures fault { IfErr result (λ e. IsCleanLeft e.1
             → TellsFiles IsFaultFor (image_of D.Disk files) (left_in e.1) e.0) }
         ensures left { IfErr result (λ e. IsCleanLeft e.1
-            → KeepsFiles (λ were. were ≡ files) MakesNothing (image_of D.Disk files) e.1) }
+            → KeepsFiles (λ were. were ≡ files) MakesIndex (image_of D.Disk files) e.1) }
     {
         same_trees_hold_the_same_rows();
         let connection = match connect(alloc, files, options) {
@@ -257,7 +257,7 @@ impl<S: Start> DeskStore<FileStore<FileFrom<S>>> {
         ensures fault { IfErr result (λ e. IfSome e.1 (λ left. IsCleanLeft left
             → TellsFiles IsFaultFor (image_at S.Start) (left_in left) e.0)) }
         ensures left { IfErr result (λ e. IfSome e.1 (λ left. IsCleanLeft left
-            → KeepsFiles (λ were. IsFresh true were.log × IsFresh false were.db) MakesNothing
+            → KeepsFiles (λ were. IsFresh true were.log × IsFresh false were.db) MakesIndex
             (image_at S.Start) left)) }
         ensures unopened { IfErr result (λ e. e.1 ≡ None → ¬ IsOther e.0) }
     {
@@ -275,7 +275,7 @@ impl<S: Start> DeskStore<FileStore<FileFrom<S>>> {
 
 impl<S: Alter> Desk for DeskStore<S> {
     ghost use Rattle.sqlite.specs.Held.{state};
-    ghost use Rattle.desk_store.specs.Seen.{seen_in};
+    ghost use Rattle.desk_rows.specs.Seen.{seen_in};
 
     ghost kind = { in_tables };
 

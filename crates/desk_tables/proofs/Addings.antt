@@ -6,8 +6,8 @@ use Rattle.sqlite_trees.specs.declared.store.Store.{Ghosts}
 use Rattle.sqlite_disk.specs.Disk.{MoreFaults}
 use Rattle.sqlite.specs.State.{State, HasCleanDisk, KeepsCommit}
 use Rattle.sqlite.proofs.StateLemmas.{survives_then}
-use Rattle.onix_message.specs.declared.faults.StoreFault.{StoreFault}
-use Rattle.onix_message.specs.declared.faults.StoreFault.TheVariants.{Disk, Memory, Size, Unusable}
+use Rattle.onix_records.specs.declared.faults.StoreFault.{StoreFault}
+use Rattle.onix_records.specs.declared.faults.StoreFault.TheVariants.{Disk, Memory, Size, Unusable}
 use Rattle.desk_tables.specs.Calls.{AddsBetween, Runs, seen}
 use Rattle.desk_tables.specs.Rows.{DeskRows, Holds}
 use Rattle.desk_tables.specs.Schema.{desk_schema}

@@ -7,7 +7,7 @@ use Rattle.sqlite.specs.Listing.{understood}
 use Rattle.sqlite.specs.State.{Shown}
 use Rattle.sqlite.proofs.Callers.{IsPlain, command_of}
 use Rattle.sqlite_trees.specs.declared.store.Store.{Ghosts}
-use Rattle.onix_message.specs.declared.faults.StoreFault.{StoreFault}
+use Rattle.onix_records.specs.declared.faults.StoreFault.{StoreFault}
 use Rattle.desk_tables.specs.Calls.{Asks, Reads, Takes, seen}
 use Rattle.desk_tables.specs.Rows.{DeskRows, Holds}
 use Rattle.desk_tables.specs.Schema.{desk_schema}

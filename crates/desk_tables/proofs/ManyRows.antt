@@ -14,7 +14,7 @@ use Rattle.sqlite.specs.State.{State, Executes}
 use Rattle.sqlite.specs.Values.{bound}
 use Rattle.sqlite.proofs.Callers.{IsPlain, command_of}
 use Rattle.sqlite_value.specs.declared.value.ValueRef.{ValueRef}
-use Rattle.onix_message.specs.declared.faults.StoreFault.{StoreFault}
+use Rattle.onix_records.specs.declared.faults.StoreFault.{StoreFault}
 use Rattle.desk_tables.specs.Transactions.{Adding, RunsIn}
 use Rattle.desk_tables.proofs.Calls.{adding_ran}
 use Rattle.desk_tables.specs.ManyRows.{RowOf, columns_of, many_of, text_of, width_of, with_rows}

@@ -9,7 +9,7 @@ use Rattle.sqlite_schema.specs.declared.command.Command.TheVariants.{Insert}
 use Rattle.sqlite_schema.specs.declared.command.Source.TheVariants.{Values}
 use Rattle.sqlite.specs.Effect.{value_rows}
 use Rattle.sqlite.specs.State.{State, Executes}
-use Rattle.onix_message.specs.declared.agreements.Agreement.{Agreement}
+use Rattle.onix_records.specs.declared.agreements.Agreement.{Agreement}
 use Rattle.desk_tables.specs.AgreementRows.{applied_definition, held_definition, series_definition}
 use Rattle.desk_tables.specs.RecordChanges.{with_article, with_articles, with_minimum, with_offer, with_price, with_records}
 use Rattle.desk_tables.specs.RecordRows.{MinimumRow, OfferRow, PriceRow, article_definition, minimum_definition, offer_definition, price_definition, record_definition}

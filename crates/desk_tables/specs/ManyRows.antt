@@ -3,7 +3,7 @@ use Rattle.std.specs.Prelude.{◌≡◌, ℕ, ◌*◌, ◌≤◌, Bool, true, fa
 use Rattle.std.specs.List.{flat_map}
 use Rattle.sqlite_value.specs.Order.{Row}
 use Rattle.sqlite_trees.specs.declared.store.Store.{Ghosts}
-use Rattle.onix_message.specs.declared.faults.StoreFault.{StoreFault}
+use Rattle.onix_records.specs.declared.faults.StoreFault.{StoreFault}
 use Rattle.desk_tables.specs.Calls.{AddsAll, AddsBetween}
 use Rattle.desk_tables.specs.RecordChanges.{with_articles, with_minimum_rows, with_offers, with_price_rows, with_records}
 use Rattle.desk_tables.specs.RecordRows.{ArticleRow, RecordRow, article_columns, minimum_columns, minimum_row, offer_columns, offer_row, price_columns, price_row, record_columns}

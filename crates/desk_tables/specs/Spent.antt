@@ -1,6 +1,6 @@
 -- How a transaction is spent.
 use Rattle.std.specs.Prelude.{◌≡◌, true, Result, Ok, Err}
-use Rattle.onix_message.specs.declared.faults.StoreFault.{StoreFault}
+use Rattle.onix_records.specs.declared.faults.StoreFault.{StoreFault}
 use Rattle.desk_tables.specs.declared.work.Work.{Work}
 
 -- a transaction after something was read: spent where that failed

@@ -4,7 +4,7 @@ use Rattle.std.specs.Prelude.{ℕ, Bool, List, [], ◌∷◌, codes}
 use Rattle.std.specs.Fmt.{decimal}
 use Rattle.std.specs.Str.{bytes_eq}
 use Rattle.csv_records.specs.RecordTexts.{records_text}
-use Rattle.onix_message.specs.declared.effects.Effect.{Effect}
+use Rattle.onix_records.specs.declared.effects.Effect.{Effect}
 use Rattle.desk_texts.specs.CatalogueText.{catalogue_records}
 use Rattle.desk_texts.specs.GapText.{gap_records, labelled}
 use Rattle.desk_texts.specs.PriceText.{calendar_records, choice_fields, price_records}

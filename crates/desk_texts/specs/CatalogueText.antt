@@ -3,8 +3,8 @@ use Rattle.std.specs.Prelude.{ℕ, List, [], ◌∷◌, codes}
 use Rattle.std.specs.Fmt.{decimal}
 use Rattle.std.specs.FinMap.{len}
 use Rattle.std.specs.List.{flat_map}
-use Rattle.onix_message.specs.Product.{identifier_fields}
-use Rattle.onix_message.specs.Supply.{supplies_records}
+use Rattle.onix_records.specs.Product.{identifier_fields}
+use Rattle.onix_records.specs.Supply.{supplies_records}
 use Rattle.catalogue_rules.specs.declared.entry.Entry.{Entry}
 use Rattle.catalogue_rules.specs.Records.{ByReference, records_of}
 use Rattle.desk_texts.specs.Records.{Records}

@@ -8,8 +8,8 @@ use Rattle.onix_terms.specs.Day.{day_of}
 use Rattle.onix_terms.specs.Number.{number_of}
 use Rattle.onix_terms.specs.SeriesName.{series_name_of}
 use Rattle.onix_terms.specs.Options.{◌>>=◌}
-use Rattle.onix_message.specs.Fields.{is_clean, optional_party, party_of}
-use Rattle.onix_message.specs.declared.agreements.Agreement.{Agreement}
+use Rattle.onix_records.specs.Fields.{is_clean, optional_party, party_of}
+use Rattle.onix_records.specs.declared.agreements.Agreement.{Agreement}
 use Rattle.price_rules.specs.Queries.{price_query, until}
 use Rattle.price_rules.specs.declared.offer.PriceQuery.{PriceQuery}
 use Rattle.price_rules.specs.declared.offer.CalendarQuery.{CalendarQuery}

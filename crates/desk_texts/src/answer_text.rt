@@ -12,7 +12,7 @@ use crate::text_rows::{fill, push_labelled, push_number};
 use csv_records::buffer::RecordBuffer;
 use csv_records::fields::FieldBuffer;
 use csv_records::writing::write_records;
-use onix_message::Effect;
+use onix_records::Effect;
 use onix_terms::number::Number;
 use onix_terms::series_name::SeriesName;
 use series_rules::answers::{AgreeAnswer, Answer, DeliveryAnswer, WaiveAnswer};

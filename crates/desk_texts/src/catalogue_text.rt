@@ -4,16 +4,16 @@ ghost use Rattle.std.specs.Prelude.{◌≡◌, ◌++◌, ◌∷◌, [], OnOk, co
 ghost use Rattle.std.specs.Fmt.{decimal};
 ghost use Rattle.std.specs.List.{flat_map};
 ghost use Rattle.desk_texts.specs.CatalogueText.{catalogue_records, entry_records};
-ghost use Rattle.onix_message.specs.Product.{identifier_fields};
+ghost use Rattle.onix_records.specs.Product.{identifier_fields};
 
 use crate::text_rows::{fill, push_count};
 use catalogue_rules::catalogue::Catalogue;
 use catalogue_rules::entry::Entry;
 use csv_records::buffer::RecordBuffer;
 use csv_records::fields::FieldBuffer;
-use onix_message::parts::ProductIdentifier;
-use onix_message::product::push_identifiers;
-use onix_message::supply::append_supplies;
+use onix_records::parts::ProductIdentifier;
+use onix_records::product::push_identifiers;
+use onix_records::supply::append_supplies;
 use onix_terms::series_name::SeriesName;
 use std::alloc::{AllocError, Global};
 

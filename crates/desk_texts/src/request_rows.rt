@@ -3,7 +3,7 @@
 ghost use Rattle.std.specs.Prelude.{◌≡◌, ◌∷◌, [], IfOk, OnOk, map};
 ghost use Rattle.desk_texts.specs.Pieces.{pieces};
 ghost use Rattle.desk_texts.specs.Requests.{TextFits};
-ghost use Rattle.onix_message.specs.Gives.{Gives};
+ghost use Rattle.onix_records.specs.Gives.{Gives};
 ghost use Rattle.desk_texts.specs.RequestRows.{agreement_of, calendar_asked, prices_asked, prices_on, question_forms, request_by, request_forms, request_of, row_request, series_of, waiver_of};
 ghost use Rattle.desk_texts.specs.Records.{begins_with};
 
@@ -11,9 +11,9 @@ use crate::pieces::read_pieces;
 use csv_records::buffer::RecordBuffer;
 use csv_records::reading::{RecordFault, RecordReader};
 use csv_records::record::Record;
-use onix_message::Agreement;
-use onix_message::fields::{read_fields, read_optional_party, read_party};
-use onix_message::row::RowFault;
+use onix_records::Agreement;
+use onix_records::fields::{read_fields, read_optional_party, read_party};
+use onix_records::row::RowFault;
 use onix_terms::day::Day;
 use onix_terms::isbn13::Isbn13;
 use onix_terms::items::Items;

@@ -6,7 +6,8 @@ ghost use Rattle.onix_outline.specs.Views.{line_view, line_views};
 
 use crate::lines::with_feeds;
 use crate::shown::Shown;
-use onix_outline::{Fault, Line, Stopped, Taker, Wrong, read_message};
+use onix_mapping::desk_vocabulary;
+use onix_outline::{Fault, Line, Stopped, Taker, Word, Wrong, read_message};
 use std::alloc::AllocError;
 use std::io;
 use xml_text::Position;
@@ -104,8 +105,15 @@ fn depth_shown(depth: usize) -> u8
 
 impl Taker for Shown {
     ghost use Rattle.feed_tests.specs.Outline.{after};
+    ghost use Rattle.onix_mapping.specs.Vocabulary.{desk_vocabulary};
+
+    ghost vocabulary = { desk_vocabulary };
 
     ghost after = { after };
+
+    fn vocabulary() -> &'static [Word] {
+        desk_vocabulary()
+    }
 
     fn take(&mut self, lines: &[Line]) -> Result<(), AllocError> {
         self.push_lines(lines)?;

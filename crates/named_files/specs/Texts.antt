@@ -25,6 +25,10 @@ abbrev pub rest_text : {F : Type 0} → (F → List ℕ) → Option F → List �
 rest_text text None = []
 rest_text text (Some file) = text file
 
+-- what a file has, as it tells that, with what waits to be written behind it
+abbrev pub with_waiting : Bool → List ℕ → List ℕ → List ℕ
+with_waiting is_told text waiting = text ++ told_text is_told waiting
+
 -- what was written of bytes that are told: all of them, or with an error a first part
 abbrev pub IsWritten : {E : Type 0} → Option (List ℕ) → Result (Unit {0}) E → List ℕ → Type 0
 IsWritten None result written = ⊤

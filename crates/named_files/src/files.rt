@@ -70,6 +70,11 @@ pub trait NamedFiles {
     ) -> Result<Self::Made, FileFault>
         ensures { IfOk result (λ made. text_of made ≡ told_text is_told text.now) };
 
+    /// Writes a text to a file that was made, behind what it has. A fault names the folder.
+    fn extend(&self, made: &mut Self::Made, folder: &str, text: &[u8]) -> Result<(), FileFault>
+        ensures { OnOk result
+            (text_of made.new ≡ text_of made.old ++ told_text is_told text.now) };
+
     /// A fault where the name has a file with another text, as far as that can be seen.
     fn check_name(&self, made: &Self::Made, name: &str) -> Result<(), FileFault>;
 

@@ -8,14 +8,14 @@ use Rattle.csv.specs.Reading.{strip_bom}
 use Rattle.csv.specs.Writing.{default_writer, escaped, field_text, fields_text, is_blank, needs_byte}
 use Rattle.csv_records.specs.RecordTexts.{AllFilled, limit, records_text}
 use Rattle.onix_outline.specs.Nodes.{Nodes}
-use Rattle.onix_message.specs.Fields.{is_clean}
-use Rattle.onix_message.specs.Grammar.{IsMessage}
-use Rattle.onix_message.specs.Opening.{opening_of}
-use Rattle.onix_message.specs.Row.{row_of}
-use Rattle.onix_message.specs.declared.parts.Header.{Header}
-use Rattle.onix_message.specs.declared.parts.Product.{Product}
-use Rattle.onix_message.specs.declared.row.Opening.{Opening}
-use Rattle.onix_message.specs.declared.row.Row.{Row}
+use Rattle.onix_records.specs.Fields.{is_clean}
+use Rattle.onix_records.specs.Grammar.{IsMessage}
+use Rattle.onix_records.specs.Opening.{opening_of}
+use Rattle.onix_records.specs.Row.{row_of}
+use Rattle.onix_records.specs.declared.parts.Header.{Header}
+use Rattle.onix_records.specs.declared.parts.Product.{Product}
+use Rattle.onix_records.specs.declared.row.Opening.{Opening}
+use Rattle.onix_records.specs.declared.row.Row.{Row}
 use Rattle.onix_mapping.specs.Header.{Heading}
 use Rattle.onix_conversion.specs.Conversion.{first_record}
 use Rattle.onix_conversion.specs.Messages.{end_record, fits, message_text}

@@ -10,19 +10,19 @@ use Rattle.onix_outline.specs.Nodes.{Nodes}
 use Rattle.onix_mapping.specs.Elements.{Composite}
 use Rattle.onix_mapping.specs.Header.{Heading}
 use Rattle.onix_mapping.specs.Notes.{Note, note, wrong}
-use Rattle.onix_mapping.specs.ProductRecords.{Form, forms}
+use Rattle.onix_mapping.specs.ProductRecords.{Variant, variants}
 use Rattle.onix_mapping.specs.Products.{reference_in}
 use Rattle.onix_mapping.specs.declared.notes.Wrong.TheVariants.{TooLarge}
-use Rattle.onix_conversion.specs.Conversion.{Options, first_record, terms}
+use Rattle.onix_conversion.specs.Conversion.{Options, first_record, settings}
 use Rattle.onix_conversion.specs.Keeping.{Keeping}
 use Rattle.onix_conversion.specs.Messages.{empty_messages, fits, message_text}
-use Rattle.onix_conversion.specs.Packing.{Converted, Work, product_notes}
+use Rattle.onix_conversion.specs.Packing.{Converted, Packing, product_notes}
 use Rattle.onix_conversion.specs.Packing as defined
-use Rattle.onix_conversion.specs.private.Stages.{Begun, Held, Taken, empty_parts, end_text, first_fields, first_text, has_room, held, kept, taken, with_part}
+use Rattle.onix_conversion.specs.private.Stages.{Begun, Stored, Taken, empty_parts, end_text, first_fields, first_text, has_room, stored, kept, taken, with_part}
 use Rattle.onix_conversion.specs.private.Stages.{after_product as product_taken}
 use Rattle.onix_conversion.specs.private.Stages as run
 use Rattle.onix_conversion.specs.Tallies.{place_of, refused_for}
-use Rattle.onix_conversion.specs.declared.rejection.Rejection.{Rejection}
+use Rattle.onix_conversion.specs.declared.refusal.Refusal.{Refusal}
 use Rattle.onix_conversion.proofs.Endings.{ended_at, ended_by, joined}
 use Rattle.onix_conversion.proofs.TextLaws.{closed, grown, room, text_first}
 
@@ -31,7 +31,7 @@ abbrev pub result_map : {A B E : Type 0} → (A → B) → Result A E → Result
 result_map f (Ok x) = Ok (f x)
 result_map f (Err e) = Err e
 
-abbrev pub seen_begun : Heading → Nodes → Work → Begun
+abbrev pub seen_begun : Heading → Nodes → Packing → Begun
 seen_begun h header w = record {
   front = take 6 (first_fields h header);
   back = drop 7 (first_fields h header);
@@ -45,9 +45,9 @@ seen_begun h header w = record {
 }
 
 -- what the program keeps of this work, where the target had taken something before
-abbrev pub seen : {P N : Type 0} → Keeping P N → Heading → Nodes → Taken P N → Work → Held P N
+abbrev pub seen : {P N : Type 0} → Keeping P N → Heading → Nodes → Taken P N → Packing → Stored P N
 seen k h header before w =
-    held (seen_begun h header w) (fold k.with_part before.parts w.parts) (fold k.with_note before.notes w.notes)
+    stored (seen_begun h header w) (fold k.with_part before.parts w.parts) (fold k.with_note before.notes w.notes)
 
 -- a part behind those before
 parted : {P N : Type 0} (k : Keeping P N) (most full : ℕ) (text : List ℕ) (before : P) (parts : List (List ℕ))
@@ -58,28 +58,28 @@ parted k most full text before parts = go (ltb full most) refl
     go true e = rw e (sym (fold_push k.with_part before parts text))
     go false e = rw e refl
 
-pub written_is : {P N : Type 0} (k : Keeping P N) (o : Options) (h : Heading) (header : Nodes) (before : Taken P N) (w : Work)
-    → run.written k o.choices.parts (seen k h header before w) ≡ fold k.with_part before.parts (defined.written (terms o h header) w)
+pub written_is : {P N : Type 0} (k : Keeping P N) (o : Options) (h : Heading) (header : Nodes) (before : Taken P N) (w : Packing)
+    → run.with_begun k o.choices.parts (seen k h header before w) ≡ fold k.with_part before.parts (defined.with_begun (settings o h header) w)
 written_is k o h header before w =
     ap (λ (t : List ℕ). with_part k o.choices.parts w.full t (fold k.with_part before.parts w.parts)) (closed (first_record h header w.full) w.begun)
     ∙ parted k o.choices.parts w.full (message_text (first_record h header w.full) w.begun) before.parts w.parts
 
-joined_is : {P N : Type 0} (k : Keeping P N) (h : Heading) (header : Nodes) (before : Taken P N) (w : Work) (records : List (List (List ℕ)))
-    → held (run.grown (seen k h header before w).begun (length records) (records_text records)) (seen k h header before w).parts (seen k h header before w).notes
+joined_is : {P N : Type 0} (k : Keeping P N) (h : Heading) (header : Nodes) (before : Taken P N) (w : Packing) (records : List (List (List ℕ)))
+    → stored (run.grown (seen k h header before w).begun (length records) (records_text records)) (seen k h header before w).parts (seen k h header before w).notes
     ≡ seen k h header before (joined w records)
 joined_is k h header before w records =
     let count : 1 + length (w.begun ++ records) ≡ 1 + length w.begun + length records = omega (arith, length-append w.begun records) in
     rw (count, grown (first_record h header w.full) w.begun records) refl
 
-turned_is : {P N : Type 0} (k : Keeping P N) (o : Options) (h : Heading) (header : Nodes) (before : Taken P N) (w : Work) (place : Position) (records : List (List (List ℕ)))
-    → held (run.turned o.choices.parts (seen k h header before w).begun place (length records) (records_text records)) (run.written k o.choices.parts (seen k h header before w)) (seen k h header before w).notes
-    ≡ seen k h header before (defined.turned (terms o h header) w place records)
+turned_is : {P N : Type 0} (k : Keeping P N) (o : Options) (h : Heading) (header : Nodes) (before : Taken P N) (w : Packing) (place : Position) (records : List (List (List ℕ)))
+    → stored (run.in_next_part o.choices.parts (seen k h header before w).begun place (length records) (records_text records)) (run.with_begun k o.choices.parts (seen k h header before w)) (seen k h header before w).notes
+    ≡ seen k h header before (defined.in_next_part (settings o h header) w place records)
 turned_is k o h header before w place records =
     rw (written_is k o h header before w, text_first (first_record h header (w.full + 1)) records) refl
 
-pub kept_is : {P N : Type 0} (k : Keeping P N) (o : Options) (h : Heading) (header : Nodes) (before : Taken P N) (w : Work) (place : Position) (records : List (List (List ℕ)))
+pub kept_is : {P N : Type 0} (k : Keeping P N) (o : Options) (h : Heading) (header : Nodes) (before : Taken P N) (w : Packing) (place : Position) (records : List (List (List ℕ)))
     → kept k o.choices.parts (seen k h header before w) place (length records) (records_text records)
-    ≡ option_map (seen k h header before) (defined.packed (terms o h header) w place records)
+    ≡ option_map (seen k h header before) (defined.packed (settings o h header) w place records)
 unfolding kept
 kept_is k o h header before w place records =
     go (fits (first_record h header w.full) (w.begun ++ records)) refl (fits (first_record h header (w.full + 1)) records) refl
@@ -94,41 +94,41 @@ kept_is k o h header before w place records =
 
     go : (a : Bool) → fits (first_record h header w.full) (w.begun ++ records) ≡ a → (b : Bool) → fits (first_record h header (w.full + 1)) records ≡ b
         → kept k o.choices.parts (seen k h header before w) place (length records) (records_text records)
-        ≡ option_map (seen k h header before) (defined.packed (terms o h header) w place records)
+        ≡ option_map (seen k h header before) (defined.packed (settings o h header) w place records)
     go true e b f = rw (here ∙ e, e) (ap Some (joined_is k h header before w records))
     go false e true f = rw (here ∙ e, e, next ∙ f, f) (ap Some (turned_is k o h header before w place records))
     go false e false f = rw (here ∙ e, e, next ∙ f, f) refl
 
 -- ---- products
 
-noted_is : {P N : Type 0} (k : Keeping P N) (h : Heading) (header : Nodes) (before : Taken P N) (c : Composite) (notes : List Note) (w : Work)
+noted_is : {P N : Type 0} (k : Keeping P N) (h : Heading) (header : Nodes) (before : Taken P N) (c : Composite) (notes : List Note) (w : Packing)
     → run.noted k c notes (seen k h header before w) ≡ seen k h header before (defined.noted c notes w)
 noted_is k h header before c notes w = rw (fold-append k.with_note before.notes w.notes (product_notes (reference_in c.below) notes)) refl
 
 -- one form that was kept, or another
-form_is : {P N : Type 0} (k : Keeping P N) (h : Heading) (header : Nodes) (before : Taken P N) (c : Composite) (notes : List Note) (packed : Option Work) (other : Work) (rest : Held P N)
+form_is : {P N : Type 0} (k : Keeping P N) (h : Heading) (header : Nodes) (before : Taken P N) (c : Composite) (notes : List Note) (packed : Option Packing) (other : Packing) (rest : Stored P N)
     → rest ≡ seen k h header before other
     → unwrap_or (option_map (run.noted k c notes) (option_map (seen k h header before) packed)) rest
     ≡ seen k h header before (unwrap_or (option_map (defined.noted c notes) packed) other)
 form_is k h header before c notes None other rest is = is
 form_is k h header before c notes (Some w) other rest is = noted_is k h header before c notes w
 
-forms_are : {P N : Type 0} (k : Keeping P N) (o : Options) (h : Heading) (header : Nodes) (before : Taken P N) (w : Work) (c : Composite) (fs : List Form)
-    → run.with_forms k o.choices.parts (seen k h header before w) c fs ≡ seen k h header before (defined.with_forms (terms o h header) w c fs)
+forms_are : {P N : Type 0} (k : Keeping P N) (o : Options) (h : Heading) (header : Nodes) (before : Taken P N) (w : Packing) (c : Composite) (fs : List Variant)
+    → run.with_variants k o.choices.parts (seen k h header before w) c fs ≡ seen k h header before (defined.with_variants (settings o h header) w c fs)
 forms_are k o h header before w c [] = noted_is k h header before c (note c.element (wrong TooLarge []) ∷ []) w
 forms_are {P} {N} k o h header before w c (f ∷ fs) =
-    ap (λ (x : Option (Held P N)). unwrap_or (option_map (run.noted k c f.notes) x) (run.with_forms k o.choices.parts (seen k h header before w) c fs))
+    ap (λ (x : Option (Stored P N)). unwrap_or (option_map (run.noted k c f.notes) x) (run.with_variants k o.choices.parts (seen k h header before w) c fs))
     (kept_is k o h header before w (place_of c) f.records)
-    ∙ form_is k h header before c f.notes (defined.packed (terms o h header) w (place_of c) f.records) (defined.with_forms (terms o h header) w c fs) _ (forms_are k o h header before w c fs)
+    ∙ form_is k h header before c f.notes (defined.packed (settings o h header) w (place_of c) f.records) (defined.with_variants (settings o h header) w c fs) _ (forms_are k o h header before w c fs)
 
-pub product_is : {P N : Type 0} (k : Keeping P N) (o : Options) (h : Heading) (header : Nodes) (before : Taken P N) (w : Work) (c : Composite)
-    → product_taken k o (seen k h header before w) c ≡ seen k h header before (defined.after_product (terms o h header) w c)
+pub product_is : {P N : Type 0} (k : Keeping P N) (o : Options) (h : Heading) (header : Nodes) (before : Taken P N) (w : Packing) (c : Composite)
+    → product_taken k o (seen k h header before w) c ≡ seen k h header before (defined.after_product (settings o h header) w c)
 unfolding product_taken
-product_is k o h header before w c = forms_are k o h header before w c (forms h.opening o.choices.id_type c)
+product_is k o h header before w c = forms_are k o h header before w c (variants h.opening o.choices.id_type c)
 
 -- ---- the end
 
-empty_is : (h : Heading) (header : Nodes) (w : Work) (k more : ℕ) → empty_parts (seen_begun h header w) k more ≡ empty_messages (first_record h header) k more
+empty_is : (h : Heading) (header : Nodes) (w : Packing) (k more : ℕ) → empty_parts (seen_begun h header w) k more ≡ empty_messages (first_record h header) k more
 empty_is h header w k zero = refl
 empty_is h header w k (suc more) =
     ap (λ (t : List ℕ). t ∷ empty_parts (seen_begun h header w) (suc k) more) (closed (first_record h header k) [])
@@ -153,24 +153,24 @@ one_more {P} {N} k b most before old new all text lt is added rest =
 abbrev pub behind : {P N : Type 0} → Keeping P N → Taken P N → Converted → Taken P N
 behind k before made = taken (fold k.with_part before.parts made.parts) (fold k.with_note before.notes made.notes) made.wrong
 
-all_written_is : {P N : Type 0} (k : Keeping P N) (o : Options) (h : Heading) (header : Nodes) (before : Taken P N) (w : Work)
-    → run.all_written k o.choices.parts (seen k h header before w) ≡ fold k.with_part before.parts (defined.all_written (terms o h header) w)
+all_written_is : {P N : Type 0} (k : Keeping P N) (o : Options) (h : Heading) (header : Nodes) (before : Taken P N) (w : Packing)
+    → run.all_parts k o.choices.parts (seen k h header before w) ≡ fold k.with_part before.parts (defined.all_parts (settings o h header) w)
 all_written_is {P} {N} k o h header before w =
     ap (λ (ps : P). fold k.with_part ps (empty_parts (seen_begun h header w) (w.full + 1) (o.choices.parts - (w.full + 1)))) (written_is k o h header before w)
-    ∙ ap (fold k.with_part (fold k.with_part before.parts (defined.written (terms o h header) w))) (empty_is h header w (w.full + 1) (o.choices.parts - (w.full + 1)))
-    ∙ sym (fold-append k.with_part before.parts (defined.written (terms o h header) w) (empty_messages (first_record h header) (w.full + 1) (o.choices.parts - (w.full + 1))))
+    ∙ ap (fold k.with_part (fold k.with_part before.parts (defined.with_begun (settings o h header) w))) (empty_is h header w (w.full + 1) (o.choices.parts - (w.full + 1)))
+    ∙ sym (fold-append k.with_part before.parts (defined.with_begun (settings o h header) w) (empty_messages (first_record h header) (w.full + 1) (o.choices.parts - (w.full + 1))))
 
-pub ended_is : {P N : Type 0} (k : Keeping P N) (o : Options) (h : Heading) (header : Nodes) (before : Taken P N) (w : Work)
-    → run.ended k o (seen k h header before w) ≡ result_map (behind k before) (defined.ended (terms o h header) w)
+pub ended_is : {P N : Type 0} (k : Keeping P N) (o : Options) (h : Heading) (header : Nodes) (before : Taken P N) (w : Packing)
+    → run.ended k o (seen k h header before w) ≡ result_map (behind k before) (defined.ended (settings o h header) w)
 ended_is {P} {N} k o h header before w = by (refused_for o.wrong w.tally)
   where
     go : (beyond : Option Position) → w.beyond ≡ beyond
-        → run.ended_at k o.choices.parts (seen k h header before w) w.beyond ≡ result_map (behind k before) (ended_at (terms o h header) w w.beyond)
+        → run.ended_at k o.choices.parts (seen k h header before w) w.beyond ≡ result_map (behind k before) (ended_at (settings o h header) w w.beyond)
     go (Some place) e = rw e refl
     go None e =
         rw e (ap (λ (ps : P). Ok (taken ps (fold k.with_note before.notes w.notes) w.tally.wrong)) (all_written_is k o h header before w))
 
-    by : (refused : Option Rejection)
-        → run.ended_by k o.choices.parts (seen k h header before w) refused ≡ result_map (behind k before) (ended_by (terms o h header) w refused)
-    by (Some rejection) = refl
+    by : (refused : Option Refusal)
+        → run.ended_by k o.choices.parts (seen k h header before w) refused ≡ result_map (behind k before) (ended_by (settings o h header) w refused)
+    by (Some refusal) = refl
     by None = go w.beyond refl

@@ -1,6 +1,6 @@
 -- The products of a message stand in its parts, one after the other, each in its right form.
 use Rattle.std.proofs.Common.{◌≡◌, ℕ, ◌+◌, ◌*◌, Bool, true, false, ltb, subst, List, [], ◌∷◌, ◌++◌, length, length-append, map, refl, sym, ap, ◌∙◌, append-nil, append_assoc, arith, inl, inr}
-use Rattle.std.specs.Prelude.{Option, Some, None, Result, Ok, Err, codes}
+use Rattle.std.specs.Prelude.{Option, Some, None, Result, Ok, Err, codes, ⊤}
 use Rattle.std.specs.List.{AllByRecursion, flat_map}
 use Rattle.std.proofs.lemmas.Bool.{ltb-false}
 use Rattle.std.proofs.lemmas.Grind.{flat_map-append}
@@ -10,26 +10,26 @@ use Rattle.onix_outline.specs.Nodes.{Nodes}
 use Rattle.onix_mapping.specs.Elements.{Composite}
 use Rattle.onix_mapping.specs.Header.{◌>>=◌, Choices, Heading, added, addressee_pair, first_number, heading_in, number_in, given_or, sender_in}
 use Rattle.onix_mapping.specs.Notes.{note, wrong}
-use Rattle.onix_mapping.specs.ProductRecords.{Form, forms}
-use Rattle.onix_mapping.specs.declared.header.Refusal.{Refusal}
-use Rattle.onix_mapping.specs.declared.header.Refusal.TheVariants as denied
+use Rattle.onix_mapping.specs.ProductRecords.{Variant, variants}
+use Rattle.onix_mapping.specs.declared.header.HeaderRefusal.{HeaderRefusal}
+use Rattle.onix_mapping.specs.declared.header.HeaderRefusal.TheVariants as denied
 use Rattle.onix_mapping.specs.declared.notes.Wrong.TheVariants.{TooLarge}
-use Rattle.onix_conversion.specs.declared.rejection.Rejection.{Rejection}
+use Rattle.onix_conversion.specs.declared.refusal.Refusal.{Refusal}
 use Rattle.onix_conversion.specs.Messages.{fits, message_text}
-use Rattle.onix_conversion.specs.Packing.{Converted, ProductNote, Terms, Work, after_product, after_products, all_written, beyond_at, ended, noted, turned, with_forms, with_part, written}
-use Rattle.onix_conversion.specs.Parts.{AreFit, AreFull, Fate, IsFirst, IsFull, IsRight, Placed, fate_notes, part_texts, placed, placed_records, standing}
+use Rattle.onix_conversion.specs.Packing.{Converted, ProductNote, Settings, Packing, after_product, after_products, all_parts, beyond_at, ended, noted, in_next_part, with_variants, with_part, with_begun}
+use Rattle.onix_conversion.specs.Parts.{AreFull, Placing, IsFirst, IsFull, IsRight, Placed, placing_notes, part_texts, placed, placed_records, placed_of}
 use Rattle.onix_conversion.proofs.Endings.{converted, ended_at, ended_by, joined}
 use Rattle.onix_conversion.specs.Tallies.{place_of, refused_for}
 
 -- ---- texts of parts
 
 records_append : (xs ys : List Placed) → placed_records (xs ++ ys) ≡ placed_records xs ++ placed_records ys
-records_append xs ys = flat_map-append (λ p. p.form.records) xs ys
+records_append xs ys = flat_map-append (λ p. p.variant.records) xs ys
 
-one_record : (p : Placed) → placed_records (p ∷ []) ≡ p.form.records
-one_record p = append-nil p.form.records
+one_record : (p : Placed) → placed_records (p ∷ []) ≡ p.variant.records
+one_record p = append-nil p.variant.records
 
-texts_append : (t : Terms) (k : ℕ) (parts : List (List Placed)) (p : List Placed)
+texts_append : (t : Settings) (k : ℕ) (parts : List (List Placed)) (p : List Placed)
     → part_texts t k (parts ++ p ∷ []) ≡ part_texts t k parts ++ message_text (t.first (k + length parts)) (placed_records p) ∷ []
 texts_append t k [] p =
     let here : k ≡ k + 0 = omega arith in ap (λ (n : ℕ). message_text (t.first n) (placed_records p) ∷ []) here
@@ -41,14 +41,14 @@ texts_append t k (q ∷ parts) p =
 -- ---- full parts
 
 -- one more product in the last part
-full-joined : (t : Terms) (k : ℕ) (parts : List (List Placed)) (begun : List Placed) (p : Placed) → AreFull t k (parts ++ begun ∷ []) → AreFull t k (parts ++ (begun ++ p ∷ []) ∷ [])
+full-joined : (t : Settings) (k : ℕ) (parts : List (List Placed)) (begun : List Placed) (p : Placed) → AreFull t k (parts ++ begun ∷ []) → AreFull t k (parts ++ (begun ++ p ∷ []) ∷ [])
 full-joined t k [] begun p full = tt
 full-joined t k (q ∷ []) [] p full = absurd full.0
 full-joined t k (q ∷ []) (b ∷ begun) p full = (full.0, tt)
 full-joined t k (q ∷ r ∷ parts) begun p full = (full.0, full-joined t (k + 1) (r ∷ parts) begun p full.1)
 
 -- one more part behind one that has no room
-full-turned : (t : Terms) (k : ℕ) (parts : List (List Placed)) (begun : List Placed) (p : Placed) → AreFull t k (parts ++ begun ∷ []) → IsFull t (k + length parts) begun (p ∷ [])
+full-turned : (t : Settings) (k : ℕ) (parts : List (List Placed)) (begun : List Placed) (p : Placed) → AreFull t k (parts ++ begun ∷ []) → IsFull t (k + length parts) begun (p ∷ [])
     → AreFull t k ((parts ++ begun ∷ []) ++ (p ∷ []) ∷ [])
 full-turned t k [] begun p full lacks =
     let here : k + 0 ≡ k = omega arith in (subst (λ (n : ℕ). IsFull t n begun (p ∷ [])) here lacks, tt)
@@ -60,7 +60,13 @@ full-turned t k (q ∷ r ∷ parts) begun p full lacks =
 
 -- ---- parts that are not too large
 
-fit-joined : (t : Terms) (k : ℕ) (parts : List (List Placed)) (begun : List Placed) (more : List Placed) → AreFit t k (parts ++ begun ∷ []) → fits (t.first (k + length parts)) (placed_records more) ≡ true
+-- each part, the first of which is behind so many, is not too large
+abbrev pub AreFit : Settings → ℕ → List (List Placed) → Type 0
+AreFit t before [] = ⊤
+AreFit t before (part ∷ parts) =
+    (fits (t.first before) (placed_records part) ≡ true) × AreFit t (before + 1) parts
+
+fit-joined : (t : Settings) (k : ℕ) (parts : List (List Placed)) (begun : List Placed) (more : List Placed) → AreFit t k (parts ++ begun ∷ []) → fits (t.first (k + length parts)) (placed_records more) ≡ true
     → AreFit t k (parts ++ more ∷ [])
 fit-joined t k [] begun more fit own =
     let here : k + 0 ≡ k = omega arith in (subst (λ (n : ℕ). fits (t.first n) (placed_records more) ≡ true) here own, tt)
@@ -68,7 +74,7 @@ fit-joined t k (q ∷ parts) begun more fit own =
     let here : k + length (q ∷ parts) ≡ k + 1 + length parts = omega arith in
     (fit.0, fit-joined t (k + 1) parts begun more fit.1 (subst (λ (n : ℕ). fits (t.first n) (placed_records more) ≡ true) here own))
 
-fit-turned : (t : Terms) (k : ℕ) (parts : List (List Placed)) (next : List Placed) → AreFit t k parts → fits (t.first (k + length parts)) (placed_records next) ≡ true
+fit-turned : (t : Settings) (k : ℕ) (parts : List (List Placed)) (next : List Placed) → AreFit t k parts → fits (t.first (k + length parts)) (placed_records next) ≡ true
     → AreFit t k (parts ++ next ∷ [])
 fit-turned t k [] next fit own =
     let here : k + 0 ≡ k = omega arith in (subst (λ (n : ℕ). fits (t.first n) (placed_records next) ≡ true) here own, tt)
@@ -79,87 +85,87 @@ fit-turned t k (q ∷ parts) next fit own =
 -- ---- one product
 
 -- this work has come of products that have become of so
-pub record Holds (t : Terms) (w : Work) (fates : List Fate) : Type 0 where
+pub record Holds (t : Settings) (w : Packing) (placings : List Placing) : Type 0 where
   pub more : ltb w.full t.most ≡ true
   pub parts : List (List Placed)
   pub texts : part_texts t 0 parts ≡ w.parts
   pub count : length parts ≡ w.full
   pub begun : List Placed
   pub records : placed_records begun ≡ w.begun
-  pub stand : flat_map (λ p. p) (parts ++ begun ∷ []) ≡ flat_map standing fates
+  pub stand : flat_map (λ p. p) (parts ++ begun ∷ []) ≡ flat_map placed_of placings
   pub full : AreFull t 0 (parts ++ begun ∷ [])
   pub fit : AreFit t 0 (parts ++ begun ∷ [])
-  pub notes : flat_map fate_notes fates ≡ w.notes
-  pub right : AllByRecursion (IsRight t) fates
+  pub notes : flat_map placing_notes placings ≡ w.notes
+  pub right : AllByRecursion (IsRight t) placings
 
-abbrev fate : Composite → Option Form → Fate
-fate c written = record { product = c; written = written }
+abbrev placing : Composite → Option Variant → Placing
+placing c variant = record { product = c; variant = variant }
 
-one_more_note : (fates : List Fate) (f : Fate) (notes : List ProductNote) → flat_map fate_notes fates ≡ notes
-    → flat_map fate_notes (fates ++ f ∷ []) ≡ notes ++ fate_notes f
-one_more_note fates f notes is =
-    flat_map-append fate_notes fates (f ∷ []) ∙ ap (λ (ns : List ProductNote). ns ++ (fate_notes f ++ [])) is
-    ∙ ap (λ (ns : List ProductNote). notes ++ ns) (append-nil (fate_notes f))
+one_more_note : (placings : List Placing) (f : Placing) (notes : List ProductNote) → flat_map placing_notes placings ≡ notes
+    → flat_map placing_notes (placings ++ f ∷ []) ≡ notes ++ placing_notes f
+one_more_note placings f notes is =
+    flat_map-append placing_notes placings (f ∷ []) ∙ ap (λ (ns : List ProductNote). ns ++ (placing_notes f ++ [])) is
+    ∙ ap (λ (ns : List ProductNote). notes ++ ns) (append-nil (placing_notes f))
 
-one_more_right : (t : Terms) (fates : List Fate) (f : Fate) → AllByRecursion (IsRight t) fates → IsRight t f → AllByRecursion (IsRight t) (fates ++ f ∷ [])
+one_more_right : (t : Settings) (placings : List Placing) (f : Placing) → AllByRecursion (IsRight t) placings → IsRight t f → AllByRecursion (IsRight t) (placings ++ f ∷ [])
 one_more_right t [] f all is = (is, tt)
-one_more_right t (g ∷ fates) f all is = (all.0, one_more_right t fates f all.1 is)
+one_more_right t (g ∷ placings) f all is = (all.0, one_more_right t placings f all.1 is)
 
 stand_append : (parts : List (List Placed)) (begun : List Placed) → flat_map (λ p. p) (parts ++ begun ∷ []) ≡ flat_map (λ p. p) parts ++ begun
 stand_append parts begun =
     flat_map-append (λ (p : List Placed). p) parts (begun ∷ []) ∙ ap (λ (k : List Placed). flat_map (λ p. p) parts ++ k) (append-nil begun)
 
-one_more_stands : (fates : List Fate) (f : Fate) (ps : List Placed) → ps ≡ flat_map standing fates → ps ++ standing f ≡ flat_map standing (fates ++ f ∷ [])
-one_more_stands fates f ps is =
-    ap (λ (k : List Placed). k ++ standing f) is ∙ ap (λ (k : List Placed). flat_map standing fates ++ k) (sym (append-nil (standing f)))
-    ∙ sym (flat_map-append standing fates (f ∷ []))
+one_more_stands : (placings : List Placing) (f : Placing) (ps : List Placed) → ps ≡ flat_map placed_of placings → ps ++ placed_of f ≡ flat_map placed_of (placings ++ f ∷ [])
+one_more_stands placings f ps is =
+    ap (λ (k : List Placed). k ++ placed_of f) is ∙ ap (λ (k : List Placed). flat_map placed_of placings ++ k) (sym (append-nil (placed_of f)))
+    ∙ sym (flat_map-append placed_of placings (f ∷ []))
 
-left_holds : (t : Terms) (w : Work) (fates : List Fate) (c : Composite) → Holds t w fates → IsRight t (fate c None)
-    → Holds t (noted c (note c.element (wrong TooLarge []) ∷ []) w) (fates ++ fate c None ∷ [])
-left_holds t w fates c h is = record {
+left_holds : (t : Settings) (w : Packing) (placings : List Placing) (c : Composite) → Holds t w placings → IsRight t (placing c None)
+    → Holds t (noted c (note c.element (wrong TooLarge []) ∷ []) w) (placings ++ placing c None ∷ [])
+left_holds t w placings c h is = record {
   more = h.more;
   parts = h.parts;
   texts = h.texts;
   count = h.count;
   begun = h.begun;
   records = h.records;
-  stand = sym (append-nil (flat_map (λ p. p) (h.parts ++ h.begun ∷ []))) ∙ one_more_stands fates (fate c None) _ h.stand;
+  stand = sym (append-nil (flat_map (λ p. p) (h.parts ++ h.begun ∷ []))) ∙ one_more_stands placings (placing c None) _ h.stand;
   full = h.full;
   fit = h.fit;
-  notes = one_more_note fates (fate c None) w.notes h.notes;
-  right = one_more_right t fates (fate c None) h.right is;
+  notes = one_more_note placings (placing c None) w.notes h.notes;
+  right = one_more_right t placings (placing c None) h.right is;
 }
 
-joined_records : (t : Terms) (w : Work) (fates : List Fate) (h : Holds t w fates) (c : Composite) (f : Form) → placed_records (h.begun ++ placed c f ∷ []) ≡ w.begun ++ f.records
-joined_records t w fates h c f =
+joined_records : (t : Settings) (w : Packing) (placings : List Placing) (h : Holds t w placings) (c : Composite) (f : Variant) → placed_records (h.begun ++ placed c f ∷ []) ≡ w.begun ++ f.records
+joined_records t w placings h c f =
     records_append h.begun (placed c f ∷ []) ∙ ap (λ (k : List (List (List ℕ))). k ++ placed_records (placed c f ∷ [])) h.records
     ∙ ap (λ (k : List (List (List ℕ))). w.begun ++ k) (one_record (placed c f))
 
-joined_holds : (t : Terms) (w : Work) (fates : List Fate) (c : Composite) (f : Form) → fits (t.first w.full) (w.begun ++ f.records) ≡ true → Holds t w fates → IsRight t (fate c (Some f))
-    → Holds t (noted c f.notes (joined w f.records)) (fates ++ fate c (Some f) ∷ [])
-joined_holds t w fates c f room h is = record {
+joined_holds : (t : Settings) (w : Packing) (placings : List Placing) (c : Composite) (f : Variant) → fits (t.first w.full) (w.begun ++ f.records) ≡ true → Holds t w placings → IsRight t (placing c (Some f))
+    → Holds t (noted c f.notes (joined w f.records)) (placings ++ placing c (Some f) ∷ [])
+joined_holds t w placings c f room h is = record {
   more = h.more;
   parts = h.parts;
   texts = h.texts;
   count = h.count;
   begun = h.begun ++ placed c f ∷ [];
-  records = joined_records t w fates h c f;
+  records = joined_records t w placings h c f;
   stand = stand_append h.parts (h.begun ++ placed c f ∷ []) ∙ sym (append_assoc (flat_map (λ p. p) h.parts) h.begun (placed c f ∷ []))
-      ∙ ap (λ (k : List Placed). k ++ placed c f ∷ []) (sym (stand_append h.parts h.begun)) ∙ one_more_stands fates (fate c (Some f)) _ h.stand;
+      ∙ ap (λ (k : List Placed). k ++ placed c f ∷ []) (sym (stand_append h.parts h.begun)) ∙ one_more_stands placings (placing c (Some f)) _ h.stand;
   full = full-joined t 0 h.parts h.begun (placed c f) h.full;
   fit = fit-joined t 0 h.parts h.begun (h.begun ++ placed c f ∷ []) h.fit
       (let there : 0 + length h.parts ≡ w.full = omega (arith, h.count) in
-      ap (λ (n : ℕ). fits (t.first n) (placed_records (h.begun ++ placed c f ∷ []))) there ∙ ap (λ (k : List (List (List ℕ))). fits (t.first w.full) k) (joined_records t w fates h c f) ∙ room);
-  notes = one_more_note fates (fate c (Some f)) w.notes h.notes;
-  right = one_more_right t fates (fate c (Some f)) h.right is;
+      ap (λ (n : ℕ). fits (t.first n) (placed_records (h.begun ++ placed c f ∷ []))) there ∙ ap (λ (k : List (List (List ℕ))). fits (t.first w.full) k) (joined_records t w placings h c f) ∙ room);
+  notes = one_more_note placings (placing c (Some f)) w.notes h.notes;
+  right = one_more_right t placings (placing c (Some f)) h.right is;
 }
 
-pub written_count : (t : Terms) (w : Work) (fates : List Fate) (h : Holds t w fates) → length (h.parts ++ h.begun ∷ []) ≡ w.full + 1
-written_count t w fates h = length-append h.parts (h.begun ∷ []) ∙ ap (λ (n : ℕ). n + 1) h.count
+pub written_count : (t : Settings) (w : Packing) (placings : List Placing) (h : Holds t w placings) → length (h.parts ++ h.begun ∷ []) ≡ w.full + 1
+written_count t w placings h = length-append h.parts (h.begun ∷ []) ∙ ap (λ (n : ℕ). n + 1) h.count
 
 -- with the part that was begun
-pub written_texts : (t : Terms) (w : Work) (fates : List Fate) (h : Holds t w fates) → part_texts t 0 (h.parts ++ h.begun ∷ []) ≡ written t w
-written_texts t w fates h =
+pub written_texts : (t : Settings) (w : Packing) (placings : List Placing) (h : Holds t w placings) → part_texts t 0 (h.parts ++ h.begun ∷ []) ≡ with_begun t w
+written_texts t w placings h =
     let there : 0 + length h.parts ≡ w.full = omega (arith, h.count) in
     let written_is : with_part t.most w.full (message_text (t.first w.full) w.begun) w.parts ≡ w.parts ++ message_text (t.first w.full) w.begun ∷ [] = rw h.more refl in
     texts_append t 0 h.parts h.begun ∙ ap (λ (ts : List (List ℕ)). ts ++ message_text (t.first (0 + length h.parts)) (placed_records h.begun) ∷ []) h.texts
@@ -167,28 +173,28 @@ written_texts t w fates h =
     ∙ ap (λ (k : List (List (List ℕ))). w.parts ++ message_text (t.first w.full) k ∷ []) h.records ∙ sym written_is
 
 -- the part that was begun has no room
-no_room : (t : Terms) (w : Work) (fates : List Fate) (h : Holds t w fates) (c : Composite) (f : Form) → fits (t.first w.full) (w.begun ++ f.records) ≡ false
+no_room : (t : Settings) (w : Packing) (placings : List Placing) (h : Holds t w placings) (c : Composite) (f : Variant) → fits (t.first w.full) (w.begun ++ f.records) ≡ false
     → IsFull t (0 + length h.parts) h.begun (placed c f ∷ [])
-no_room t w fates h c f lacks =
+no_room t w placings h c f lacks =
     let there : 0 + length h.parts ≡ w.full = omega (arith, h.count) in
     ap (λ (n : ℕ). fits (t.first n) (placed_records h.begun ++ f.records)) there ∙ ap (λ (k : List (List (List ℕ))). fits (t.first w.full) (k ++ f.records)) h.records ∙ lacks
 
-turned_holds : (t : Terms) (w : Work) (fates : List Fate) (c : Composite) (f : Form) → ltb (w.full + 1) t.most ≡ true → fits (t.first w.full) (w.begun ++ f.records) ≡ false
-    → fits (t.first (w.full + 1)) f.records ≡ true → Holds t w fates → IsRight t (fate c (Some f)) → Holds t (noted c f.notes (turned t w (place_of c) f.records)) (fates ++ fate c (Some f) ∷ [])
-turned_holds t w fates c f less lacks room h is = record {
+turned_holds : (t : Settings) (w : Packing) (placings : List Placing) (c : Composite) (f : Variant) → ltb (w.full + 1) t.most ≡ true → fits (t.first w.full) (w.begun ++ f.records) ≡ false
+    → fits (t.first (w.full + 1)) f.records ≡ true → Holds t w placings → IsRight t (placing c (Some f)) → Holds t (noted c f.notes (in_next_part t w (place_of c) f.records)) (placings ++ placing c (Some f) ∷ [])
+turned_holds t w placings c f less lacks room h is = record {
   more = less;
   parts = h.parts ++ h.begun ∷ [];
-  texts = written_texts t w fates h;
-  count = written_count t w fates h;
+  texts = written_texts t w placings h;
+  count = written_count t w placings h;
   begun = placed c f ∷ [];
   records = one_record (placed c f);
-  stand = stand_append (h.parts ++ h.begun ∷ []) (placed c f ∷ []) ∙ one_more_stands fates (fate c (Some f)) _ h.stand;
-  full = full-turned t 0 h.parts h.begun (placed c f) h.full (no_room t w fates h c f lacks);
+  stand = stand_append (h.parts ++ h.begun ∷ []) (placed c f ∷ []) ∙ one_more_stands placings (placing c (Some f)) _ h.stand;
+  full = full-turned t 0 h.parts h.begun (placed c f) h.full (no_room t w placings h c f lacks);
   fit = fit-turned t 0 (h.parts ++ h.begun ∷ []) (placed c f ∷ []) h.fit
-      (let there : 0 + length (h.parts ++ h.begun ∷ []) ≡ w.full + 1 = omega (arith, written_count t w fates h) in
+      (let there : 0 + length (h.parts ++ h.begun ∷ []) ≡ w.full + 1 = omega (arith, written_count t w placings h) in
       ap (λ (n : ℕ). fits (t.first n) (placed_records (placed c f ∷ []))) there ∙ ap (λ (k : List (List (List ℕ))). fits (t.first (w.full + 1)) k) (one_record (placed c f)) ∙ room);
-  notes = one_more_note fates (fate c (Some f)) w.notes h.notes;
-  right = one_more_right t fates (fate c (Some f)) h.right is;
+  notes = one_more_note placings (placing c (Some f)) w.notes h.notes;
+  right = one_more_right t placings (placing c (Some f)) h.right is;
 }
 
 -- ---- all products
@@ -206,66 +212,66 @@ beyond_none most full None place e = (refl, go (ltb full most) refl)
     go false f = let no = rw f at e in absurd cc
 
 -- with no product beyond after one more, there was none before, and it has become of it what it has
-pub record Step (t : Terms) (w : Work) (c : Composite) (v : Work) (fates : List Fate) : Type 0 where
+pub record Step (t : Settings) (w : Packing) (c : Composite) (v : Packing) (placings : List Placing) : Type 0 where
   pub none : w.beyond ≡ None
-  pub holds : Holds t w fates → (f : Fate) × (f.product ≡ c) × Holds t v (fates ++ f ∷ [])
+  pub holds : Holds t w placings → (f : Placing) × (f.product ≡ c) × Holds t v (placings ++ f ∷ [])
 
 -- where the forms so far are too large for the next part, one of the others is the first that is not
-forms_step : (t : Terms) (w : Work) (c : Composite) (fates : List Fate) (fs : List Form)
-    → ((f : Option Form) → IsFirst t (w.full + 1) f fs → IsRight t (fate c f)) → (with_forms t w c fs).beyond ≡ None → Step t w c (with_forms t w c fs) fates
-forms_step t w c fates [] right none = record {
+forms_step : (t : Settings) (w : Packing) (c : Composite) (placings : List Placing) (fs : List Variant)
+    → ((f : Option Variant) → IsFirst t (w.full + 1) f fs → IsRight t (placing c f)) → (with_variants t w c fs).beyond ≡ None → Step t w c (with_variants t w c fs) placings
+forms_step t w c placings [] right none = record {
   none = none;
-  holds = λ h. (fate c None, refl, left_holds t w fates c h (right None refl));
+  holds = λ h. (placing c None, refl, left_holds t w placings c h (right None refl));
 }
-forms_step t w c fates (f ∷ fs) right none =
-    go (fits (t.first w.full) (w.begun ++ f.records)) refl (fits (t.first (w.full + 1)) f.records) refl none (forms_step t w c fates fs)
+forms_step t w c placings (f ∷ fs) right none =
+    go (fits (t.first w.full) (w.begun ++ f.records)) refl (fits (t.first (w.full + 1)) f.records) refl none (forms_step t w c placings fs)
   where
-    own : IsRight t (fate c (Some f))
+    own : IsRight t (placing c (Some f))
     own = right (Some f) (inl refl)
 
     go : (a : Bool) → fits (t.first w.full) (w.begun ++ f.records) ≡ a → (b : Bool) → fits (t.first (w.full + 1)) f.records ≡ b
-        → (with_forms t w c (f ∷ fs)).beyond ≡ None
-        → (((g : Option Form) → IsFirst t (w.full + 1) g fs → IsRight t (fate c g)) → (with_forms t w c fs).beyond ≡ None → Step t w c (with_forms t w c fs) fates)
-        → Step t w c (with_forms t w c (f ∷ fs)) fates
+        → (with_variants t w c (f ∷ fs)).beyond ≡ None
+        → (((g : Option Variant) → IsFirst t (w.full + 1) g fs → IsRight t (placing c g)) → (with_variants t w c fs).beyond ≡ None → Step t w c (with_variants t w c fs) placings)
+        → Step t w c (with_variants t w c (f ∷ fs)) placings
     go true here b next last later =
         let before : w.beyond ≡ None = rw here at last in
-        rw here (record { none = before; holds = λ h. (fate c (Some f), refl, joined_holds t w fates c f here h own) })
+        rw here (record { none = before; holds = λ h. (placing c (Some f), refl, joined_holds t w placings c f here h own) })
     go false here true next last later =
         let now : beyond_at t.most (w.full + 1) w.beyond (place_of c) ≡ None = rw (here, next) at last in
         let before = beyond_none t.most (w.full + 1) w.beyond (place_of c) now in
-        rw (here, next) (record { none = before.0; holds = λ h. (fate c (Some f), refl, turned_holds t w fates c f before.1 here next h own) })
+        rw (here, next) (record { none = before.0; holds = λ h. (placing c (Some f), refl, turned_holds t w placings c f before.1 here next h own) })
     go false here false next last later =
-        let now : (with_forms t w c fs).beyond ≡ None = rw (here, next) at last in
+        let now : (with_variants t w c fs).beyond ≡ None = rw (here, next) at last in
         rw (here, next) (later (λ g is. right g (inr (next, is))) now)
 
-product_step : (t : Terms) (w : Work) (c : Composite) (fates : List Fate) → (after_product t w c).beyond ≡ None → Step t w c (after_product t w c) fates
-product_step t w c fates none = forms_step t w c fates (forms t.opening t.preferred c) (λ f is. (w.full + 1, is)) none
+product_step : (t : Settings) (w : Packing) (c : Composite) (placings : List Placing) → (after_product t w c).beyond ≡ None → Step t w c (after_product t w c) placings
+product_step t w c placings none = forms_step t w c placings (variants t.opening t.preferred c) (λ f is. (w.full + 1, is)) none
 
 -- with no product beyond at the end, there was none before, and it has become of all what it has
-pub record Walk (t : Terms) (w : Work) (cs : List Composite) (z : Work) : Type 0 where
+pub record Walk (t : Settings) (w : Packing) (cs : List Composite) (z : Packing) : Type 0 where
   pub none : w.beyond ≡ None
-  pub holds : (fates : List Fate) → Holds t w fates → (more : List Fate) × (map (λ f. f.product) more ≡ cs) × Holds t z (fates ++ more)
+  pub holds : (placings : List Placing) → Holds t w placings → (more : List Placing) × (map (λ f. f.product) more ≡ cs) × Holds t z (placings ++ more)
 
-pub walk : (t : Terms) (cs : List Composite) (w : Work) → (after_products t w cs).beyond ≡ None → Walk t w cs (after_products t w cs)
+pub walk : (t : Settings) (cs : List Composite) (w : Packing) → (after_products t w cs).beyond ≡ None → Walk t w cs (after_products t w cs)
 walk t [] w none = record {
   none = none;
-  holds = λ fates h. ([], refl, subst (λ (fs : List Fate). Holds t w fs) (sym (append-nil fates)) h);
+  holds = λ placings h. ([], refl, subst (λ (fs : List Placing). Holds t w fs) (sym (append-nil placings)) h);
 }
 walk t (c ∷ cs) w none =
     let rest = walk t cs (after_product t w c) none in record {
       none = (product_step t w c [] rest.none).none;
-      holds = λ fates h.
-          let one = (product_step t w c fates rest.none).holds h in
-          let others = rest.holds (fates ++ one.0 ∷ []) one.2 in (
+      holds = λ placings h.
+          let one = (product_step t w c placings rest.none).holds h in
+          let others = rest.holds (placings ++ one.0 ∷ []) one.2 in (
             one.0 ∷ others.0,
-            ap (λ (k : List Composite). k ++ map (λ (f : Fate). f.product) others.0) (ap (λ (p : Composite). p ∷ []) one.1) ∙ ap (λ (k : List Composite). c ∷ k) others.1,
-            subst (λ (fs : List Fate). Holds t (after_products t w (c ∷ cs)) fs) (append_assoc fates (one.0 ∷ []) others.0) others.2,
+            ap (λ (k : List Composite). k ++ map (λ (f : Placing). f.product) others.0) (ap (λ (p : Composite). p ∷ []) one.1) ∙ ap (λ (k : List Composite). c ∷ k) others.1,
+            subst (λ (fs : List Placing). Holds t (after_products t w (c ∷ cs)) fs) (append_assoc placings (one.0 ∷ []) others.0) others.2,
           );
     }
 
 -- ---- the whole message
 
-bind_ok : {A B : Type 0} (r : Result A Refusal) (f : A → Result B Refusal) (b : B) → (r >>= f) ≡ Ok b → (a : A) × (r ≡ Ok a) × (f a ≡ Ok b)
+bind_ok : {A B : Type 0} (r : Result A HeaderRefusal) (f : A → Result B HeaderRefusal) (b : B) → (r >>= f) ≡ Ok b → (a : A) × (r ≡ Ok a) × (f a ≡ Ok b)
 bind_ok (Ok a) f b e = (a, refl, e)
 bind_ok (Err refusal) f b e = absurd cc
 
@@ -288,13 +294,13 @@ part_there c nodes h e = go (ltb 0 c.parts) refl
         let other : Err denied.LastNumberTooGreat ≡ Ok n.0 = sym (no_part m.0) ∙ no in absurd cc
 
 -- ended well: no product is beyond the parts
-pub ended_ok : (t : Terms) (z : Work) (made : Converted) → ended t z ≡ Ok made → (z.beyond ≡ None) × (converted (all_written t z) z.notes z.tally.wrong ≡ made)
+pub ended_ok : (t : Settings) (z : Packing) (made : Converted) → ended t z ≡ Ok made → (z.beyond ≡ None) × (converted (all_parts t z) z.notes z.tally.wrong ≡ made)
 ended_ok t z made e = by (refused_for t.allowed z.tally) e
   where
-    last : (beyond : Option Position) → z.beyond ≡ beyond → ended_at t z beyond ≡ Ok made → (z.beyond ≡ None) × (converted (all_written t z) z.notes z.tally.wrong ≡ made)
+    last : (beyond : Option Position) → z.beyond ≡ beyond → ended_at t z beyond ≡ Ok made → (z.beyond ≡ None) × (converted (all_parts t z) z.notes z.tally.wrong ≡ made)
     last (Some place) b now = absurd cc
-    last None b now = (b, ap (value (converted (all_written t z) z.notes z.tally.wrong)) now)
+    last None b now = (b, ap (value (converted (all_parts t z) z.notes z.tally.wrong)) now)
 
-    by : (refused : Option Rejection) → ended_by t z refused ≡ Ok made → (z.beyond ≡ None) × (converted (all_written t z) z.notes z.tally.wrong ≡ made)
-    by (Some rejection) now = absurd cc
+    by : (refused : Option Refusal) → ended_by t z refused ≡ Ok made → (z.beyond ≡ None) × (converted (all_parts t z) z.notes z.tally.wrong ≡ made)
+    by (Some refusal) now = absurd cc
     by None now = last z.beyond refl now

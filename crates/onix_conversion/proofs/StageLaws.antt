@@ -11,19 +11,19 @@ use Rattle.onix_outline.specs.Names.{stranger}
 use Rattle.onix_outline.specs.Nodes.{Nodes, Tag, no_nodes, node}
 use Rattle.onix_outline.specs.Outline.{Line, part, parts_of}
 use Rattle.onix_outline.specs.Outlined.{outlined}
-use Rattle.onix_mapping.specs.Elements.{Composite}
+use Rattle.onix_mapping.specs.Elements.{Composite, composite}
 use Rattle.onix_mapping.specs.Header.{Heading, heading_in, message_fields}
-use Rattle.onix_mapping.specs.declared.header.Refusal.{Refusal}
-use Rattle.onix_conversion.specs.declared.rejection.Rejection.{Rejection}
-use Rattle.onix_conversion.specs.declared.rejection.Rejection.TheVariants as why
-use Rattle.onix_conversion.specs.Conversion.{Options, composite, conversion, header_in, header_refused, products_in, refused_behind, terms}
+use Rattle.onix_mapping.specs.declared.header.HeaderRefusal.{HeaderRefusal}
+use Rattle.onix_conversion.specs.declared.refusal.Refusal.{Refusal}
+use Rattle.onix_conversion.specs.declared.refusal.Refusal.TheVariants as why
+use Rattle.onix_conversion.specs.Conversion.{Options, conversion, header_in, header_refused, products_in, refused_behind, settings}
 use Rattle.onix_conversion.specs.private.Whole.{by_heading, by_refusal, decided, first_refusal}
 use Rattle.onix_conversion.proofs.Endings.{packed_unless}
 use Rattle.onix_conversion.specs.Keeping.{Keeping}
-use Rattle.onix_conversion.specs.Packing.{Converted, Work, after_products, no_work}
+use Rattle.onix_conversion.specs.Packing.{Converted, Packing, after_products, no_packing}
 use Rattle.onix_conversion.specs.Tallies.{no_tally, place_of}
 use Rattle.onix_conversion.specs.Packing as defined
-use Rattle.onix_conversion.specs.private.Stages.{Held, Stage, State, Taken, after_element, after_nodes, at_stage, begun_by, finished, first_fields, first_state, held, refused, stage_after_header, stage_after_stranger, with_held, with_product, within}
+use Rattle.onix_conversion.specs.private.Stages.{Stored, Stage, State, Taken, after_element, after_nodes, at_stage, begun_by, finished, first_fields, first_state, stored, refused, stage_after_header, stage_after_stranger, with_stored, with_product, within}
 use Rattle.onix_conversion.specs.private.Stages as run
 use Rattle.onix_conversion.proofs.PackingLaws.{behind, ended_is, product_is, result_map, seen}
 
@@ -44,7 +44,7 @@ apart name e = ap (λ (n : List ℕ). bytes_eq n (codes "Header")) ((bytes_eq-De
 
 -- ---- refused
 
-element_refused : {P N : Type 0} (k : Keeping P N) (s : State P N) (e : Rejection) (c : Composite) → s.stage ≡ refused e → (after_element k s c).stage ≡ refused e
+element_refused : {P N : Type 0} (k : Keeping P N) (s : State P N) (e : Refusal) (c : Composite) → s.stage ≡ refused e → (after_element k s c).stage ≡ refused e
 element_refused {P} {N} k s e c is =
     go (bytes_eq c.element.name (codes "Header")) refl (bytes_eq c.element.name (codes "Product")) refl (bytes_eq c.element.name stranger) refl
   where
@@ -55,7 +55,7 @@ element_refused {P} {N} k s e c is =
     go false f false g true i = rw (f, g, i) (ap (λ (stage : Stage). stage_after_stranger stage c) is)
     go false f false g false i = rw (f, g, i) is
 
-refused_stays : {P N : Type 0} (k : Keeping P N) → Tell → (s : State P N) (e : Rejection) (nodes : Nodes) → s.stage ≡ refused e → (fold (after_lines k) s (parts_of nodes)).stage ≡ refused e
+refused_stays : {P N : Type 0} (k : Keeping P N) → Tell → (s : State P N) (e : Refusal) (nodes : Nodes) → s.stage ≡ refused e → (fold (after_lines k) s (parts_of nodes)).stage ≡ refused e
 refused_stays k tell s e no_nodes is = is
 refused_stays {P} {N} k tell s e (node name tag text below rest) is =
     go (bytes_eq name (codes "Product")) refl (bytes_eq name (codes "Header")) refl (bytes_eq name stranger) refl (refused_stays k tell s e rest is)
@@ -75,39 +75,39 @@ refused_stays {P} {N} k tell s e (node name tag text below rest) is =
 
 -- ---- in its parts
 
-abbrev pub state_of : {P N : Type 0} → Options → Held P N → State P N
+abbrev pub state_of : {P N : Type 0} → Options → Stored P N → State P N
 state_of o h = record { options = o; parts = h.parts; notes = h.notes; stage = within h.begun }
 
 -- a state is that of this work, or refused so
-abbrev pub IsAt : {P N : Type 0} → Keeping P N → Options → Heading → Nodes → Taken P N → State P N → Option Rejection → Work → Type 0
+abbrev pub IsAt : {P N : Type 0} → Keeping P N → Options → Heading → Nodes → Taken P N → State P N → Option Refusal → Packing → Type 0
 IsAt k o h header before s (Some e) w = s.stage ≡ refused e
 IsAt k o h header before s None w = s ≡ state_of o (seen k h header before w)
 
-passed : {P N : Type 0} (k : Keeping P N) (o : Options) (h : Heading) (header : Nodes) (before : Taken P N) (rest : Nodes) (t s : State P N) (r : Option Rejection) (w : Work) → t ≡ s
+passed : {P N : Type 0} (k : Keeping P N) (o : Options) (h : Heading) (header : Nodes) (before : Taken P N) (rest : Nodes) (t s : State P N) (r : Option Refusal) (w : Packing) → t ≡ s
     → IsAt k o h header before (fold (after_lines k) s (parts_of rest)) r w → IsAt k o h header before (fold (after_lines k) t (parts_of rest)) r w
 passed k o h header before rest t s r w is later = rw is later
 
-pub products_are : {P N : Type 0} (k : Keeping P N) → Tell → (o : Options) (h : Heading) (header : Nodes) (before : Taken P N) (nodes : Nodes) (w : Work)
-    → IsAt k o h header before (fold (after_lines k) (state_of o (seen k h header before w)) (parts_of nodes)) (first_refusal o true nodes) (after_products (terms o h header) w (products_in nodes))
+pub products_are : {P N : Type 0} (k : Keeping P N) → Tell → (o : Options) (h : Heading) (header : Nodes) (before : Taken P N) (nodes : Nodes) (w : Packing)
+    → IsAt k o h header before (fold (after_lines k) (state_of o (seen k h header before w)) (parts_of nodes)) (first_refusal o true nodes) (after_products (settings o h header) w (products_in nodes))
 products_are k tell o h header before no_nodes w = refl
 products_are {P} {N} k tell o h header before (node name tag text below rest) w =
     go (bytes_eq name (codes "Product")) refl (bytes_eq name (codes "Header")) refl (bytes_eq name stranger) refl (λ v. products_are k tell o h header before rest v)
   where
     go : (p : Bool) → bytes_eq name (codes "Product") ≡ p → (x : Bool) → bytes_eq name (codes "Header") ≡ x → (y : Bool) → bytes_eq name stranger ≡ y
-        → ((v : Work) → IsAt k o h header before (fold (after_lines k) (state_of o (seen k h header before v)) (parts_of rest)) (first_refusal o true rest) (after_products (terms o h header) v (products_in rest)))
+        → ((v : Packing) → IsAt k o h header before (fold (after_lines k) (state_of o (seen k h header before v)) (parts_of rest)) (first_refusal o true rest) (after_products (settings o h header) v (products_in rest)))
         → IsAt k o h header before (fold (after_lines k) (state_of o (seen k h header before w)) (parts_of (node name tag text below rest))) (first_refusal o true (node name tag text below rest))
-        (after_products (terms o h header) w (products_in (node name tag text below rest)))
+        (after_products (settings o h header) w (products_in (node name tag text below rest)))
     go true f x g y i later =
         let other : bytes_eq name (codes "Header") ≡ false = apart name f in
         let one : after_element k (state_of o (seen k h header before w)) (composite name tag text below)
-        ≡ with_held (state_of o (seen k h header before w)) (run.after_product k o (seen k h header before w) (composite name tag text below)) = rw (other, f) refl in
+        ≡ with_stored (state_of o (seen k h header before w)) (run.after_product k o (seen k h header before w) (composite name tag text below)) = rw (other, f) refl in
         let step : after_lines k (state_of o (seen k h header before w)) (part name tag text below)
-        ≡ state_of o (seen k h header before (defined.after_product (terms o h header) w (composite name tag text below))) =
+        ≡ state_of o (seen k h header before (defined.after_product (settings o h header) w (composite name tag text below))) =
         lines_tell k tell (state_of o (seen k h header before w)) name tag text below ∙ one
-        ∙ ap (with_held (state_of o (seen k h header before w))) (product_is k o h header before w (composite name tag text below)) in
+        ∙ ap (with_stored (state_of o (seen k h header before w))) (product_is k o h header before w (composite name tag text below)) in
         rw (other, f)
-        (passed k o h header before rest (after_lines k (state_of o (seen k h header before w)) (part name tag text below)) (state_of o (seen k h header before (defined.after_product (terms o h header) w (composite name tag text below))))
-        (first_refusal o true rest) (after_products (terms o h header) (defined.after_product (terms o h header) w (composite name tag text below)) (products_in rest)) step (later (defined.after_product (terms o h header) w (composite name tag text below))))
+        (passed k o h header before rest (after_lines k (state_of o (seen k h header before w)) (part name tag text below)) (state_of o (seen k h header before (defined.after_product (settings o h header) w (composite name tag text below))))
+        (first_refusal o true rest) (after_products (settings o h header) (defined.after_product (settings o h header) w (composite name tag text below)) (products_in rest)) step (later (defined.after_product (settings o h header) w (composite name tag text below))))
     go false f true g y i later =
         let one : (after_element k (state_of o (seen k h header before w)) (composite name tag text below)).stage ≡ refused (why.SecondHeader tag.place) = rw g refl in
         let step : (after_lines k (state_of o (seen k h header before w)) (part name tag text below)).stage ≡ refused (why.SecondHeader tag.place) =
@@ -127,7 +127,7 @@ start o before = first_state o before.parts before.notes
 
 -- before the first product, with the number of the first part and what the target had taken
 abbrev begun_at : {P N : Type 0} → Options → Heading → Nodes → ℕ → Taken P N → State P N
-begun_at o h header number before = state_of o (held (record {
+begun_at o h header number before = state_of o (stored (record {
   front = take 6 (first_fields h header);
   back = drop 7 (first_fields h header);
   number = h.number;
@@ -139,39 +139,39 @@ begun_at o h header number before = state_of o (held (record {
   tally = no_tally;
 }) before.parts before.notes)
 
-begun_is : {P N : Type 0} (k : Keeping P N) (o : Options) (h : Heading) (header : Nodes) (before : Taken P N) → at_stage (start o before) (within (run.first_begun h header)) ≡ state_of o (seen k h header before no_work)
+begun_is : {P N : Type 0} (k : Keeping P N) (o : Options) (h : Heading) (header : Nodes) (before : Taken P N) → at_stage (start o before) (within (run.first_begun h header)) ≡ state_of o (seen k h header before no_packing)
 begun_is k o h header before =
     let number : h.number ≡ h.number + 0 = omega arith in
     ap (λ (n : ℕ). begun_at o h header n before) number
 
 -- what comes of elements where this refuses them, or nothing does
-came : {P N : Type 0} (k : Keeping P N) (o : Options) (h : Heading) (header : Nodes) (before : Taken P N) (s : State P N) (r : Option Rejection) (w : Work) → IsAt k o h header before s r w
-    → (whole : Option Rejection → Result Converted Rejection) → ((e : Rejection) → whole (Some e) ≡ Err e) → whole None ≡ defined.ended (terms o h header) w
+came : {P N : Type 0} (k : Keeping P N) (o : Options) (h : Heading) (header : Nodes) (before : Taken P N) (s : State P N) (r : Option Refusal) (w : Packing) → IsAt k o h header before s r w
+    → (whole : Option Refusal → Result Converted Refusal) → ((e : Refusal) → whole (Some e) ≡ Err e) → whole None ≡ defined.ended (settings o h header) w
     → finished k s ≡ result_map (behind k before) (whole r)
 came {P} {N} k o h header before s (Some e) w is whole some none = ap (λ (stage : Stage). run.finished_at k stage s) is ∙ ap (result_map (behind k before)) (sym (some e))
 came {P} {N} k o h header before s None w is whole some none = ap (finished k) is ∙ ended_is k o h header before w ∙ ap (result_map (behind k before)) (sym none)
 
 -- a message that is refused at once
-refused_here : {P N : Type 0} (k : Keeping P N) → Tell → (rest : Nodes) (t : State P N) (e : Rejection) → t.stage ≡ refused e → finished k (fold (after_lines k) t (parts_of rest)) ≡ Err e
+refused_here : {P N : Type 0} (k : Keeping P N) → Tell → (rest : Nodes) (t : State P N) (e : Refusal) → t.stage ≡ refused e → finished k (fold (after_lines k) t (parts_of rest)) ≡ Err e
 refused_here k tell rest t e is = ap (λ (stage : Stage). run.finished_at k stage (fold (after_lines k) t (parts_of rest))) (refused_stays k tell t e rest is)
 
 -- what comes of a Header with these elements behind it
-abbrev headed_by : Options → Composite → Nodes → Result Heading Refusal → Option Rejection
+abbrev headed_by : Options → Composite → Nodes → Result Heading HeaderRefusal → Option Refusal
 headed_by o c rest heading = option_or (option_map (header_refused c) (result_err heading)) (first_refusal o true rest)
 
-abbrev whole_by : Options → List Composite → Composite → Result Heading Refusal → Option Rejection → Result Converted Rejection
+abbrev whole_by : Options → List Composite → Composite → Result Heading HeaderRefusal → Option Refusal → Result Converted Refusal
 whole_by o products c heading (Some e) = Err e
 whole_by o products c heading None = by_heading o products c heading
 
-headed : {P N : Type 0} (k : Keeping P N) → Tell → (o : Options) (before : Taken P N) (c : Composite) (rest : Nodes) (heading : Result Heading Refusal) (t : State P N) → t ≡ at_stage (start o before) (begun_by c heading)
+after_header : {P N : Type 0} (k : Keeping P N) → Tell → (o : Options) (before : Taken P N) (c : Composite) (rest : Nodes) (heading : Result Heading HeaderRefusal) (t : State P N) → t ≡ at_stage (start o before) (begun_by c heading)
     → finished k (fold (after_lines k) t (parts_of rest)) ≡ result_map (behind k before) (whole_by o (products_in rest) c heading (headed_by o c rest heading))
-headed {P} {N} k tell o before c rest (Err refusal) t is = refused_here k tell rest t (header_refused c refusal) (ap (λ (u : State P N). u.stage) is)
-headed {P} {N} k tell o before c rest (Ok h) t is =
+after_header {P} {N} k tell o before c rest (Err refusal) t is = refused_here k tell rest t (header_refused c refusal) (ap (λ (u : State P N). u.stage) is)
+after_header {P} {N} k tell o before c rest (Ok h) t is =
     ap (λ (u : State P N). finished k (fold (after_lines k) u (parts_of rest))) (is ∙ begun_is k o h c.below before)
-    ∙ came k o h c.below before (fold (after_lines k) (state_of o (seen k h c.below before no_work)) (parts_of rest)) (first_refusal o true rest) (after_products (terms o h c.below) no_work (products_in rest))
-    (products_are k tell o h c.below before rest no_work) (whole_by o (products_in rest) c (Ok h)) (λ e. refl) refl
+    ∙ came k o h c.below before (fold (after_lines k) (state_of o (seen k h c.below before no_packing)) (parts_of rest)) (first_refusal o true rest) (after_products (settings o h c.below) no_packing (products_in rest))
+    (products_are k tell o h c.below before rest no_packing) (whole_by o (products_in rest) c (Ok h)) (λ e. refl) refl
 
-whole_is : (o : Options) (nodes : Nodes) (c : Composite) (products : List Composite) → products_in nodes ≡ products → header_in nodes ≡ Some c → (r : Option Rejection)
+whole_is : (o : Options) (nodes : Nodes) (c : Composite) (products : List Composite) → products_in nodes ≡ products → header_in nodes ≡ Some c → (r : Option Refusal)
     → by_refusal o nodes r ≡ whole_by o products c (heading_in o.choices c.below) r
 whole_is o nodes c products ps hs (Some e) = refl
 whole_is o nodes c products ps hs None = rw (ps, hs) refl
@@ -182,7 +182,7 @@ passed_over o name tag text below rest f g i =
     let refusal : first_refusal o false (node name tag text below rest) ≡ first_refusal o false rest = rw (g, f, i) refl in
     ap (by_refusal o (node name tag text below rest)) refusal ∙ go (first_refusal o false rest)
   where
-    go : (r : Option Rejection) → by_refusal o (node name tag text below rest) r ≡ by_refusal o rest r
+    go : (r : Option Refusal) → by_refusal o (node name tag text below rest) r ≡ by_refusal o rest r
     go (Some e) = refl
     go None = rw (f, g) refl
 
@@ -219,7 +219,7 @@ decided_is {P} {N} k tell o before (node name tag text below rest) =
         let defined_is : decided o (node name tag text below rest) ≡ whole_by o (products_in rest) (composite name tag text below) (heading_in o.choices below) (headed_by o (composite name tag text below) rest (heading_in o.choices below)) =
         ap (by_refusal o (node name tag text below rest)) refusal ∙ whole_is o (node name tag text below rest) (composite name tag text below) (products_in rest) products first (headed_by o (composite name tag text below) rest (heading_in o.choices below)) in
         let run_is : finished k (fold (after_lines k) (start o before) (parts_of (node name tag text below rest))) ≡ finished k (fold (after_lines k) (after_lines k (start o before) (part name tag text below)) (parts_of rest)) = rw (f, g) refl in
-        run_is ∙ headed k tell o before (composite name tag text below) rest (heading_in o.choices below) (after_lines k (start o before) (part name tag text below)) step
+        run_is ∙ after_header k tell o before (composite name tag text below) rest (heading_in o.choices below) (after_lines k (start o before) (part name tag text below)) step
         ∙ ap (result_map (behind k before)) (sym defined_is)
     go false f false g true i z j later =
         let one : (after_element k (start o before) (composite name tag text below)).stage ≡ refused (why.OtherNamespace tag.place) = rw (g, f, i) refl in
@@ -250,21 +250,21 @@ decides o no_nodes = refl
 decides o (node name tag text below rest) =
     go (bytes_eq name (codes "Product")) refl (bytes_eq name (codes "Header")) refl (bytes_eq name stranger) refl (has_stranger below) refl (heading_in o.choices below) refl (decides o rest)
   where
-    kept : (h : Heading) → bytes_eq name (codes "Product") ≡ false → bytes_eq name (codes "Header") ≡ true → heading_in o.choices below ≡ Ok h → (r : Option Rejection)
-        → packed_unless r (terms o h below) (products_in rest) ≡ by_refusal o (node name tag text below rest) r
-    kept h f g e (Some rejection) = refl
+    kept : (h : Heading) → bytes_eq name (codes "Product") ≡ false → bytes_eq name (codes "Header") ≡ true → heading_in o.choices below ≡ Ok h → (r : Option Refusal)
+        → packed_unless r (settings o h below) (products_in rest) ≡ by_refusal o (node name tag text below rest) r
+    kept h f g e (Some refusal) = refl
     kept h f g e None = rw (f, g, e) refl
 
     go : (p : Bool) → bytes_eq name (codes "Product") ≡ p → (x : Bool) → bytes_eq name (codes "Header") ≡ x → (y : Bool) → bytes_eq name stranger ≡ y → (z : Bool) → has_stranger below ≡ z
-        → (heading : Result Heading Refusal) → heading_in o.choices below ≡ heading → conversion o rest ≡ decided o rest
+        → (heading : Result Heading HeaderRefusal) → heading_in o.choices below ≡ heading → conversion o rest ≡ decided o rest
         → conversion o (node name tag text below rest) ≡ decided o (node name tag text below rest)
     go true f x g y i z j heading e later = rw (apart name f, f) refl
     go false f true g y i true j heading e later = rw (g, j) refl
     go false f true g y i false j (Err refusal) e later = rw (g, j, e) refl
     go false f true g y i false j (Ok h) e later =
-        let told : conversion o (node name tag text below rest) ≡ packed_unless (refused_behind rest) (terms o h below) (products_in rest) = rw (g, j, e) refl in
+        let told : conversion o (node name tag text below rest) ≡ packed_unless (refused_behind rest) (settings o h below) (products_in rest) = rw (g, j, e) refl in
         let refusal : first_refusal o false (node name tag text below rest) ≡ first_refusal o true rest = rw (g, j, e) refl in
-        told ∙ ap (λ (r : Option Rejection). packed_unless r (terms o h below) (products_in rest)) (behind_is o rest)
+        told ∙ ap (λ (r : Option Refusal). packed_unless r (settings o h below) (products_in rest)) (behind_is o rest)
         ∙ kept h f g e (first_refusal o true rest) ∙ ap (by_refusal o (node name tag text below rest)) (sym refusal)
     go false f false g true i z j heading e later = rw (g, f, i) refl
     go false f false g false i z j heading e later =

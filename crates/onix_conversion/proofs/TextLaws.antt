@@ -3,7 +3,7 @@ use Rattle.std.proofs.Common.{◌≡◌, ℕ, ◌+◌, List, [], ◌∷◌, ◌+
 use Rattle.std.specs.Prelude.{◌&&◌, nat_le}
 use Rattle.std.proofs.lemmas.Grind.{flat_map-append}
 use Rattle.csv_records.specs.RecordTexts.{limit, records_text}
-use Rattle.onix_message.specs.Grammar.{most_records}
+use Rattle.onix_records.specs.Grammar.{most_records}
 use Rattle.onix_conversion.specs.Messages.{end_record, fits, message, message_text}
 use Rattle.onix_conversion.specs.private.Stages.{end_text, has_room}
 

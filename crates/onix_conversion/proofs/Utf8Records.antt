@@ -8,12 +8,12 @@ use Rattle.std.proofs.lemmas.Bool.{and_from, and_parts}
 use Rattle.std.proofs.lemmas.Fmt.{IsAscii-decimal}
 use Rattle.std.proofs.lemmas.Str.{IsUtf8-from_ascii, is_utf8-from_IsUtf8}
 use Rattle.onix_outline.specs.Nodes.{Nodes}
-use Rattle.onix_message.specs.Grammar.{most_records}
-use Rattle.onix_message.specs.Opening.{opening_of}
+use Rattle.onix_records.specs.Grammar.{most_records}
+use Rattle.onix_records.specs.Opening.{opening_of}
 use Rattle.onix_mapping.specs.Elements.{text_or_empty}
-use Rattle.onix_mapping.specs.Header.{Choices, Heading, ◌>>=◌, addressee_pair, heading_in, message_fields, number_in, opening_said, sender_in}
-use Rattle.onix_mapping.specs.declared.header.Refusal.{Refusal}
-use Rattle.onix_mapping.specs.declared.header.Refusal.TheVariants as denied
+use Rattle.onix_mapping.specs.Header.{Choices, Heading, ◌>>=◌, addressee_pair, heading_in, message_fields, number_in, parsed_opening, sender_in}
+use Rattle.onix_mapping.specs.declared.header.HeaderRefusal.{HeaderRefusal}
+use Rattle.onix_mapping.specs.declared.header.HeaderRefusal.TheVariants as denied
 use Rattle.onix_mapping.proofs.PartLaws.{number-within}
 use Rattle.onix_mapping.proofs.RowLaws.{cond-then}
 use Rattle.onix_conversion.specs.Conversion.{first_record}
@@ -31,11 +31,11 @@ first_one fields records one others = and_from (list_all is_utf8 fields) (are_ut
 
 -- ---- the record with which a part begins, and the one that ends it
 
-bind_ok : {A B : Type 0} (r : Result A Refusal) (f : A → Result B Refusal) (b : B) → (r >>= f) ≡ Ok b → (a : A) × (r ≡ Ok a) × (f a ≡ Ok b)
+bind_ok : {A B : Type 0} (r : Result A HeaderRefusal) (f : A → Result B HeaderRefusal) (b : B) → (r >>= f) ≡ Ok b → (a : A) × (r ≡ Ok a) × (f a ≡ Ok b)
 bind_ok (Ok a) f b e = (a, refl, e)
 bind_ok (Err refusal) f b e = absurd cc
 
-some_ok : {A : Type 0} (o : Option A) (e : Refusal) (x : A) → ok_or o e ≡ Ok x → o ≡ Some x
+some_ok : {A : Type 0} (o : Option A) (e : HeaderRefusal) (x : A) → ok_or o e ≡ Ok x → o ≡ Some x
 some_ok None e x h = absurd cc
 some_ok (Some y) e x h = ap Some (ap (value y) h)
 
@@ -55,8 +55,8 @@ first_utf8 c header h e before less =
     let a = bind_ok (addressee_pair c header) _ h s.2 in
     let n = bind_ok (number_in c header) _ h a.2 in
     let fields = message_fields s.0 a.0 (decimal n.0) header in
-    let o = bind_ok (ok_or (opening_said fields) denied.Malformed) _ h n.2 in
-    let all = (cond-then (list_all is_utf8 fields) (opening_of (codes "Message" ∷ fields)) o.0 (some_ok (opening_said fields) denied.Malformed o.0 o.1)).0 in
+    let o = bind_ok (ok_or (parsed_opening fields) denied.Malformed) _ h n.2 in
+    let all = (cond-then (list_all is_utf8 fields) (opening_of (codes "Message" ∷ fields)) o.0 (some_ok (parsed_opening fields) denied.Malformed o.0 o.1)).0 in
     let front = codes "2" ∷ s.0.id_type ∷ s.0.id_value ∷ a.0.id_type ∷ a.0.id_value ∷ [] in
     let back =
     text_or_empty (codes "MessageRepeat") header

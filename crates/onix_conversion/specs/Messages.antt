@@ -2,26 +2,27 @@
 use Rattle.std.specs.Prelude.{ℕ, zero, suc, ◌+◌, Bool, ◌&&◌, List, [], ◌∷◌, ◌++◌, nat_le, codes}
 use Rattle.std.specs.Prelude.{decimal, length}
 use Rattle.csv_records.specs.RecordTexts.{limit, records_text}
-use Rattle.onix_message.specs.Grammar.{most_records}
+use Rattle.onix_records.specs.Grammar.{most_records}
 use Rattle.onix_mapping.specs.Records.{Fields, Records}
 
 -- the record that ends a message, behind so many
 abbrev pub end_record : ℕ → Fields
 end_record before = codes "EndMessage" ∷ decimal before ∷ []
 
--- the records of a message: its first one, those of its products, and the one that ends it
-abbrev pub message : Fields → Records → Records
-message first records = first ∷ (records ++ (end_record (1 + length records) ∷ []))
+module _ (first : Fields) (records : Records) where
+  -- the records of a message: its first one, those of its products, and the one that ends it
+  abbrev pub message : Records
+  message = first ∷ (records ++ (end_record (1 + length records) ∷ []))
 
--- the text of a message
-abbrev pub message_text : Fields → Records → List ℕ
-message_text first records = records_text (message first records)
+  -- the text of a message
+  abbrev pub message_text : List ℕ
+  message_text = records_text message
 
--- a message of these records is within what the desk takes: 20,000 records, and 4,194,304 bytes
-unfoldable pub fits : Fields → Records → Bool
-fits first records =
-    nat_le (length (message first records)) most_records
-    && nat_le (length (message_text first records)) limit
+  -- a message of these records is within what the desk takes: 20,000 records, and 4,194,304 bytes
+  unfoldable pub fits : Bool
+  fits =
+      nat_le (length message) most_records
+      && nat_le (length message_text) limit
 
 -- so many messages without products, the first of which is the part behind so many
 abbrev pub empty_messages : (ℕ → Fields) → ℕ → ℕ → List (List ℕ)

@@ -8,27 +8,28 @@ use Rattle.onix_outline.specs.Dialect.{Dialect}
 use Rattle.onix_outline.specs.Faults.{Explains}
 use Rattle.onix_outline.specs.Message.{IsMessage}
 use Rattle.onix_outline.specs.Nodes.{nodes_in}
+use Rattle.onix_mapping.specs.Vocabulary.{desk_vocabulary}
 use Rattle.onix_conversion.specs.Conversion.{Options, conversion}
 use Rattle.onix_conversion.specs.Packing.{Converted}
-use Rattle.onix_conversion.specs.declared.rejection.Fault.{Fault}
-use Rattle.onix_conversion.specs.declared.rejection.Fault.TheVariants as fault
-use Rattle.onix_conversion.specs.declared.rejection.Rejection.{Rejection}
+use Rattle.onix_conversion.specs.declared.refusal.Fault.{Fault}
+use Rattle.onix_conversion.specs.declared.refusal.Fault.TheVariants as fault
+use Rattle.onix_conversion.specs.declared.refusal.Refusal.{Refusal}
 
 -- The bytes that a reader has left, where it tells them, are an ONIX message, of whose elements
 -- this comes.
-pub record Says (bytes : Option (List ℕ)) (o : Options)
-    (comes : Result Converted Rejection) : Type 0 where
+pub record Yields (bytes : Option (List ℕ)) (o : Options)
+    (comes : Result Converted Refusal) : Type 0 where
   pub text : List ℕ
   pub dialect : Dialect
   pub place : Position
   pub inside : Content
   pub encoded : IsTextOf bytes text
-  pub message : IsMessage text dialect place inside
-  pub conversion : conversion o (nodes_in dialect [] place inside) ≡ comes
+  pub message : IsMessage desk_vocabulary text dialect place inside
+  pub conversion : conversion o (nodes_in desk_vocabulary dialect [] place inside) ≡ comes
 
 -- Refused: the bytes are a message, and that comes of it. Unread: what onix_outline says of such a
 -- fault and its place. Of out of memory nothing is said.
 abbrev pub ExplainsFault : Option (List ℕ) → Options → Fault → Type 0
-ExplainsFault bytes o (fault.Refused rejection) = Says bytes o (Err rejection)
-ExplainsFault bytes o (fault.Unread unread place told) = Explains bytes unread place
+ExplainsFault bytes o (fault.Refused refusal) = Yields bytes o (Err refusal)
+ExplainsFault bytes o (fault.Unread unread place told) = Explains desk_vocabulary bytes unread place
 ExplainsFault bytes o fault.Memory = Unit {0}

@@ -1,9 +1,9 @@
 -- Which texts the desk takes as the messages of a feed.
 use Rattle.std.specs.Prelude.{◌≡◌, ◌≤◌, ℕ, suc, List, [], ◌∷◌, ⊤, Some, IsUtf8, length, map}
 use Rattle.csv_records.specs.RecordTexts.{limit, records_of}
-use Rattle.onix_message.specs.Grammar.{IsMessage}
-use Rattle.onix_message.specs.declared.parts.Header.{Header}
-use Rattle.onix_message.specs.declared.parts.Product.{Product}
+use Rattle.onix_records.specs.Grammar.{IsMessage}
+use Rattle.onix_records.specs.declared.parts.Header.{Header}
+use Rattle.onix_records.specs.declared.parts.Product.{Product}
 
 -- The desk takes this text as the message of this number: it is UTF-8 and within the limit, and the
 -- records that are read of it are such a message, with its header and its contents, which are

@@ -9,8 +9,8 @@ use Rattle.onix_mapping.specs.ProductRecords.{has_wrong}
 use Rattle.onix_mapping.specs.Products.{reference_in}
 use Rattle.onix_conversion.specs.declared.options.Allowed.{Allowed}
 use Rattle.onix_conversion.specs.declared.options.Allowed.TheVariants.{AllWrong, FewWrong, NoWrong}
-use Rattle.onix_conversion.specs.declared.rejection.Rejection.{Rejection}
-use Rattle.onix_conversion.specs.declared.rejection.Rejection.TheVariants as why
+use Rattle.onix_conversion.specs.declared.refusal.Refusal.{Refusal}
+use Rattle.onix_conversion.specs.declared.refusal.Refusal.TheVariants as why
 use Rattle.onix_conversion.specs.declared.tally.Tally.{Tally}
 use Rattle.onix_conversion.specs.declared.tally.WrongProduct.{WrongProduct}
 
@@ -32,8 +32,8 @@ with_wrong t c = record t {
 -- with one more that has these notes: it is wrong where one of them says so
 abbrev pub tallied : Tally → Composite → List Note → Tally
 tallied t c notes =
-    let counted = if has_wrong notes then with_wrong t c else t in
-    record counted { products = counted.products + 1 }
+    let next = if has_wrong notes then with_wrong t c else t in
+    record next { products = next.products + 1 }
 
 -- Few are up to ten, or one in a hundred; and up to one, or half of all.
 abbrev pub too_many : Allowed → ℕ → ℕ → Bool
@@ -44,7 +44,7 @@ too_many FewWrong wrong products =
 too_many AllWrong wrong products = false
 
 -- why a message is refused, where more products are wrong than are allowed
-abbrev pub refused_for : Allowed → Tally → Option Rejection
+abbrev pub refused_for : Allowed → Tally → Option Refusal
 refused_for allowed t =
     if too_many allowed t.wrong t.products
     then option_map (λ p. why.Wrong t.wrong t.products p.reference p.place) t.first else None

@@ -1,17 +1,17 @@
 //! The conversion of a feed.
 
 ghost use Rattle.std.specs.Prelude.{◌≡◌, ◌+◌, ◌-◌, IfErr, IfOk, Ok, OnOk, fold};
-ghost use Rattle.onix_conversion.specs.Outcomes.{ExplainsFault, Says};
+ghost use Rattle.onix_conversion.specs.Outcomes.{ExplainsFault, Yields};
 ghost use Rattle.onix_conversion.specs.private.Endings.{Ends, IsUnread};
 ghost use Rattle.onix_conversion.specs.Packing.{Converted};
-ghost use Rattle.onix_conversion.specs.private.Stages.{all_written, empty_parts, ended, ended_at, finished, held};
+ghost use Rattle.onix_conversion.specs.private.Stages.{all_parts, empty_parts, ended, ended_at, finished, stored};
 ghost use Rattle.onix_conversion.specs.Views.{options_view};
 ghost use Rattle.onix_conversion.specs.private.StageViews.{begun_view};
 
 use crate::converter::Converter;
 use crate::options::Options;
 use crate::packing::{Begun, Stage, first_text, hand_on};
-use crate::rejection::{Fault, Rejection};
+use crate::refusal::{Fault, Refusal};
 use crate::tally::refused_for;
 use crate::target::Target;
 use onix_outline::{Stopped, outlines_tell, read_message};
@@ -55,8 +55,8 @@ fn hand_rest<T: Target>(
     target: &mut T,
 ) -> Result<(), AllocError>
     ensures parts { OnOk result (T.parts target.new
-        ≡ all_written T.keeping most
-        (held (begun_view begun.old) (T.parts target.old) (T.notes target.old))) }
+        ≡ all_parts T.keeping most
+        (stored (begun_view begun.old) (T.parts target.old) (T.notes target.old))) }
     ensures notes { OnOk result (T.notes target.new ≡ T.notes target.old) }
 {
     let Some(next) = begun.full.checked_add(1) else {
@@ -81,13 +81,13 @@ fn end_parts<T: Target>(
     target: &mut T,
 ) -> Result<u32, Fault>
     ensures { Ends result (T.parts target.new) (T.notes target.new) (ended_at T.keeping most
-        (held (begun_view begun) (T.parts target.old) (T.notes target.old)) begun.beyond) }
+        (stored (begun_view begun) (T.parts target.old) (T.notes target.old)) begun.beyond) }
 {
     let mut begun = begun;
     let wrong = begun.tally.wrong;
     if let Some(place) = begun.beyond {
         return match begun.full.checked_add(1) {
-            Some(needed) => Err(Fault::Refused(Rejection::Parts(needed, place))),
+            Some(needed) => Err(Fault::Refused(Refusal::Parts(needed, place))),
             None => Err(Fault::Memory),
         };
     }
@@ -106,11 +106,11 @@ fn end<T: Target>(
 ) -> Result<u32, Fault>
     ensures { Ends result (T.parts target.new) (T.notes target.new)
         (ended T.keeping (options_view options.now)
-        (held (begun_view begun) (T.parts target.old) (T.notes target.old))) }
+        (stored (begun_view begun) (T.parts target.old) (T.notes target.old))) }
 {
     match refused_for(alloc, options.wrong, &begun.tally) {
         Ok(None) => end_parts(alloc, options.choices.parts, begun, target),
-        Ok(Some(rejection)) => Err(Fault::Refused(rejection)),
+        Ok(Some(refusal)) => Err(Fault::Refused(refusal)),
         Err(_) => Err(Fault::Memory),
     }
 }
@@ -127,8 +127,8 @@ fn finish<T: Target + Drop>(converter: Converter<'_, T>) -> Outcome<T>
         stage,
     } = converter;
     let ended = match stage {
-        Stage::Unbegun => Err(Fault::Refused(Rejection::NoHeader(None))),
-        Stage::Refused(rejection) => Err(Fault::Refused(rejection)),
+        Stage::Unbegun => Err(Fault::Refused(Refusal::NoHeader(None))),
+        Stage::Refused(refusal) => Err(Fault::Refused(refusal)),
         Stage::Within(begun) => end(alloc, options, begun, &mut target),
     };
     Outcome { target, ended }
@@ -162,7 +162,7 @@ pub fn convert<'a, R: Read, T: Target + Drop>(
     target: T,
 ) -> Outcome<T>
     ensures converted { IfOk result.ended (λ wrong. (made : Converted)
-        × Says (R.remaining reader.old) (options_view options.now) (Ok made)
+        × Yields (R.remaining reader.old) (options_view options.now) (Ok made)
         × (wrong ≡ made.wrong)
         × (T.parts result.target ≡ fold T.keeping.with_part (T.parts target) made.parts)
         × (T.notes result.target ≡ fold T.keeping.with_note (T.notes target) made.notes)) }

@@ -5,12 +5,12 @@ ghost use Rattle.onix_mapping.specs.Elements.{Composite as Told, Tells};
 ghost use Rattle.onix_mapping.specs.Header.{heading_in};
 ghost use Rattle.onix_mapping.specs.HeaderViews.{choices_view, heading_view};
 ghost use Rattle.onix_mapping.specs.Notes.{note_views};
-ghost use Rattle.onix_mapping.specs.ProductRecords.{form, small_forms, smaller_forms};
+ghost use Rattle.onix_mapping.specs.ProductRecords.{variant, small_variants, smaller_variants};
 ghost use Rattle.onix_mapping.specs.Products.{bare_record, emptied_record};
 ghost use Rattle.onix_outline.specs.Nodes.{Nodes};
 ghost use Rattle.onix_outline.specs.Outline.{outline};
 ghost use Rattle.onix_outline.specs.Views.{line_views};
-ghost use Rattle.onix_conversion.specs.private.Stages.{IsKept, after_element, after_product, at_stage, begun_by, first_begun, first_state, held, noted, stage_after_header, stage_after_stranger, unbegun, with_form, with_forms, with_product};
+ghost use Rattle.onix_conversion.specs.private.Stages.{IsKept, after_element, after_product, at_stage, begun_by, first_begun, first_state, stored, noted, stage_after_header, stage_after_stranger, unbegun, with_variant, with_variants, with_product};
 ghost use Rattle.onix_conversion.specs.Conversion.{Options as Chosen};
 ghost use Rattle.onix_conversion.specs.Views.{options_view};
 ghost use Rattle.onix_conversion.specs.private.StageViews.{begun_view, stage_view};
@@ -18,17 +18,17 @@ ghost use Rattle.onix_conversion.specs.private.StageViews.{begun_view, stage_vie
 use crate::messages::record_text;
 use crate::options::Options;
 use crate::packing::{Begun, Stage, keep};
-use crate::rejection::Rejection;
+use crate::refusal::Refusal;
 use crate::tally::{Tally, count_product};
 use crate::target::Target;
 use csv_records::buffer::RecordBuffer;
 use csv_records::fields::FieldBuffer;
 use onix_mapping::{
-    Choices, Composite, Fate, HeaderFault, Heading, Note, Reason, Why, Wrong, add_bare, add_large,
-    add_product, fill_message, read_heading, text_or_empty,
+    Choices, Composite, Fate, HeaderFault, Heading, Note, Reason, ReasonKind, Wrong, add_bare,
+    add_large, add_product, desk_vocabulary, fill_message, read_heading, text_or_empty,
 };
-use onix_message::row::RowFault;
-use onix_outline::{Line, Taker, has_stranger, outlined};
+use onix_outline::{Line, Taker, Word, has_stranger, outlined};
+use onix_records::row::RowFault;
 use onix_terms::items::Items;
 use std::alloc::{AllocError, Global};
 use std::marker::Model;
@@ -60,9 +60,9 @@ fn note_product<T: Target>(
     notes: &[Note<'_>],
 ) -> Result<(), AllocError>
     ensures { (c : Told) → Tells product.entry 1 c → OnOk result
-        (held (begun_view begun.new) (T.parts target.new) (T.notes target.new)
+        (stored (begun_view begun.new) (T.parts target.new) (T.notes target.new)
         ≡ noted T.keeping c (note_views notes.now)
-        (held (begun_view begun.old) (T.parts target.old) (T.notes target.old))) }
+        (stored (begun_view begun.old) (T.parts target.old) (T.notes target.old))) }
 {
     count_product(alloc, &mut begun.tally, product, notes)?;
     let reference = text_or_empty(1, b"RecordReference", product.below);
@@ -71,7 +71,7 @@ fn note_product<T: Target>(
 
 // Puts the records of a form of a product into a part, and hands on the notes on it. It is false
 // where they are too large for any.
-fn keep_form<T: Target>(
+fn keep_variant<T: Target>(
     alloc: Global,
     most: u32,
     begun: &mut Begun,
@@ -81,10 +81,10 @@ fn keep_form<T: Target>(
     notes: &[Note<'_>],
 ) -> Result<bool, AllocError>
     ensures { (c : Told) → Tells product.entry 1 c → IfOk result (λ is. IsKept is
-        (held (begun_view begun.old) (T.parts target.old) (T.notes target.old))
-        (held (begun_view begun.new) (T.parts target.new) (T.notes target.new))
-        (with_form T.keeping most
-        (held (begun_view begun.old) (T.parts target.old) (T.notes target.old))
+        (stored (begun_view begun.old) (T.parts target.old) (T.notes target.old))
+        (stored (begun_view begun.new) (T.parts target.new) (T.notes target.new))
+        (with_variant T.keeping most
+        (stored (begun_view begun.old) (T.parts target.old) (T.notes target.old))
         c records.now (note_views notes.now))) }
 {
     let is_kept = keep(alloc, most, begun, target, product.line.place, records)?;
@@ -102,13 +102,13 @@ fn leave_out<T: Target>(
     product: Composite<'_>,
 ) -> Result<(), AllocError>
     ensures { (c : Told) (most : ℕ) → Tells product.entry 1 c → OnOk result
-        (held (begun_view begun.new) (T.parts target.new) (T.notes target.new)
-        ≡ with_forms T.keeping most
-        (held (begun_view begun.old) (T.parts target.old) (T.notes target.old)) c []) }
+        (stored (begun_view begun.new) (T.parts target.new) (T.notes target.new)
+        ≡ with_variants T.keeping most
+        (stored (begun_view begun.old) (T.parts target.old) (T.notes target.old)) c []) }
 {
-    let why = Why::Wrong(Wrong::TooLarge);
+    let kind = ReasonKind::Wrong(Wrong::TooLarge);
     let line = product.line;
-    let reason = Reason { why, text: b"" };
+    let reason = Reason { kind, text: b"" };
     note_product(alloc, begun, target, product, &[Note { line, reason }])
 }
 
@@ -122,15 +122,15 @@ fn add_smallest<T: Target>(
     notes: &[Note<'_>],
 ) -> Result<(), AllocError>
     ensures { (c : Told) → Tells product.entry 1 c → OnOk result
-        (held (begun_view begun.new) (T.parts target.new) (T.notes target.new)
-        ≡ with_forms T.keeping most
-        (held (begun_view begun.old) (T.parts target.old) (T.notes target.old))
-        c (form (bare_record c.below ∷ []) (note_views notes.now) ∷ [])) }
+        (stored (begun_view begun.new) (T.parts target.new) (T.notes target.new)
+        ≡ with_variants T.keeping most
+        (stored (begun_view begun.old) (T.parts target.old) (T.notes target.old))
+        c (variant (bare_record c.below ∷ []) (note_views notes.now) ∷ [])) }
 {
     let mut fields = FieldBuffer::new(alloc);
     let mut records = RecordBuffer::new(alloc);
     add_bare(alloc, 1, product, &mut fields, &mut records)?;
-    let is_kept = keep_form(alloc, most, begun, target, product, &records, notes)?;
+    let is_kept = keep_variant(alloc, most, begun, target, product, &records, notes)?;
     if is_kept {
         return Ok(());
     }
@@ -148,12 +148,12 @@ fn add_small<T: Target>(
     notes: &[Note<'_>],
 ) -> Result<(), AllocError>
     ensures { (c : Told) → Tells product.entry 1 c → records.now ≡ emptied_record c.below ∷ []
-        → OnOk result (held (begun_view begun.new) (T.parts target.new) (T.notes target.new)
-        ≡ with_forms T.keeping most
-        (held (begun_view begun.old) (T.parts target.old) (T.notes target.old))
-        c (small_forms (note_views notes.now) c.below)) }
+        → OnOk result (stored (begun_view begun.new) (T.parts target.new) (T.notes target.new)
+        ≡ with_variants T.keeping most
+        (stored (begun_view begun.old) (T.parts target.old) (T.notes target.old))
+        c (small_variants (note_views notes.now) c.below)) }
 {
-    let is_kept = keep_form(alloc, most, begun, target, product, records, notes)?;
+    let is_kept = keep_variant(alloc, most, begun, target, product, records, notes)?;
     if is_kept {
         return Ok(());
     }
@@ -171,10 +171,10 @@ fn add_large_product<T: Target>(
     notes: &[Note<'_>],
 ) -> Result<(), AllocError>
     ensures { (c : Told) → Tells product.entry 1 c → OnOk result
-        (held (begun_view begun.new) (T.parts target.new) (T.notes target.new)
-        ≡ with_forms T.keeping most
-        (held (begun_view begun.old) (T.parts target.old) (T.notes target.old))
-        c (smaller_forms fate (note_views notes.now) c)) }
+        (stored (begun_view begun.new) (T.parts target.new) (T.notes target.new)
+        ≡ with_variants T.keeping most
+        (stored (begun_view begun.old) (T.parts target.old) (T.notes target.old))
+        c (smaller_variants fate (note_views notes.now) c)) }
 {
     let mut fields = FieldBuffer::new(alloc);
     let mut records = RecordBuffer::new(alloc);
@@ -197,9 +197,9 @@ fn add<T: Target>(
     product: Composite<'_>,
 ) -> Result<(), AllocError>
     ensures { (c : Told) → Tells product.entry 1 c → OnOk result
-        (held (begun_view begun.new) (T.parts target.new) (T.notes target.new)
+        (stored (begun_view begun.new) (T.parts target.new) (T.notes target.new)
         ≡ after_product T.keeping (options_view options.now)
-        (held (begun_view begun.old) (T.parts target.old) (T.notes target.old)) c) }
+        (stored (begun_view begun.old) (T.parts target.old) (T.notes target.old)) c) }
 {
     let mut fields = FieldBuffer::new(alloc);
     let mut records = RecordBuffer::new(alloc);
@@ -215,7 +215,7 @@ fn add<T: Target>(
         &mut notes,
     )?;
     let most = options.choices.parts;
-    let is_kept = keep_form(alloc, most, begun, target, product, &records, &notes)?;
+    let is_kept = keep_variant(alloc, most, begun, target, product, &records, &notes)?;
     if is_kept {
         return Ok(());
     }
@@ -274,7 +274,7 @@ fn begin<'a>(
 {
     if has_stranger(header.below) {
         let place = header.line.place;
-        return Ok(Stage::Refused(Rejection::OtherNamespace(place)));
+        return Ok(Stage::Refused(Refusal::OtherNamespace(place)));
     }
     begin_own(alloc, choices, header)
 }
@@ -299,7 +299,7 @@ fn begin_own<'a>(
         Err(HeaderFault::Refused(refusal)) => {
             let number = text_or_empty(1, b"MessageNumber", header.below);
             let number = Items::from_vec(Vec::from_slice(alloc, number)?);
-            Ok(Stage::Refused(Rejection::Header(refusal, number, header.line.place)))
+            Ok(Stage::Refused(Refusal::Header(refusal, number, header.line.place)))
         }
         Err(HeaderFault::Memory) => Err(AllocError),
     }
@@ -337,7 +337,7 @@ impl<'a, T: Target + Drop> Converter<'a, T> {
             Stage::Refused(_) => Ok(()),
             Stage::Within(_) => {
                 let place = header.line.place;
-                self.stage = Stage::Refused(Rejection::SecondHeader(place));
+                self.stage = Stage::Refused(Refusal::SecondHeader(place));
                 Ok(())
             }
         }
@@ -352,10 +352,10 @@ impl<'a, T: Target + Drop> Converter<'a, T> {
         match &self.stage {
             Stage::Refused(_) => {}
             Stage::Unbegun => {
-                self.stage = Stage::Refused(Rejection::OtherNamespace(place));
+                self.stage = Stage::Refused(Refusal::OtherNamespace(place));
             }
             Stage::Within(_) => {
-                self.stage = Stage::Refused(Rejection::OtherNamespace(place));
+                self.stage = Stage::Refused(Refusal::OtherNamespace(place));
             }
         }
     }
@@ -368,7 +368,7 @@ impl<'a, T: Target + Drop> Converter<'a, T> {
         match &mut self.stage {
             Stage::Unbegun => {
                 let place = Some(product.line.place);
-                self.stage = Stage::Refused(Rejection::NoHeader(place));
+                self.stage = Stage::Refused(Refusal::NoHeader(place));
                 Ok(())
             }
             Stage::Refused(_) => Ok(()),
@@ -398,10 +398,20 @@ impl<'a, T: Target + Drop> Converter<'a, T> {
 }
 
 impl<'a, T: Target + Drop> Taker for Converter<'a, T> {
+    ghost use Rattle.onix_mapping.specs.Vocabulary.{desk_vocabulary};
     ghost use Rattle.onix_outline.specs.Outlined.{outlined};
+    ghost use Rattle.onix_outline.specs.Views.{word_views};
     ghost use Rattle.onix_conversion.specs.private.Stages.{after_nodes};
 
+    ghost vocabulary = { desk_vocabulary };
+
     ghost after = { λ s lines. after_nodes T.keeping s (outlined lines) };
+
+    fn vocabulary() -> &'static [Word]
+        ensures { word_views result.now ≡ desk_vocabulary }
+    {
+        desk_vocabulary()
+    }
 
     // Lines that are the outline of no element change nothing.
     fn take(&mut self, lines: &[Line]) -> Result<(), AllocError> {

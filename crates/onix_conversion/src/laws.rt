@@ -11,9 +11,9 @@ use csv_records::laws::one_text;
 use onix_mapping::laws::{parts_say_the_same, records_are_products};
 
 /// The products of a message, each once and in order, stand in its parts, one part after the other
-/// and each in the first of its forms that is not too large, as many as there is room for, with the
-/// notes of that form. The desk takes each part with just its products: its text is UTF-8 and at
-/// most 4,194,304 bytes, and the records that are read of it are a message, of at most 20,000
+/// and each in the first of its variants that is not too large, as many as there is room for, with
+/// the notes of that variant. The desk takes each part with just its products: its text is UTF-8
+/// and at most 4,194,304 bytes, and the records that are read of it are a message, of at most 20,000
 /// records, whose header has the part's number.
 pub fn products_stand_in_parts()
     ensures { (o : Options) (nodes : Nodes) (made : Converted) → conversion o nodes ≡ Ok made

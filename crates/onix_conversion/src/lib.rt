@@ -7,12 +7,12 @@ pub mod laws;
 pub mod messages;
 pub mod options;
 pub mod packing;
-pub mod rejection;
+pub mod refusal;
 pub mod tally;
 pub mod target;
 
 pub use conversion::{Outcome, convert};
 pub use options::{Allowed, Options};
-pub use rejection::{Fault, Rejection};
+pub use refusal::{Fault, Refusal};
 pub use tally::{Tally, WrongProduct};
 pub use target::Target;

@@ -4,18 +4,18 @@ ghost use Rattle.std.specs.Prelude.{◌≡◌, ◌+◌, ◌++◌, ◌∷◌, [],
 ghost use Rattle.std.specs.String.{string_bytes};
 ghost use Rattle.csv_records.specs.RecordTexts.{records_text};
 ghost use Rattle.onix_conversion.specs.Packing.{beyond_at};
-ghost use Rattle.onix_conversion.specs.private.Stages.{end_text, first_text, grown, has_room, held, kept, turned, with_part, IsKept};
+ghost use Rattle.onix_conversion.specs.private.Stages.{end_text, first_text, grown, has_room, stored, kept, in_next_part, with_part, IsKept};
 ghost use Rattle.onix_conversion.specs.private.StageViews.{begun_view};
 
 use crate::messages::{end_text, record_text};
-use crate::rejection::Rejection;
+use crate::refusal::Refusal;
 use crate::tally::Tally;
 use crate::target::Target;
 use csv_records::buffer::RecordBuffer;
 use csv_records::fields::FieldBuffer;
 use csv_records::writing::write_records;
 use itoa::Buffer;
-use onix_message::row::Opening;
+use onix_records::row::Opening;
 use std::alloc::{AllocError, Global};
 use xml_text::Position;
 
@@ -48,7 +48,7 @@ pub enum Stage {
     /// Before its Header.
     Unbegun,
     /// Refused.
-    Refused(Rejection),
+    Refused(Refusal),
     /// In its parts.
     Within(Begun),
 }
@@ -149,7 +149,7 @@ fn turn(
 ) -> Result<(), AllocError>
     ensures { first.now ≡ first_text (begun_view begun.old) (begun.old.full + 1)
         → OnOk result (begun_view begun.new
-        ≡ turned most (begun_view begun.old) place more text.now) }
+        ≡ in_next_part most (begun_view begun.old) place more text.now) }
 {
     let Some(full) = begun.full.checked_add(1) else {
         return Err(AllocError);
@@ -179,10 +179,10 @@ fn keep_text<T: Target>(
     text: &str,
 ) -> Result<bool, AllocError>
     ensures { IfOk result (λ is. IsKept is
-        (held (begun_view begun.old) (T.parts target.old) (T.notes target.old))
-        (held (begun_view begun.new) (T.parts target.new) (T.notes target.new))
+        (stored (begun_view begun.old) (T.parts target.old) (T.notes target.old))
+        (stored (begun_view begun.new) (T.parts target.new) (T.notes target.new))
         (kept T.keeping most
-        (held (begun_view begun.old) (T.parts target.old) (T.notes target.old))
+        (stored (begun_view begun.old) (T.parts target.old) (T.notes target.old))
         place more text.now)) }
 {
     if has_room(alloc, begun.count, begun.text.len(), more, text.len())? {
@@ -219,10 +219,10 @@ pub(crate) fn keep<T: Target>(
     records: &RecordBuffer,
 ) -> Result<bool, AllocError>
     ensures { IfOk result (λ is. IsKept is
-        (held (begun_view begun.old) (T.parts target.old) (T.notes target.old))
-        (held (begun_view begun.new) (T.parts target.new) (T.notes target.new))
+        (stored (begun_view begun.old) (T.parts target.old) (T.notes target.old))
+        (stored (begun_view begun.new) (T.parts target.new) (T.notes target.new))
         (kept T.keeping most
-        (held (begun_view begun.old) (T.parts target.old) (T.notes target.old))
+        (stored (begun_view begun.old) (T.parts target.old) (T.notes target.old))
         place (length records.now) (records_text records.now))) }
 {
     let text = write_records(alloc, &records.as_records())?;

@@ -7,7 +7,7 @@ ghost use Rattle.onix_mapping.specs.ProductRecords.{has_wrong};
 ghost use Rattle.onix_conversion.specs.Tallies.{no_tally, refused_for, tallied, too_many, with_wrong};
 
 use crate::options::Allowed;
-use crate::rejection::Rejection;
+use crate::refusal::Refusal;
 use onix_mapping::{Composite, Note, text_or_empty};
 use onix_terms::items::Items;
 use std::alloc::{AllocError, Global};
@@ -47,7 +47,7 @@ fn has_wrong(notes: &[Note<'_>]) -> bool
 {
     let mut rest = notes;
     while let [note, tail @ ..] = rest {
-        if note.reason.why.is_wrong() {
+        if note.reason.kind.is_wrong() {
             return true;
         }
         rest = tail;
@@ -114,7 +114,7 @@ pub(crate) fn refused_for(
     alloc: Global,
     allowed: Allowed,
     tally: &Tally,
-) -> Result<Option<Rejection>, AllocError>
+) -> Result<Option<Refusal>, AllocError>
     ensures { IfOk result (λ r. r ≡ refused_for allowed tally.now) }
 {
     if !too_many(allowed, tally.wrong, tally.products) {
@@ -124,5 +124,5 @@ pub(crate) fn refused_for(
         return Ok(None);
     };
     let reference = Items::from_vec(Vec::from_slice(alloc, first.reference.as_slice())?);
-    Ok(Some(Rejection::Wrong(tally.wrong, tally.products, reference, first.place)))
+    Ok(Some(Refusal::Wrong(tally.wrong, tally.products, reference, first.place)))
 }

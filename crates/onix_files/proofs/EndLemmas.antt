@@ -7,9 +7,9 @@ use Rattle.named_files.specs.Names.{is_packed, name_of}
 use Rattle.named_files.specs.PartFiles.{files_of, place}
 use Rattle.named_files.specs.Texts.{IsWritten, with_file, with_text}
 use Rattle.onix_conversion.specs.Conversion.{Options}
-use Rattle.onix_conversion.specs.Outcomes.{ExplainsFault, Says}
+use Rattle.onix_conversion.specs.Outcomes.{ExplainsFault, Yields}
 use Rattle.onix_conversion.specs.Packing.{Converted}
-use Rattle.onix_conversion.specs.declared.rejection.Fault.{Fault}
+use Rattle.onix_conversion.specs.declared.refusal.Fault.{Fault}
 use Rattle.onix_files.specs.Ends.{AreTold, Asking, IsEnd, IsTaken, IsUnconverted, asking, file_end, is_converted}
 use Rattle.onix_files.specs.declared.ended.Ended.{Ended}
 use Rattle.onix_files.specs.declared.ended.Ended.TheVariants as ended
@@ -17,7 +17,7 @@ use Rattle.onix_files.proofs.KeptLemmas.{all_told, files_told}
 
 -- a FILE that was converted, so many of whose products are wrong
 pub converted_taken : {T : Type 0} (with_part : T → List ℕ → T) (o : Options) (bytes : Option (List ℕ)) (before after : T) (wrong : ℕ) (e : Ended) (made : Converted)
-    → Says bytes o (Ok made) → after ≡ fold with_part before made.parts → wrong ≡ made.wrong → (wrong ≡ 0 → e ≡ ended.Done) → (0 < wrong → e ≡ ended.LeftOut)
+    → Yields bytes o (Ok made) → after ≡ fold with_part before made.parts → wrong ≡ made.wrong → (wrong ≡ 0 → e ≡ ended.Done) → (0 < wrong → e ≡ ended.LeftOut)
     → IsTaken with_part o bytes before after e
 converted_taken with_part o bytes before after zero e made says kept is done left = subst (IsTaken with_part o bytes before after) (sym (done refl)) (made, says, sym is, kept)
 converted_taken with_part o bytes before after (suc n) e made says kept is done left =
@@ -32,7 +32,7 @@ stopped_taken with_part o bytes before after e f (inr refused) explains = subst 
 
 -- a FILE that was read so
 pub read_taken : {T : Type 0} (with_part : T → List ℕ → T) (o : Options) (bytes : Option (List ℕ)) (before after : T) (r : Result ℕ Fault) (e : Ended)
-    → IfOk r (λ wrong. (made : Converted) × Says bytes o (Ok made) × (wrong ≡ made.wrong) × (after ≡ fold with_part before made.parts)
+    → IfOk r (λ wrong. (made : Converted) × Yields bytes o (Ok made) × (wrong ≡ made.wrong) × (after ≡ fold with_part before made.parts)
     × (◌≡◌ {A = Unit {0}} tt (fold (λ kept n. kept) tt made.notes)))
     → IfErr r (λ f. ExplainsFault bytes o f)
     → IfOk r (λ wrong. wrong ≡ 0 → e ≡ ended.Done) → IfOk r (λ wrong. 0 < wrong → e ≡ ended.LeftOut) → IfErr r (λ f. IsUnconverted f e)

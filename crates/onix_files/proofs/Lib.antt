@@ -1,3 +1,4 @@
 pub mod KeptLemmas
 pub mod EndLemmas
 pub mod RunLemmas
+pub mod TitleLemmas

@@ -10,10 +10,10 @@ use Rattle.named_files.specs.Names.{is_packed, name_of}
 use Rattle.named_files.specs.PartFiles.{files_of, place}
 use Rattle.onix_outline.specs.declared.reading.Fault.TheVariants as unread
 use Rattle.onix_conversion.specs.Conversion.{Options}
-use Rattle.onix_conversion.specs.Outcomes.{ExplainsFault, Says}
+use Rattle.onix_conversion.specs.Outcomes.{ExplainsFault, Yields}
 use Rattle.onix_conversion.specs.Packing.{Converted}
-use Rattle.onix_conversion.specs.declared.rejection.Fault.{Fault}
-use Rattle.onix_conversion.specs.declared.rejection.Fault.TheVariants as fault
+use Rattle.onix_conversion.specs.declared.refusal.Fault.{Fault}
+use Rattle.onix_conversion.specs.declared.refusal.Fault.TheVariants as fault
 use Rattle.onix_files.specs.declared.ended.Ended.{Ended}
 use Rattle.onix_files.specs.declared.ended.Ended.TheVariants as ended
 
@@ -49,10 +49,10 @@ IsUnconverted f e = (e ≡ ended.Fault) ⊎ ((e ≡ ended.Refused) × IsRefusal 
 abbrev pub IsTaken : {T : Type 0} → (T → List ℕ → T) → Options → Option (List ℕ) → T → T → Ended
     → Type 0
 IsTaken with_part o bytes before after ended.Done =
-    (made : Converted) × Says bytes o (Ok made) × (made.wrong ≡ 0)
+    (made : Converted) × Yields bytes o (Ok made) × (made.wrong ≡ 0)
     × (after ≡ fold with_part before made.parts)
 IsTaken with_part o bytes before after ended.LeftOut =
-    (made : Converted) × Says bytes o (Ok made) × (0 < made.wrong)
+    (made : Converted) × Yields bytes o (Ok made) × (0 < made.wrong)
     × (after ≡ fold with_part before made.parts)
 IsTaken with_part o bytes before after ended.Refused =
     (f : Fault) × IsRefusal f × ExplainsFault bytes o f
@@ -123,17 +123,17 @@ module _ (a : Asking) (name : List ℕ) where
 -- how a FILE of this name and of these bytes, where they are told, ends so
 abbrev pub EndsAs : Ended → Asking → List ℕ → Option (List ℕ) → FileEnd → Type 0
 EndsAs ended.Done a name bytes e =
-    (made : Converted) × Says bytes a.options (Ok made) × (made.wrong ≡ 0)
+    (made : Converted) × Yields bytes a.options (Ok made) × (made.wrong ≡ 0)
     × WritesTo a name a.folder made.parts e
 EndsAs ended.LeftOut a name bytes e =
-    (made : Converted) × Says bytes a.options (Ok made) × (0 < made.wrong)
+    (made : Converted) × Yields bytes a.options (Ok made) × (0 < made.wrong)
     × WritesTo a name a.folder made.parts e
 EndsAs ended.Refused a name bytes e =
     LeavesNothing e × ((f : Fault) × IsRefusal f × ExplainsFault bytes a.options f)
 EndsAs ended.Packed a name bytes e = LeavesNothing e × (is_packed name ≡ true)
 EndsAs ended.Fault a name bytes e =
     LeavesNothing e
-    ⊎ ((made : Converted) × Says bytes a.options (Ok made)
+    ⊎ ((made : Converted) × Yields bytes a.options (Ok made)
     × MayWriteTo a name a.folder made.parts e)
 
 -- How a FILE of this name and of these bytes, where they are told, ends: its messages are written,

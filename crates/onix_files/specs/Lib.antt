@@ -1,3 +1,5 @@
 pub mod Kept
 pub mod Ends
 pub mod Runs
+pub mod Titles
+pub mod private

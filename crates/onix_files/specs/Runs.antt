@@ -12,12 +12,13 @@ abbrev pub run_asking : Bool → Run → Asking
 run_asking is_told run =
     asking (options_view run.options) (option_map (λ name. name.now) run.folder) is_told
 
--- the status of a run: the greatest of those of its FILEs
-abbrev pub status_of_all : List FileEnd → ℕ
-status_of_all ends = fold (λ status e. max status (status_of e.ended)) 0 ends
+module _ (ends : List FileEnd) where
+  -- the status of a run: the greatest of those of its FILEs
+  abbrev pub status_of_all : ℕ
+  status_of_all = fold (λ status e. max status (status_of e.ended)) 0 ends
 
-abbrev pub outputs : List FileEnd → List ℕ
-outputs ends = concat (map (λ e. e.output) ends)
+  abbrev pub outputs : List ℕ
+  outputs = concat (map (λ e. e.output) ends)
 
 -- How the FILEs of these names end, in order. `-` is standard input, which tells its bytes or
 -- not; of each other FILE the bytes are what its name holds, where that is told. Before, after:
@@ -32,15 +33,15 @@ AreEnds a told before after (name ∷ names) (e ∷ ends) =
 AreEnds a told before after names ends = ⊥
 
 module _ (a : Asking) (told : Option (List ℕ)) (before after : Holdings)
-    (names : List (List ℕ)) (written : List ℕ → Type 0) (status : ℕ) where
-  -- FILEs of these names end with this status: what was written of each stands one after the other
+    (names : List (List ℕ)) (such : List FileEnd → Type 0) (status : ℕ) where
+  -- FILEs of these names end with this status, such that this holds of how they do
   abbrev pub AllEnd : Type 0
   AllEnd =
-      (ends : List FileEnd) × AreEnds a told before after names ends × written (outputs ends)
+      (ends : List FileEnd) × AreEnds a told before after names ends × such ends
       × (status ≡ status_of_all ends)
 
   -- How a run ends with this status: as its FILEs end; or, with 3, before the first, where the
   -- folder is none.
   abbrev pub RunEnds : Type 0
   RunEnds =
-      AllEnd ⊎ ((is_some a.folder ≡ true) × (status ≡ 3) × written [] × (after ≡ before))
+      AllEnd ⊎ ((is_some a.folder ≡ true) × (status ≡ 3) × such [] × (after ≡ before))

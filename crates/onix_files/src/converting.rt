@@ -1,22 +1,24 @@
 //! A run over FILEs.
 
-ghost use Rattle.std.specs.Prelude.{◌≡◌, ◌≢◌, ◌⊎◌, ◌<◌, ◌≤◌, ℕ, List, [], Option, IfErr, IfOk, OnOk, codes, map, max, true, false};
+ghost use Rattle.std.specs.Prelude.{◌≡◌, ◌≢◌, ◌⊎◌, ◌<◌, ◌≤◌, ℕ, List, [], Option, IfErr, IfOk, OnOk, codes, is_some, map, max, true, false};
 ghost use Rattle.std.specs.Io.KnownBytes.{Appends};
 ghost use Rattle.named_files.specs.Holdings.{MayName, Names};
 ghost use Rattle.named_files.specs.PartFiles.{files_of, place};
 ghost use Rattle.named_files.specs.Texts.{with_file};
 ghost use Rattle.onix_conversion.specs.Views.{options_view};
 ghost use Rattle.onix_files.specs.Ends.{IsEnd, IsTaken, IsUnconverted, asking, file_end, is_converted};
-ghost use Rattle.onix_files.specs.Runs.{AllEnd, RunEnds, run_asking};
+ghost use Rattle.onix_files.specs.Runs.{AllEnd, RunEnds, outputs, run_asking};
+ghost use Rattle.onix_files.specs.Titles.{TitledRunEnds, TitlesEnd, converted_names};
 
 use crate::collected::Collected;
+use crate::converted::ConvertedNames;
 use crate::ended::Ended;
 use crate::fault::write_fault;
 use crate::notes::{Notes, PREFIX};
 use crate::refusal::{Known, push_packed, push_refusal};
-use crate::seen::Seen;
 use crate::summary::Summary;
-use crate::watched::Watched;
+use crate::titles::write_titles;
+use crate::watched::{Seen, Watched};
 use named_files::{
     FileFault, MadeFiles, NamedFiles, PartFiles, STANDARD_INPUT, Spool, is_packed, name_of,
 };
@@ -51,7 +53,7 @@ fn report_fault<E: Write>(alloc: Global, fault: &FileFault, errors: &mut E) -> E
 fn report_unread<E: Write>(alloc: Global, known: &Known<'_>, errors: &mut E) -> Ended
     ensures { result ≡ Ended.Fault }
 {
-    match known.seen.fault() {
+    match &known.seen.fault {
         Some(fault) => report_fault(alloc, fault, errors),
         None => {
             let fault = FileFault::new(alloc, known.file, "cannot be read");
@@ -401,6 +403,26 @@ fn convert_file<F: NamedFiles, R: Read, W: Write, E: Write>(
     }
 }
 
+// Writes the titles of the FILEs that were noted, where all are.
+fn write_noted<F: NamedFiles, E: Write>(
+    alloc: Global,
+    titles: &str,
+    converted: &ConvertedNames<'_>,
+    files: &mut F,
+    errors: &mut E,
+) -> u8
+    ensures end { (names : List (List ℕ)) → (converted.now.is_whole ≡ true
+        → map (λ name. name.now) converted.now.names.items ≡ names)
+        → TitlesEnd F.is_told titles.now names (F.holds files.old) (F.holds files.new) result }
+    ensures most { result ≤ 3 }
+{
+    if converted.is_whole {
+        return write_titles(alloc, titles, converted.names.as_slice(), files, errors);
+    }
+    write_fault(alloc, &FileFault::Memory, errors);
+    3
+}
+
 // Writes the summary of a run. Where memory runs out, it is lost.
 fn write_summary<E: Write>(alloc: Global, summary: &Summary, errors: &mut E) {
     let mut text = String::new(alloc);
@@ -416,27 +438,86 @@ fn greater(one: u8, other: u8) -> u8
     if one < other { other } else { one }
 }
 
-// Converts each FILE in turn, and gives the greatest status.
-fn convert_each<F: NamedFiles, R: Read, W: Write, E: Write>(
+// Converts each FILE in turn, notes those that were converted, and gives the greatest status.
+fn convert_each<'a, F: NamedFiles, R: Read, W: Write, E: Write>(
     rt: &HostRuntime,
     run: &Run<'_>,
-    names: &[&str],
+    names: &[&'a str],
     files: &mut F,
     input: &mut R,
     output: &mut W,
     summary: &mut Summary,
+    converted: &mut ConvertedNames<'a>,
     errors: &mut E,
 ) -> u8
+    requires { map (λ name. name.now) converted.old.names.items ≡ [] }
     ensures end { AllEnd (run_asking F.is_told run.now) (R.remaining input.old)
         (F.holds files.old) (F.holds files.new) (map (λ name. name.now) names.now)
-        (Appends (W.contents output.old) (W.contents output.new)) result }
+        (λ ends. Appends (W.contents output.old) (W.contents output.new) (outputs ends)
+        × (converted.new.is_whole ≡ true → map (λ name. name.now) converted.new.names.items
+        ≡ converted_names (map (λ name. name.now) names.now) ends)) result }
     ensures most { result ≤ 3 }
 {
     let mut status = 0;
     for file in names {
         let ended = convert_file(rt, run, file, files, input, output, summary, errors);
         status = greater(status, ended.status());
+        converted.note(file, ended);
     }
+    status
+}
+
+// Whether the folder that is to take messages is one; a line says so where it is none.
+fn has_folder<F: NamedFiles, E: Write>(
+    alloc: Global,
+    run: &Run<'_>,
+    files: &F,
+    errors: &mut E,
+) -> bool
+    ensures { result ≡ false → is_some run.now.folder ≡ true }
+{
+    match run.folder {
+        Some(folder) if !files.is_folder(folder) => {
+            write_fault(alloc, &FileFault::new(alloc, folder, "no folder"), errors);
+            false
+        }
+        _ => true,
+    }
+}
+
+// Converts each FILE in turn, and writes the summary.
+fn convert_all<'a, F: NamedFiles, R: Read, W: Write, E: Write>(
+    rt: &HostRuntime,
+    run: &Run<'_>,
+    names: &[&'a str],
+    files: &mut F,
+    input: &mut R,
+    output: &mut W,
+    converted: &mut ConvertedNames<'a>,
+    errors: &mut E,
+) -> u8
+    requires { map (λ name. name.now) converted.old.names.items ≡ [] }
+    ensures end { AllEnd (run_asking F.is_told run.now) (R.remaining input.old)
+        (F.holds files.old) (F.holds files.new) (map (λ name. name.now) names.now)
+        (λ ends. Appends (W.contents output.old) (W.contents output.new) (outputs ends)
+        × (converted.new.is_whole ≡ true → map (λ name. name.now) converted.new.names.items
+        ≡ converted_names (map (λ name. name.now) names.now) ends)) result }
+    ensures most { result ≤ 3 }
+{
+    let alloc = rt.alloc();
+    let mut summary = Summary::new(alloc);
+    let status = convert_each(
+        rt,
+        run,
+        names,
+        files,
+        input,
+        output,
+        &mut summary,
+        converted,
+        errors,
+    );
+    write_summary(alloc, &summary, errors);
     status
 }
 
@@ -455,18 +536,41 @@ pub fn convert_files<F: NamedFiles, R: Read, W: Write, E: Write>(
 ) -> u8
     ensures end { RunEnds (run_asking F.is_told run.now) (R.remaining input.old)
         (F.holds files.old) (F.holds files.new) (map (λ name. name.now) names.now)
+        (λ ends. Appends (W.contents output.old) (W.contents output.new) (outputs ends)) result }
+    ensures most { result ≤ 3 }
+{
+    let alloc = rt.alloc();
+    if !has_folder(alloc, run, files, errors) {
+        return 3;
+    }
+    let mut converted = ConvertedNames::new(alloc);
+    convert_all(rt, run, names, files, input, output, &mut converted, errors)
+}
+
+/// The same, and then writes the titles of the FILEs that were converted into a new file of the
+/// path `titles`, each FILE opened again by its name. Where that cannot be, the records stand, a
+/// line says why, and the status is 3.
+pub fn convert_with_titles<F: NamedFiles, R: Read, W: Write, E: Write>(
+    rt: &HostRuntime,
+    run: &Run<'_>,
+    titles: &str,
+    names: &[&str],
+    files: &mut F,
+    input: &mut R,
+    output: &mut W,
+    errors: &mut E,
+) -> u8
+    ensures end { TitledRunEnds (run_asking F.is_told run.now) titles.now (R.remaining input.old)
+        (F.holds files.old) (F.holds files.new) (map (λ name. name.now) names.now)
         (Appends (W.contents output.old) (W.contents output.new)) result }
     ensures most { result ≤ 3 }
 {
     let alloc = rt.alloc();
-    if let Some(folder) = run.folder {
-        if !files.is_folder(folder) {
-            write_fault(alloc, &FileFault::new(alloc, folder, "no folder"), errors);
-            return 3;
-        }
+    if !has_folder(alloc, run, files, errors) {
+        return 3;
     }
-    let mut summary = Summary::new(alloc);
-    let status = convert_each(rt, run, names, files, input, output, &mut summary, errors);
-    write_summary(alloc, &summary, errors);
-    status
+    let mut converted = ConvertedNames::new(alloc);
+    let status = convert_all(rt, run, names, files, input, output, &mut converted, errors);
+    let titled = write_noted(alloc, titles, &converted, files, errors);
+    greater(status, titled)
 }

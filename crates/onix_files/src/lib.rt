@@ -4,6 +4,7 @@
 #![tactic(auto)]
 
 mod collected;
+mod converted;
 mod converting;
 pub mod ended;
 mod fault;
@@ -12,15 +13,15 @@ mod notes;
 mod numbers;
 mod progress;
 mod refusal;
-mod seen;
 mod shown;
 mod store;
 mod summary;
+mod titles;
 mod unread;
 mod watched;
 mod words;
 
-pub use converting::{Run, convert_files};
+pub use converting::{Run, convert_files, convert_with_titles};
 pub use ended::Ended;
 pub use fault::write_fault;
 pub use named_files::STANDARD_INPUT;

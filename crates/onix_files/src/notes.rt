@@ -64,7 +64,7 @@ fn has_room(count: &mut u32) -> bool {
 
 // Whether one of the notes says that something is wrong.
 fn has_wrong(notes: &[Note<'_>]) -> bool {
-    notes.iter().any(|note| note.reason.why.is_wrong())
+    notes.iter().any(|note| note.reason.kind.is_wrong())
 }
 
 impl Lines {
@@ -85,7 +85,7 @@ impl Lines {
         note: Note<'_>,
         saying: Saying,
     ) -> Result<(), AllocError> {
-        let count = if is_of_product(note.reason.why) {
+        let count = if is_of_product(note.reason.kind) {
             &mut self.of_products
         } else {
             &mut self.others
@@ -113,7 +113,7 @@ impl<'a> Notes<'a> {
         let is_wrong = has_wrong(notes);
         for note in notes.iter() {
             let saying = saying_of(*note);
-            let has_lines = !is_counted_alone(note.reason.why);
+            let has_lines = !is_counted_alone(note.reason.kind);
             self.summary.add(saying, note.reason.text, has_lines)?;
             if has_lines {
                 self.add_lines(reference, *note, saying, is_wrong)?;

@@ -1,7 +1,7 @@
 //! Why a message is refused for its number.
 
 use crate::shown::push_shown_bytes;
-use onix_mapping::{Choices, Refusal};
+use onix_mapping::{Choices, HeaderRefusal};
 use std::alloc::AllocError;
 
 // The number that a text writes.
@@ -59,13 +59,13 @@ fn push_last(line: &mut String, number: Option<u64>, parts: u32) -> Result<(), A
 /// Adds why the number of a message is refused, whose MessageNumber is that text.
 pub(crate) fn push_number(
     line: &mut String,
-    refusal: Refusal,
+    refusal: HeaderRefusal,
     text: &[u8],
     choices: &Choices<'_>,
 ) -> Result<(), AllocError> {
     match refusal {
-        Refusal::NumberTooGreat => push_sum(line, text, choices.offset),
-        Refusal::LastNumberTooGreat => push_last(
+        HeaderRefusal::NumberTooGreat => push_sum(line, text, choices.offset),
+        HeaderRefusal::LastNumberTooGreat => push_last(
             line,
             message_number(text, choices),
             choices.parts,

@@ -3,11 +3,11 @@
 use crate::kinds::other_kind;
 use crate::notes::{Notes, push_place};
 use crate::numbers::push_number;
-use crate::seen::Seen;
 use crate::shown::{push_reference, push_shown_bytes};
 use crate::unread;
-use onix_conversion::{Fault, Options, Rejection};
-use onix_mapping::{Pair, Refusal};
+use crate::watched::Seen;
+use onix_conversion::{Fault, Options, Refusal};
+use onix_mapping::{HeaderRefusal, Pair};
 use onix_outline::{Told, Wrong};
 use std::alloc::AllocError;
 use xml_text::Position;
@@ -38,7 +38,7 @@ pub struct Known<'a> {
 
 // Adds that a file is no text, or what it is.
 fn push_no_text(line: &mut String, seen: &Seen) -> Result<(), AllocError> {
-    match other_kind(seen.first()) {
+    match seen.kind {
         Some(kind) => write!(line, "no XML, but {kind}"),
         None => line.push_str(NO_TEXT),
     }
@@ -84,25 +84,29 @@ fn push_pair(line: &mut String, pair: Option<Pair<'_>>) -> Result<(), AllocError
 // Adds why a message is refused for its Header, which has this MessageNumber.
 fn push_header(
     line: &mut String,
-    refusal: Refusal,
+    refusal: HeaderRefusal,
     number: &[u8],
     known: &Known<'_>,
 ) -> Result<(), AllocError> {
     match refusal {
-        Refusal::NoSender => line.push_str("no sender identifier; --sender TYPE,VALUE gives one"),
-        Refusal::SeveralAddressees => {
+        HeaderRefusal::NoSender => line.push_str(
+            "no sender identifier; --sender TYPE,VALUE gives one",
+        ),
+        HeaderRefusal::SeveralAddressees => {
             line.push_str("several addressees; --addressee TYPE,VALUE picks one")
         }
-        Refusal::NoSuchAddressee => {
+        HeaderRefusal::NoSuchAddressee => {
             line.push_str("none of several addressees has the identifier ")?;
             push_pair(line, known.options.choices.addressee)?;
             line.push_str(" of --addressee")
         }
-        Refusal::NoNumber => line.push_str("no MessageNumber; --number N gives one"),
-        Refusal::WrongNumber | Refusal::NumberTooGreat | Refusal::LastNumberTooGreat => {
+        HeaderRefusal::NoNumber => line.push_str("no MessageNumber; --number N gives one"),
+        HeaderRefusal::WrongNumber
+        | HeaderRefusal::NumberTooGreat
+        | HeaderRefusal::LastNumberTooGreat => {
             push_number(line, refusal, number, &known.options.choices)
         }
-        Refusal::Malformed => line.push_str(
+        HeaderRefusal::Malformed => line.push_str(
             "a Header whose record Message the desk would call malformed",
         ),
     }
@@ -121,35 +125,31 @@ fn push_products(
 }
 
 // Where what a message is refused for stands.
-fn place_of(rejection: &Rejection) -> Position {
-    match rejection {
-        Rejection::NoHeader(Some(place))
-        | Rejection::Header(_, _, place)
-        | Rejection::SecondHeader(place)
-        | Rejection::OtherNamespace(place)
-        | Rejection::Wrong(_, _, _, place)
-        | Rejection::Parts(_, place) => *place,
-        Rejection::NoHeader(None) => Position::first(),
+fn place_of(refusal: &Refusal) -> Position {
+    match refusal {
+        Refusal::NoHeader(Some(place))
+        | Refusal::Header(_, _, place)
+        | Refusal::SecondHeader(place)
+        | Refusal::OtherNamespace(place)
+        | Refusal::Wrong(_, _, _, place)
+        | Refusal::Parts(_, place) => *place,
+        Refusal::NoHeader(None) => Position::first(),
     }
 }
 
 // Adds why a message is refused.
-fn push_rejection(
-    line: &mut String,
-    rejection: &Rejection,
-    known: &Known<'_>,
-) -> Result<(), AllocError> {
-    match rejection {
-        Rejection::NoHeader(_) => line.push_str(NO_HEADER),
-        Rejection::Header(refusal, number, _) => {
+fn push_refused(line: &mut String, refusal: &Refusal, known: &Known<'_>) -> Result<(), AllocError> {
+    match refusal {
+        Refusal::NoHeader(_) => line.push_str(NO_HEADER),
+        Refusal::Header(refusal, number, _) => {
             push_header(line, *refusal, number.as_slice(), known)
         }
-        Rejection::SecondHeader(_) => line.push_str("a second Header"),
-        Rejection::OtherNamespace(_) => line.push_str(OTHER_NAMESPACE),
-        Rejection::Wrong(wrong, products, reference, _) => {
+        Refusal::SecondHeader(_) => line.push_str("a second Header"),
+        Refusal::OtherNamespace(_) => line.push_str(OTHER_NAMESPACE),
+        Refusal::Wrong(wrong, products, reference, _) => {
             push_products(line, *wrong, *products, reference.as_slice())
         }
-        Rejection::Parts(count, _) => {
+        Refusal::Parts(count, _) => {
             let parts = known.options.choices.parts;
             write!(
                 line,
@@ -188,11 +188,11 @@ fn push_start(line: &mut String, file: &str, place: Position) -> Result<(), Allo
 // Adds the lines on wrong products, where a message is refused for these.
 fn push_wrong_products(
     line: &mut String,
-    rejection: &Rejection,
+    refusal: &Refusal,
     notes: &Notes<'_>,
 ) -> Result<(), AllocError> {
-    match rejection {
-        Rejection::Wrong(_, _, _, _) => line.push_str(notes.of_wrong()),
+    match refusal {
+        Refusal::Wrong(_, _, _, _) => line.push_str(notes.of_wrong()),
         _ => Ok(()),
     }
 }
@@ -209,10 +209,10 @@ pub(crate) fn push_refusal(
             push_start(line, known.file, *place)?;
             push_stopped(line, fault, told, known.seen)?;
         }
-        Fault::Refused(rejection) => {
-            push_wrong_products(line, rejection, known.notes)?;
-            push_start(line, known.file, place_of(rejection))?;
-            push_rejection(line, rejection, known)?;
+        Fault::Refused(refusal) => {
+            push_wrong_products(line, refusal, known.notes)?;
+            push_start(line, known.file, place_of(refusal))?;
+            push_refused(line, refusal, known)?;
         }
         Fault::Memory => return Ok(()),
     }

@@ -1,8 +1,7 @@
 //! What is said of a FILE that is no message.
 
-use crate::kinds::other_kind;
-use crate::seen::Seen;
 use crate::shown::push_shown_bytes;
+use crate::watched::Seen;
 use onix_outline::{Naming, Told};
 use std::alloc::AllocError;
 use xml_text::Bytes;
@@ -30,9 +29,9 @@ pub(crate) fn push_malformed(
     told: &Told,
     seen: &Seen,
 ) -> Result<(), AllocError> {
-    match other_kind(seen.first()) {
+    match seen.kind {
         Some(kind) => write!(line, "no XML, but {kind}"),
-        None if seen.is_at_end() => line.push_str(cut_of(told.naming)),
+        None if seen.is_at_end => line.push_str(cut_of(told.naming)),
         None => line.push_str(NO_XML),
     }
 }

@@ -1,7 +1,7 @@
 //! The words that say what is left out of a message, and why.
 
 use crate::shown::push_shown_bytes;
-use onix_mapping::{Foreign, Note, Why, Wrong};
+use onix_mapping::{Foreign, Note, ReasonKind, Wrong};
 use std::alloc::AllocError;
 
 /// Of a reason its words, with a text of the feed between them where it has one; a space stands
@@ -136,8 +136,8 @@ fn country(text: &[u8]) -> Words {
 }
 
 // Of what the desk has no field for.
-fn words_of_foreign(why: Foreign, text: &[u8]) -> Words {
-    match why {
+fn words_of_foreign(kind: Foreign, text: &[u8]) -> Words {
+    match kind {
         Foreign::PriceQualifier => with_text("PriceQualifier", ""),
         Foreign::PricePer => with_text("PricePer", ""),
         Foreign::PriceCondition => typed(
@@ -187,8 +187,8 @@ fn old_element(name: &[u8]) -> Words {
 }
 
 // Of what the desk would not take of a Price or a Territory.
-fn words_of_price(why: Wrong, text: &[u8]) -> Option<Words> {
-    let words = match why {
+fn words_of_price(kind: Wrong, text: &[u8]) -> Option<Words> {
+    let words = match kind {
         Wrong::OldElement => old_element(text),
         Wrong::NoDate => with_text("PriceDate of role", " without Date"),
         Wrong::NotTwoDays => field("Date of PriceDate", text, " is not two days YYYYMMDD"),
@@ -217,8 +217,8 @@ fn words_of_price(why: Wrong, text: &[u8]) -> Option<Words> {
 }
 
 // Of what it would not take of a SupplyDetail.
-fn words_of_detail(why: Wrong, text: &[u8]) -> Option<Words> {
-    let words = match why {
+fn words_of_detail(kind: Wrong, text: &[u8]) -> Option<Words> {
+    let words = match kind {
         Wrong::SupplierRole => needed("SupplierRole", text, NO_CODE),
         Wrong::SupplierType => needed("SupplierIDType", text, NO_CODE),
         Wrong::SupplierValue => needed("IDValue of SupplierIdentifier", text, ""),
@@ -233,8 +233,8 @@ fn words_of_detail(why: Wrong, text: &[u8]) -> Option<Words> {
 }
 
 // Of what it would not take of a ProductSupply, a ProductIdentifier or a Product.
-fn words_of_product(why: Wrong, text: &[u8]) -> Words {
-    match why {
+fn words_of_product(kind: Wrong, text: &[u8]) -> Words {
+    match kind {
         Wrong::NoMarketLeft => plain("every Market is left out"),
         Wrong::NoDetailLeft => plain("every SupplyDetail is left out"),
         Wrong::IdentifierType => needed("ProductIDType", text, NO_CODE),
@@ -249,42 +249,42 @@ fn words_of_product(why: Wrong, text: &[u8]) -> Words {
 }
 
 // Of what the desk would not take.
-fn words_of_wrong(why: Wrong, text: &[u8]) -> Words {
-    match words_of_price(why, text) {
+fn words_of_wrong(kind: Wrong, text: &[u8]) -> Words {
+    match words_of_price(kind, text) {
         Some(words) => words,
-        None => match words_of_detail(why, text) {
+        None => match words_of_detail(kind, text) {
             Some(words) => words,
-            None => words_of_product(why, text),
+            None => words_of_product(kind, text),
         },
     }
 }
 
-fn words_of(why: Why, text: &[u8]) -> Words {
-    match why {
-        Why::Foreign(why) => words_of_foreign(why, text),
-        Why::Wrong(why) => words_of_wrong(why, text),
+fn words_of(kind: ReasonKind, text: &[u8]) -> Words {
+    match kind {
+        ReasonKind::Foreign(kind) => words_of_foreign(kind, text),
+        ReasonKind::Wrong(kind) => words_of_wrong(kind, text),
     }
 }
 
 /// Whether a note for this reason is counted alone, and has no line.
-pub(crate) fn is_counted_alone(why: Why) -> bool {
+pub(crate) fn is_counted_alone(kind: ReasonKind) -> bool {
     matches!(
-        why,
-        Why::Foreign(Foreign::Discount | Foreign::DiscountCoded)
+        kind,
+        ReasonKind::Foreign(Foreign::Discount | Foreign::DiscountCoded)
     )
 }
 
 /// Whether a note for this reason says that a Product is left out or emptied.
-pub(crate) fn is_of_product(why: Why) -> bool {
-    matches!(why, Why::Wrong(Wrong::RecordReference)) || is_emptied(why)
+pub(crate) fn is_of_product(kind: ReasonKind) -> bool {
+    matches!(kind, ReasonKind::Wrong(Wrong::RecordReference)) || is_emptied(kind)
 }
 
 // Whether a Product is emptied for this reason: it is written without its supplies.
-fn is_emptied(why: Why) -> bool {
+fn is_emptied(kind: ReasonKind) -> bool {
     matches!(
-        why,
-        Why::Foreign(Foreign::NoSupplyLeft)
-            | Why::Wrong(
+        kind,
+        ReasonKind::Foreign(Foreign::NoSupplyLeft)
+            | ReasonKind::Wrong(
                 Wrong::NotificationType
                     | Wrong::NoIdentifierLeft
                     | Wrong::OtherNamespace
@@ -304,25 +304,25 @@ fn name_of(name: &'static [u8]) -> &'static str {
 
 // Of what a note speaks.
 fn thing_of(note: Note<'_>) -> &'static str {
-    match note.reason.why {
-        Why::Foreign(Foreign::RegionIncluded) => "region of RegionsIncluded",
-        Why::Foreign(Foreign::RegionExcluded) => "region of RegionsExcluded",
-        Why::Foreign(Foreign::CountryName) => "country",
+    match note.reason.kind {
+        ReasonKind::Foreign(Foreign::RegionIncluded) => "region of RegionsIncluded",
+        ReasonKind::Foreign(Foreign::RegionExcluded) => "region of RegionsExcluded",
+        ReasonKind::Foreign(Foreign::CountryName) => "country",
         _ => name_of(note.line.name),
     }
 }
 
 // What becomes of it.
-fn verb_of(why: Why) -> &'static str {
-    match why {
-        Why::Foreign(
+fn verb_of(kind: ReasonKind) -> &'static str {
+    match kind {
+        ReasonKind::Foreign(
             Foreign::CountryName
             | Foreign::NoIsbn
             | Foreign::Ignored
             | Foreign::Discount
             | Foreign::DiscountCoded,
         ) => " ",
-        _ if is_emptied(why) => " emptied: ",
+        _ if is_emptied(kind) => " emptied: ",
         _ => " left out: ",
     }
 }
@@ -331,8 +331,8 @@ fn verb_of(why: Why) -> &'static str {
 pub(crate) fn saying_of(note: Note<'_>) -> Saying {
     Saying {
         thing: thing_of(note),
-        verb: verb_of(note.reason.why),
-        words: words_of(note.reason.why, note.reason.text),
+        verb: verb_of(note.reason.kind),
+        words: words_of(note.reason.kind, note.reason.text),
     }
 }
 

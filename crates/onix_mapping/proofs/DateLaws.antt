@@ -7,8 +7,8 @@ use Rattle.onix_mapping.specs.Dates.{all_days, and_days, days, days_in, days_of,
 use Rattle.onix_mapping.specs.Elements.{Composite, composites}
 use Rattle.onix_mapping.specs.Notes.{Reason}
 use Rattle.onix_mapping.specs.declared.dates.Days.{Days}
-use Rattle.onix_mapping.specs.declared.notes.Why.{Why}
-use Rattle.onix_mapping.specs.declared.notes.Why.TheVariants.{Foreign, Wrong}
+use Rattle.onix_mapping.specs.declared.notes.ReasonKind.{ReasonKind}
+use Rattle.onix_mapping.specs.declared.notes.ReasonKind.TheVariants.{Foreign, Wrong}
 
 or_or : (a b c : Option ℤ) → option_or (option_or a b) c ≡ option_or a (option_or b c)
 or_or None b c = refl
@@ -17,10 +17,10 @@ or_or (Some a) b c = refl
 or_days-all : (a b c : Days) → or_days (or_days a b) c ≡ or_days a (or_days b c)
 or_days-all a b c = λ i. days (or_or a.first b.first c.first i) (or_or a.last b.last c.last i)
 
-mk : Why → List ℕ → Reason
-mk why text = record { why = why; text = text }
+mk : ReasonKind → List ℕ → Reason
+mk kind text = record { kind = kind; text = text }
 
-chosen_by : (x y z : Why) (t u v : List ℕ) → graver (graver (mk x t) (mk y u)) (mk z v) ≡ graver (mk x t) (graver (mk y u) (mk z v))
+chosen_by : (x y z : ReasonKind) (t u v : List ℕ) → graver (graver (mk x t) (mk y u)) (mk z v) ≡ graver (mk x t) (graver (mk y u) (mk z v))
 unfolding mk
 chosen_by (Foreign x) (Foreign y) (Foreign z) t u v = refl
 chosen_by (Foreign x) (Foreign y) (Wrong z) t u v = refl
@@ -33,7 +33,7 @@ chosen_by (Wrong x) (Wrong y) (Wrong z) t u v = refl
 
 chosen : (a b c : Reason) → graver (graver a b) c ≡ graver a (graver b c)
 unfolding mk
-chosen a b c = chosen_by a.why b.why c.why a.text b.text c.text
+chosen a b c = chosen_by a.kind b.kind c.kind a.text b.text c.text
 
 after_two : (a b c : Result Days Reason) → and_days (and_days a b) c ≡ and_days a (and_days b c)
 after_two (Ok a) (Ok b) (Ok c) = ap (λ (d : Days). Ok d) (or_days-all a b c)

@@ -5,20 +5,20 @@ use Rattle.std.specs.List.{list_all}
 use Rattle.std.specs.Str.{is_utf8}
 use Rattle.std.proofs.lemmas.Option.{same_Some}
 use Rattle.onix_outline.specs.Nodes.{Nodes}
-use Rattle.onix_message.specs.Fields.{is_clean, optional, optional_party, party_of}
-use Rattle.onix_message.specs.Opening.{form_of, opening_fields, opening_from, opening_of}
-use Rattle.onix_message.specs.Price.{price_from, price_of}
-use Rattle.onix_message.specs.Row.{row_of}
-use Rattle.onix_message.specs.declared.row.Form.{Form}
-use Rattle.onix_message.specs.declared.row.Opening.{Opening}
-use Rattle.onix_message.proofs.CleanTexts.{digits-clean}
+use Rattle.onix_records.specs.Fields.{is_clean, optional, optional_party, party_of}
+use Rattle.onix_records.specs.Opening.{form_of, opening_fields, opening_from, opening_of}
+use Rattle.onix_records.specs.Price.{price_from, price_of}
+use Rattle.onix_records.specs.Row.{row_of}
+use Rattle.onix_records.specs.declared.row.Form.{Form}
+use Rattle.onix_records.specs.declared.row.Opening.{Opening}
+use Rattle.onix_records.proofs.CleanTexts.{digits-clean}
 use Rattle.onix_terms.specs.Code.{code2_of, currency_of}
 use Rattle.onix_terms.specs.Digits.{digits_of}
 use Rattle.onix_terms.specs.Number.{number_of}
 use Rattle.onix_terms.specs.Options.{◌>>=◌}
 use Rattle.onix_terms.specs.declared.party.Party.{Party}
 use Rattle.onix_mapping.specs.Elements.{text_or_empty}
-use Rattle.onix_mapping.specs.Header.{message_fields, opening_said}
+use Rattle.onix_mapping.specs.Header.{message_fields, parsed_opening}
 use Rattle.onix_mapping.specs.Parties.{Pair}
 use Rattle.onix_mapping.specs.Rows.{numbered}
 use Rattle.onix_mapping.proofs.RowLaws.{cond-then}
@@ -87,7 +87,7 @@ clean-numbered true true true true false y r is e = cc e
 clean-numbered true true true true true y r is e = ap (λ k. k && r) is ∙ e
 
 -- a record Message with another number says the same but for its number
-pub opening-numbered : (s a : Pair) (nodes : Nodes) (n m : List ℕ) (k : ℕ) (o : Opening) → digits_of m ≡ Some k → number_of m ≡ Some k → opening_said (message_fields s a n nodes) ≡ Some o
+pub opening-numbered : (s a : Pair) (nodes : Nodes) (n m : List ℕ) (k : ℕ) (o : Opening) → digits_of m ≡ Some k → number_of m ≡ Some k → parsed_opening (message_fields s a n nodes) ≡ Some o
     → opening_of (codes "Message" ∷ message_fields s a m nodes) ≡ Some (numbered k o)
 unfolding opening_of
 opening-numbered s a nodes n m k o digits is e =

@@ -6,36 +6,36 @@ use Rattle.std.proofs.lemmas.Bool.{and_parts, ltb-true}
 use Rattle.std.proofs.lemmas.Option.{cond_some, same_Some}
 use Rattle.onix_outline.specs.Composites.{text_in}
 use Rattle.onix_outline.specs.Nodes.{Nodes}
-use Rattle.onix_message.specs.Grammar.{IsMessage}
-use Rattle.onix_message.specs.Opening.{opening_of}
-use Rattle.onix_message.specs.PartRows.{content_rows}
-use Rattle.onix_message.specs.Row.{row_of}
-use Rattle.onix_message.specs.declared.parts.Product.{Product}
-use Rattle.onix_message.specs.declared.row.Opening.{Opening}
-use Rattle.onix_message.specs.declared.row.Row.TheVariants as row
-use Rattle.onix_message.proofs.CleanTexts.{digits-clean}
-use Rattle.onix_message.proofs.Fronts.{reads-length}
+use Rattle.onix_records.specs.Grammar.{IsMessage}
+use Rattle.onix_records.specs.Opening.{opening_of}
+use Rattle.onix_records.specs.PartRows.{content_rows}
+use Rattle.onix_records.specs.Row.{row_of}
+use Rattle.onix_records.specs.declared.parts.Product.{Product}
+use Rattle.onix_records.specs.declared.row.Opening.{Opening}
+use Rattle.onix_records.specs.declared.row.Row.TheVariants as row
+use Rattle.onix_records.proofs.CleanTexts.{digits-clean}
+use Rattle.onix_records.proofs.Fronts.{reads-length}
 use Rattle.onix_terms.specs.Digits.{digits_of}
 use Rattle.onix_terms.specs.Number.{number_from, number_of}
-use Rattle.onix_mapping.specs.Header.{Choices, Heading, ◌>>=◌, added, addressee_pair, first_number, heading_in, message_fields, number_in, given_or, opening_said, sender_in}
+use Rattle.onix_mapping.specs.Header.{Choices, Heading, ◌>>=◌, added, addressee_pair, first_number, heading_in, message_fields, number_in, given_or, parsed_opening, sender_in}
 use Rattle.onix_mapping.specs.Rows.{AreProducts, message_records, numbered, part_record}
-use Rattle.onix_mapping.specs.declared.header.Refusal.{Refusal}
-use Rattle.onix_mapping.specs.declared.header.Refusal.TheVariants as why
+use Rattle.onix_mapping.specs.declared.header.HeaderRefusal.{HeaderRefusal}
+use Rattle.onix_mapping.specs.declared.header.HeaderRefusal.TheVariants as why
 use Rattle.onix_mapping.proofs.OpeningLaws.{opening-numbered}
 use Rattle.onix_mapping.proofs.RowLaws.{rows-joined}
 
 -- ---- the number of a part
 
-pub bind-ok : {A B : Type 0} (r : Result A Refusal) (f : A → Result B Refusal) (y : B) → (r >>= f) ≡ Ok y → (x : A) × (r ≡ Ok x) × (f x ≡ Ok y)
+pub bind-ok : {A B : Type 0} (r : Result A HeaderRefusal) (f : A → Result B HeaderRefusal) (y : B) → (r >>= f) ≡ Ok y → (x : A) × (r ≡ Ok x) × (f x ≡ Ok y)
 bind-ok (Err e) f y h = cc h
 bind-ok (Ok x) f y h = (x, refl, h)
 
 -- the value, where there is one
-abbrev value : {A : Type 0} → Result A Refusal → Option A
+abbrev value : {A : Type 0} → Result A HeaderRefusal → Option A
 value (Ok x) = Some x
 value (Err e) = None
 
-pub some-ok : {A : Type 0} (o : Option A) (e : Refusal) (x : A) → ok_or o e ≡ Ok x → o ≡ Some x
+pub some-ok : {A : Type 0} (o : Option A) (e : HeaderRefusal) (x : A) → ok_or o e ≡ Ok x → o ≡ Some x
 some-ok None e x h = cc h
 some-ok (Some y) e x h = ap value h
 
@@ -67,11 +67,11 @@ part-says digits numbers c header h e k less =
     let (s, from, e1) = bind-ok (sender_in c header) _ h e in
     let (a, to, e2) = bind-ok (addressee_pair c header) _ h e1 in
     let (n, number, e3) = bind-ok (number_in c header) _ h e2 in
-    let (o, opening, e4) = bind-ok (ok_or (opening_said (message_fields s a (decimal n) header)) why.Malformed) _ h e3 in
+    let (o, opening, e4) = bind-ok (ok_or (parsed_opening (message_fields s a (decimal n) header)) why.Malformed) _ h e3 in
     let same = same_Some _ h (ap value e4) in
     let (low, high) = number-within c header n k number less in
-    let said = some-ok (opening_said (message_fields s a (decimal n) header)) why.Malformed o opening in
-    rw (← same) (opening-numbered s a header (decimal n) (decimal (n + k)) (n + k) o (digits (n + k) high) (numbers (n + k) low high) said)
+    let parsed = some-ok (parsed_opening (message_fields s a (decimal n) header)) why.Malformed o opening in
+    rw (← same) (opening-numbered s a header (decimal n) (decimal (n + k)) (n + k) o (digits (n + k) high) (numbers (n + k) low high) parsed)
 
 -- ---- a message
 

@@ -3,47 +3,47 @@ use Rattle.std.proofs.Common.{◌≡◌, ℕ, Bool, true, false, List, [], ◌�
 use Rattle.std.specs.Prelude.{codes, if◌then◌else◌, is_some}
 use Rattle.std.specs.List.{AllByRecursion}
 use Rattle.onix_outline.specs.Nodes.{Nodes}
-use Rattle.onix_message.specs.declared.row.Opening.{Opening}
-use Rattle.onix_mapping.specs.Details.{around_in, detail_fields, detail_outcome, detail_refusal, prices_in}
+use Rattle.onix_records.specs.declared.row.Opening.{Opening}
+use Rattle.onix_mapping.specs.Details.{context_in, detail_fields, detail_outcome, detail_reason, prices_in}
 use Rattle.onix_mapping.specs.Elements.{Composite, first}
 use Rattle.onix_mapping.specs.Notes.{Reason}
 use Rattle.onix_mapping.specs.Outcomes.{all_records, notes_below, nothing, outcome_reason, outcome_records}
 use Rattle.onix_mapping.specs.PriceFates.{HasDetails, HasPrices, HasSupplies, IsPrice}
-use Rattle.onix_mapping.specs.Prices.{Around, is_nothing, outcome_of, price_fields, price_outcome, reasons_against}
+use Rattle.onix_mapping.specs.Prices.{PriceContext, is_nothing, outcome_of, price_fields, price_outcome, price_reasons}
 use Rattle.onix_mapping.specs.ProductRecords.{fate_of, supplies_in, written_notes}
 use Rattle.onix_mapping.specs.Products.{identifier_notes, notification_in, own_reason, product_record, reference_in, right_pairs}
 use Rattle.onix_mapping.specs.Records.{first_some, is_field}
 use Rattle.onix_mapping.specs.declared.product_records.Fate.TheVariants as fate
 use Rattle.onix_mapping.specs.Supplies.{detail_in, details_in, supplies_reason, supply_markets, supply_outcome}
 
-reason-is : (around : Around) (nodes : Nodes) (why : Option Reason) → IsPrice around nodes (outcome_of why around nodes)
-reason-is around nodes None = (price_fields around nodes, refl)
-reason-is around nodes (Some why) = tt
+reason-is : (context : PriceContext) (nodes : Nodes) (kind : Option Reason) → IsPrice context nodes (outcome_of kind context nodes)
+reason-is context nodes None = (price_fields context nodes, refl)
+reason-is context nodes (Some kind) = tt
 
-price-is : (around : Around) (nodes : Nodes) → IsPrice around nodes (price_outcome around nodes)
-price-is around nodes = go (is_nothing around nodes) refl
+price-is : (context : PriceContext) (nodes : Nodes) → IsPrice context nodes (price_outcome context nodes)
+price-is context nodes = go (is_nothing context nodes) refl
   where
-    go : (n : Bool) → is_nothing around nodes ≡ n → IsPrice around nodes (if n then nothing else outcome_of (first_some (reasons_against around nodes)) around nodes)
+    go : (n : Bool) → is_nothing context nodes ≡ n → IsPrice context nodes (if n then nothing else outcome_of (first_some (price_reasons context nodes)) context nodes)
     go true e = e
-    go false e = reason-is around nodes (first_some (reasons_against around nodes))
+    go false e = reason-is context nodes (first_some (price_reasons context nodes))
 
-prices-are : (around : Around) (cs : List Composite) → AllByRecursion (λ p. IsPrice around p.below (price_outcome around p.below)) cs
-prices-are around [] = tt
-prices-are around (c ∷ cs) = (price-is around c.below, prices-are around cs)
+prices-are : (context : PriceContext) (cs : List Composite) → AllByRecursion (λ p. IsPrice context p.below (price_outcome context p.below)) cs
+prices-are context [] = tt
+prices-are context (c ∷ cs) = (price-is context c.below, prices-are context cs)
 
 pub detail-has : (o : Opening) (preferred : List ℕ) (nodes : Nodes) → outcome_reason (detail_outcome o preferred nodes) ≡ None → HasPrices o preferred nodes
-detail-has o preferred nodes e = go (detail_refusal preferred nodes) refl
+detail-has o preferred nodes e = go (detail_reason preferred nodes) refl
   where
-    go : (why : Option Reason) → detail_refusal preferred nodes ≡ why → HasPrices o preferred nodes
-    go (Some why) is = let no' = rw is at e in absurd cc
-    go None is = record { own = codes "SupplyDetail" ∷ detail_fields preferred nodes; records = rw is refl; notes = rw is refl; each = prices-are (around_in o nodes) (prices_in nodes) }
+    go : (kind : Option Reason) → detail_reason preferred nodes ≡ kind → HasPrices o preferred nodes
+    go (Some kind) is = let no' = rw is at e in absurd cc
+    go None is = record { own = codes "SupplyDetail" ∷ detail_fields preferred nodes; records = rw is refl; notes = rw is refl; each = prices-are (context_in o nodes) (prices_in nodes) }
 
 pub supply-has : (o : Opening) (preferred : List ℕ) (nodes : Nodes) → outcome_reason (supply_outcome o preferred nodes) ≡ None → HasDetails o preferred nodes
 supply-has o preferred nodes e = go (is_some (first (details_in nodes))) refl (outcome_reason (supply_markets nodes)) refl (all_records (detail_in o preferred) (details_in nodes)) refl
   where
-    go : (some : Bool) → is_some (first (details_in nodes)) ≡ some → (why : Option Reason) → outcome_reason (supply_markets nodes) ≡ why → (rs : List (List (List ℕ))) → all_records (detail_in o preferred) (details_in nodes) ≡ rs
+    go : (some : Bool) → is_some (first (details_in nodes)) ≡ some → (kind : Option Reason) → outcome_reason (supply_markets nodes) ≡ kind → (rs : List (List (List ℕ))) → all_records (detail_in o preferred) (details_in nodes) ≡ rs
         → HasDetails o preferred nodes
-    go false d why m rs r = let no' = rw d at e in absurd cc
+    go false d kind m rs r = let no' = rw d at e in absurd cc
     go true d (Some reason) m rs r = let no' = rw (d, m) at e in absurd cc
     go true d None m [] r = let no' = rw (d, m, r) at e in absurd cc
     go true d None m (y ∷ rs) r = record {

@@ -1,13 +1,13 @@
 -- The first of some reasons.
 use Rattle.std.proofs.Common.{◌≡◌, ℕ, true, List, [], ◌∷◌, ◌++◌, Option, Some, None, refl, sym, ap}
 use Rattle.std.specs.Prelude.{codes, is_some}
-use Rattle.onix_message.specs.Price.{price_of}
+use Rattle.onix_records.specs.Price.{price_of}
 use Rattle.onix_mapping.specs.Outcomes.{outcome_records}
 use Rattle.std.specs.Option.{option_or}
 use Rattle.onix_outline.specs.Nodes.{Nodes}
 use Rattle.onix_mapping.specs.Notes.{Reason}
-use Rattle.onix_mapping.specs.Prices.{Around, early_reasons, outcome_of, price_fields, reasons_against, refusal}
-use Rattle.onix_mapping.specs.Records.{first_some, said}
+use Rattle.onix_mapping.specs.Prices.{PriceContext, early_reasons, outcome_of, price_fields, price_reasons, record_reason}
+use Rattle.onix_mapping.specs.Records.{first_some, parsed}
 
 or_nothing : {A : Type 0} (x : Option A) → option_or x None ≡ x
 or_nothing None = refl
@@ -32,14 +32,14 @@ earlier_counts (None ∷ xs) ys x e = earlier_counts xs ys x e
 earlier_counts (Some y ∷ xs) ys x e = cc
 
 -- what the desk says of a Price counts where no earlier reason holds
-pub known : (around : Around) (nodes : Nodes) → None ≡ first_some (early_reasons nodes) → first_some (reasons_against around nodes) ≡ refusal around nodes
-known around nodes e = last_counts (early_reasons nodes) (refusal around nodes) e
+pub known : (context : PriceContext) (nodes : Nodes) → None ≡ first_some (early_reasons nodes) → first_some (price_reasons context nodes) ≡ record_reason context nodes
+known context nodes e = last_counts (early_reasons nodes) (record_reason context nodes) e
 
 -- a Price is left out for an earlier reason, whatever the desk says of it
-pub early : (around : Around) (nodes : Nodes) (why : Reason) → Some why ≡ first_some (early_reasons nodes) → first_some (reasons_against around nodes) ≡ Some why
-early around nodes why e = earlier_counts (early_reasons nodes) (refusal around nodes ∷ []) why e
+pub early : (context : PriceContext) (nodes : Nodes) (kind : Reason) → Some kind ≡ first_some (early_reasons nodes) → first_some (price_reasons context nodes) ≡ Some kind
+early context nodes kind e = earlier_counts (early_reasons nodes) (record_reason context nodes ∷ []) kind e
 
 -- a Price that the desk takes is written
-pub taken-record : (around : Around) (nodes : Nodes) (made : List (List ℕ)) → is_some (said (price_of around.opening) (price_fields around nodes)) ≡ true → made ≡ codes "Price" ∷ price_fields around nodes
-    → outcome_records (outcome_of (refusal around nodes) around nodes) ≡ made ∷ []
-taken-record around nodes made is same = rw is (ap (λ (k : List (List ℕ)). k ∷ []) (sym same))
+pub taken-record : (context : PriceContext) (nodes : Nodes) (made : List (List ℕ)) → is_some (parsed (price_of context.opening) (price_fields context nodes)) ≡ true → made ≡ codes "Price" ∷ price_fields context nodes
+    → outcome_records (outcome_of (record_reason context nodes) context nodes) ≡ made ∷ []
+taken-record context nodes made is same = rw is (ap (λ (k : List (List ℕ)). k ∷ []) (sym same))

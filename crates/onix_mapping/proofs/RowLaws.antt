@@ -9,45 +9,45 @@ use Rattle.std.proofs.lemmas.List.{append-nil, map-append}
 use Rattle.std.proofs.lemmas.List.Concat.{flat_map-append}
 use Rattle.std.proofs.lemmas.Option.{cond_some, same_Some}
 use Rattle.std.specs.Char.{is_ascii, is_ascii_digit}
-use Rattle.onix_message.proofs.CleanTexts.{code2-clean}
+use Rattle.onix_records.proofs.CleanTexts.{code2-clean}
 use Rattle.onix_terms.specs.Options.{nonempty}
 use Rattle.onix_mapping.specs.declared.notes.Wrong.{Wrong}
 use Rattle.xml_text.specs.Grammar.{is_filled}
 use Rattle.onix_outline.specs.Nodes.{Nodes}
-use Rattle.onix_message.specs.Detail.{detail_of}
-use Rattle.onix_message.specs.Fields.{is_clean, territory_fields}
-use Rattle.onix_message.specs.PartRows.{HasDetails, SuppliesHaveDetails, detail_rows, product_rows, supply_rows}
-use Rattle.onix_message.specs.Price.{price_of}
-use Rattle.onix_message.specs.Product.{pairs_of, product_of}
-use Rattle.onix_message.specs.Row.{row_of}
-use Rattle.onix_message.specs.Supply.{supply_of}
-use Rattle.onix_message.specs.declared.parts.Price.{Price}
-use Rattle.onix_message.specs.declared.parts.Product.{Product}
-use Rattle.onix_message.specs.declared.parts.ProductIdentifier.{ProductIdentifier}
-use Rattle.onix_message.specs.declared.parts.ProductSupply.{ProductSupply}
-use Rattle.onix_message.specs.declared.parts.SupplyDetail.{SupplyDetail}
-use Rattle.onix_message.specs.declared.row.Opening.{Opening}
-use Rattle.onix_message.specs.declared.row.Row.{Row}
-use Rattle.onix_message.specs.declared.row.Row.TheVariants as row
-use Rattle.onix_message.proofs.Bare.{detail-bare, product-bare, supply-bare}
-use Rattle.onix_message.proofs.FrontRows.{bind-some}
+use Rattle.onix_records.specs.Detail.{detail_of}
+use Rattle.onix_records.specs.Fields.{is_clean, territory_fields}
+use Rattle.onix_records.specs.PartRows.{HasDetails, SuppliesHaveDetails, detail_rows, product_rows, supply_rows}
+use Rattle.onix_records.specs.Price.{price_of}
+use Rattle.onix_records.specs.Product.{pairs_of, product_of}
+use Rattle.onix_records.specs.Row.{row_of}
+use Rattle.onix_records.specs.Supply.{supply_of}
+use Rattle.onix_records.specs.declared.parts.Price.{Price}
+use Rattle.onix_records.specs.declared.parts.Product.{Product}
+use Rattle.onix_records.specs.declared.parts.ProductIdentifier.{ProductIdentifier}
+use Rattle.onix_records.specs.declared.parts.ProductSupply.{ProductSupply}
+use Rattle.onix_records.specs.declared.parts.SupplyDetail.{SupplyDetail}
+use Rattle.onix_records.specs.declared.row.Opening.{Opening}
+use Rattle.onix_records.specs.declared.row.Row.{Row}
+use Rattle.onix_records.specs.declared.row.Row.TheVariants as row
+use Rattle.onix_records.proofs.Bare.{detail-bare, product-bare, supply-bare}
+use Rattle.onix_records.proofs.FrontRows.{bind-some}
 use Rattle.onix_terms.specs.Code.{code2_of}
 use Rattle.onix_terms.specs.Territory.{countries_text, territory_of, world_text}
 use Rattle.onix_terms.specs.declared.territory.Territory.{Territory}
-use Rattle.onix_mapping.specs.Details.{around_in, detail_fields, detail_reasons, detail_refusal, price_in, prices_in}
+use Rattle.onix_mapping.specs.Details.{context_in, detail_fields, detail_reasons, detail_reason, price_in, prices_in}
 use Rattle.onix_mapping.specs.Elements.{Composite, each_at, first}
-use Rattle.onix_mapping.specs.Markets.{first_held, held_area, held_fields, held_outcome, market_reason, markets_outcome, supply_record, territories_of, union_fields}
+use Rattle.onix_mapping.specs.Markets.{first_kept, kept_area, kept_fields, kept_outcome, market_reason, markets_outcome, supply_record, territories_of, union_fields}
 use Rattle.onix_mapping.proofs.MarketLaws.{joined_outcome}
 use Rattle.onix_mapping.specs.Notes.{Note, Reason, foreign, wrong}
 use Rattle.onix_mapping.specs.Outcomes.{Outcome, all_notes, all_records, left_out, nothing, outcome_reason, outcome_records, written_unless}
-use Rattle.onix_mapping.specs.Prices.{Around, early_reasons, field_reasons, is_nothing, outcome_of, price_fields, price_outcome, reasons_against, refusal}
-use Rattle.onix_mapping.specs.ProductRecords.{forms, small_forms, smaller_forms, standing_fate, standing_records, supplies_in, too_large_notes, why_emptied}
+use Rattle.onix_mapping.specs.Prices.{PriceContext, early_reasons, field_reasons, is_nothing, outcome_of, price_fields, price_outcome, price_reasons, record_reason}
+use Rattle.onix_mapping.specs.ProductRecords.{variants, small_variants, smaller_variants, fate_by, records_by, supplies_in, too_large_notes, why_emptied}
 use Rattle.onix_mapping.specs.Products.{dropping, identifier_reason, identifiers_in, is_code, is_there, notification_in, or_reference, own_reason, pair_reason, product_record, reference_in, right_pair, right_pairs, type_of, value_of, value_written}
-use Rattle.onix_mapping.specs.Records.{clean, first_some, if_empty, is_field, said, term_said, unless, unread}
+use Rattle.onix_mapping.specs.Records.{clean, first_some, if_empty, is_field, parsed, parsed_term, unless, invalid}
 use Rattle.onix_mapping.specs.Rows.{AreOf, AreProducts, references_of}
 use Rattle.onix_mapping.specs.Supplies.{detail_in, detailed_outcome, details_in, supplies_reason, supply_in, supply_markets, supply_outcome}
 use Rattle.onix_mapping.specs.declared.notes.Foreign.TheVariants as other
-use Rattle.onix_mapping.specs.Territories.{Area, area_fields, area_in, area_refusal, area_reasons, market_of, unheld}
+use Rattle.onix_mapping.specs.Territories.{Area, area_fields, area_in, area_reason, area_reasons, market_of, unsupported}
 use Rattle.onix_mapping.specs.Unions.{union}
 use Rattle.onix_mapping.specs.declared.notes.Wrong.TheVariants as bad
 use Rattle.onix_mapping.proofs.Utf8Laws.{are_utf8, ascii-field, empty-fields, named-utf8, territory-utf8, utf8-first, utf8-joined}
@@ -79,7 +79,7 @@ record IsSaid {A : Type 0} (read : List (List ℕ) → Option A) (texts : List (
   pub clean : list_all is_clean texts ≡ true
   pub is : read texts ≡ Some x
 
-said-read : {A : Type 0} (read : List (List ℕ) → Option A) (texts : List (List ℕ)) (x : A) → said read texts ≡ Some x → IsSaid read texts x
+said-read : {A : Type 0} (read : List (List ℕ) → Option A) (texts : List (List ℕ)) (x : A) → parsed read texts ≡ Some x → IsSaid read texts x
 said-read read texts x e =
     let (u, f) = cond-then (list_all is_utf8 texts) (clean read texts) x e in
     let (c, g) = clean-read read texts x f in
@@ -149,29 +149,29 @@ taken None w e = cc e
 abbrev ArePrices : Opening → Records → Type 0
 ArePrices o records = (ps : List Price) × Reads o records (map row.Price ps)
 
-reason-rows : (around : Around) (nodes : Nodes) (why : Option Reason) → first_some (reasons_against around nodes) ≡ why
-    → ArePrices around.opening (outcome_records (outcome_of why around nodes))
-reason-rows around nodes (Some why) e = ([], no-rows around.opening)
-reason-rows around nodes None e =
-    let none : refusal around nodes ≡ None = last-none (early_reasons nodes) (refusal around nodes) e in
-    let (p, read) = taken (said (price_of around.opening) (price_fields around nodes)) (unwrap_or (first_some (field_reasons around.opening nodes)) (wrong bad.Price [])) none in
-    let s = said-read (price_of around.opening) (price_fields around nodes) p read in (
+reason-rows : (context : PriceContext) (nodes : Nodes) (kind : Option Reason) → first_some (price_reasons context nodes) ≡ kind
+    → ArePrices context.opening (outcome_records (outcome_of kind context nodes))
+reason-rows context nodes (Some kind) e = ([], no-rows context.opening)
+reason-rows context nodes None e =
+    let none : record_reason context nodes ≡ None = last-none (early_reasons nodes) (record_reason context nodes) e in
+    let (p, read) = taken (parsed (price_of context.opening) (price_fields context nodes)) (unwrap_or (first_some (field_reasons context.opening nodes)) (wrong bad.Price [])) none in
+    let s = said-read (price_of context.opening) (price_fields context nodes) p read in (
       p ∷ [],
-      one-first around.opening (codes "Price" ∷ price_fields around nodes) (row.Price p) [] [] (price-row around.opening (price_fields around nodes) p s.clean s.is)
-          (named-utf8 (codes "Price") (price_fields around nodes) refl s.utf8) (no-rows around.opening),
+      one-first context.opening (codes "Price" ∷ price_fields context nodes) (row.Price p) [] [] (price-row context.opening (price_fields context nodes) p s.clean s.is)
+          (named-utf8 (codes "Price") (price_fields context nodes) refl s.utf8) (no-rows context.opening),
     )
 
-price-rows : (around : Around) (nodes : Nodes) → ArePrices around.opening (outcome_records (price_outcome around nodes))
-price-rows around nodes = go (is_nothing around nodes)
+price-rows : (context : PriceContext) (nodes : Nodes) → ArePrices context.opening (outcome_records (price_outcome context nodes))
+price-rows context nodes = go (is_nothing context nodes)
   where
-    go : (bare : Bool) → ArePrices around.opening (outcome_records (if bare then nothing else outcome_of (first_some (reasons_against around nodes)) around nodes))
-    go true = ([], no-rows around.opening)
-    go false = reason-rows around nodes (first_some (reasons_against around nodes)) refl
+    go : (bare : Bool) → ArePrices context.opening (outcome_records (if bare then nothing else outcome_of (first_some (price_reasons context nodes)) context nodes))
+    go true = ([], no-rows context.opening)
+    go false = reason-rows context nodes (first_some (price_reasons context nodes)) refl
 
 prices-rows : (o : Opening) (nodes : Nodes) (cs : List Composite) → ArePrices o (all_records (price_in o nodes) cs)
 prices-rows o nodes [] = ([], no-rows o)
 prices-rows o nodes (c ∷ cs) =
-    let (ps, e) = price-rows (around_in o nodes) c.below in
+    let (ps, e) = price-rows (context_in o nodes) c.below in
     let (qs, f) = prices-rows o nodes cs in (
       ps ++ qs,
       as-rows o _ (map row.Price ps ++ map row.Price qs) (map row.Price (ps ++ qs)) (sym (map-append row.Price ps qs))
@@ -192,12 +192,12 @@ one-detail o fields d ps prices all utf8 is reads =
     as-rows o _ (detail_rows (record d { prices = ps })) _ (sym (append-nil (detail_rows (record d { prices = ps }))))
     (one-first o (codes "SupplyDetail" ∷ fields) (row.SupplyDetail (record d { prices = [] })) prices (map row.Price ps) first (named-utf8 (codes "SupplyDetail") fields refl utf8) reads)
 
-detail-rows : (o : Opening) (preferred : List ℕ) (nodes : Nodes) (why : Option Reason) → detail_refusal preferred nodes ≡ why
-    → AreDetails o (outcome_records (written_unless why ((codes "SupplyDetail" ∷ detail_fields preferred nodes) ∷ all_records (price_in o nodes) (prices_in nodes)) (all_notes (price_in o nodes) (prices_in nodes))))
-detail-rows o preferred nodes (Some why) e = ([], no-rows o)
+detail-rows : (o : Opening) (preferred : List ℕ) (nodes : Nodes) (kind : Option Reason) → detail_reason preferred nodes ≡ kind
+    → AreDetails o (outcome_records (written_unless kind ((codes "SupplyDetail" ∷ detail_fields preferred nodes) ∷ all_records (price_in o nodes) (prices_in nodes)) (all_notes (price_in o nodes) (prices_in nodes))))
+detail-rows o preferred nodes (Some kind) e = ([], no-rows o)
 detail-rows o preferred nodes None e =
     let fields = detail_fields preferred nodes in
-    let (d, read) = taken (said detail_of fields) (unwrap_or (first_some (detail_reasons preferred nodes)) (wrong bad.SupplyDetail [])) e in
+    let (d, read) = taken (parsed detail_of fields) (unwrap_or (first_some (detail_reasons preferred nodes)) (wrong bad.SupplyDetail [])) e in
     let s = said-read detail_of fields d read in
     let (ps, prices) = prices-rows o nodes (prices_in nodes) in (
       record d { prices = ps } ∷ [],
@@ -207,7 +207,7 @@ detail-rows o preferred nodes None e =
 details-rows : (o : Opening) (preferred : List ℕ) (cs : List Composite) → AreDetails o (all_records (detail_in o preferred) cs)
 details-rows o preferred [] = ([], no-rows o)
 details-rows o preferred (c ∷ cs) =
-    let (ds, e) = detail-rows o preferred c.below (detail_refusal preferred c.below) refl in
+    let (ds, e) = detail-rows o preferred c.below (detail_reason preferred c.below) refl in
     let (es, f) = details-rows o preferred cs in (
       ds ++ es,
       as-rows o _ (flat_map detail_rows ds ++ flat_map detail_rows es) (flat_map detail_rows (ds ++ es)) (sym (flat_map-append detail_rows ds es))
@@ -246,7 +246,7 @@ joined-row : (o : Opening) (a : Area) (s : ProductSupply) → market_of a ≡ So
 joined-row o a s held None fields e = subst (λ (k : List (List ℕ)). IsSupply o (supply_record k)) (same_Some _ fields e) (stands-row o a s held)
 joined-row o a s held (Some t) fields e = union-row o t fields e
 
-held-row : (o : Opening) (a : Area) (s : ProductSupply) → market_of a ≡ Some s → (ts : List Territory) (fields : List (List ℕ)) → held_fields a ts ≡ Some fields → IsSupply o (supply_record fields)
+held-row : (o : Opening) (a : Area) (s : ProductSupply) → market_of a ≡ Some s → (ts : List Territory) (fields : List (List ℕ)) → kept_fields a ts ≡ Some fields → IsSupply o (supply_record fields)
 held-row o a s held ts fields e = go (length ts == 1) e
   where
     go : (one : Bool) → (if one then Some (area_fields a) else option_map_or union_fields (union ts) (Some (area_fields a))) ≡ Some fields → IsSupply o (supply_record fields)
@@ -258,20 +258,20 @@ or-none None y e = e
 or-none (Some a) y e = cc e
 
 -- the desk takes the first Market that is not left out
-held-market : (ms : List Composite) (a : Area) → first_some (map held_area ms) ≡ Some a → (s : ProductSupply) × (market_of a ≡ Some s)
+held-market : (ms : List Composite) (a : Area) → first_some (map kept_area ms) ≡ Some a → (s : ProductSupply) × (market_of a ≡ Some s)
 held-market [] a e = cc e
 held-market (m ∷ ms) a e = go (market_reason (area_in m.below)) refl (held-market ms a)
   where
     own : Area
     own = area_in m.below
 
-    go : (r : Option Reason) → market_reason own ≡ r → (first_some (map held_area ms) ≡ Some a → (s : ProductSupply) × (market_of a ≡ Some s)) → (s : ProductSupply) × (market_of a ≡ Some s)
+    go : (r : Option Reason) → market_reason own ≡ r → (first_some (map kept_area ms) ≡ Some a → (s : ProductSupply) × (market_of a ≡ Some s)) → (s : ProductSupply) × (market_of a ≡ Some s)
     go None is later =
         let now : Some own ≡ Some a = rw is at e in
-        let none = or-none (unheld own) (area_refusal own) is in
+        let none = or-none (unsupported own) (area_reason own) is in
         subst (λ (k : Area). (s : ProductSupply) × (market_of k ≡ Some s)) (same_Some own a now)
         (taken (market_of own) (unwrap_or (first_some (area_reasons own)) (wrong bad.Territory [])) none)
-    go (Some reason) is later = let now : first_some (map held_area ms) ≡ Some a = rw is at e in later now
+    go (Some reason) is later = let now : first_some (map kept_area ms) ≡ Some a = rw is at e in later now
 
 -- one record that is a supply's
 abbrev AreMarkets : Opening → Outcome → Type 0
@@ -282,19 +282,19 @@ joined-markets : (o : Opening) (made : Option (List (List ℕ))) (notes : List N
 joined-markets o None notes each e = cc e
 joined-markets o (Some fields) notes each e = (supply_record fields, refl, each fields refl)
 
-held-markets : (o : Opening) (ms : List Composite) (foreign : Bool) (notes : List Note) (first : Option Area) → first_held ms ≡ first → outcome_reason (held_outcome first (territories_of ms) foreign notes) ≡ None
-    → AreMarkets o (held_outcome first (territories_of ms) foreign notes)
+held-markets : (o : Opening) (ms : List Composite) (foreign : Bool) (notes : List Note) (first : Option Area) → first_kept ms ≡ first → outcome_reason (kept_outcome first (territories_of ms) foreign notes) ≡ None
+    → AreMarkets o (kept_outcome first (territories_of ms) foreign notes)
 held-markets o ms foreign notes None is e = cc e
 held-markets o ms foreign notes (Some a) is e =
     let (s, held) = held-market ms a is in
-    joined-markets o (held_fields a (territories_of ms)) notes (λ fields made. held-row o a s held (territories_of ms) fields made) e
+    joined-markets o (kept_fields a (territories_of ms)) notes (λ fields made. held-row o a s held (territories_of ms) fields made) e
 
 world-supply : (s : ProductSupply) × (supply_of ([] ∷ [] ∷ [] ∷ []) ≡ Some s)
 world-supply = (record { market = record { included = []; world = true; excluded = [] }; details = [] }, refl)
 
 markets-rows : (o : Opening) (ms : List Composite) → outcome_reason (markets_outcome ms) ≡ None → AreMarkets o (markets_outcome ms)
 markets-rows o [] e = let (s, is) = world-supply in (supply_record ([] ∷ [] ∷ [] ∷ []), refl, supply-is o ([] ∷ [] ∷ [] ∷ []) s refl empty-fields is)
-markets-rows o (m ∷ ms) e = held-markets o (m ∷ ms) _ _ (first_held (m ∷ ms)) refl e
+markets-rows o (m ∷ ms) e = held-markets o (m ∷ ms) _ _ (first_kept (m ∷ ms)) refl e
 
 -- ---- ProductSupplys
 
@@ -320,10 +320,10 @@ never-empty : (o : Opening) (fields : List (List ℕ)) (records : Records) (ds :
 never-empty o fields records [] reads none = let are = reads.are in cc are
 never-empty o fields records (d ∷ ds) reads none = cc none
 
-detailed-rows : (o : Opening) (preferred : List ℕ) (nodes : Nodes) (notes : List Note) (why : Option Reason) → outcome_reason (supply_markets nodes) ≡ why
+detailed-rows : (o : Opening) (preferred : List ℕ) (nodes : Nodes) (notes : List Note) (kind : Option Reason) → outcome_reason (supply_markets nodes) ≡ kind
     → (below : Records) → all_records (detail_in o preferred) (details_in nodes) ≡ below
-    → AreSupplies o (outcome_records (written_unless (first_some (why ∷ if_empty below (Some (wrong bad.NoDetailLeft [])) ∷ [])) (outcome_records (supply_markets nodes) ++ below) notes))
-detailed-rows o preferred nodes notes (Some why) m below d = no-supplies o
+    → AreSupplies o (outcome_records (written_unless (first_some (kind ∷ if_empty below (Some (wrong bad.NoDetailLeft [])) ∷ [])) (outcome_records (supply_markets nodes) ++ below) notes))
+detailed-rows o preferred nodes notes (Some kind) m below d = no-supplies o
 detailed-rows o preferred nodes notes None m [] d = no-supplies o
 detailed-rows o preferred nodes notes None m (detail ∷ below) d =
     let (fields, same, is) = markets-rows o (each_at "Market" nodes) m in
@@ -379,9 +379,9 @@ record ArePairs (pairs : List (List ℕ)) : Type 0 where
   pub utf8 : list_all is_utf8 pairs ≡ true
   pub clean : list_all is_clean pairs ≡ true
 
-code-is : (text : List ℕ) → is_some (term_said code2_of text) ≡ true → IsCode text
+code-is : (text : List ℕ) → is_some (parsed_term code2_of text) ≡ true → IsCode text
 code-is text e =
-    let (y, is) = is-there (term_said code2_of text) e in
+    let (y, is) = is-there (parsed_term code2_of text) e in
     let (u, f) = cond-then (is_utf8 text) (code2_of text) y is in
     let (t, same) = cond_some ((length text == 2) && list_all is_ascii_digit text) text y f in
     record { utf8 = u; code = f ∙ ap Some (sym same) }
@@ -400,9 +400,9 @@ dropping-code n = go (is_code n) refl (bytes_eq n (codes "04"))
 
 -- ---- identifiers
 
-unless-none : (holds : Bool) (why : Wrong) (text : List ℕ) → unless holds why text ≡ None → holds ≡ true
-unless-none true why text e = refl
-unless-none false why text e = cc e
+unless-none : (holds : Bool) (kind : Wrong) (text : List ℕ) → unless holds kind text ≡ None → holds ≡ true
+unless-none true kind text e = refl
+unless-none false kind text e = cc e
 
 both-none : {A : Type 0} (x y : Option A) → option_or x (option_or y None) ≡ None → (x ≡ None) × (y ≡ None)
 both-none None None e = (refl, refl)
@@ -428,8 +428,8 @@ no-pairs = record { ids = []; are = refl; utf8 = refl; clean = refl }
 
 pair-right : (kind written stands : List ℕ) → pair_reason kind written stands ≡ None → (rest : List (List ℕ)) → ArePairs rest → ArePairs (kind ∷ written ∷ rest)
 pair-right kind written stands e rest r =
-    let (a, b) = both-none (unread (term_said code2_of) bad.IdentifierType kind) (unless (is_field written) bad.IdentifierValue stands) e in
-    one-pair kind written rest (code-is kind (unless-none (is_some (term_said code2_of kind)) bad.IdentifierType kind a)) (field-is written (unless-none (is_field written) bad.IdentifierValue stands b)) r
+    let (a, b) = both-none (invalid (parsed_term code2_of) bad.IdentifierType kind) (unless (is_field written) bad.IdentifierValue stands) e in
+    one-pair kind written rest (code-is kind (unless-none (is_some (parsed_term code2_of kind)) bad.IdentifierType kind a)) (field-is written (unless-none (is_field written) bad.IdentifierValue stands b)) r
 
 right-is : (c : Composite) (there : Bool) (reason : Option Reason) → is_there c ≡ there → identifier_reason c ≡ reason → (rest : List (List ℕ)) → ArePairs rest
     → ArePairs (option_map_or (λ reason. []) reason (if is_there c then type_of c ∷ value_written c ∷ [] else []) ++ rest)
@@ -492,19 +492,19 @@ emptied-rows : (o : Opening) (nodes : Nodes) → IsField (reference_in nodes) �
 emptied-rows o nodes f pairs p = standing-rows o nodes f (dropping (notification_in nodes)) (dropping-code (notification_in nodes)) pairs p [] (no-supplies o)
 
 own-code : (nodes : Nodes) → own_reason nodes ≡ None → IsCode (notification_in nodes)
-own-code nodes e = go (unread (term_said code2_of) bad.NotificationType (notification_in nodes)) refl e
+own-code nodes e = go (invalid (parsed_term code2_of) bad.NotificationType (notification_in nodes)) refl e
   where
-    go : (r : Option Reason) → unread (term_said code2_of) bad.NotificationType (notification_in nodes) ≡ r → own_reason nodes ≡ None → IsCode (notification_in nodes)
-    go None is f = code-is (notification_in nodes) (unless-none (is_some (term_said code2_of (notification_in nodes))) bad.NotificationType (notification_in nodes) is)
+    go : (r : Option Reason) → invalid (parsed_term code2_of) bad.NotificationType (notification_in nodes) ≡ r → own_reason nodes ≡ None → IsCode (notification_in nodes)
+    go None is f = code-is (notification_in nodes) (unless-none (is_some (parsed_term code2_of (notification_in nodes))) bad.NotificationType (notification_in nodes) is)
     go (Some r) is f = let no = rw is at f in cc no
 
 former-none : {A : Type 0} (x y : Option A) → option_or x y ≡ None → x ≡ None
 former-none None y e = refl
 former-none (Some x) y e = cc e
 
-own-rows : (o : Opening) (preferred : List ℕ) (nodes : Nodes) → IsField (reference_in nodes) → (why : Option Reason) → why_emptied o preferred nodes ≡ why
-    → AreOf o (standing_records o preferred why nodes) (reference_in nodes ∷ [])
-own-rows o preferred nodes f (Some why) e = emptied-rows o nodes f (right_pairs nodes) (right-pairs (identifiers_in nodes))
+own-rows : (o : Opening) (preferred : List ℕ) (nodes : Nodes) → IsField (reference_in nodes) → (kind : Option Reason) → why_emptied o preferred nodes ≡ kind
+    → AreOf o (records_by o preferred kind nodes) (reference_in nodes ∷ [])
+own-rows o preferred nodes f (Some kind) e = emptied-rows o nodes f (right_pairs nodes) (right-pairs (identifiers_in nodes))
 own-rows o preferred nodes f None e =
     let own = former-none (own_reason nodes) (supplies_reason o preferred (supplies_in nodes)) e in
     standing-rows o nodes f (notification_in nodes) (own-code nodes own) (right_pairs nodes) (right-pairs (identifiers_in nodes)) (all_records (supply_in o preferred) (supplies_in nodes))
@@ -515,30 +515,30 @@ none-rows : (o : Opening) → AreOf o [] []
 none-rows o = ([], refl, record { reads = refl; details = tt; utf8 = refl })
 
 -- the records of each form of a Product are the rows of a product of its reference
-pub product-rows : (o : Opening) (preferred : List ℕ) (c : Composite) → AllByRecursion (λ f. AreOf o f.records (references_of c.below)) (forms o preferred c)
+pub product-rows : (o : Opening) (preferred : List ℕ) (c : Composite) → AllByRecursion (λ f. AreOf o f.records (references_of c.below)) (variants o preferred c)
 product-rows o preferred c = go (is_field (reference_in c.below)) refl
   where
     nodes : Nodes
     nodes = c.below
 
-    whole : IsField (reference_in nodes) → AreOf o (standing_records o preferred (why_emptied o preferred nodes) nodes) (reference_in nodes ∷ [])
+    whole : IsField (reference_in nodes) → AreOf o (records_by o preferred (why_emptied o preferred nodes) nodes) (reference_in nodes ∷ [])
     whole f = own-rows o preferred nodes f (why_emptied o preferred nodes) refl
 
-    small : IsField (reference_in nodes) → (notes : List Note) → AllByRecursion (λ f. AreOf o f.records (reference_in nodes ∷ [])) (small_forms notes nodes)
+    small : IsField (reference_in nodes) → (notes : List Note) → AllByRecursion (λ f. AreOf o f.records (reference_in nodes ∷ [])) (small_variants notes nodes)
     small f notes = (emptied-rows o nodes f (right_pairs nodes) (right-pairs (identifiers_in nodes)), (emptied-rows o nodes f [] no-pairs, tt))
 
-    standing : IsField (reference_in nodes) → (why : Option Reason) (notes : List Note) → AllByRecursion (λ f. AreOf o f.records (reference_in nodes ∷ [])) (smaller_forms (standing_fate why) notes c)
+    standing : IsField (reference_in nodes) → (kind : Option Reason) (notes : List Note) → AllByRecursion (λ f. AreOf o f.records (reference_in nodes ∷ [])) (smaller_variants (fate_by kind) notes c)
     standing f None notes = small f (too_large_notes c)
-    standing f (Some why) notes = small f notes
+    standing f (Some kind) notes = small f notes
 
-    go : (stands : Bool) → is_field (reference_in nodes) ≡ stands → AllByRecursion (λ f. AreOf o f.records (references_of nodes)) (forms o preferred c)
+    go : (stands : Bool) → is_field (reference_in nodes) ≡ stands → AllByRecursion (λ f. AreOf o f.records (references_of nodes)) (variants o preferred c)
     go true e =
         let f = field-is (reference_in nodes) e in
         let names : references_of nodes ≡ reference_in nodes ∷ [] = rw e refl in
-        subst (λ (rs : List (List ℕ)). AllByRecursion (λ f. AreOf o f.records rs) (forms o preferred c)) (sym names) (rw e (whole f, standing f (why_emptied o preferred nodes) _))
+        subst (λ (rs : List (List ℕ)). AllByRecursion (λ f. AreOf o f.records rs) (variants o preferred c)) (sym names) (rw e (whole f, standing f (why_emptied o preferred nodes) _))
     go false e =
         let names : references_of nodes ≡ [] = rw e refl in
-        subst (λ (rs : List (List ℕ)). AllByRecursion (λ f. AreOf o f.records rs) (forms o preferred c)) (sym names) (rw e (none-rows o, tt))
+        subst (λ (rs : List (List ℕ)). AllByRecursion (λ f. AreOf o f.records rs) (variants o preferred c)) (sym names) (rw e (none-rows o, tt))
 
 -- products one after the other
 pub products-joined : (o : Opening) (a b : Records) (c d : List Product) → AreProducts o a c → AreProducts o b d → AreProducts o (a ++ b) (c ++ d)

@@ -9,7 +9,7 @@ use Rattle.std.proofs.lemmas.List.Folds.{list_all-append}
 use Rattle.std.proofs.lemmas.Option.{cond_some}
 use Rattle.std.proofs.lemmas.Str.{IsUtf8-append, IsUtf8-from_ascii, IsUtf8-nil, is_utf8-from_IsUtf8}
 use Rattle.std.proofs.lemmas.Str.Ascii.{IsAscii-cons, IsAscii-nil}
-use Rattle.onix_message.specs.Fields.{territory_fields}
+use Rattle.onix_records.specs.Fields.{territory_fields}
 use Rattle.onix_terms.specs.Territory.{codes_in, countries_of, countries_text, ends_code, territory_of, world_of, world_text}
 use Rattle.onix_terms.specs.declared.territory.Territory.{Territory}
 use Rattle.onix_terms.proofs.AsciiTexts.{capitals-ascii}

@@ -4,7 +4,7 @@ use Rattle.std.specs.Result.{result_map_both}
 use Rattle.std.specs.Borrow.{Bor}
 use Rattle.onix_outline.specs.declared.line.Line.{Line}
 use Rattle.onix_mapping.specs.Dates.{Date}
-use Rattle.onix_mapping.specs.Notes.{Reason as Why, reason_view}
+use Rattle.onix_mapping.specs.Notes.{Reason as ReasonKind, reason_view}
 use Rattle.onix_mapping.specs.declared.dates.Dated.{Dated}
 use Rattle.onix_mapping.specs.declared.dates.Days.{Days}
 use Rattle.onix_mapping.specs.declared.notes.Reason.{Reason}
@@ -14,14 +14,14 @@ abbrev pub date_view : Bor Line → Date
 date_view l = record { format = option_map (λ f. f.items) l.now.format; text = l.now.text.items }
 
 -- what was read of dates
-abbrev pub days_read : Result Days Reason → Result Days Why
+abbrev pub days_read : Result Days Reason → Result Days ReasonKind
 days_read r = result_map_both (λ d. d) reason_view r
 
 -- days, or the reason, where there is one
-abbrev pub dated_by : Option Reason → Days → Result Days Why
+abbrev pub dated_by : Option Reason → Days → Result Days ReasonKind
 dated_by None days = Ok days
 dated_by (Some reason) days = Err (reason_view reason)
 
 -- what PriceDates say
-abbrev pub dated_view : Dated → Result Days Why
+abbrev pub dated_view : Dated → Result Days ReasonKind
 dated_view d = dated_by d.wrong d.days

@@ -5,17 +5,18 @@ use Rattle.xml_text.specs.Grammar.{is_filled}
 use Rattle.onix_outline.specs.Nodes.{Nodes}
 use Rattle.onix_terms.specs.Code.{code2_of}
 use Rattle.onix_terms.specs.Quantity.{quantity_of}
-use Rattle.onix_message.specs.Detail.{detail_of}
-use Rattle.onix_message.specs.Fields.{optional}
-use Rattle.onix_message.specs.declared.row.Opening.{Opening}
+use Rattle.onix_records.specs.Detail.{detail_of}
+use Rattle.onix_records.specs.Fields.{optional}
+use Rattle.onix_records.specs.declared.row.Opening.{Opening}
 use Rattle.onix_mapping.specs.Elements.{Composite, below_at, each_at, some_at, text_at}
 use Rattle.onix_mapping.specs.Identifiers.{chosen, identifiers_in}
 use Rattle.onix_mapping.specs.Notes.{Reason, Reasons}
 use Rattle.onix_mapping.specs.Outcomes.{Outcome, all_notes, all_records, written_unless}
 use Rattle.onix_mapping.specs.Parties.{Pair, is_there, pair}
-use Rattle.onix_mapping.specs.Prices.{Around, price_outcome}
-use Rattle.onix_mapping.specs.Records.{Fields, first_some, is_field, option_filter, refused, said}
-use Rattle.onix_mapping.specs.Records.{term_said, unless, unread}
+use Rattle.onix_mapping.specs.Prices.{PriceContext, price_outcome}
+use Rattle.onix_mapping.specs.Records.{Fields, desk_reason, first_some, is_field, option_filter}
+use Rattle.onix_mapping.specs.Records.{parsed}
+use Rattle.onix_mapping.specs.Records.{parsed_term, unless, invalid}
 use Rattle.onix_mapping.specs.declared.notes.Wrong.TheVariants as bad
 
 -- the UnpricedItemType of a Price without an amount
@@ -40,14 +41,14 @@ module _ (nodes : Nodes) where
   -- the OrderQuantityMinimum, where it is a quantity
   abbrev pub default_minimum : Option (List ℕ)
   default_minimum =
-      option_filter (λ text. is_some (term_said quantity_of text))
+      option_filter (λ text. is_some (parsed_term quantity_of text))
       (some_at "OrderQuantityMinimum" nodes)
 
 -- an identifier has a type, and a value that the desk takes; without one there is a name
 abbrev pub identifier_reasons : Pair → List ℕ → Reasons
 identifier_reasons i name =
     if is_there i
-    then unread (term_said code2_of) bad.SupplierType i.id_type
+    then invalid (parsed_term code2_of) bad.SupplierType i.id_type
     ∷ unless (is_field i.id_value) bad.SupplierValue i.id_value ∷ []
     else unless (is_filled name) bad.Supplier [] ∷ []
 
@@ -73,19 +74,21 @@ module _ (preferred : List ℕ) (nodes : Nodes) where
   -- which fields of a SupplyDetail the desk does not take, each where it does not
   abbrev pub detail_reasons : Reasons
   detail_reasons =
-      unread (term_said code2_of) bad.SupplierRole (text_at "SupplierRole" (supplier_in nodes))
+      invalid (parsed_term code2_of) bad.SupplierRole (text_at "SupplierRole" (supplier_in nodes))
       ∷ first_some (identifier_reasons supplier_id (text_at "SupplierName" (supplier_in nodes)))
       ∷ name_reason (text_at "SupplierName" (supplier_in nodes))
-      ∷ unread (term_said code2_of) bad.Availability (text_at "ProductAvailability" nodes)
-      ∷ unread (optional (term_said code2_of)) bad.Unpriced (unwrap_or (unpriced_in nodes) []) ∷ []
+      ∷ invalid (parsed_term code2_of) bad.Availability (text_at "ProductAvailability" nodes)
+      ∷ invalid (optional (parsed_term code2_of)) bad.Unpriced (unwrap_or (unpriced_in nodes) [])
+      ∷ []
 
   -- why a SupplyDetail is left out, where the desk would not take it
-  abbrev pub detail_refusal : Option Reason
-  detail_refusal = refused (is_some (said detail_of detail_fields)) detail_reasons bad.SupplyDetail
+  abbrev pub detail_reason : Option Reason
+  detail_reason =
+      desk_reason (is_some (parsed detail_of detail_fields)) detail_reasons bad.SupplyDetail
 
--- what stands around the Prices of a SupplyDetail
-abbrev pub around_in : Opening → Nodes → Around
-around_in o nodes = record {
+-- the context of the Prices of a SupplyDetail
+abbrev pub context_in : Opening → Nodes → PriceContext
+context_in o nodes = record {
   opening = o;
   is_unpriced = is_some (unpriced_in nodes);
   minimum = default_minimum nodes;
@@ -93,12 +96,12 @@ around_in o nodes = record {
 
 -- what a Price of a SupplyDetail with these elements comes to
 abbrev pub price_in : Opening → Nodes → Composite → Outcome
-price_in o nodes price = price_outcome (around_in o nodes) price.below
+price_in o nodes price = price_outcome (context_in o nodes) price.below
 
 -- what a SupplyDetail comes to: its record with those of its Prices, or it is left out
 abbrev pub detail_outcome : Opening → List ℕ → Nodes → Outcome
 detail_outcome o preferred nodes =
-    written_unless (detail_refusal preferred nodes)
+    written_unless (detail_reason preferred nodes)
     ((codes "SupplyDetail" ∷ detail_fields preferred nodes)
     ∷ all_records (price_in o nodes) (prices_in nodes))
     (all_notes (price_in o nodes) (prices_in nodes))

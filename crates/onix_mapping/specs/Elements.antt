@@ -22,13 +22,16 @@ pub record Composite : Type 0 where
   pub element : Element
   pub below : Nodes
 
+-- an element of this name, tag and text with what stands in it
+abbrev pub composite : List ℕ → Tag → List ℕ → Nodes → Composite
+composite name tag text below =
+    record { element = record { name = name; tag = tag; text = text }; below = below }
+
 -- the elements of this name, in order
 abbrev pub composites : List ℕ → Nodes → List Composite
 composites name no_nodes = []
 composites name (node n tag text below rest) =
-    if bytes_eq n name
-    then record { element = record { name = n; tag = tag; text = text }; below = below }
-    ∷ composites name rest
+    if bytes_eq n name then composite n tag text below ∷ composites name rest
     else composites name rest
 
 -- the first of a list, where it has one
@@ -45,21 +48,22 @@ below_of (Some c) = c.below
 abbrev pub text_or_empty : List ℕ → Nodes → List ℕ
 text_or_empty name nodes = unwrap_or (text_in name nodes) []
 
--- the same of a name as it is written here
-abbrev pub text_at : String → Nodes → List ℕ
-text_at name nodes = text_or_empty (codes name) nodes
+module _ (name : String) (nodes : Nodes) where
+  -- the same of a name in letters
+  abbrev pub text_at : List ℕ
+  text_at = text_or_empty (codes name) nodes
 
--- that text, where there is one
-abbrev pub some_at : String → Nodes → Option (List ℕ)
-some_at name nodes = text_in (codes name) nodes
+  -- that text, where there is one
+  abbrev pub some_at : Option (List ℕ)
+  some_at = text_in (codes name) nodes
 
--- the elements of such a name
-abbrev pub each_at : String → Nodes → List Composite
-each_at name nodes = composites (codes name) nodes
+  -- the elements of such a name
+  abbrev pub each_at : List Composite
+  each_at = composites (codes name) nodes
 
--- what stands in the first of them, and nothing where there is none
-abbrev pub below_at : String → Nodes → Nodes
-below_at name nodes = below_of (first (each_at name nodes))
+  -- what stands in the first of them, and nothing where there is none
+  abbrev pub below_at : Nodes
+  below_at = below_of (first each_at)
 
 -- ---- lines
 

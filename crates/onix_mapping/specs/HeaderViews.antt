@@ -14,9 +14,9 @@ use Rattle.onix_mapping.specs.declared.header.Heading.{Heading}
 use Rattle.onix_mapping.specs.declared.header.HeaderFault.{HeaderFault}
 use Rattle.onix_mapping.specs.declared.header.HeaderFault.TheVariants as fault
 use Rattle.onix_mapping.specs.declared.parties.Pair.{Pair}
-use Rattle.onix_mapping.specs.declared.header.Refusal.{Refusal}
-use Rattle.onix_mapping.specs.declared.header.Refusal.TheVariants.{Malformed}
-use Rattle.onix_message.specs.declared.row.Opening.{Opening}
+use Rattle.onix_mapping.specs.declared.header.HeaderRefusal.{HeaderRefusal}
+use Rattle.onix_mapping.specs.declared.header.HeaderRefusal.TheVariants.{Malformed}
+use Rattle.onix_records.specs.declared.row.Opening.{Opening}
 
 -- what the caller chooses, as its texts and numbers
 abbrev pub choices_view : Choices → Chosen
@@ -29,11 +29,12 @@ choices_view c = record {
   id_type = c.id_type.now;
 }
 
-abbrev pub pair_read : Result Pair Refusal → Result Told Refusal
+abbrev pub pair_read : Result Pair HeaderRefusal → Result Told HeaderRefusal
 pair_read r = result_map_both pair_view (λ e. e) r
 
 -- lines tell what was found, or it was refused
-abbrev pub AreLines : Result (Bor (List Line)) Refusal → ℕ → Result Nodes Refusal → Type 0
+abbrev pub AreLines : Result (Bor (List Line)) HeaderRefusal → ℕ → Result Nodes HeaderRefusal
+    → Type 0
 AreLines (Ok lines) depth told =
     (nodes : Nodes) × (told ≡ Ok nodes) × (line_views lines.now ≡ outline depth nodes)
 AreLines (Err e) depth told = told ≡ Err e
@@ -54,7 +55,7 @@ IsOpening (Err (fault.Refused e)) read = (e ≡ Malformed) × (read ≡ None)
 IsOpening (Err fault.Memory) read = Unit {0}
 
 -- a call gave the heading, or the reason of the refusal, unless memory ran out
-abbrev pub IsHeading : Result Heading HeaderFault → Result Said Refusal → Type 0
+abbrev pub IsHeading : Result Heading HeaderFault → Result Said HeaderRefusal → Type 0
 IsHeading (Ok h) told = told ≡ Ok (heading_view h)
 IsHeading (Err (fault.Refused e)) told = told ≡ Err e
 IsHeading (Err fault.Memory) told = Unit {0}

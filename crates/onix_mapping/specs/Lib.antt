@@ -23,3 +23,4 @@ pub mod Supplies
 pub mod PriceFates
 pub mod ProductRecords
 pub mod Rows
+pub mod Vocabulary

@@ -4,13 +4,13 @@ use Rattle.onix_mapping.specs.Elements.{Element, element_view}
 use Rattle.onix_mapping.specs.declared.notes.Foreign.{Foreign as ForeignWhy}
 use Rattle.onix_mapping.specs.declared.notes.Note.{Note as Lent}
 use Rattle.onix_mapping.specs.declared.notes.Reason.{Reason as LentReason}
-use Rattle.onix_mapping.specs.declared.notes.Why.{Why}
-use Rattle.onix_mapping.specs.declared.notes.Why.TheVariants.{Foreign, Wrong}
+use Rattle.onix_mapping.specs.declared.notes.ReasonKind.{ReasonKind}
+use Rattle.onix_mapping.specs.declared.notes.ReasonKind.TheVariants.{Foreign, Wrong}
 use Rattle.onix_mapping.specs.declared.notes.Wrong.{Wrong as WrongWhy}
 
 -- why something is left out, and the text that is the reason, where there is one
 pub record Reason : Type 0 where
-  pub why : Why
+  pub kind : ReasonKind
   pub text : List ℕ
 
 -- some reasons, each where it holds
@@ -24,16 +24,16 @@ pub record Note : Type 0 where
 
 -- that the desk has no field for something, with the text that the reason is about
 abbrev pub foreign : ForeignWhy → List ℕ → Reason
-foreign why text = record { why = Foreign why; text = text }
+foreign kind text = record { kind = Foreign kind; text = text }
 
 -- that the desk would not take something, with the text that the reason is about
 abbrev pub wrong : WrongWhy → List ℕ → Reason
-wrong why text = record { why = Wrong why; text = text }
+wrong kind text = record { kind = Wrong kind; text = text }
 
 -- whether the desk would not take it; else it is foreign: the desk has no field for it
-abbrev pub is_wrong : Why → Bool
-is_wrong (Foreign why) = false
-is_wrong (Wrong why) = true
+abbrev pub is_wrong : ReasonKind → Bool
+is_wrong (Foreign kind) = false
+is_wrong (Wrong kind) = true
 
 -- a note on an element, by its reason
 abbrev pub note : Element → Reason → Note
@@ -48,7 +48,7 @@ reason_notes element (Some reason) = note element reason ∷ []
 
 -- a reason, as its kind and its text
 abbrev pub reason_view : LentReason → Reason
-reason_view r = record { why = r.why; text = r.text.now }
+reason_view r = record { kind = r.kind; text = r.text.now }
 
 -- a note, as what it speaks of and why
 abbrev pub note_view : Lent → Note

@@ -2,22 +2,22 @@
 use Rattle.std.specs.Prelude.{◌≡◌, ℕ, true, List, [], ◌∷◌, ◌++◌, ⊤, codes}
 use Rattle.std.specs.List.{AllByRecursion}
 use Rattle.onix_outline.specs.Nodes.{Nodes}
-use Rattle.onix_message.specs.declared.row.Opening.{Opening}
-use Rattle.onix_mapping.specs.Details.{around_in, detail_outcome, price_in, prices_in}
+use Rattle.onix_records.specs.declared.row.Opening.{Opening}
+use Rattle.onix_mapping.specs.Details.{context_in, detail_outcome, price_in, prices_in}
 use Rattle.onix_mapping.specs.Notes.{Note}
 use Rattle.onix_mapping.specs.Outcomes.{Outcome, all_notes, all_records, left_out, notes_below}
 use Rattle.onix_mapping.specs.Outcomes.{nothing, outcome_records, written}
-use Rattle.onix_mapping.specs.Prices.{Around, is_nothing}
+use Rattle.onix_mapping.specs.Prices.{PriceContext, is_nothing}
 use Rattle.onix_mapping.specs.Elements.{Composite}
 use Rattle.onix_mapping.specs.ProductRecords.{product_notes, product_records, supplies_in}
 use Rattle.onix_mapping.specs.Supplies.{detail_in, details_in, supply_in, supply_outcome}
 
 -- a Price comes to nothing, by the rule, to one record, or to one note that it is left out
-abbrev pub IsPrice : Around → Nodes → Outcome → Type 0
-IsPrice around nodes nothing = is_nothing around nodes ≡ true
-IsPrice around nodes (written records notes) =
+abbrev pub IsPrice : PriceContext → Nodes → Outcome → Type 0
+IsPrice context nodes nothing = is_nothing context nodes ≡ true
+IsPrice context nodes (written records notes) =
     (fields : List (List ℕ)) × (records ≡ (codes "Price" ∷ fields) ∷ [])
-IsPrice around nodes (left_out reason) = ⊤
+IsPrice context nodes (left_out reason) = ⊤
 
 -- a SupplyDetail is written with what its Prices come to, in order
 pub record HasPrices (o : Opening) (preferred : List ℕ) (nodes : Nodes) : Type 0 where
@@ -26,7 +26,7 @@ pub record HasPrices (o : Opening) (preferred : List ℕ) (nodes : Nodes) : Type
       ≡ own ∷ all_records (price_in o nodes) (prices_in nodes)
   pub notes : notes_below (detail_outcome o preferred nodes)
       ≡ all_notes (price_in o nodes) (prices_in nodes)
-  pub each : AllByRecursion (λ p. IsPrice (around_in o nodes) p.below (price_in o nodes p))
+  pub each : AllByRecursion (λ p. IsPrice (context_in o nodes) p.below (price_in o nodes p))
       (prices_in nodes)
 
 -- a ProductSupply is written with what its SupplyDetails come to, in order

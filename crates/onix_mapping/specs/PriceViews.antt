@@ -10,4 +10,4 @@ text_view text = option_map (λ t. t.now) text
 
 -- a reason, where there is one
 abbrev pub reason_read : Option Lent → Option Reason
-reason_read why = option_map reason_view why
+reason_read reason = option_map reason_view reason

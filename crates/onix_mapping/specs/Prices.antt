@@ -10,9 +10,9 @@ use Rattle.std.specs.Result.{result_err, result_unwrap_or}
 use Rattle.std.specs.Str.{bytes_eq}
 use Rattle.onix_outline.specs.Composites.{text_in}
 use Rattle.onix_outline.specs.Nodes.{Nodes}
-use Rattle.onix_message.specs.Fields.{optional, or_default}
-use Rattle.onix_message.specs.Price.{day_field, price_of}
-use Rattle.onix_message.specs.declared.row.Opening.{Opening}
+use Rattle.onix_records.specs.Fields.{optional, or_default}
+use Rattle.onix_records.specs.Price.{day_field, price_of}
+use Rattle.onix_records.specs.declared.row.Opening.{Opening}
 use Rattle.onix_terms.specs.Amount.{amount_of}
 use Rattle.onix_terms.specs.Code.{code2_of, currency_of}
 use Rattle.onix_terms.specs.Quantity.{quantity_of}
@@ -22,10 +22,11 @@ use Rattle.onix_mapping.specs.Elements.{composites, each_at, first, some_at, tex
 use Rattle.onix_mapping.specs.Notes.{Note, Reason, Reasons, foreign, is_wrong, note}
 use Rattle.onix_mapping.specs.Notes.{wrong}
 use Rattle.onix_mapping.specs.Outcomes.{Outcome, nothing, written_unless}
-use Rattle.onix_mapping.specs.Records.{Fields, first_some, option_filter, refused, said, term_said}
-use Rattle.onix_mapping.specs.Records.{unread}
-use Rattle.onix_mapping.specs.Territories.{Area, area_fields, area_in, area_refusal}
-use Rattle.onix_mapping.specs.Territories.{territory_notes, unheld}
+use Rattle.onix_mapping.specs.Records.{Fields, desk_reason, first_some, option_filter, parsed}
+use Rattle.onix_mapping.specs.Records.{parsed_term}
+use Rattle.onix_mapping.specs.Records.{invalid}
+use Rattle.onix_mapping.specs.Territories.{Area, area_fields, area_in, area_reason}
+use Rattle.onix_mapping.specs.Territories.{territory_notes, unsupported}
 use Rattle.onix_mapping.specs.declared.notes.Foreign.{Foreign}
 use Rattle.onix_mapping.specs.declared.notes.Foreign.TheVariants.{CurrencyZone, Discount}
 use Rattle.onix_mapping.specs.declared.notes.Foreign.TheVariants.{DiscountCoded, EpubLicense}
@@ -34,11 +35,11 @@ use Rattle.onix_mapping.specs.declared.notes.Foreign.TheVariants.{PriceCoded, Pr
 use Rattle.onix_mapping.specs.declared.notes.Foreign.TheVariants.{PriceConstraint, PricePer}
 use Rattle.onix_mapping.specs.declared.notes.Foreign.TheVariants.{PriceQualifier}
 use Rattle.onix_mapping.specs.declared.notes.Wrong.TheVariants as bad
-use Rattle.onix_mapping.specs.declared.prices.Around.{Around as Lent}
+use Rattle.onix_mapping.specs.declared.prices.PriceContext.{PriceContext as Lent}
 
--- What stands around a Price: what its message begins with, whether the record of its SupplyDetail
--- has an UnpricedItemType, and the quantity that stands for a minimum that it does not have.
-pub record Around : Type 0 where
+-- The context of a Price: what its message begins with, whether the record of its SupplyDetail has
+-- an UnpricedItemType, and the quantity that stands for a minimum that it does not have.
+pub record PriceContext : Type 0 where
   pub opening : Opening
   pub is_unpriced : Bool
   pub minimum : Option (List ℕ)
@@ -79,10 +80,10 @@ eight_fields a d nodes =
     ∷ (area_fields a ++ (day_field d.first ∷ day_field d.last ∷ []))
 
 -- the fields of a Price: those, and a minimum where it or its SupplyDetail has one
-abbrev pub price_fields : Around → Nodes → Fields
-price_fields around nodes =
+abbrev pub price_fields : PriceContext → Nodes → Fields
+price_fields context nodes =
     eight_fields (area_in nodes) (right_days nodes) nodes
-    ++ option_to_list (option_or (own_minimum nodes) around.minimum)
+    ++ option_to_list (option_or (own_minimum nodes) context.minimum)
 
 -- ---- why a Price is left out
 
@@ -106,7 +107,7 @@ has_more_decimals (b ∷ text) = is_ascii_digit b && is_long_part (behind_digits
 
 -- an amount of 0, which a choice by price would always take
 abbrev pub is_zero : List ℕ → Bool
-is_zero amount = option_map_or (λ n. n == 0) (term_said amount_of amount) false
+is_zero amount = option_map_or (λ n. n == 0) (parsed_term amount_of amount) false
 
 module _ (nodes : Nodes) where
   -- the first type other than 00 of composites of this name, the empty text of one without
@@ -129,13 +130,13 @@ module _ (nodes : Nodes) where
   -- ONIX 2.1, and dates that are none
   abbrev pub late_reasons : Reasons
   late_reasons =
-      unheld (area_in nodes)
+      unsupported (area_in nodes)
       ∷ option_map (foreign MoreDecimals)
       (option_filter has_more_decimals (Some (amount_written nodes)))
       ∷ option_map (foreign NoCharge) (option_filter is_zero (Some (amount_written nodes)))
-      ∷ option_filter (λ r. not (is_wrong r.why)) (result_err (days_in nodes))
+      ∷ option_filter (λ r. not (is_wrong r.kind)) (result_err (days_in nodes))
       ∷ option_map (wrong bad.OldElement) old_element
-      ∷ option_filter (λ r. is_wrong r.why) (result_err (days_in nodes))
+      ∷ option_filter (λ r. is_wrong r.kind) (result_err (days_in nodes))
       ∷ []
 
   -- why a Price is another than the desk knows, each where it holds
@@ -154,33 +155,33 @@ module _ (nodes : Nodes) where
 -- grammar, or it is empty and has no default in the header.
 abbrev pub field_reasons : Opening → Nodes → Reasons
 field_reasons o nodes =
-    unread (term_said amount_of) bad.Amount (amount_written nodes)
-    ∷ unread (or_default (term_said code2_of) o.header.default_type) bad.PriceType
+    invalid (parsed_term amount_of) bad.Amount (amount_written nodes)
+    ∷ invalid (or_default (parsed_term code2_of) o.header.default_type) bad.PriceType
     (text_at "PriceType" nodes)
-    ∷ unread (or_default (term_said currency_of) o.header.default_currency) bad.Currency
+    ∷ invalid (or_default (parsed_term currency_of) o.header.default_currency) bad.Currency
     (text_at "CurrencyCode" nodes)
-    ∷ area_refusal (area_in nodes)
-    ∷ unread (optional (term_said quantity_of)) bad.Quantity (unwrap_or (own_minimum nodes) [])
+    ∷ area_reason (area_in nodes)
+    ∷ invalid (optional (parsed_term quantity_of)) bad.Quantity (unwrap_or (own_minimum nodes) [])
     ∷ []
 
-module _ (around : Around) (nodes : Nodes) where
+module _ (context : PriceContext) (nodes : Nodes) where
   -- a Price of which the desk would not take the record, for the first field that it does not take,
   -- if it is one of those
-  abbrev pub refusal : Option Reason
-  refusal =
-      refused (is_some (said (price_of around.opening) (price_fields around nodes)))
-      (field_reasons around.opening nodes) bad.Price
+  abbrev pub record_reason : Option Reason
+  record_reason =
+      desk_reason (is_some (parsed (price_of context.opening) (price_fields context nodes)))
+      (field_reasons context.opening nodes) bad.Price
 
   -- why a Price is left out, each where it holds: what is both foreign and wrong is foreign
-  abbrev pub reasons_against : Reasons
-  reasons_against = early_reasons nodes ++ refusal ∷ []
+  abbrev pub price_reasons : Reasons
+  price_reasons = early_reasons nodes ++ record_reason ∷ []
 
 -- ---- what a Price comes to
 
 -- a note on each element of this name, which is not read
 abbrev pub unread_notes : List ℕ → Foreign → Nodes → List Note
-unread_notes name why nodes =
-    flat_map (λ c. note c.element (foreign why []) ∷ []) (composites name nodes)
+unread_notes name kind nodes =
+    flat_map (λ c. note c.element (foreign kind []) ∷ []) (composites name nodes)
 
 -- notes on what would make another price
 abbrev pub discount_notes : Nodes → List Note
@@ -188,29 +189,29 @@ discount_notes nodes =
     unread_notes (codes "Discount") Discount nodes
     ++ unread_notes (codes "DiscountCoded") DiscountCoded nodes
 
-abbrev pub outcome_of : Option Reason → Around → Nodes → Outcome
-outcome_of why around nodes =
-    written_unless why ((codes "Price" ∷ price_fields around nodes) ∷ [])
+abbrev pub outcome_of : Option Reason → PriceContext → Nodes → Outcome
+outcome_of reason context nodes =
+    written_unless reason ((codes "Price" ∷ price_fields context nodes) ∷ [])
     (territory_notes (area_in nodes) ++ discount_notes nodes)
 
-module _ (around : Around) (nodes : Nodes) where
+module _ (context : PriceContext) (nodes : Nodes) where
   -- A Price without an amount and without PriceCoded is nothing, whatever else stands in it, where
   -- the record of its SupplyDetail has an UnpricedItemType: its own is there too, where it has one.
   abbrev pub is_nothing : Bool
   is_nothing =
-      around.is_unpriced
+      context.is_unpriced
       && (is_none (some_at "PriceAmount" nodes) && is_none (mark_in nodes "PriceCoded"))
 
   -- what a Price comes to
   abbrev pub price_outcome : Outcome
   price_outcome =
       if is_nothing then nothing
-      else outcome_of (first_some (reasons_against around nodes)) around nodes
+      else outcome_of (first_some (price_reasons context nodes)) context nodes
 
 -- ---- without where it lies in memory
 
-abbrev pub around_view : Lent → Around
-around_view a = record {
+abbrev pub context_view : Lent → PriceContext
+context_view a = record {
   opening = a.opening.now;
   is_unpriced = a.is_unpriced;
   minimum = option_map (λ t. t.now) a.minimum;

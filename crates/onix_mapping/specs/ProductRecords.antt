@@ -5,7 +5,7 @@ use Rattle.std.specs.List.{list_any}
 use Rattle.std.specs.Option.{option_map_or, option_or}
 use Rattle.std.specs.Str.{bytes_eq}
 use Rattle.onix_outline.specs.Nodes.{Nodes}
-use Rattle.onix_message.specs.declared.row.Opening.{Opening}
+use Rattle.onix_records.specs.declared.row.Opening.{Opening}
 use Rattle.onix_mapping.specs.Elements.{Composite, Element, each_at}
 use Rattle.onix_mapping.specs.Notes.{Note, Reason, foreign, is_wrong, note, reason_notes, wrong}
 use Rattle.onix_mapping.specs.Outcomes.{all_notes, all_records}
@@ -47,9 +47,9 @@ module _ (nodes : Nodes) where
   written_notes product = reason_notes product isbn_reason ++ reason_notes product ignored_reason
 
 -- whether it is emptied for such a reason or stands
-abbrev pub standing_fate : Option Reason → Fate
-standing_fate None = fate.Written
-standing_fate (Some reason) = fate.Emptied
+abbrev pub fate_by : Option Reason → Fate
+fate_by None = fate.Written
+fate_by (Some reason) = fate.Emptied
 
 module _ (o : Opening) (preferred : List ℕ) where
   -- why a Product is emptied, but for its size: for its own fields, or since none of its supplies
@@ -59,16 +59,16 @@ module _ (o : Opening) (preferred : List ℕ) where
       option_or (own_reason nodes) (supplies_reason o preferred (supplies_in nodes))
 
   -- its records, where it is emptied for such a reason or stands
-  abbrev pub standing_records : Option Reason → Nodes → Records
-  standing_records (Some reason) nodes = emptied_record nodes ∷ []
-  standing_records None nodes =
+  abbrev pub records_by : Option Reason → Nodes → Records
+  records_by (Some reason) nodes = emptied_record nodes ∷ []
+  records_by None nodes =
       product_record (notification_in nodes) (right_pairs nodes) nodes
       ∷ all_records (supply_in o preferred) (supplies_in nodes)
 
   -- its records: none of one without a RecordReference that the desk would take
   abbrev pub product_records : Nodes → Records
   product_records nodes =
-      if is_field (reference_in nodes) then standing_records (why_emptied nodes) nodes else []
+      if is_field (reference_in nodes) then records_by (why_emptied nodes) nodes else []
 
   -- the notes on its supplies and on itself, where its own fields do not empty it
   abbrev pub notes_behind : Composite → List Note
@@ -88,7 +88,7 @@ module _ (o : Opening) (preferred : List ℕ) where
   -- whether it is written as it stands, emptied or left out
   abbrev pub fate_of : Nodes → Fate
   fate_of nodes =
-      if is_field (reference_in nodes) then standing_fate (why_emptied nodes) else fate.LeftOut
+      if is_field (reference_in nodes) then fate_by (why_emptied nodes) else fate.LeftOut
 
 -- ---- one that is too large for a message
 
@@ -96,33 +96,33 @@ module _ (o : Opening) (preferred : List ℕ) where
 abbrev pub too_large_notes : Composite → List Note
 too_large_notes c = identifier_notes c.below ++ note c.element (wrong bad.TooLarge []) ∷ []
 
--- a form in which a product may be written: its records, and the notes on it then
-pub record Form : Type 0 where
+-- a variant of what is written of a product: its records, and the notes on it then
+pub record Variant : Type 0 where
   pub records : Records
   pub notes : List Note
 
-abbrev pub form : Records → List Note → Form
-form records notes = record { records = records; notes = notes }
+abbrev pub variant : Records → List Note → Variant
+variant records notes = record { records = records; notes = notes }
 
 -- one that is emptied with its identifiers, and one with its reference in their place
-abbrev pub small_forms : List Note → Nodes → List Form
-small_forms notes nodes =
-    form (emptied_record nodes ∷ []) notes ∷ form (bare_record nodes ∷ []) notes ∷ []
+abbrev pub small_variants : List Note → Nodes → List Variant
+small_variants notes nodes =
+    variant (emptied_record nodes ∷ []) notes ∷ variant (bare_record nodes ∷ []) notes ∷ []
 
--- the forms of a product behind that with these notes
-abbrev pub smaller_forms : Fate → List Note → Composite → List Form
-smaller_forms fate.Written notes c = small_forms (too_large_notes c) c.below
-smaller_forms fate.Emptied notes c = small_forms notes c.below
-smaller_forms fate.LeftOut notes c = []
+-- the variants of a product behind that with these notes
+abbrev pub smaller_variants : Fate → List Note → Composite → List Variant
+smaller_variants fate.Written notes c = small_variants (too_large_notes c) c.below
+smaller_variants fate.Emptied notes c = small_variants notes c.below
+smaller_variants fate.LeftOut notes c = []
 
--- The forms of a product, of which the first counts that is not too large for a message: as it is,
--- emptied, and emptied with its reference in place of its identifiers. One that is emptied for
+-- The variants of a product, of which the first counts that is not too large for a message: as it
+-- is, emptied, and emptied with its reference in place of its identifiers. One that is emptied for
 -- another reason than its size has the notes that it has without.
-abbrev pub forms : Opening → List ℕ → Composite → List Form
-forms o preferred c =
-    form (product_records o preferred c.below) (product_notes o preferred c)
-    ∷ smaller_forms (fate_of o preferred c.below) (product_notes o preferred c) c
+abbrev pub variants : Opening → List ℕ → Composite → List Variant
+variants o preferred c =
+    variant (product_records o preferred c.below) (product_notes o preferred c)
+    ∷ smaller_variants (fate_of o preferred c.below) (product_notes o preferred c) c
 
 -- whether one of some notes says that something is wrong
 abbrev pub has_wrong : List Note → Bool
-has_wrong notes = list_any (λ n. is_wrong n.reason.why) notes
+has_wrong notes = list_any (λ n. is_wrong n.reason.kind) notes

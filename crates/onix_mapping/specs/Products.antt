@@ -13,8 +13,8 @@ use Rattle.onix_outline.specs.Nodes.{Nodes, no_nodes, node}
 use Rattle.onix_terms.specs.Code.{code2_of, isbn13_of}
 use Rattle.onix_mapping.specs.Elements.{Composite, each_at, text_at}
 use Rattle.onix_mapping.specs.Notes.{Note, Reason, Reasons, reason_notes}
-use Rattle.onix_mapping.specs.Records.{Fields, first_some, is_field, term_said}
-use Rattle.onix_mapping.specs.Records.{unless, unread}
+use Rattle.onix_mapping.specs.Records.{Fields, first_some, is_field, parsed_term}
+use Rattle.onix_mapping.specs.Records.{unless, invalid}
 use Rattle.onix_mapping.specs.declared.notes.Wrong.TheVariants as bad
 
 -- ---- one identifier
@@ -23,6 +23,7 @@ use Rattle.onix_mapping.specs.declared.notes.Wrong.TheVariants as bad
 abbrev pub is_gtin_type : List ℕ → Bool
 is_gtin_type id_type = bytes_eq id_type (codes "03") || bytes_eq id_type (codes "15")
 
+-- thirteen digits, as an ISBN-13 has
 abbrev pub is_thirteen : List ℕ → Bool
 is_thirteen text = is_some (isbn13_of text)
 
@@ -51,7 +52,7 @@ written_value id_type value =
 -- why the desk would not take an identifier of this type that is written so, and stands so
 abbrev pub pair_reason : List ℕ → List ℕ → List ℕ → Option Reason
 pair_reason id_type written stands =
-    first_some (unread (term_said code2_of) bad.IdentifierType id_type
+    first_some (invalid (parsed_term code2_of) bad.IdentifierType id_type
     ∷ unless (is_field written) bad.IdentifierValue stands ∷ [])
 
 module _ (identifier : Composite) where
@@ -99,7 +100,7 @@ are_some (id_type ∷ pairs) = true
 -- ---- its record
 
 abbrev pub is_code : List ℕ → Bool
-is_code text = is_some (term_said code2_of text)
+is_code text = is_some (parsed_term code2_of text)
 
 -- The NotificationType of a product that is written without supplies, so that the desk drops those
 -- that it has: an update, 04, would keep them.
@@ -164,7 +165,7 @@ module _ (nodes : Nodes) where
 -- why it is emptied, whatever its supplies are
 abbrev pub own_reasons : Fields → Nodes → Reasons
 own_reasons pairs nodes =
-    unread (term_said code2_of) bad.NotificationType (notification_in nodes)
+    invalid (parsed_term code2_of) bad.NotificationType (notification_in nodes)
     ∷ unless (is_deletion nodes || are_some pairs) bad.NoIdentifierLeft []
     ∷ unless (not (is_strange nodes)) bad.OtherNamespace [] ∷ []
 

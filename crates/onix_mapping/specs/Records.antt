@@ -1,11 +1,11 @@
--- What the texts of an element say to the desk, as the fields of a record.
+-- What the desk reads of the texts of an element, as the fields of a record.
 use Rattle.std.specs.Prelude.{ℕ, Bool, ◌&&◌, List, [], ◌∷◌, Option, Some, None, if◌then◌else◌}
 use Rattle.std.specs.Prelude.{is_some}
 use Rattle.std.specs.List.{list_all}
 use Rattle.std.specs.Option.{option_or, unwrap_or}
 use Rattle.std.specs.Str.{is_utf8}
 use Rattle.xml_text.specs.Grammar.{is_filled}
-use Rattle.onix_message.specs.Fields.{is_clean}
+use Rattle.onix_records.specs.Fields.{is_clean}
 use Rattle.onix_mapping.specs.Notes.{Reason, Reasons, wrong}
 use Rattle.onix_mapping.specs.declared.notes.Wrong.{Wrong}
 
@@ -23,12 +23,12 @@ abbrev pub clean : {A : Type 0} → (Fields → Option A) → Fields → Option 
 clean read fields = if list_all is_clean fields then read fields else None
 
 -- what is read of texts as the fields of a record; nothing, where one of them is no UTF-8 either
-abbrev pub said : {A : Type 0} → (Fields → Option A) → Fields → Option A
-said read texts = if list_all is_utf8 texts then clean read texts else None
+abbrev pub parsed : {A : Type 0} → (Fields → Option A) → Fields → Option A
+parsed read texts = if list_all is_utf8 texts then clean read texts else None
 
--- a value that a text writes
-abbrev pub term_said : {A : Type 0} → (List ℕ → Option A) → List ℕ → Option A
-term_said term text = if is_utf8 text then term text else None
+-- the value of a text, where it has one
+abbrev pub parsed_term : {A : Type 0} → (List ℕ → Option A) → List ℕ → Option A
+parsed_term term text = if is_utf8 text then term text else None
 
 -- a text that the desk takes as a field that may not be empty
 abbrev pub is_field : List ℕ → Bool
@@ -38,11 +38,11 @@ is_field text = is_filled text && (is_utf8 text && is_clean text)
 
 -- a reason where something does not hold
 abbrev pub unless : Bool → Wrong → List ℕ → Option Reason
-unless holds why text = if holds then None else Some (wrong why text)
+unless holds kind text = if holds then None else Some (wrong kind text)
 
 -- a reason where a text is not read so
-abbrev pub unread : {A : Type 0} → (List ℕ → Option A) → Wrong → List ℕ → Option Reason
-unread read why text = unless (is_some (read text)) why text
+abbrev pub invalid : {A : Type 0} → (List ℕ → Option A) → Wrong → List ℕ → Option Reason
+invalid read kind text = unless (is_some (read text)) kind text
 
 -- the first of some reasons that holds, or of some values that is there
 abbrev pub first_some : {A : Type 0} → List (Option A) → Option A
@@ -51,9 +51,9 @@ first_some (x ∷ xs) = option_or x (first_some xs)
 
 -- why the desk does not take something, where it does not: for the first of these reasons, else for
 -- another
-abbrev pub refused : Bool → Reasons → Wrong → Option Reason
-refused taken reasons why =
-    if taken then None else Some (unwrap_or (first_some reasons) (wrong why []))
+abbrev pub desk_reason : Bool → Reasons → Wrong → Option Reason
+desk_reason taken reasons kind =
+    if taken then None else Some (unwrap_or (first_some reasons) (wrong kind []))
 
 -- ---- values that may not be there
 

@@ -4,11 +4,11 @@ use Rattle.std.specs.Prelude.{decimal, length, map}
 use Rattle.std.specs.List.{AllByRecursion, list_all}
 use Rattle.std.specs.Str.{is_utf8}
 use Rattle.onix_outline.specs.Nodes.{Nodes}
-use Rattle.onix_message.specs.PartRows.{SuppliesHaveDetails, content_rows}
-use Rattle.onix_message.specs.Row.{row_of}
-use Rattle.onix_message.specs.declared.parts.Header.{Header}
-use Rattle.onix_message.specs.declared.parts.Product.{Product}
-use Rattle.onix_message.specs.declared.row.Opening.{Opening}
+use Rattle.onix_records.specs.PartRows.{SuppliesHaveDetails, content_rows}
+use Rattle.onix_records.specs.Row.{row_of}
+use Rattle.onix_records.specs.declared.parts.Header.{Header}
+use Rattle.onix_records.specs.declared.parts.Product.{Product}
+use Rattle.onix_records.specs.declared.row.Opening.{Opening}
 use Rattle.onix_mapping.specs.Header.{Heading, message_fields}
 use Rattle.onix_mapping.specs.Products.{reference_in}
 use Rattle.onix_mapping.specs.Records.{is_field}

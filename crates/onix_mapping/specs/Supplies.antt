@@ -2,7 +2,7 @@
 use Rattle.std.specs.Prelude.{ℕ, Bool, true, false, List, [], ◌∷◌, ◌++◌, Option, Some, map}
 use Rattle.std.specs.Prelude.{if◌then◌else◌, is_some, option_map}
 use Rattle.onix_outline.specs.Nodes.{Nodes}
-use Rattle.onix_message.specs.declared.row.Opening.{Opening}
+use Rattle.onix_records.specs.declared.row.Opening.{Opening}
 use Rattle.onix_mapping.specs.Details.{detail_outcome}
 use Rattle.onix_mapping.specs.Elements.{Composite, each_at, first}
 use Rattle.onix_mapping.specs.Markets.{markets_outcome}
@@ -11,8 +11,8 @@ use Rattle.onix_mapping.specs.Outcomes.{Outcome, all_notes, all_records, left_ou
 use Rattle.onix_mapping.specs.Outcomes.{outcome_reason, outcome_records, written_unless}
 use Rattle.onix_mapping.specs.Records.{first_some, if_empty, option_filter}
 use Rattle.onix_mapping.specs.declared.notes.Foreign.TheVariants as other
-use Rattle.onix_mapping.specs.declared.notes.Why.{Why}
-use Rattle.onix_mapping.specs.declared.notes.Why.TheVariants.{Foreign}
+use Rattle.onix_mapping.specs.declared.notes.ReasonKind.{ReasonKind}
+use Rattle.onix_mapping.specs.declared.notes.ReasonKind.TheVariants.{Foreign}
 use Rattle.onix_mapping.specs.declared.notes.Wrong.TheVariants as bad
 
 module _ (nodes : Nodes) where
@@ -24,14 +24,14 @@ module _ (nodes : Nodes) where
   supply_markets = markets_outcome (each_at "Market" nodes)
 
 -- whether what is left out for this reason was there: without a SupplyDetail it is as absent
-abbrev pub is_lost : Why → Bool
+abbrev pub is_lost : ReasonKind → Bool
 is_lost (Foreign other.NoSupplyDetail) = false
-is_lost why = true
+is_lost kind = true
 
 -- that no supply is left, of which this is the first
 abbrev pub none_left : Reason → Reason
 none_left first =
-    if is_wrong first.why then wrong bad.NoSupplyLeft [] else foreign other.NoSupplyLeft []
+    if is_wrong first.kind then wrong bad.NoSupplyLeft [] else foreign other.NoSupplyLeft []
 
 module _ (o : Opening) (preferred : List ℕ) where
   -- what a SupplyDetail comes to
@@ -65,7 +65,7 @@ module _ (o : Opening) (preferred : List ℕ) where
   -- the reason for which the first is left out of the supplies that have a SupplyDetail
   abbrev pub first_lost : List Composite → Option Reason
   first_lost supplies =
-      first_some (map (λ s. option_filter (λ r. is_lost r.why) (outcome_reason (supply_in s)))
+      first_some (map (λ s. option_filter (λ r. is_lost r.kind) (outcome_reason (supply_in s)))
       supplies)
 
   -- that none is left of supplies of which some have a SupplyDetail

@@ -1,16 +1,16 @@
--- Where a Market or a Price holds: what its Territory says, and what of that the desk can hold.
+-- Where a Market or a Price holds: what its Territory says, and what of that the desk supports.
 use Rattle.std.specs.Prelude.{ℕ, ◌||◌, List, [], ◌∷◌, ◌++◌, Option, None}
 use Rattle.std.specs.Prelude.{if◌then◌else◌, is_some, map, option_map}
 use Rattle.std.specs.Option.{option_map_or, option_or}
 use Rattle.xml_text.specs.Grammar.{is_filled}
 use Rattle.onix_outline.specs.Nodes.{Nodes}
-use Rattle.onix_message.specs.Supply.{supply_of}
-use Rattle.onix_message.specs.declared.parts.ProductSupply.{ProductSupply}
+use Rattle.onix_records.specs.Supply.{supply_of}
+use Rattle.onix_records.specs.declared.parts.ProductSupply.{ProductSupply}
 use Rattle.onix_terms.specs.Territory.{countries_of, words_of, world_text}
 use Rattle.onix_mapping.specs.Elements.{Element, below_at, each_at, element_view, first}
 use Rattle.onix_mapping.specs.Elements.{text_at}
 use Rattle.onix_mapping.specs.Notes.{Note, Reason, Reasons, foreign, note}
-use Rattle.onix_mapping.specs.Records.{Fields, refused, said, term_said, unread}
+use Rattle.onix_mapping.specs.Records.{Fields, desk_reason, parsed, parsed_term, invalid}
 use Rattle.onix_mapping.specs.Regions.{IsRenamed, countries_written, names_world, other_names}
 use Rattle.onix_mapping.specs.Regions.{other_regions, region_of_no_country}
 use Rattle.onix_mapping.specs.declared.notes.Foreign.{Foreign}
@@ -43,15 +43,15 @@ area_in nodes =
       regions_excluded = text_at "RegionsExcluded" below;
     }
 
--- ---- what the desk cannot hold
+-- ---- what the desk does not support
 
 -- a note for each of some words
 abbrev pub word_notes : Element → Foreign → List (List ℕ) → List Note
-word_notes element why words = map (λ word. note element (foreign why word)) words
+word_notes element kind words = map (λ word. note element (foreign kind word)) words
 
--- the countries that a text names, as it is written
-abbrev pub countries_said : List ℕ → Option (List (List ℕ))
-countries_said text = term_said countries_of (countries_written text)
+-- the countries that a text names
+abbrev pub parsed_countries : List ℕ → Option (List (List ℕ))
+parsed_countries text = parsed_term countries_of (countries_written text)
 
 module _ (a : Area) where
   -- the first of the regions that are included, where neither a country nor the world is: without
@@ -61,10 +61,10 @@ module _ (a : Area) where
       if is_filled a.included || names_world a.regions_included then None
       else first (words_of a.regions_included)
 
-  -- why the desk cannot hold a territory, whatever is left out of it: it would be another one, and
-  -- not only a smaller one or one without whole countries
-  abbrev pub unheld : Option Reason
-  unheld =
+  -- why the desk does not support a territory, whatever is left out of it: it would be another one,
+  -- and not only a smaller one or one without whole countries
+  abbrev pub unsupported : Option Reason
+  unsupported =
       option_or (option_map (foreign RegionAlone) region_alone)
       (option_map (foreign RegionOfNoCountry) (region_of_no_country a.regions_excluded))
 
@@ -77,7 +77,7 @@ module _ (a : Area) where
       countries_written a.included ∷ world_text (names_world a.regions_included)
       ∷ countries_written a.excluded ∷ []
 
-  -- Notes on a territory that the desk can hold. Beside a country or the world a region that is
+  -- Notes on a territory that the desk supports. Beside a country or the world a region that is
   -- included is left out, and one that is excluded is a part of a country.
   abbrev pub territory_notes : List Note
   territory_notes =
@@ -88,17 +88,17 @@ module _ (a : Area) where
 
   -- the market of a territory, as the desk reads it
   abbrev pub market_of : Option ProductSupply
-  market_of = said supply_of area_fields
+  market_of = parsed supply_of area_fields
 
   -- why the desk does not take a territory, each where it does not
   abbrev pub area_reasons : Reasons
   area_reasons =
-      unread countries_said CountriesIncluded a.included
-      ∷ unread countries_said CountriesExcluded a.excluded ∷ []
+      invalid parsed_countries CountriesIncluded a.included
+      ∷ invalid parsed_countries CountriesExcluded a.excluded ∷ []
 
   -- why the desk does not take a territory, where it does not
-  abbrev pub area_refusal : Option Reason
-  area_refusal = refused (is_some market_of) area_reasons Territory
+  abbrev pub area_reason : Option Reason
+  area_reason = desk_reason (is_some market_of) area_reasons Territory
 
 -- ---- without where it lies in memory
 

@@ -1,14 +1,15 @@
 //! The days between which a Price holds.
 
-ghost use Rattle.std.specs.Prelude.{◌≡◌, ◌++◌, ◌<◌, ◌≤◌, Ok, codes, length, option_map};
+ghost use Rattle.std.specs.Prelude.{◌≡◌, ◌++◌, ◌∷◌, [], Ok, codes, map, option_map};
 ghost use Rattle.std.specs.List.{list_any};
 ghost use Rattle.std.specs.Option.{option_or};
 ghost use Rattle.std.specs.Result.{result_map_both};
 ghost use Rattle.std.specs.Str.{bytes_eq};
 ghost use Rattle.onix_mapping.specs.Depths.{LinesFit};
 ghost use Rattle.onix_mapping.specs.DateViews.{date_view, dated_view, days_read};
-ghost use Rattle.onix_mapping.specs.Dates.{and_days, both_days, date_in, date_said, day_said, days_in, days_of, days_said, format_in, formats, graver, has_hyphens, hyphened_day, in_day, in_format, in_month, in_year, is_time, last_of_month, month_digits, one_day, or_days, plain_day, two_days, without_hyphens, year_digits};
+ghost use Rattle.onix_mapping.specs.Dates.{and_days, date_in, parsed_day, days_in, days_of, parsed_days, digits_by, digits_in, format_in, formats, graver, in_day, in_format, in_month, in_year, is_time, or_days, role_days, two_days};
 ghost use Rattle.onix_mapping.specs.Notes.{foreign, reason_view, wrong};
+ghost use Rattle.onix_mapping.specs.Records.{first_some};
 ghost use Rattle.onix_mapping.specs.declared.notes.Foreign.TheVariants.{DateFormat};
 ghost use Rattle.onix_mapping.specs.declared.notes.Wrong.TheVariants as bad;
 ghost use Rattle.onix_outline.specs.Nodes.{Nodes};
@@ -16,7 +17,7 @@ ghost use Rattle.onix_outline.specs.Outline.{outline};
 ghost use Rattle.onix_outline.specs.Views.{line_views};
 
 use crate::elements::{next_composite, text_or_empty};
-use crate::notes::{Foreign, Reason, Why, Wrong};
+use crate::notes::{Foreign, Reason, ReasonKind, Wrong};
 use crate::records::utf8_text;
 use onix_outline::{Line, first_node, text_in};
 use onix_terms::day::Day;
@@ -40,9 +41,9 @@ const NO_DAYS: Days = Days {
     last: None,
 };
 
-// The day that eight digits write.
-fn day_said(text: &[u8]) -> Option<Day>
-    ensures { result ≡ day_said text.now }
+// The day of eight digits.
+fn parsed_day(text: &[u8]) -> Option<Day>
+    ensures { result ≡ parsed_day text.now }
 {
     utf8_text(text)?.parse().ok()
 }
@@ -57,88 +58,89 @@ fn is_time(text: &[u8]) -> bool
     }
 }
 
-// The day that YYYYMMDD writes, and behind it nothing or a time.
-fn plain_day(text: &[u8]) -> Option<Day>
-    ensures { result ≡ plain_day text.now }
+// The digits of YYYYMMDD, behind which nothing stands or a time.
+fn plain_day(text: &[u8]) -> Option<[u8; 8]>
+    ensures { result ≡ digits_by is_time (codes "YYYYMMDD") text.now }
 {
-    if text.len() < 8 {
+    if text.len() < 8 || !is_time(&text[8..]) {
         return None;
     }
-    let (day, time) = text.split_at(8);
-    if is_time(time) { day_said(day) } else { None }
+    Some([
+        text[0], text[1], text[2], text[3], text[4], text[5], text[6], text[7],
+    ])
 }
 
-// The eight digits of YYYY-MM-DD.
-fn without_hyphens(text: &[u8]) -> [u8; 8]
-    requires { 10 ≤ length text.now }
-    ensures { result ≡ without_hyphens text.now }
+// The digits of YYYY-MM-DD, behind which nothing stands or a time.
+fn hyphened_day(text: &[u8]) -> Option<[u8; 8]>
+    ensures { result ≡ digits_by is_time (codes "YYYY-MM-DD") text.now }
 {
-    [
+    if text.len() < 10 || text[4] != b'-' || text[7] != b'-' || !is_time(&text[10..]) {
+        return None;
+    }
+    Some([
         text[0], text[1], text[2], text[3], text[5], text[6], text[8], text[9],
-    ]
-}
-
-fn has_hyphens(text: &[u8]) -> bool
-    requires { 10 ≤ length text.now }
-    ensures { result ≡ has_hyphens text.now }
-{
-    text[4] == b'-' && text[7] == b'-'
-}
-
-// The day that YYYY-MM-DD writes, and behind it nothing or a time.
-fn hyphened_day(text: &[u8]) -> Option<Day>
-    ensures { result ≡ hyphened_day text.now }
-{
-    if text.len() < 10 {
-        return None;
-    }
-    let (_, time) = text.split_at(10);
-    if has_hyphens(text) && is_time(time) {
-        day_said(&without_hyphens(text))
-    } else {
-        None
-    }
+    ])
 }
 
 // A day, as the first and the last.
 fn in_day(text: &[u8]) -> Option<Days>
     ensures { result ≡ in_day text.now }
 {
-    let day = match plain_day(text) {
-        Some(day) => day,
+    let digits = match plain_day(text) {
+        Some(digits) => digits,
         None => hyphened_day(text)?,
     };
+    let day = parsed_day(&digits)?;
     Some(Days {
         first: Some(day),
         last: Some(day),
     })
 }
 
-// The six digits of a month, YYYYMM or YYYY-MM.
-fn month_digits(text: &[u8]) -> Option<[u8; 6]>
-    ensures { result ≡ month_digits text.now }
+// The digits of YYYYMM.
+fn plain_month(text: &[u8]) -> Option<[u8; 6]>
+    ensures { result ≡ digits_by (bytes_eq []) (codes "YYYYMM") text.now }
 {
-    if text.len() == 6 {
-        return Some([text[0], text[1], text[2], text[3], text[4], text[5]]);
+    if text.len() != 6 {
+        return None;
     }
-    if text.len() == 7 && text[4] == b'-' {
-        return Some([text[0], text[1], text[2], text[3], text[5], text[6]]);
+    Some([text[0], text[1], text[2], text[3], text[4], text[5]])
+}
+
+// The digits of YYYY-MM.
+fn hyphened_month(text: &[u8]) -> Option<[u8; 6]>
+    ensures { result ≡ digits_by (bytes_eq []) (codes "YYYY-MM") text.now }
+{
+    if text.len() != 7 || text[4] != b'-' {
+        return None;
     }
-    None
+    Some([text[0], text[1], text[2], text[3], text[5], text[6]])
+}
+
+// The digits of a month.
+fn month_digits(text: &[u8]) -> Option<[u8; 6]>
+    ensures { result
+        ≡ digits_in (bytes_eq []) ("YYYYMM" ∷ "YYYY-MM" ∷ []) text.now }
+{
+    match plain_month(text) {
+        Some(digits) => Some(digits),
+        None => hyphened_month(text),
+    }
 }
 
 // The day of a month, by the two digits of its number.
 fn day_in_month(month: &[u8; 6], day: &[u8; 2]) -> Option<Day>
-    ensures { result ≡ day_said (month.now ++ day.now) }
+    ensures { result ≡ parsed_day (month.now ++ day.now) }
 {
     let [a, b, c, d, e, f] = *month;
     let [g, h] = *day;
-    day_said(&[a, b, c, d, e, f, g, h])
+    parsed_day(&[a, b, c, d, e, f, g, h])
 }
 
 // The last day of a month.
 fn last_of_month(month: &[u8; 6]) -> Option<Day>
-    ensures { result ≡ last_of_month month.now }
+    ensures { result ≡ first_some (map (λ last. parsed_day (month.now ++ codes last))
+        ("31" ∷ "30" ∷ "29" ∷ "28" ∷ [])) }
 {
     if let Some(day) = day_in_month(month, b"31") {
         return Some(day);
@@ -165,24 +167,23 @@ fn in_month(text: &[u8]) -> Option<Days>
     })
 }
 
-// The four digits of a year.
+// The digits of a year.
 fn year_digits(text: &[u8]) -> Option<[u8; 4]>
-    ensures { result ≡ year_digits text.now }
+    ensures { result ≡ digits_in (bytes_eq []) ("YYYY" ∷ []) text.now }
 {
-    if text.len() == 4 {
-        Some([text[0], text[1], text[2], text[3]])
-    } else {
-        None
+    if text.len() != 4 {
+        return None;
     }
+    Some([text[0], text[1], text[2], text[3]])
 }
 
 // The day of a year, by the four digits of its month and its number.
 fn day_in_year(year: &[u8; 4], day: &[u8; 4]) -> Option<Day>
-    ensures { result ≡ day_said (year.now ++ day.now) }
+    ensures { result ≡ parsed_day (year.now ++ day.now) }
 {
     let [a, b, c, d] = *year;
     let [e, f, g, h] = *day;
-    day_said(&[a, b, c, d, e, f, g, h])
+    parsed_day(&[a, b, c, d, e, f, g, h])
 }
 
 // The first and the last day of a year, YYYY.
@@ -209,7 +210,7 @@ fn is_format(format: &[u8]) -> bool
         || format == b"05".as_slice()
 }
 
-// The first and the last day that a text of such a format writes.
+// The first and the last day of a text of such a format.
 fn in_format(format: &[u8], text: &[u8]) -> Option<Days>
     ensures { result ≡ in_format format.now text.now }
 {
@@ -226,14 +227,14 @@ fn wrong_day<'a>(text: &'a [u8]) -> Reason<'a>
     ensures { reason_view result ≡ wrong bad.Day text.now }
 {
     Reason {
-        why: Why::Wrong(Wrong::Day),
+        kind: ReasonKind::Wrong(Wrong::Day),
         text,
     }
 }
 
-// The days that a text of such a format writes.
-fn days_said<'a>(format: &[u8], text: &'a [u8]) -> Result<Days, Reason<'a>>
-    ensures { days_read result ≡ days_said format.now text.now }
+// The days of a text of such a format.
+fn parsed_days<'a>(format: &[u8], text: &'a [u8]) -> Result<Days, Reason<'a>>
+    ensures { days_read result ≡ parsed_days format.now text.now }
 {
     match in_format(format, text) {
         Some(days) => Ok(days),
@@ -248,15 +249,15 @@ fn two_days<'a>(text: &'a [u8]) -> Result<Days, Reason<'a>>
 {
     if text.len() != 16 {
         return Err(Reason {
-            why: Why::Wrong(Wrong::NotTwoDays),
+            kind: ReasonKind::Wrong(Wrong::NotTwoDays),
             text,
         });
     }
     let (first, last) = text.split_at(8);
-    let Some(first) = day_said(first) else {
+    let Some(first) = parsed_day(first) else {
         return Err(wrong_day(text));
     };
-    let Some(last) = day_said(last) else {
+    let Some(last) = parsed_day(last) else {
         return Err(wrong_day(text));
     };
     Ok(Days {
@@ -300,7 +301,7 @@ fn no_date<'a>(role: &'a [u8]) -> Reason<'a>
     ensures { reason_view result ≡ wrong bad.NoDate role.now }
 {
     Reason {
-        why: Why::Wrong(Wrong::NoDate),
+        kind: ReasonKind::Wrong(Wrong::NoDate),
         text: role,
     }
 }
@@ -309,7 +310,7 @@ fn other_format<'a>(format: &'a [u8]) -> Reason<'a>
     ensures { reason_view result ≡ foreign DateFormat format.now }
 {
     Reason {
-        why: Why::Foreign(Foreign::DateFormat),
+        kind: ReasonKind::Foreign(Foreign::DateFormat),
         text: format,
     }
 }
@@ -317,7 +318,8 @@ fn other_format<'a>(format: &'a [u8]) -> Reason<'a>
 // The days of the Date of a role that has one day.
 fn one_day<'a>(role: &'a [u8], depth: usize, lines: &'a [Line]) -> Result<Days, Reason<'a>>
     ensures { (nodes : Nodes) → line_views lines.now ≡ outline depth nodes
-        → days_read result ≡ one_day nodes role.now }
+        → days_read result
+        ≡ role_days nodes formats (parsed_days (format_in nodes)) role.now }
 {
     let date = date_in(depth, lines);
     let format = format_in(date, depth, lines);
@@ -325,7 +327,7 @@ fn one_day<'a>(role: &'a [u8], depth: usize, lines: &'a [Line]) -> Result<Days, 
         return Err(other_format(format));
     }
     match date {
-        Some(line) => days_said(format, line.text.as_slice()),
+        Some(line) => parsed_days(format, line.text.as_slice()),
         None => Err(no_date(role)),
     }
 }
@@ -333,7 +335,7 @@ fn one_day<'a>(role: &'a [u8], depth: usize, lines: &'a [Line]) -> Result<Days, 
 // The days of the Date of the role that has two.
 fn both_days<'a>(role: &'a [u8], depth: usize, lines: &'a [Line]) -> Result<Days, Reason<'a>>
     ensures { (nodes : Nodes) → line_views lines.now ≡ outline depth nodes
-        → days_read result ≡ both_days nodes role.now }
+        → days_read result ≡ role_days nodes (codes "06" ∷ []) two_days role.now }
 {
     let date = date_in(depth, lines);
     let format = format_in(date, depth, lines);
@@ -347,27 +349,27 @@ fn both_days<'a>(role: &'a [u8], depth: usize, lines: &'a [Line]) -> Result<Days
 }
 
 // What a PriceDate says by its role.
-fn role_days<'a>(depth: usize, lines: &'a [Line]) -> Result<Days, Reason<'a>>
+fn read_role<'a>(depth: usize, lines: &'a [Line]) -> Result<Days, Reason<'a>>
     ensures { (nodes : Nodes) → line_views lines.now ≡ outline depth nodes
         → days_read result ≡ days_of nodes }
 {
     let role = text_or_empty(depth, b"PriceDateRole", lines);
     if role == b"14".as_slice() {
-        let days = one_day(b"14", depth, lines)?;
+        let days = one_day(role, depth, lines)?;
         return Ok(Days {
             first: days.first,
             last: None,
         });
     }
     if role == b"15".as_slice() {
-        let days = one_day(b"15", depth, lines)?;
+        let days = one_day(role, depth, lines)?;
         return Ok(Days {
             first: None,
             last: days.last,
         });
     }
     if role == b"24".as_slice() {
-        return both_days(b"24", depth, lines);
+        return both_days(role, depth, lines);
     }
     Ok(NO_DAYS)
 }
@@ -377,7 +379,7 @@ fn days_of<'a>(depth: usize, lines: &'a [Line]) -> Dated<'a>
     ensures { (nodes : Nodes) → line_views lines.now ≡ outline depth nodes
         → dated_view result ≡ days_of nodes }
 {
-    match role_days(depth, lines) {
+    match read_role(depth, lines) {
         Ok(days) => Dated { days, wrong: None },
         Err(reason) => Dated {
             days: NO_DAYS,
@@ -410,7 +412,7 @@ fn or_days(days: Days, more: Days) -> Days
 fn graver<'a>(one: Reason<'a>, other: Reason<'a>) -> Reason<'a>
     ensures { reason_view result ≡ graver (reason_view one.entry) (reason_view other.entry) }
 {
-    if one.why.is_wrong() && !other.why.is_wrong() {
+    if one.kind.is_wrong() && !other.kind.is_wrong() {
         other
     } else {
         one

@@ -4,42 +4,42 @@ ghost use Rattle.std.specs.Prelude.{◌≡◌, ◌++◌, ◌∷◌, ◌+◌, ◌
 ghost use Rattle.std.specs.List.{list_all};
 ghost use Rattle.std.specs.Option.{unwrap_or};
 ghost use Rattle.std.specs.Str.{is_utf8};
-ghost use Rattle.onix_mapping.specs.Details.{around_in, default_minimum, detail_fields, detail_outcome, detail_reasons, detail_refusal, identifier_reasons, name_reason, price_in, prices_in, supplier_id, supplier_in, unpriced_in, unpriced_price};
+ghost use Rattle.onix_mapping.specs.Details.{context_in, default_minimum, detail_fields, detail_outcome, detail_reasons, detail_reason, identifier_reasons, name_reason, price_in, prices_in, supplier_id, supplier_in, unpriced_in, unpriced_price};
 ghost use Rattle.onix_mapping.specs.Elements.{composites, first, text_or_empty, below_of};
 ghost use Rattle.onix_mapping.specs.Notes.{note_views, reason_view, wrong};
 ghost use Rattle.onix_mapping.specs.Outcomes.{all_notes, all_records, notes_below, outcome_reason, outcome_records, written_unless};
 ghost use Rattle.onix_mapping.specs.PartyViews.{pair_view};
 ghost use Rattle.onix_mapping.specs.PriceViews.{reason_read, text_view};
-ghost use Rattle.onix_mapping.specs.Prices.{around_view};
-ghost use Rattle.onix_mapping.specs.Records.{first_some, said, term_said, unread};
+ghost use Rattle.onix_mapping.specs.Prices.{context_view};
+ghost use Rattle.onix_mapping.specs.Records.{first_some, parsed, parsed_term, invalid};
 ghost use Rattle.onix_mapping.specs.declared.notes.Wrong.TheVariants as bad;
-ghost use Rattle.onix_message.specs.Fields.{optional};
-ghost use Rattle.onix_message.specs.declared.row.Opening.{Opening as Said};
+ghost use Rattle.onix_records.specs.Fields.{optional};
+ghost use Rattle.onix_records.specs.declared.row.Opening.{Opening as Said};
 ghost use Rattle.onix_terms.specs.Code.{code2_of};
-ghost use Rattle.onix_message.specs.Detail.{detail_of};
-ghost use Rattle.onix_message.specs.Gives.{Gives};
+ghost use Rattle.onix_records.specs.Detail.{detail_of};
+ghost use Rattle.onix_records.specs.Gives.{Gives};
 ghost use Rattle.onix_outline.specs.Nodes.{Nodes};
 ghost use Rattle.onix_outline.specs.Outline.{outline};
 ghost use Rattle.onix_outline.specs.Views.{line_views};
 
 use crate::elements::{first_composite, next_composite, text_or_empty};
 use crate::identifiers::{SUPPLIER, choose_identifier, is_there};
-use crate::notes::{Note, Reason, Why, Wrong};
+use crate::notes::{Note, Reason, ReasonKind, Wrong};
 use crate::parties::{NO_PAIR, Pair};
-use crate::prices::{Around, add_price, fill_record};
-use crate::records::{code_said, former, is_field, may_be_empty, quantity_said, unless};
+use crate::prices::{PriceContext, add_price, fill_record};
+use crate::records::{former, is_field, may_be_empty, parsed_code, parsed_quantity, unless};
 use csv_records::buffer::RecordBuffer;
 use csv_records::fields::FieldBuffer;
 use csv_records::record::Record;
-use onix_message::detail::read_detail;
-use onix_message::fields::read_fields;
-use onix_message::parts::SupplyDetail;
-use onix_message::row::{Opening, RowFault};
 use onix_outline::{Line, text_in};
+use onix_records::detail::read_detail;
+use onix_records::fields::read_fields;
+use onix_records::parts::SupplyDetail;
+use onix_records::row::{Opening, RowFault};
 use std::alloc::{AllocError, Global};
 
 /// The lines of what stands in the first element of this name, none where there is none.
-pub(crate) fn lines_below<'a>(name: &[u8], depth: usize, lines: &'a [Line]) -> &'a [Line]
+pub fn lines_below<'a>(name: &[u8], depth: usize, lines: &'a [Line]) -> &'a [Line]
     requires { depth < 1000 }
     ensures { (nodes : Nodes) → line_views lines.now ≡ outline depth nodes
         → line_views result.now
@@ -123,8 +123,8 @@ fn detail_texts<'a>(supplier: Pair<'a>, depth: usize, lines: &'a [Line]) -> [&'a
 }
 
 // The SupplyDetail that the desk reads of fields that are UTF-8.
-fn read_said(alloc: Global, from: &Record<'_>) -> Result<SupplyDetail, RowFault>
-    ensures { list_all is_utf8 from.now ≡ true → Gives result (said detail_of from.now) }
+fn parse_fields(alloc: Global, from: &Record<'_>) -> Result<SupplyDetail, RowFault>
+    ensures { list_all is_utf8 from.now ≡ true → Gives result (parsed detail_of from.now) }
 {
     let mut fields = Vec::new(alloc);
     read_fields(from, &mut fields)?;
@@ -135,26 +135,26 @@ fn read_said(alloc: Global, from: &Record<'_>) -> Result<SupplyDetail, RowFault>
 fn is_taken(alloc: Global, fields: &FieldBuffer) -> Result<bool, AllocError>
     ensures { (behind : List (List ℕ)) → fields.now ≡ codes "SupplyDetail" ∷ behind
         → list_all is_utf8 behind ≡ true
-        → IfOk result (λ is. is ≡ is_some (said detail_of behind)) }
+        → IfOk result (λ is. is ≡ is_some (parsed detail_of behind)) }
 {
     let record = fields.as_record();
     let Some((_, behind)) = record.split_first() else {
         return Ok(false);
     };
-    match read_said(alloc, &behind) {
+    match parse_fields(alloc, &behind) {
         Ok(_) => Ok(true),
         Err(RowFault::Wrong) => Ok(false),
         Err(RowFault::Memory) => Err(AllocError),
     }
 }
 
-// Puts the record of these fields in place of what the list held, and says whether the desk takes
+// Puts the record of these fields in place of what the list had, and says whether the desk takes
 // it.
 fn take_texts(alloc: Global, fields: &mut FieldBuffer, texts: &[&[u8]]) -> Result<bool, AllocError>
     ensures record { IfOk result (λ is. is ≡ true
         → fields.new ≡ codes "SupplyDetail" ∷ map (λ t. t.now) texts.now) }
     ensures taken { IfOk result
-        (λ is. is ≡ is_some (said detail_of (map (λ t. t.now) texts.now))) }
+        (λ is. is ≡ is_some (parsed detail_of (map (λ t. t.now) texts.now))) }
 {
     match fill_record(fields, "SupplyDetail", texts) {
         Ok(()) => is_taken(alloc, fields),
@@ -177,19 +177,19 @@ fn write_detail<'a>(
     ensures reason { (nodes : Nodes) (preferred : List ℕ)
         → line_views lines.now ≡ outline depth nodes
         → pair_view supplier.entry ≡ supplier_id preferred nodes
-        → IfOk result (λ why. reason_read why ≡ detail_refusal preferred nodes) }
+        → IfOk result (λ reason. reason_read reason ≡ detail_reason preferred nodes) }
     ensures record { (nodes : Nodes) (preferred : List ℕ)
         → line_views lines.now ≡ outline depth nodes
         → pair_view supplier.entry ≡ supplier_id preferred nodes
         → OnOk result (records.new ≡ records.old ++ outcome_records
-        (written_unless (detail_refusal preferred nodes)
+        (written_unless (detail_reason preferred nodes)
         ((codes "SupplyDetail" ∷ detail_fields preferred nodes) ∷ []) [])) }
 {
     if take_texts(alloc, fields, &detail_texts(supplier, depth, lines))? {
         records.push(&fields.as_record())?;
         return Ok(None);
     }
-    Ok(Some(detail_refusal(supplier, depth, lines)))
+    Ok(Some(detail_reason(supplier, depth, lines)))
 }
 
 // A text, empty where there is none.
@@ -211,7 +211,7 @@ fn identifier_reason<'a>(supplier: Pair<'a>, name: &[u8]) -> Option<Reason<'a>>
         return former(unless(!name.is_empty(), Wrong::Supplier, b""), None);
     }
     let id_type = supplier.id_type;
-    let typed = unless(code_said(id_type).is_some(), Wrong::SupplierType, id_type);
+    let typed = unless(parsed_code(id_type).is_some(), Wrong::SupplierType, id_type);
     let id_value = supplier.id_value;
     let valued = unless(is_field(id_value), Wrong::SupplierValue, id_value);
     former(typed, former(valued, None))
@@ -221,12 +221,12 @@ fn identifier_reason<'a>(supplier: Pair<'a>, name: &[u8]) -> Option<Reason<'a>>
 fn role_reason<'a>(depth: usize, lines: &'a [Line]) -> Option<Reason<'a>>
     requires { depth < 999 }
     ensures { (nodes : Nodes) → line_views lines.now ≡ outline depth nodes → reason_read result
-        ≡ unread (term_said code2_of) bad.SupplierRole
+        ≡ invalid (parsed_term code2_of) bad.SupplierRole
         (text_or_empty (codes "SupplierRole") (supplier_in nodes)) }
 {
     let below = lines_below(b"Supplier", depth, lines);
     let role = text_or_empty(depth + 1, b"SupplierRole", below);
-    unless(code_said(role).is_some(), Wrong::SupplierRole, role)
+    unless(parsed_code(role).is_some(), Wrong::SupplierRole, role)
 }
 
 // What is wrong with the identifier of the supplier, or that there is neither one nor a name.
@@ -257,25 +257,26 @@ fn name_reason<'a>(depth: usize, lines: &'a [Line]) -> Option<Reason<'a>>
 // That the ProductAvailability is no code.
 fn availability_reason<'a>(depth: usize, lines: &'a [Line]) -> Option<Reason<'a>>
     ensures { (nodes : Nodes) → line_views lines.now ≡ outline depth nodes → reason_read result
-        ≡ unread (term_said code2_of) bad.Availability
+        ≡ invalid (parsed_term code2_of) bad.Availability
         (text_or_empty (codes "ProductAvailability") nodes) }
 {
     let text = text_or_empty(depth, b"ProductAvailability", lines);
-    unless(code_said(text).is_some(), Wrong::Availability, text)
+    unless(parsed_code(text).is_some(), Wrong::Availability, text)
 }
 
 // That the UnpricedItemType is no code.
 fn unpriced_reason<'a>(depth: usize, lines: &'a [Line]) -> Option<Reason<'a>>
     requires { depth < 1000 }
     ensures { (nodes : Nodes) → line_views lines.now ≡ outline depth nodes → reason_read result
-        ≡ unread (optional (term_said code2_of)) bad.Unpriced (unwrap_or (unpriced_in nodes) []) }
+        ≡ invalid (optional (parsed_term code2_of)) bad.Unpriced
+        (unwrap_or (unpriced_in nodes) []) }
 {
     let text = text_or_none(unpriced_in(depth, lines));
-    unless(may_be_empty(text, code_said(text)), Wrong::Unpriced, text)
+    unless(may_be_empty(text, parsed_code(text)), Wrong::Unpriced, text)
 }
 
 // The first field of a SupplyDetail that the desk would not take.
-fn detail_reason<'a>(supplier: Pair<'a>, depth: usize, lines: &'a [Line]) -> Option<Reason<'a>>
+fn field_reason<'a>(supplier: Pair<'a>, depth: usize, lines: &'a [Line]) -> Option<Reason<'a>>
     requires { depth < 999 }
     ensures { (nodes : Nodes) (preferred : List ℕ) → line_views lines.now ≡ outline depth nodes
         → pair_view supplier.entry ≡ supplier_id preferred nodes
@@ -289,17 +290,17 @@ fn detail_reason<'a>(supplier: Pair<'a>, depth: usize, lines: &'a [Line]) -> Opt
 }
 
 // Why a SupplyDetail that the desk would not take is left out.
-fn detail_refusal<'a>(supplier: Pair<'a>, depth: usize, lines: &'a [Line]) -> Reason<'a>
+fn detail_reason<'a>(supplier: Pair<'a>, depth: usize, lines: &'a [Line]) -> Reason<'a>
     requires { depth < 999 }
     ensures { (nodes : Nodes) (preferred : List ℕ) → line_views lines.now ≡ outline depth nodes
         → pair_view supplier.entry ≡ supplier_id preferred nodes
         → reason_view result
         ≡ unwrap_or (first_some (detail_reasons preferred nodes)) (wrong bad.SupplyDetail []) }
 {
-    match detail_reason(supplier, depth, lines) {
+    match field_reason(supplier, depth, lines) {
         Some(reason) => reason,
         None => Reason {
-            why: Why::Wrong(Wrong::SupplyDetail),
+            kind: ReasonKind::Wrong(Wrong::SupplyDetail),
             text: b"",
         },
     }
@@ -311,20 +312,20 @@ fn default_minimum<'a>(depth: usize, lines: &'a [Line]) -> Option<&'a [u8]>
         → text_view result ≡ default_minimum nodes }
 {
     let text = text_in(depth, b"OrderQuantityMinimum", lines)?;
-    if quantity_said(text).is_some() {
+    if parsed_quantity(text).is_some() {
         Some(text)
     } else {
         None
     }
 }
 
-// What stands around the Prices of a SupplyDetail.
-fn around_in<'a, 'b>(opening: &'a Opening, depth: usize, lines: &'b [Line]) -> Around<'a, 'b>
+// The context of the Prices of a SupplyDetail.
+fn context_in<'a, 'b>(opening: &'a Opening, depth: usize, lines: &'b [Line]) -> PriceContext<'a, 'b>
     requires { depth < 1000 }
     ensures { (nodes : Nodes) → line_views lines.now ≡ outline depth nodes
-        → around_view result ≡ around_in opening.now nodes }
+        → context_view result ≡ context_in opening.now nodes }
 {
-    Around {
+    PriceContext {
         opening,
         is_unpriced: unpriced_in(depth, lines).is_some(),
         minimum: default_minimum(depth, lines),
@@ -334,7 +335,7 @@ fn around_in<'a, 'b>(opening: &'a Opening, depth: usize, lines: &'b [Line]) -> A
 // Adds what comes of the Prices of a SupplyDetail.
 fn add_prices<'a>(
     alloc: Global,
-    around: &Around<'_, '_>,
+    context: &PriceContext<'_, '_>,
     depth: usize,
     lines: &'a [Line],
     fields: &mut FieldBuffer,
@@ -343,15 +344,15 @@ fn add_prices<'a>(
 ) -> Result<(), AllocError>
     requires { depth < 999 }
     ensures records { (nodes : Nodes) (o : Said) → line_views lines.now ≡ outline depth nodes
-        → around_view around.now ≡ around_in o nodes → OnOk result (records.new ≡ records.old
+        → context_view context.now ≡ context_in o nodes → OnOk result (records.new ≡ records.old
         ++ all_records (price_in o nodes) (prices_in nodes)) }
     ensures notes { (nodes : Nodes) (o : Said) → line_views lines.now ≡ outline depth nodes
-        → around_view around.now ≡ around_in o nodes → OnOk result (note_views notes.new.items
+        → context_view context.now ≡ context_in o nodes → OnOk result (note_views notes.new.items
         ≡ note_views notes.old.items ++ all_notes (price_in o nodes) (prices_in nodes)) }
 {
     let mut rest = lines;
     while let Some((price, behind)) = next_composite(b"Price", depth, rest) {
-        add_price(alloc, around, depth + 1, price, fields, records, notes)?;
+        add_price(alloc, context, depth + 1, price, fields, records, notes)?;
         rest = behind;
     }
     Ok(())
@@ -373,7 +374,7 @@ pub(crate) fn add_detail<'a>(
 ) -> Result<Option<Reason<'a>>, AllocError>
     requires { depth < 999 }
     ensures reason { (nodes : Nodes) → line_views lines.now ≡ outline depth nodes
-        → IfOk result (λ why. reason_read why
+        → IfOk result (λ reason. reason_read reason
         ≡ outcome_reason (detail_outcome opening.now preferred.now nodes)) }
     ensures records { (nodes : Nodes) → line_views lines.now ≡ outline depth nodes
         → OnOk result (records.new ≡ records.old
@@ -383,10 +384,10 @@ pub(crate) fn add_detail<'a>(
         ++ notes_below (detail_outcome opening.now preferred.now nodes)) }
 {
     let supplier = supplier_id(preferred, depth, lines);
-    let refused = write_detail(alloc, supplier, depth, lines, fields, records)?;
-    if refused.is_none() {
-        let around = around_in(opening, depth, lines);
-        add_prices(alloc, &around, depth, lines, fields, records, notes)?;
+    let left_out = write_detail(alloc, supplier, depth, lines, fields, records)?;
+    if left_out.is_none() {
+        let context = context_in(opening, depth, lines);
+        add_prices(alloc, &context, depth, lines, fields, records, notes)?;
     }
-    Ok(refused)
+    Ok(left_out)
 }

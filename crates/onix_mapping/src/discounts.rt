@@ -8,7 +8,7 @@ ghost use Rattle.onix_outline.specs.Outline.{outline};
 ghost use Rattle.onix_outline.specs.Views.{line_views};
 
 use crate::elements::next_composite;
-use crate::notes::{Foreign, Note, Reason, Why, push_note};
+use crate::notes::{Foreign, Note, Reason, ReasonKind, push_note};
 use onix_outline::Line;
 use std::alloc::AllocError;
 
@@ -16,18 +16,18 @@ use std::alloc::AllocError;
 fn push_unread<'a>(
     notes: &mut Vec<Note<'a>>,
     name: &[u8],
-    why: Foreign,
+    kind: Foreign,
     depth: usize,
     lines: &'a [Line],
 ) -> Result<(), AllocError>
     ensures { (nodes : Nodes) → line_views lines.now ≡ outline depth nodes
         → OnOk result (note_views notes.new.items
-        ≡ note_views notes.old.items ++ unread_notes name.now why nodes) }
+        ≡ note_views notes.old.items ++ unread_notes name.now kind nodes) }
 {
     let mut rest = lines;
     while let Some((found, behind)) = next_composite(name, depth, rest) {
         let reason = Reason {
-            why: Why::Foreign(why),
+            kind: ReasonKind::Foreign(kind),
             text: b"",
         };
         push_note(notes, found.line, reason)?;

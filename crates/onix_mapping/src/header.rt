@@ -5,13 +5,13 @@ ghost use Rattle.std.specs.Option.{ok_or, option_map_or};
 ghost use Rattle.std.specs.Str.{is_utf8};
 ghost use Rattle.std.specs.List.{list_all, list_any};
 ghost use Rattle.onix_mapping.specs.Elements.{composites};
-ghost use Rattle.onix_mapping.specs.Header.{added, addressee_ids, addressee_pair, addressee_in, first_number, heading_in, if_whole, meant, message_fields, number_in, opening_said, sender_in, sender_of};
+ghost use Rattle.onix_mapping.specs.Header.{added, addressee_ids, addressee_pair, addressee_in, first_number, heading_in, if_whole, meant, message_fields, number_in, parsed_opening, sender_in, sender_of};
 ghost use Rattle.onix_mapping.specs.HeaderViews.{choices_view, pair_read, AreLines, IsHeading, IsOpening};
 ghost use Rattle.onix_mapping.specs.PartyViews.{pair_view};
 ghost use Rattle.onix_mapping.specs.Identifiers.{identifiers_in};
 ghost use Rattle.onix_mapping.specs.PriceViews.{text_view};
 ghost use Rattle.onix_mapping.specs.Parties.{is_whole, same_pair};
-ghost use Rattle.onix_mapping.specs.Records.{term_said};
+ghost use Rattle.onix_mapping.specs.Records.{parsed_term};
 ghost use Rattle.onix_terms.specs.Number.{number_of};
 ghost use Rattle.onix_outline.specs.Nodes.{Nodes};
 ghost use Rattle.onix_outline.specs.Outline.{outline};
@@ -25,9 +25,9 @@ use crate::prices::fill_record;
 use crate::records::utf8_text;
 use csv_records::fields::FieldBuffer;
 use itoa::Buffer;
-use onix_message::opening::read_opening;
-use onix_message::row::{Opening, RowFault};
 use onix_outline::{Line, text_in};
+use onix_records::opening::read_opening;
+use onix_records::row::{Opening, RowFault};
 use onix_terms::number::Number;
 use std::alloc::Global;
 
@@ -50,7 +50,7 @@ pub struct Choices<'a> {
 
 /// Why a message is refused for its Header.
 #[derive(Clone, Copy, Debug, PartialEq, Eq)]
-pub enum Refusal {
+pub enum HeaderRefusal {
     /// It names no sender, and the caller gives none.
     NoSender,
     /// It names several addressees, and the caller picks none.
@@ -73,17 +73,17 @@ pub enum Refusal {
 #[derive(Clone, Copy, Debug)]
 pub enum HeaderFault {
     /// The message is refused.
-    Refused(Refusal),
+    Refused(HeaderRefusal),
     /// Memory ran out.
     Memory,
 }
 
-impl From<Refusal> for HeaderFault {
+impl From<HeaderRefusal> for HeaderFault {
     ghost use Rattle.onix_mapping.specs.declared.header.HeaderFault.TheVariants.{Refused};
 
     ghost from_gives = { λ r e. e ≡ Refused r };
 
-    fn from(refusal: Refusal) -> HeaderFault {
+    fn from(refusal: HeaderRefusal) -> HeaderFault {
         HeaderFault::Refused(refusal)
     }
 }
@@ -106,13 +106,13 @@ fn is_whole(identifier: Pair<'_>) -> bool
 }
 
 // An identifier that is written, where it has both a type and a value.
-fn if_whole<'a>(identifier: Pair<'a>) -> Result<Pair<'a>, Refusal>
+fn if_whole<'a>(identifier: Pair<'a>) -> Result<Pair<'a>, HeaderRefusal>
     ensures { pair_read result ≡ if_whole (pair_view identifier.entry) }
 {
     if is_whole(identifier) {
         Ok(identifier)
     } else {
-        Err(Refusal::Malformed)
+        Err(HeaderRefusal::Malformed)
     }
 }
 
@@ -133,13 +133,13 @@ fn has_whole(kind: Kind, depth: usize, lines: &[Line]) -> bool
 }
 
 // The identifier of the sender that is written.
-fn named_sender<'a>(found: Option<Pair<'a>>) -> Result<Pair<'a>, Refusal>
+fn named_sender<'a>(found: Option<Pair<'a>>) -> Result<Pair<'a>, HeaderRefusal>
     ensures { pair_read result
-        ≡ option_map_or if_whole (option_map pair_view found.entry) (Err Refusal.NoSender) }
+        ≡ option_map_or if_whole (option_map pair_view found.entry) (Err HeaderRefusal.NoSender) }
 {
     match found {
         Some(identifier) => if_whole(identifier),
-        None => Err(Refusal::NoSender),
+        None => Err(HeaderRefusal::NoSender),
     }
 }
 
@@ -148,7 +148,7 @@ fn sender_of<'a>(
     choices: &Choices<'a>,
     depth: usize,
     lines: &'a [Line],
-) -> Result<Pair<'a>, Refusal>
+) -> Result<Pair<'a>, HeaderRefusal>
     requires { depth < 1000 }
     ensures { (nodes : Nodes) → line_views lines.now ≡ outline depth nodes
         → pair_read result ≡ sender_of (choices_view choices.now)
@@ -167,7 +167,7 @@ fn sender_in<'a>(
     choices: &Choices<'a>,
     depth: usize,
     lines: &'a [Line],
-) -> Result<Pair<'a>, Refusal>
+) -> Result<Pair<'a>, HeaderRefusal>
     requires { depth < 999 }
     ensures { (nodes : Nodes) → line_views lines.now ≡ outline depth nodes
         → pair_read result ≡ sender_in (choices_view choices.now) nodes }
@@ -200,7 +200,7 @@ fn has_pair(pair: Pair<'_>, depth: usize, lines: &[Line]) -> bool
 }
 
 // The lines of what stands in the first addressee with such an identifier.
-fn meant<'a>(pair: Pair<'_>, depth: usize, lines: &'a [Line]) -> Result<&'a [Line], Refusal>
+fn meant<'a>(pair: Pair<'_>, depth: usize, lines: &'a [Line]) -> Result<&'a [Line], HeaderRefusal>
     requires { depth < 999 }
     ensures { (nodes : Nodes) → line_views lines.now ≡ outline depth nodes
         → AreLines result (depth + 1)
@@ -213,7 +213,7 @@ fn meant<'a>(pair: Pair<'_>, depth: usize, lines: &'a [Line]) -> Result<&'a [Lin
         }
         rest = behind;
     }
-    Err(Refusal::NoSuchAddressee)
+    Err(HeaderRefusal::NoSuchAddressee)
 }
 
 // The lines of what stands in the addressee.
@@ -221,7 +221,7 @@ fn addressee_lines<'a>(
     pair: Option<Pair<'_>>,
     depth: usize,
     lines: &'a [Line],
-) -> Result<&'a [Line], Refusal>
+) -> Result<&'a [Line], HeaderRefusal>
     requires { depth < 999 }
     ensures { (nodes : Nodes) → line_views lines.now ≡ outline depth nodes
         → AreLines result (depth + 1)
@@ -234,7 +234,7 @@ fn addressee_lines<'a>(
         None => Ok(one.below),
         Some(_) => match pair {
             Some(pair) => meant(pair, depth, lines),
-            None => Err(Refusal::SeveralAddressees),
+            None => Err(HeaderRefusal::SeveralAddressees),
         },
     }
 }
@@ -244,7 +244,7 @@ fn addressee_pair<'a>(
     choices: &Choices<'a>,
     depth: usize,
     lines: &'a [Line],
-) -> Result<Pair<'a>, Refusal>
+) -> Result<Pair<'a>, HeaderRefusal>
     requires { depth < 999 }
     ensures { (nodes : Nodes) → line_views lines.now ≡ outline depth nodes
         → pair_read result ≡ addressee_pair (choices_view choices.now) nodes }
@@ -257,42 +257,42 @@ fn addressee_pair<'a>(
 }
 
 // The number that a text writes.
-fn read_number(text: &[u8]) -> Result<Number, Refusal>
-    ensures { result ≡ ok_or (term_said number_of text.now) Refusal.WrongNumber }
+fn read_number(text: &[u8]) -> Result<Number, HeaderRefusal>
+    ensures { result ≡ ok_or (parsed_term number_of text.now) HeaderRefusal.WrongNumber }
 {
     match utf8_text(text) {
-        Some(text) => Number::read(text).ok_or(Refusal::WrongNumber),
-        None => Err(Refusal::WrongNumber),
+        Some(text) => Number::read(text).ok_or(HeaderRefusal::WrongNumber),
+        None => Err(HeaderRefusal::WrongNumber),
     }
 }
 
 // The number of the Header with what is added to it.
-fn added(offset: u32, text: Option<&[u8]>) -> Result<Number, Refusal>
+fn added(offset: u32, text: Option<&[u8]>) -> Result<Number, HeaderRefusal>
     ensures { result ≡ added offset (text_view text.entry) }
 {
     let Some(text) = text else {
-        return Err(Refusal::NoNumber);
+        return Err(HeaderRefusal::NoNumber);
     };
     let number = read_number(text)?;
     match number.value().checked_add(offset) {
-        Some(sum) => Number::from_value(sum).ok_or(Refusal::NumberTooGreat),
-        None => Err(Refusal::NumberTooGreat),
+        Some(sum) => Number::from_value(sum).ok_or(HeaderRefusal::NumberTooGreat),
+        None => Err(HeaderRefusal::NumberTooGreat),
     }
 }
 
 // The number of the first of so many parts.
-fn first_number(parts: u32, number: Number) -> Result<u32, Refusal>
+fn first_number(parts: u32, number: Number) -> Result<u32, HeaderRefusal>
     ensures { result ≡ first_number parts number }
 {
     let Some(last) = number.value().checked_mul(parts) else {
-        return Err(Refusal::LastNumberTooGreat);
+        return Err(HeaderRefusal::LastNumberTooGreat);
     };
-    let last = Number::from_value(last).ok_or(Refusal::LastNumberTooGreat)?;
+    let last = Number::from_value(last).ok_or(HeaderRefusal::LastNumberTooGreat)?;
     Ok(last.value().saturating_sub(parts) + 1)
 }
 
 // The number of the first part.
-fn number_in(choices: &Choices<'_>, depth: usize, lines: &[Line]) -> Result<u32, Refusal>
+fn number_in(choices: &Choices<'_>, depth: usize, lines: &[Line]) -> Result<u32, HeaderRefusal>
     ensures { (nodes : Nodes) → line_views lines.now ≡ outline depth nodes
         → result ≡ number_in (choices_view choices.now) nodes }
 {
@@ -331,7 +331,7 @@ fn message_texts<'a>(
     ]
 }
 
-/// Puts the record with which a part of this number begins in place of what the list held. `Wrong`
+/// Puts the record with which a part of this number begins in place of what the list had. `Wrong`
 /// exactly where a text is no UTF-8.
 pub fn fill_message(
     sender: Pair<'_>,
@@ -361,14 +361,14 @@ pub fn fill_message(
 }
 
 // What the desk reads of the record in the list.
-fn read_said(alloc: Global, fields: &FieldBuffer) -> Result<Opening, HeaderFault>
+fn parse_fields(alloc: Global, fields: &FieldBuffer) -> Result<Opening, HeaderFault>
     ensures { (behind : List (List ℕ)) → fields.now ≡ codes "Message" ∷ behind
-        → list_all is_utf8 behind ≡ true → IsOpening result (opening_said behind) }
+        → list_all is_utf8 behind ≡ true → IsOpening result (parsed_opening behind) }
 {
     let mut list = Vec::new(alloc);
     match read_opening(alloc, &fields.as_record(), &mut list) {
         Ok(opening) => Ok(opening),
-        Err(RowFault::Wrong) => Err(HeaderFault::Refused(Refusal::Malformed)),
+        Err(RowFault::Wrong) => Err(HeaderFault::Refused(HeaderRefusal::Malformed)),
         Err(RowFault::Memory) => Err(HeaderFault::Memory),
     }
 }
@@ -384,13 +384,13 @@ fn opening_in(
     fields: &mut FieldBuffer,
 ) -> Result<Opening, HeaderFault>
     ensures { (nodes : Nodes) → line_views lines.now ≡ outline depth nodes
-        → IsOpening result (opening_said
+        → IsOpening result (parsed_opening
         (message_fields (pair_view sender.entry) (pair_view addressee.entry)
         (decimal number) nodes)) }
 {
     match fill_message(sender, addressee, number, depth, lines, fields) {
-        Ok(()) => read_said(alloc, fields),
-        Err(RowFault::Wrong) => Err(HeaderFault::Refused(Refusal::Malformed)),
+        Ok(()) => parse_fields(alloc, fields),
+        Err(RowFault::Wrong) => Err(HeaderFault::Refused(HeaderRefusal::Malformed)),
         Err(RowFault::Memory) => Err(HeaderFault::Memory),
     }
 }

@@ -5,18 +5,18 @@ ghost use Rattle.std.specs.Prelude.{◌≡◌, ◌↔◌, ◌+◌, ◌<◌, ◌�
 ghost use Rattle.onix_mapping.specs.Header.{Choices, Heading, heading_in};
 ghost use Rattle.std.specs.List.{AllByRecursion};
 ghost use Rattle.onix_mapping.specs.Elements.{Composite};
-ghost use Rattle.onix_mapping.specs.ProductRecords.{fate_of, forms};
+ghost use Rattle.onix_mapping.specs.ProductRecords.{fate_of, variants};
 ghost use Rattle.onix_mapping.specs.Details.{detail_outcome};
 ghost use Rattle.onix_mapping.specs.Outcomes.{outcome_reason};
 ghost use Rattle.onix_mapping.specs.PriceFates.{HasDetails, HasPrices, HasSupplies};
 ghost use Rattle.onix_mapping.specs.Supplies.{supply_outcome};
 ghost use Rattle.onix_mapping.specs.Rows.{AreOf, AreProducts, message_records, numbered, part_record, references_of};
 ghost use Rattle.onix_mapping.specs.Unions.{union};
-ghost use Rattle.onix_message.specs.Grammar.{IsMessage, most_records};
-ghost use Rattle.onix_message.specs.Opening.{opening_of};
-ghost use Rattle.onix_message.specs.Row.{row_of};
-ghost use Rattle.onix_message.specs.declared.parts.Product.{Product};
-ghost use Rattle.onix_message.specs.declared.row.Opening.{Opening};
+ghost use Rattle.onix_records.specs.Grammar.{IsMessage, most_records};
+ghost use Rattle.onix_records.specs.Opening.{opening_of};
+ghost use Rattle.onix_records.specs.Row.{row_of};
+ghost use Rattle.onix_records.specs.declared.parts.Product.{Product};
+ghost use Rattle.onix_records.specs.declared.row.Opening.{Opening};
 ghost use Rattle.onix_outline.specs.Nodes.{Nodes};
 ghost use Rattle.onix_terms.specs.Code.{country_of};
 ghost use Rattle.onix_terms.specs.Territory.{IsIn};
@@ -48,13 +48,13 @@ pub fn parts_say_the_same()
     number_reads_back();
 }
 
-/// The records of each form of a Product are the rows of a product of its reference, or there are
-/// none where it has no RecordReference that the desk would take; and so are those of several
+/// The records of each variant of a Product are the rows of a product of its reference, or there
+/// are none where it has no RecordReference that the desk would take; and so are those of several
 /// Products, one after the other. With a first record and an end they are a message, if they are
 /// not too many.
 pub fn records_are_products()
     ensures one { (o : Opening) (preferred : List ℕ) (c : Composite) → AllByRecursion
-        (λ f. AreOf o f.records (references_of c.below)) (forms o preferred c) }
+        (λ f. AreOf o f.records (references_of c.below)) (variants o preferred c) }
     ensures none { (o : Opening) → AreProducts o [] [] }
     ensures joined { (o : Opening) (a b : List (List (List ℕ))) (c d : List Product)
         → AreProducts o a c → AreProducts o b d → AreProducts o (a ++ b) (c ++ d) }

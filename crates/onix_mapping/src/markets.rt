@@ -4,7 +4,7 @@ ghost use Rattle.std.specs.Prelude.{◌≡◌, ◌++◌, ◌∷◌, ◌<◌, ◌
 ghost use Rattle.std.specs.List.{flat_map, list_any};
 ghost use Rattle.std.specs.Option.{option_or};
 ghost use Rattle.onix_mapping.specs.Elements.{Composite as Told, Tells, composites};
-ghost use Rattle.onix_mapping.specs.Markets.{IsFilled, IsHeld, first_held, held_area, held_fields, held_outcome, is_foreign_market, market_notes, markets_outcome, no_market, some_outcome, supply_record, territories_of, territory_of};
+ghost use Rattle.onix_mapping.specs.Markets.{IsFilled, IsKept, first_kept, kept_area, kept_fields, kept_outcome, is_foreign_market, market_notes, markets_outcome, no_market, some_outcome, supply_record, territories_of, territory_of};
 ghost use Rattle.onix_mapping.specs.Notes.{Note as Said, foreign, note_views, reason_view};
 ghost use Rattle.onix_mapping.specs.Outcomes.{notes_below, outcome_reason, outcome_records};
 ghost use Rattle.onix_mapping.specs.PriceViews.{reason_read};
@@ -15,16 +15,16 @@ ghost use Rattle.onix_outline.specs.Outline.{outline};
 ghost use Rattle.onix_outline.specs.Views.{line_views};
 
 use crate::elements::{Composite, next_composite};
-use crate::notes::{Foreign, Note, Reason, Why, Wrong, push_note};
+use crate::notes::{Foreign, Note, Reason, ReasonKind, Wrong, push_note};
 use crate::territories::{
-    Area, area_in, area_reason, fill_as_it_stands, fill_as_union, push_territory_notes,
-    read_market, renamed_in, unheld,
+    Area, area_in, countries_reason, fill_as_it_stands, fill_as_union, push_territory_notes,
+    read_market, renamed_in, unsupported,
 };
 use crate::unions::union;
 use csv_records::buffer::RecordBuffer;
 use csv_records::fields::FieldBuffer;
-use onix_message::row::RowFault;
 use onix_outline::Line;
+use onix_records::row::RowFault;
 use onix_terms::items::Items;
 use onix_terms::territory::Territory;
 use std::alloc::{AllocError, Global};
@@ -34,15 +34,15 @@ fn read_territory<'a>(
     alloc: Global,
     area: &Area<'a>,
 ) -> Result<Result<Territory, Reason<'a>>, AllocError>
-    ensures { IfOk result (λ r. IsHeld r (area_view area.now)) }
+    ensures { IfOk result (λ r. IsKept r (area_view area.now)) }
 {
-    if let Some(reason) = unheld(area) {
+    if let Some(reason) = unsupported(area) {
         return Ok(Err(reason));
     }
     let renamed = renamed_in(alloc, area)?;
     match read_market(alloc, area, &renamed) {
         Ok(supply) => Ok(Ok(supply.market)),
-        Err(RowFault::Wrong) => Ok(Err(area_reason(alloc, area, &renamed)?)),
+        Err(RowFault::Wrong) => Ok(Err(countries_reason(alloc, area, &renamed)?)),
         Err(RowFault::Memory) => Err(AllocError),
     }
 }
@@ -50,7 +50,7 @@ fn read_territory<'a>(
 // What is found of Markets: where those hold that are not left out, the first of them as it stands,
 // and whether another is left out as foreign.
 #[derive(Drop)]
-struct Held<'a> {
+struct Kept<'a> {
     territories: Items<Territory>,
     first: Option<Area<'a>>,
     some_foreign: bool,
@@ -71,29 +71,29 @@ fn take_market<'a>(
     alloc: Global,
     market: Composite<'a>,
     depth: usize,
-    held: &mut Held<'a>,
+    kept: &mut Kept<'a>,
     notes: &mut Vec<Note<'a>>,
 ) -> Result<(), AllocError>
     requires { depth < 1000 }
     ensures territories { (m : Told) → Tells market.entry depth m → OnOk result
-        (held.new.territories ≡ held.old.territories ++ option_to_list (territory_of m)) }
+        (kept.new.territories ≡ kept.old.territories ++ option_to_list (territory_of m)) }
     ensures first { (m : Told) → Tells market.entry depth m → OnOk result
-        (option_map area_view held.new.first
-        ≡ option_or (option_map area_view held.old.first) (held_area m)) }
+        (option_map area_view kept.new.first
+        ≡ option_or (option_map area_view kept.old.first) (kept_area m)) }
     ensures foreign { (m : Told) → Tells market.entry depth m → OnOk result
-        (held.new.some_foreign ≡ (held.old.some_foreign || is_foreign_market m)) }
+        (kept.new.some_foreign ≡ (kept.old.some_foreign || is_foreign_market m)) }
     ensures notes { (m : Told) → Tells market.entry depth m → OnOk result
         (note_views notes.new.items ≡ note_views notes.old.items ++ market_notes m) }
 {
     let area = area_in(depth, market.below);
     match read_territory(alloc, &area)? {
         Ok(territory) => {
-            held.territories.push(territory)?;
-            held.first = former(held.first, area);
+            kept.territories.push(territory)?;
+            kept.first = former(kept.first, area);
             push_territory_notes(notes, &area)
         }
         Err(reason) => {
-            held.some_foreign = held.some_foreign || !reason.why.is_wrong();
+            kept.some_foreign = kept.some_foreign || !reason.kind.is_wrong();
             push_note(notes, market.line, reason)
         }
     }
@@ -105,13 +105,13 @@ fn take_markets<'a>(
     depth: usize,
     lines: &'a [Line],
     notes: &mut Vec<Note<'a>>,
-) -> Result<Held<'a>, AllocError>
+) -> Result<Kept<'a>, AllocError>
     requires { depth < 999 }
     ensures territories { (nodes : Nodes) → line_views lines.now ≡ outline depth nodes
         → IfOk result (λ h. h.territories ≡ territories_of (composites (codes "Market") nodes)) }
     ensures first { (nodes : Nodes) → line_views lines.now ≡ outline depth nodes
         → IfOk result (λ h. option_map area_view h.first
-        ≡ first_held (composites (codes "Market") nodes)) }
+        ≡ first_kept (composites (codes "Market") nodes)) }
     ensures foreign { (nodes : Nodes) → line_views lines.now ≡ outline depth nodes
         → IfOk result (λ h. h.some_foreign
         ≡ list_any is_foreign_market (composites (codes "Market") nodes)) }
@@ -119,29 +119,29 @@ fn take_markets<'a>(
         → OnOk result (note_views notes.new.items ≡ note_views notes.old.items
         ++ flat_map market_notes (composites (codes "Market") nodes)) }
 {
-    let mut held = Held {
+    let mut kept = Kept {
         territories: Items::new(alloc),
         first: None,
         some_foreign: false,
     };
     let mut rest = lines;
     while let Some((market, behind)) = next_composite(b"Market", depth, rest) {
-        take_market(alloc, market, depth + 1, &mut held, notes)?;
+        take_market(alloc, market, depth + 1, &mut kept, notes)?;
         rest = behind;
     }
-    Ok(held)
+    Ok(kept)
 }
 
 // Puts the record of a ProductSupply into the buffer, of one Market as it stands, of several as
 // one. It is false where that is too long.
-fn fill_held(
+fn fill_kept(
     alloc: Global,
     fields: &mut FieldBuffer,
     first: &Area<'_>,
     territories: &[Territory],
 ) -> Result<bool, AllocError>
     ensures { IfOk result
-        (λ is. IsFilled is fields.new (held_fields (area_view first.now) territories.now)) }
+        (λ is. IsFilled is fields.new (kept_fields (area_view first.now) territories.now)) }
 {
     if territories.len() == 1 {
         fill_as_it_stands(alloc, fields, first)?;
@@ -160,19 +160,19 @@ fn fill_held(
 fn no_market(some_foreign: bool) -> Reason<'static>
     ensures { reason_view result ≡ no_market some_foreign }
 {
-    let why = if some_foreign {
-        Why::Foreign(Foreign::NoMarketLeft)
+    let kind = if some_foreign {
+        ReasonKind::Foreign(Foreign::NoMarketLeft)
     } else {
-        Why::Wrong(Wrong::NoMarketLeft)
+        ReasonKind::Wrong(Wrong::NoMarketLeft)
     };
-    Reason { why, text: b"" }
+    Reason { kind, text: b"" }
 }
 
 fn too_long() -> Reason<'static>
     ensures { reason_view result ≡ foreign LongMarkets [] }
 {
     Reason {
-        why: Why::Foreign(Foreign::LongMarkets),
+        kind: ReasonKind::Foreign(Foreign::LongMarkets),
         text: b"",
     }
 }
@@ -186,13 +186,14 @@ fn add_first(
     fields: &mut FieldBuffer,
     records: &mut RecordBuffer,
 ) -> Result<Option<Reason<'static>>, AllocError>
-    ensures reason { (notes : List Said) → IfOk result (λ why. reason_read why ≡ outcome_reason
-        (held_outcome (Some (area_view first.now)) territories.now false notes)) }
+    ensures reason { (notes : List Said)
+        → IfOk result (λ reason. reason_read reason ≡ outcome_reason
+        (kept_outcome (Some (area_view first.now)) territories.now false notes)) }
     ensures records { (notes : List Said) → OnOk result (records.new ≡ records.old
         ++ outcome_records
-        (held_outcome (Some (area_view first.now)) territories.now false notes)) }
+        (kept_outcome (Some (area_view first.now)) territories.now false notes)) }
 {
-    let is_filled = fill_held(alloc, fields, first, territories)?;
+    let is_filled = fill_kept(alloc, fields, first, territories)?;
     if is_filled {
         records.push(&fields.as_record())?;
         return Ok(None);
@@ -201,24 +202,25 @@ fn add_first(
 }
 
 // Adds the record of a ProductSupply of what was found of its Markets, or tells why it is left out.
-fn add_held<'a>(
+fn add_kept<'a>(
     alloc: Global,
-    held: &Held<'a>,
+    kept: &Kept<'a>,
     fields: &mut FieldBuffer,
     records: &mut RecordBuffer,
 ) -> Result<Option<Reason<'a>>, AllocError>
-    ensures reason { (notes : List Said) → IfOk result (λ why. reason_read why ≡ outcome_reason
-        (held_outcome (option_map area_view held.now.first) held.now.territories
-        held.now.some_foreign notes)) }
+    ensures reason { (notes : List Said)
+        → IfOk result (λ reason. reason_read reason ≡ outcome_reason
+        (kept_outcome (option_map area_view kept.now.first) kept.now.territories
+        kept.now.some_foreign notes)) }
     ensures records { (notes : List Said) → OnOk result (records.new
         ≡ records.old ++ outcome_records
-        (held_outcome (option_map area_view held.now.first) held.now.territories
-        held.now.some_foreign notes)) }
+        (kept_outcome (option_map area_view kept.now.first) kept.now.territories
+        kept.now.some_foreign notes)) }
 {
-    let Some(first) = &held.first else {
-        return Ok(Some(no_market(held.some_foreign)));
+    let Some(first) = &kept.first else {
+        return Ok(Some(no_market(kept.some_foreign)));
     };
-    add_first(alloc, first, held.territories.as_slice(), fields, records)
+    add_first(alloc, first, kept.territories.as_slice(), fields, records)
 }
 
 // Adds the record of a ProductSupply of the world.
@@ -245,7 +247,7 @@ fn add_some<'a>(
 ) -> Result<Option<Reason<'a>>, AllocError>
     requires { depth < 999 }
     ensures reason { (nodes : Nodes) → line_views lines.now ≡ outline depth nodes
-        → IfOk result (λ why. reason_read why
+        → IfOk result (λ reason. reason_read reason
         ≡ outcome_reason (some_outcome (composites (codes "Market") nodes))) }
     ensures records { (nodes : Nodes) → line_views lines.now ≡ outline depth nodes
         → OnOk result (records.new ≡ records.old
@@ -254,8 +256,8 @@ fn add_some<'a>(
         → OnOk result (note_views notes.new.items ≡ note_views notes.old.items
         ++ flat_map market_notes (composites (codes "Market") nodes)) }
 {
-    let held = take_markets(alloc, depth, lines, notes)?;
-    add_held(alloc, &held, fields, records)
+    let kept = take_markets(alloc, depth, lines, notes)?;
+    add_kept(alloc, &kept, fields, records)
 }
 
 /// Adds the record of a ProductSupply of all the Markets that lines of this depth tell, with notes
@@ -271,13 +273,13 @@ pub(crate) fn add_markets<'a>(
 ) -> Result<Option<Reason<'a>>, AllocError>
     requires { depth < 999 }
     ensures reason { (nodes : Nodes) → line_views lines.now ≡ outline depth nodes
-        → IfOk result (λ why. reason_read why
+        → IfOk result (λ reason. reason_read reason
         ≡ outcome_reason (markets_outcome (composites (codes "Market") nodes))) }
     ensures records { (nodes : Nodes) → line_views lines.now ≡ outline depth nodes
         → OnOk result (records.new
         ≡ records.old ++ outcome_records (markets_outcome (composites (codes "Market") nodes))) }
     ensures notes { (nodes : Nodes) → line_views lines.now ≡ outline depth nodes
-        → IfOk result (λ why. why ≡ None → note_views notes.new.items ≡ note_views notes.old.items
+        → IfOk result (λ kind. kind ≡ None → note_views notes.new.items ≡ note_views notes.old.items
         ++ notes_below (markets_outcome (composites (codes "Market") nodes))) }
 {
     if next_composite(b"Market", depth, lines).is_none() {

@@ -130,19 +130,19 @@ pub enum Wrong {
 
 /// Why something is left out.
 #[derive(Clone, Copy, Debug, PartialEq, Eq)]
-pub enum Why {
+pub enum ReasonKind {
     Foreign(Foreign),
     Wrong(Wrong),
 }
 
-impl Why {
+impl ReasonKind {
     /// Whether the desk would not take it; else the desk has no field for it.
     pub fn is_wrong(self) -> bool
         ensures { result ≡ is_wrong self }
     {
         match self {
-            Why::Foreign(_) => false,
-            Why::Wrong(_) => true,
+            ReasonKind::Foreign(_) => false,
+            ReasonKind::Wrong(_) => true,
         }
     }
 }
@@ -150,7 +150,7 @@ impl Why {
 /// Why something is left out, and the text that is the reason, where there is one.
 #[derive(Clone, Copy, Debug)]
 pub struct Reason<'a> {
-    pub why: Why,
+    pub kind: ReasonKind,
     pub text: &'a [u8],
 }
 

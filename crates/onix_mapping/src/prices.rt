@@ -11,12 +11,12 @@ ghost use Rattle.onix_mapping.specs.Elements.{Composite as Told, Tells, composit
 ghost use Rattle.onix_mapping.specs.Notes.{foreign, is_wrong, note_views, wrong};
 ghost use Rattle.onix_mapping.specs.Outcomes.{notes_below, outcome_notes, outcome_records};
 ghost use Rattle.onix_mapping.specs.PriceViews.{reason_read, text_view};
-ghost use Rattle.onix_mapping.specs.Prices.{amount_written, around_view, behind_digits, cut_zeros, early_reasons, eight_fields, has_more_decimals, is_long_part, is_nothing, is_other, is_zero, late_reasons, old_element, outcome_of, own_minimum, point_in, price_fields, price_outcome, reasons_against, refusal, right_days};
-ghost use Rattle.onix_mapping.specs.Records.{first_some, option_filter, said};
+ghost use Rattle.onix_mapping.specs.Prices.{amount_written, context_view, behind_digits, cut_zeros, early_reasons, eight_fields, has_more_decimals, is_long_part, is_nothing, is_other, is_zero, late_reasons, old_element, outcome_of, own_minimum, point_in, price_fields, price_outcome, price_reasons, record_reason, right_days};
+ghost use Rattle.onix_mapping.specs.Records.{first_some, option_filter, parsed};
 ghost use Rattle.onix_mapping.specs.Territories.{AreRenamed, area_in, area_view};
 ghost use Rattle.onix_mapping.specs.declared.notes.Wrong.TheVariants.{OldElement};
-ghost use Rattle.onix_message.specs.Gives.{Gives};
-ghost use Rattle.onix_message.specs.Price.{day_field, price_of};
+ghost use Rattle.onix_records.specs.Gives.{Gives};
+ghost use Rattle.onix_records.specs.Price.{day_field, price_of};
 ghost use Rattle.onix_outline.specs.Composites.{text_in};
 ghost use Rattle.onix_outline.specs.Nodes.{Nodes};
 ghost use Rattle.onix_outline.specs.Outline.{outline};
@@ -25,29 +25,29 @@ ghost use Rattle.onix_outline.specs.Views.{line_views};
 use crate::dates::{Dated, Days, days_in};
 use crate::discounts::push_discounts;
 use crate::elements::{Composite, first_composite, next_composite, text_or_empty};
-use crate::notes::{Foreign, Note, Reason, Why, Wrong, push_reason};
-use crate::records::{amount_said, are_zeros, former, push_texts};
-use crate::refusals::{field_reason, or_refused};
+use crate::notes::{Foreign, Note, Reason, ReasonKind, Wrong, push_reason};
+use crate::reasons::{field_reason, or_price};
+use crate::records::{are_zeros, former, parsed_amount, push_texts};
 use crate::territories::{
-    Area, Renamed, area_fields, area_in, push_territory_notes, renamed_in, unheld,
+    Area, Renamed, area_fields, area_in, push_territory_notes, renamed_in, unsupported,
 };
 use csv_records::buffer::RecordBuffer;
 use csv_records::fields::FieldBuffer;
 use csv_records::record::Record;
-use onix_message::fields::read_fields;
-use onix_message::parts::Price;
-use onix_message::price::read_price;
-use onix_message::row::{Opening, RowFault};
 use onix_outline::{Line, text_in};
+use onix_records::fields::read_fields;
+use onix_records::parts::Price;
+use onix_records::price::read_price;
+use onix_records::row::{Opening, RowFault};
 use onix_terms::ascii::are_digits;
 use onix_terms::day::Day;
 use onix_terms::text::Text;
 use std::alloc::{AllocError, Global};
 
-/// What stands around a Price: what its message begins with, whether the record of its SupplyDetail
+/// The context of a Price: what its message begins with, whether the record of its SupplyDetail
 /// has an UnpricedItemType, and the quantity that stands for a minimum that it does not have.
 #[derive(Clone, Copy)]
-pub struct Around<'a, 'b> {
+pub struct PriceContext<'a, 'b> {
     pub opening: &'a Opening,
     pub is_unpriced: bool,
     pub minimum: Option<&'b [u8]>,
@@ -182,7 +182,7 @@ fn long_amount<'a>(amount: &'a [u8]) -> Option<&'a [u8]>
 fn is_zero(amount: &[u8]) -> bool
     ensures { result ≡ is_zero amount.now }
 {
-    match amount_said(amount) {
+    match parsed_amount(amount) {
         None => false,
         Some(amount) => amount.thousandths() == 0,
     }
@@ -224,12 +224,12 @@ fn old_element(depth: usize, lines: &[Line]) -> Option<&'static [u8]>
 }
 
 // A foreign reason, where there is a text that is one.
-fn because<'a>(why: Foreign, text: Option<&'a [u8]>) -> Option<Reason<'a>>
-    ensures { reason_read result ≡ option_map (foreign why) (text_view text.entry) }
+fn because<'a>(kind: Foreign, text: Option<&'a [u8]>) -> Option<Reason<'a>>
+    ensures { reason_read result ≡ option_map (foreign kind) (text_view text.entry) }
 {
     match text {
         Some(text) => Some(Reason {
-            why: Why::Foreign(why),
+            kind: ReasonKind::Foreign(kind),
             text,
         }),
         None => None,
@@ -241,7 +241,7 @@ fn because_old(text: Option<&'static [u8]>) -> Option<Reason<'static>>
 {
     match text {
         Some(text) => Some(Reason {
-            why: Why::Wrong(Wrong::OldElement),
+            kind: ReasonKind::Wrong(Wrong::OldElement),
             text,
         }),
         None => None,
@@ -257,10 +257,10 @@ fn wrong_date<'a>(dated: &Dated<'a>) -> Option<Reason<'a>>
 
 fn if_foreign<'a>(reason: Option<Reason<'a>>) -> Option<Reason<'a>>
     ensures { reason_read result
-        ≡ option_filter (λ r. not (is_wrong r.why)) (reason_read reason.entry) }
+        ≡ option_filter (λ r. not (is_wrong r.kind)) (reason_read reason.entry) }
 {
     match reason {
-        Some(reason) => if reason.why.is_wrong() {
+        Some(reason) => if reason.kind.is_wrong() {
             None
         } else {
             Some(reason)
@@ -270,10 +270,10 @@ fn if_foreign<'a>(reason: Option<Reason<'a>>) -> Option<Reason<'a>>
 }
 
 fn if_wrong<'a>(reason: Option<Reason<'a>>) -> Option<Reason<'a>>
-    ensures { reason_read result ≡ option_filter (λ r. is_wrong r.why) (reason_read reason.entry) }
+    ensures { reason_read result ≡ option_filter (λ r. is_wrong r.kind) (reason_read reason.entry) }
 {
     match reason {
-        Some(reason) => if reason.why.is_wrong() {
+        Some(reason) => if reason.kind.is_wrong() {
             Some(reason)
         } else {
             None
@@ -313,7 +313,7 @@ fn late_reason<'a>(
     let free = because(Foreign::NoCharge, no_charge(amount));
     let charged = former(free, former(if_foreign(wrong_date), dated));
     let long = because(Foreign::MoreDecimals, long_amount(amount));
-    former(unheld(area), former(long, charged))
+    former(unsupported(area), former(long, charged))
 }
 
 // Why a Price that holds there is another than the desk knows.
@@ -361,12 +361,12 @@ fn early_reason<'a>(
 
 // Whether a Price is nothing: it has no amount and no PriceCoded, and the record of its
 // SupplyDetail an UnpricedItemType.
-fn is_nothing(around: &Around<'_, '_>, depth: usize, lines: &[Line]) -> bool
+fn is_nothing(context: &PriceContext<'_, '_>, depth: usize, lines: &[Line]) -> bool
     requires { depth < 1000 }
     ensures { (nodes : Nodes) → line_views lines.now ≡ outline depth nodes
-        → result ≡ is_nothing (around_view around.now) nodes }
+        → result ≡ is_nothing (context_view context.now) nodes }
 {
-    around.is_unpriced
+    context.is_unpriced
         && text_in(depth, b"PriceAmount", lines).is_none()
         && mark_in(b"PriceCoded", depth, lines).is_none()
 }
@@ -446,7 +446,7 @@ fn or_text<'b>(one: Option<&'b [u8]>, other: Option<&'b [u8]>) -> Option<&'b [u8
     }
 }
 
-/// Puts a record of this name in place of what the list held. `Wrong` exactly where a text is no
+/// Puts a record of this name in place of what the list had. `Wrong` exactly where a text is no
 /// UTF-8.
 pub(crate) fn fill_record(
     fields: &mut FieldBuffer,
@@ -463,7 +463,7 @@ pub(crate) fn fill_record(
     push_texts(fields, texts)
 }
 
-// Puts the record of a Price in place of what the list held. `Wrong` exactly where a text is no
+// Puts the record of a Price in place of what the list had. `Wrong` exactly where a text is no
 // UTF-8.
 fn fill_price(
     fields: &mut FieldBuffer,
@@ -485,9 +485,9 @@ fn fill_price(
 }
 
 // The Price that the desk reads of fields that are UTF-8.
-fn read_said(alloc: Global, opening: &Opening, from: &Record<'_>) -> Result<Price, RowFault>
+fn parse_fields(alloc: Global, opening: &Opening, from: &Record<'_>) -> Result<Price, RowFault>
     ensures { list_all is_utf8 from.now ≡ true
-        → Gives result (said (price_of opening.now) from.now) }
+        → Gives result (parsed (price_of opening.now) from.now) }
 {
     let mut fields = Vec::new(alloc);
     read_fields(from, &mut fields)?;
@@ -498,20 +498,20 @@ fn read_said(alloc: Global, opening: &Opening, from: &Record<'_>) -> Result<Pric
 fn is_taken(alloc: Global, opening: &Opening, fields: &FieldBuffer) -> Result<bool, AllocError>
     ensures { (behind : List (List ℕ)) → fields.now ≡ codes "Price" ∷ behind
         → list_all is_utf8 behind ≡ true
-        → IfOk result (λ is. is ≡ is_some (said (price_of opening.now) behind)) }
+        → IfOk result (λ is. is ≡ is_some (parsed (price_of opening.now) behind)) }
 {
     let record = fields.as_record();
     let Some((_, behind)) = record.split_first() else {
         return Ok(false);
     };
-    match read_said(alloc, opening, &behind) {
+    match parse_fields(alloc, opening, &behind) {
         Ok(_) => Ok(true),
         Err(RowFault::Wrong) => Ok(false),
         Err(RowFault::Memory) => Err(AllocError),
     }
 }
 
-// Puts the record of a Price in place of what the list held, and says whether the desk takes it.
+// Puts the record of a Price in place of what the list had, and says whether the desk takes it.
 fn take_price(
     alloc: Global,
     opening: &Opening,
@@ -521,7 +521,7 @@ fn take_price(
 ) -> Result<bool, AllocError>
     ensures record { IfOk result (λ is. is ≡ true → fields.new ≡ codes "Price"
         ∷ (map (λ t. t.now) texts.now ++ option_to_list (text_view minimum.entry))) }
-    ensures taken { IfOk result (λ is. is ≡ is_some (said (price_of opening.now)
+    ensures taken { IfOk result (λ is. is ≡ is_some (parsed (price_of opening.now)
         (map (λ t. t.now) texts.now ++ option_to_list (text_view minimum.entry)))) }
 {
     match fill_price(fields, texts, minimum) {
@@ -531,11 +531,11 @@ fn take_price(
     }
 }
 
-// Puts the record of a Price in this territory, with these texts, in place of what the list held,
+// Puts the record of a Price in this territory, with these texts, in place of what the list had,
 // and says whether the desk takes it.
 fn take_texts(
     alloc: Global,
-    around: &Around<'_, '_>,
+    context: &PriceContext<'_, '_>,
     owned: &Owned,
     area: &Area<'_>,
     depth: usize,
@@ -546,18 +546,18 @@ fn take_texts(
         → area_view area.now ≡ area_in nodes → AreRenamed owned.now.renamed (area_view area.now)
         → owned.now.first ≡ day_field (right_days nodes).first
         → owned.now.last ≡ day_field (right_days nodes).last → IfOk result (λ is. is ≡ true
-        → fields.new ≡ codes "Price" ∷ price_fields (around_view around.now) nodes) }
+        → fields.new ≡ codes "Price" ∷ price_fields (context_view context.now) nodes) }
     ensures taken { (nodes : Nodes) → line_views lines.now ≡ outline depth nodes
         → area_view area.now ≡ area_in nodes → AreRenamed owned.now.renamed (area_view area.now)
         → owned.now.first ≡ day_field (right_days nodes).first
         → owned.now.last ≡ day_field (right_days nodes).last → IfOk result (λ is. is
-        ≡ is_some (said (price_of around.now.opening.now)
-        (price_fields (around_view around.now) nodes))) }
+        ≡ is_some (parsed (price_of context.now.opening.now)
+        (price_fields (context_view context.now) nodes))) }
 {
-    let minimum = or_text(own_minimum(depth, lines), around.minimum);
+    let minimum = or_text(own_minimum(depth, lines), context.minimum);
     take_price(
         alloc,
-        around.opening,
+        context.opening,
         fields,
         &eight_texts(owned, area, depth, lines),
         minimum,
@@ -568,7 +568,7 @@ fn take_texts(
 // desk would not take it.
 fn write_price<'a>(
     alloc: Global,
-    around: &Around<'_, '_>,
+    context: &PriceContext<'_, '_>,
     depth: usize,
     lines: &'a [Line],
     area: &Area<'a>,
@@ -578,27 +578,29 @@ fn write_price<'a>(
 ) -> Result<Option<Reason<'a>>, AllocError>
     ensures reason { (nodes : Nodes) → line_views lines.now ≡ outline depth nodes
         → area_view area.now ≡ area_in nodes → days ≡ right_days nodes
-        → IfOk result (λ why. reason_read why ≡ refusal (around_view around.now) nodes) }
+        → IfOk result (λ reason. reason_read reason
+        ≡ record_reason (context_view context.now) nodes) }
     ensures record { (nodes : Nodes) → line_views lines.now ≡ outline depth nodes
         → area_view area.now ≡ area_in nodes → days ≡ right_days nodes
         → OnOk result (records.new ≡ records.old ++ outcome_records
-        (outcome_of (refusal (around_view around.now) nodes) (around_view around.now) nodes)) }
+        (outcome_of (record_reason (context_view context.now) nodes)
+        (context_view context.now) nodes)) }
 {
     let owned = owned_texts(alloc, area, days)?;
-    let is_taken = take_texts(alloc, around, &owned, area, depth, lines, fields)?;
+    let is_taken = take_texts(alloc, context, &owned, area, depth, lines, fields)?;
     if is_taken {
         records.push(&fields.as_record())?;
         return Ok(None);
     }
-    let field = field_reason(alloc, around.opening, area, &owned.renamed, depth, lines)?;
-    Ok(Some(or_refused(field)))
+    let field = field_reason(alloc, context.opening, area, &owned.renamed, depth, lines)?;
+    Ok(Some(or_price(field)))
 }
 
 // Adds what comes of a Price that is none other than the desk knows, or gives the reason for which
 // the desk would not take it.
 fn add_known<'a>(
     alloc: Global,
-    around: &Around<'_, '_>,
+    context: &PriceContext<'_, '_>,
     depth: usize,
     lines: &'a [Line],
     area: &Area<'a>,
@@ -609,28 +611,31 @@ fn add_known<'a>(
 ) -> Result<Option<Reason<'a>>, AllocError>
     ensures reason { (nodes : Nodes) → line_views lines.now ≡ outline depth nodes
         → area_view area.now ≡ area_in nodes → days ≡ right_days nodes
-        → IfOk result (λ why. reason_read why ≡ refusal (around_view around.now) nodes) }
+        → IfOk result (λ reason. reason_read reason
+        ≡ record_reason (context_view context.now) nodes) }
     ensures records { (nodes : Nodes) → line_views lines.now ≡ outline depth nodes
         → area_view area.now ≡ area_in nodes → days ≡ right_days nodes
         → OnOk result (records.new ≡ records.old ++ outcome_records
-        (outcome_of (refusal (around_view around.now) nodes) (around_view around.now) nodes)) }
+        (outcome_of (record_reason (context_view context.now) nodes)
+        (context_view context.now) nodes)) }
     ensures notes { (nodes : Nodes) → line_views lines.now ≡ outline depth nodes
         → area_view area.now ≡ area_in nodes → days ≡ right_days nodes
         → OnOk result (note_views notes.new.items ≡ note_views notes.old.items ++ notes_below
-        (outcome_of (refusal (around_view around.now) nodes) (around_view around.now) nodes)) }
+        (outcome_of (record_reason (context_view context.now) nodes)
+        (context_view context.now) nodes)) }
 {
-    let refused = write_price(alloc, around, depth, lines, area, days, fields, records)?;
-    if refused.is_none() {
+    let left_out = write_price(alloc, context, depth, lines, area, days, fields, records)?;
+    if left_out.is_none() {
         push_territory_notes(notes, area)?;
         push_discounts(notes, depth, lines)?;
     }
-    Ok(refused)
+    Ok(left_out)
 }
 
 // Adds what comes of a Price that is something: its record, or the reason for which it is left out.
 fn add_priced<'a>(
     alloc: Global,
-    around: &Around<'_, '_>,
+    context: &PriceContext<'_, '_>,
     depth: usize,
     lines: &'a [Line],
     fields: &mut FieldBuffer,
@@ -639,23 +644,23 @@ fn add_priced<'a>(
 ) -> Result<Option<Reason<'a>>, AllocError>
     requires { depth < 1000 }
     ensures reason { (nodes : Nodes) → line_views lines.now ≡ outline depth nodes
-        → IfOk result (λ why. reason_read why
-        ≡ first_some (reasons_against (around_view around.now) nodes)) }
+        → IfOk result (λ reason. reason_read reason
+        ≡ first_some (price_reasons (context_view context.now) nodes)) }
     ensures records { (nodes : Nodes) → line_views lines.now ≡ outline depth nodes
         → OnOk result (records.new ≡ records.old ++ outcome_records (outcome_of
-        (first_some (reasons_against (around_view around.now) nodes))
-        (around_view around.now) nodes)) }
+        (first_some (price_reasons (context_view context.now) nodes))
+        (context_view context.now) nodes)) }
     ensures notes { (nodes : Nodes) → line_views lines.now ≡ outline depth nodes
         → OnOk result (note_views notes.new.items ≡ note_views notes.old.items ++ notes_below
-        (outcome_of (first_some (reasons_against (around_view around.now) nodes))
-        (around_view around.now) nodes)) }
+        (outcome_of (first_some (price_reasons (context_view context.now) nodes))
+        (context_view context.now) nodes)) }
 {
     let area = area_in(depth, lines);
     let dated = days_in(depth, lines);
     match early_reason(&area, wrong_date(&dated), depth, lines) {
         None => add_known(
             alloc,
-            around,
+            context,
             depth,
             lines,
             &area,
@@ -672,7 +677,7 @@ fn add_priced<'a>(
 /// list takes the fields of the record.
 pub(crate) fn add_price<'a>(
     alloc: Global,
-    around: &Around<'_, '_>,
+    context: &PriceContext<'_, '_>,
     depth: usize,
     price: Composite<'a>,
     fields: &mut FieldBuffer,
@@ -681,14 +686,14 @@ pub(crate) fn add_price<'a>(
 ) -> Result<(), AllocError>
     requires { depth < 1000 }
     ensures records { (c : Told) → Tells price.entry depth c → OnOk result (records.new
-        ≡ records.old ++ outcome_records (price_outcome (around_view around.now) c.below)) }
+        ≡ records.old ++ outcome_records (price_outcome (context_view context.now) c.below)) }
     ensures notes { (c : Told) → Tells price.entry depth c
         → OnOk result (note_views notes.new.items ≡ note_views notes.old.items
-        ++ outcome_notes c.element (price_outcome (around_view around.now) c.below)) }
+        ++ outcome_notes c.element (price_outcome (context_view context.now) c.below)) }
 {
-    if is_nothing(around, depth, price.below) {
+    if is_nothing(context, depth, price.below) {
         return Ok(());
     }
-    let refused = add_priced(alloc, around, depth, price.below, fields, records, notes)?;
-    push_reason(notes, price.line, refused)
+    let left_out = add_priced(alloc, context, depth, price.below, fields, records, notes)?;
+    push_reason(notes, price.line, left_out)
 }

@@ -6,7 +6,7 @@ ghost use Rattle.onix_mapping.specs.Elements.{Composite as Told, Tells, element_
 ghost use Rattle.onix_mapping.specs.Notes.{note, note_views};
 ghost use Rattle.onix_mapping.specs.Outcomes.{all_notes, all_records};
 ghost use Rattle.onix_mapping.specs.PriceViews.{reason_read};
-ghost use Rattle.onix_mapping.specs.ProductRecords.{fate_of, ignored_reason, is_followed, isbn_reason, notes_behind, product_notes, product_records, standing_fate, standing_records, supplies_in, too_large_notes, why_emptied, written_notes};
+ghost use Rattle.onix_mapping.specs.ProductRecords.{fate_of, ignored_reason, is_followed, isbn_reason, notes_behind, product_notes, product_records, fate_by, records_by, supplies_in, too_large_notes, why_emptied, written_notes};
 ghost use Rattle.onix_mapping.specs.Supplies.{supplies_reason, supply_in};
 ghost use Rattle.std.specs.Option.{option_map_or};
 ghost use Rattle.onix_mapping.specs.Products.{bare_record, emptied_record, has_isbn, dropping, notification_in, own_reason, product_record, right_pairs};
@@ -15,7 +15,7 @@ ghost use Rattle.onix_outline.specs.Outline.{outline};
 ghost use Rattle.onix_outline.specs.Views.{line_views};
 
 use crate::elements::Composite;
-use crate::notes::{Foreign, Note, Reason, Why, Wrong, push_note, push_reason};
+use crate::notes::{Foreign, Note, Reason, ReasonKind, Wrong, push_note, push_reason};
 use crate::products::{
     Identifiers, dropping, fill_product, is_deletion, notification_in, own_reason, reference_in,
     take_identifiers,
@@ -24,8 +24,8 @@ use crate::records::is_field;
 use crate::supplies::add_supplies;
 use csv_records::buffer::RecordBuffer;
 use csv_records::fields::FieldBuffer;
-use onix_message::row::Opening;
 use onix_outline::Line;
+use onix_records::row::Opening;
 use std::alloc::{AllocError, Global};
 
 /// What becomes of a Product.
@@ -58,7 +58,7 @@ fn isbn_reason(is_found: bool, depth: usize, lines: &[Line]) -> Option<Reason<'s
         None
     } else {
         Some(Reason {
-            why: Why::Foreign(Foreign::NoIsbn),
+            kind: ReasonKind::Foreign(Foreign::NoIsbn),
             text: b"",
         })
     }
@@ -74,7 +74,7 @@ fn ignored_reason<'a>(depth: usize, lines: &'a [Line]) -> Option<Reason<'a>>
         None
     } else {
         Some(Reason {
-            why: Why::Foreign(Foreign::Ignored),
+            kind: ReasonKind::Foreign(Foreign::Ignored),
             text: notification,
         })
     }
@@ -145,7 +145,7 @@ fn add_below<'a>(
 ) -> Result<Option<Reason<'a>>, AllocError>
     requires { depth < 997 }
     ensures reason { (nodes : Nodes) → line_views lines.now ≡ outline depth nodes
-        → IfOk result (λ why. reason_read why
+        → IfOk result (λ reason. reason_read reason
         ≡ supplies_reason opening.now preferred.now (supplies_in nodes)) }
     ensures records { (nodes : Nodes) → line_views lines.now ≡ outline depth nodes
         → OnOk result (records.new ≡ records.old
@@ -176,11 +176,11 @@ fn add_sound<'a>(
 ) -> Result<Fate, AllocError>
     requires { depth < 997 }
     ensures fate { (c : Told) → Tells product.entry depth c
-        → IfOk result (λ f. f ≡ standing_fate
+        → IfOk result (λ f. f ≡ fate_by
         (supplies_reason opening.now preferred.now (supplies_in c.below))) }
     ensures records { (c : Told) → Tells product.entry depth c
         → identifiers.now.pairs ≡ right_pairs c.below
-        → OnOk result (records.new ≡ records.old ++ standing_records opening.now preferred.now
+        → OnOk result (records.new ≡ records.old ++ records_by opening.now preferred.now
         (supplies_reason opening.now preferred.now (supplies_in c.below)) c.below) }
     ensures notes { (c : Told) → Tells product.entry depth c
         → identifiers.now.has_isbn ≡ has_isbn c.below
@@ -221,10 +221,10 @@ fn add_standing<'a>(
     requires { depth < 997 }
     ensures fate { (c : Told) → Tells product.entry depth c
         → identifiers.now.pairs ≡ right_pairs c.below → IfOk result (λ f. f
-        ≡ standing_fate (why_emptied opening.now preferred.now c.below)) }
+        ≡ fate_by (why_emptied opening.now preferred.now c.below)) }
     ensures records { (c : Told) → Tells product.entry depth c
         → identifiers.now.pairs ≡ right_pairs c.below
-        → OnOk result (records.new ≡ records.old ++ standing_records opening.now preferred.now
+        → OnOk result (records.new ≡ records.old ++ records_by opening.now preferred.now
         (why_emptied opening.now preferred.now c.below) c.below) }
     ensures notes { (c : Told) → Tells product.entry depth c
         → identifiers.now.pairs ≡ right_pairs c.below
@@ -279,9 +279,9 @@ pub fn add_product<'a>(
 {
     let reference = reference_in(depth, product.below);
     if !is_field(reference) {
-        let why = Why::Wrong(Wrong::RecordReference);
+        let kind = ReasonKind::Wrong(Wrong::RecordReference);
         let text = reference;
-        push_note(notes, product.line, Reason { why, text })?;
+        push_note(notes, product.line, Reason { kind, text })?;
         return Ok(Fate::LeftOut);
     }
     let identifiers = take_identifiers(alloc, depth, product.below, notes)?;
@@ -317,8 +317,8 @@ pub fn add_large<'a>(
 {
     let identifiers = take_identifiers(alloc, depth, product.below, notes)?;
     add_emptied(&identifiers.pairs, depth, product.below, fields, records)?;
-    let why = Why::Wrong(Wrong::TooLarge);
-    push_note(notes, product.line, Reason { why, text: b"" })
+    let kind = ReasonKind::Wrong(Wrong::TooLarge);
+    push_note(notes, product.line, Reason { kind, text: b"" })
 }
 
 /// Adds the record of a Product that is too large even without supplies: its reference stands for

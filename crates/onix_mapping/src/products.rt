@@ -1,6 +1,6 @@
 //! A Product by itself: its reference, its NotificationType and its identifiers.
 
-ghost use Rattle.std.specs.Prelude.{◌≡◌, ◌++◌, ◌<◌, ◌||◌, ℕ, List, IfOk, OnOk, map, option_map};
+ghost use Rattle.std.specs.Prelude.{◌≡◌, ◌++◌, ◌<◌, ◌||◌, ℕ, List, IfOk, OnOk, Some, map, option_map};
 ghost use Rattle.std.specs.Char.{is_ascii_digit};
 ghost use Rattle.std.specs.List.{list_all};
 ghost use Rattle.std.specs.Str.{chars};
@@ -9,7 +9,7 @@ ghost use Rattle.onix_mapping.specs.Notes.{note_views};
 ghost use Rattle.onix_mapping.specs.PriceViews.{reason_read};
 ghost use Rattle.std.specs.Prelude.{[], not};
 ghost use Rattle.onix_mapping.specs.Products.{MayBe, are_some, digit_byte, dropping, has_isbn, has_strange_identifier, identifier_note, identifier_notes, is_blank, is_deletion, is_gtin_type, is_hyphen, is_isbn, is_strange, is_thirteen, notification_in, or_reference, own_reasons, pair_reason, product_record, reference_in, right_pair, right_pairs, thirteen_of, without_marks, written_value};
-ghost use Rattle.onix_mapping.specs.Records.{first_some, term_said, unless, unread};
+ghost use Rattle.onix_mapping.specs.Records.{first_some, option_filter, parsed_term, unless, invalid};
 ghost use Rattle.onix_mapping.specs.declared.notes.Wrong.TheVariants as bad;
 ghost use Rattle.onix_terms.specs.Code.{code2_of};
 ghost use Rattle.std.specs.Prelude.{◌&&◌, codes};
@@ -22,7 +22,7 @@ ghost use Rattle.onix_outline.specs.Views.{line_views};
 
 use crate::elements::{Composite, next_composite, text_or_empty};
 use crate::notes::{Note, Reason, Wrong, push_note};
-use crate::records::{code_said, former, is_field, push_texts, unless, utf8_text};
+use crate::records::{former, is_field, parsed_code, push_texts, unless, utf8_text};
 use csv_records::fields::FieldBuffer;
 use onix_outline::{Line, first_node, has_stranger};
 use onix_terms::ascii::are_digits;
@@ -161,11 +161,33 @@ fn or_value<'b>(digits: &'b Option<Vec<u8>>, value: &'b [u8]) -> &'b [u8]
     }
 }
 
+/// The thirteen digits of an identifier of this type and value as it is written, where it has them.
+pub fn thirteen_written(
+    alloc: Global,
+    id_type: &[u8],
+    value: &[u8],
+) -> Result<Option<Vec<u8>>, AllocError>
+    ensures { IfOk result (λ d. option_map (λ v. v.items) d
+        ≡ option_filter is_thirteen (Some (written_value id_type.now value.now))) }
+{
+    let digits = digits_of(alloc, id_type, value)?;
+    let written = or_value(&digits, value);
+    if is_thirteen(written) {
+        Ok(Some(Vec::from_slice(alloc, written)?))
+    } else {
+        Ok(None)
+    }
+}
+
 // Why the desk would not take an identifier.
 fn pair_reason<'a>(id_type: &'a [u8], written: &[u8], stands: &'a [u8]) -> Option<Reason<'a>>
     ensures { reason_read result ≡ pair_reason id_type.now written.now stands.now }
 {
-    let typed = unless(code_said(id_type).is_some(), Wrong::IdentifierType, id_type);
+    let typed = unless(
+        parsed_code(id_type).is_some(),
+        Wrong::IdentifierType,
+        id_type,
+    );
     let valued = unless(is_field(written), Wrong::IdentifierValue, stands);
     former(typed, former(valued, None))
 }
@@ -264,7 +286,7 @@ fn push_or_reference(
 }
 
 /// Puts the record of a Product of this NotificationType, with these types and values, in place of
-/// what the list held. Its texts are UTF-8.
+/// what the list had. Its texts are UTF-8.
 pub(crate) fn fill_product(
     notification: &[u8],
     pairs: &FieldBuffer,
@@ -285,7 +307,7 @@ pub(crate) fn fill_product(
 pub(crate) fn dropping<'a>(notification: &'a [u8]) -> &'a [u8]
     ensures { result.now ≡ dropping notification.now }
 {
-    if code_said(notification).is_none() || notification == b"04".as_slice() {
+    if parsed_code(notification).is_none() || notification == b"04".as_slice() {
         b"03"
     } else {
         notification
@@ -334,10 +356,10 @@ fn is_strange(depth: usize, lines: &[Line]) -> bool
 fn notification_reason<'a>(depth: usize, lines: &'a [Line]) -> Option<Reason<'a>>
     ensures { (nodes : Nodes) → line_views lines.now ≡ outline depth nodes
         → reason_read result
-        ≡ unread (term_said code2_of) bad.NotificationType (notification_in nodes) }
+        ≡ invalid (parsed_term code2_of) bad.NotificationType (notification_in nodes) }
 {
     let text = notification_in(depth, lines);
-    unless(code_said(text).is_some(), Wrong::NotificationType, text)
+    unless(parsed_code(text).is_some(), Wrong::NotificationType, text)
 }
 
 // That no identifier is left.

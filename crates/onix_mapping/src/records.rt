@@ -4,23 +4,23 @@ ghost use Rattle.std.specs.Prelude.{◌≡◌, ◌==◌, ◌++◌, IfNone, IfSom
 ghost use Rattle.std.specs.List.{list_all};
 ghost use Rattle.std.specs.Option.{option_or};
 ghost use Rattle.std.specs.Str.{is_utf8};
-ghost use Rattle.onix_message.specs.Fields.{is_clean, is_control, value_or_default, unless_empty};
+ghost use Rattle.onix_records.specs.Fields.{is_clean, is_control, value_or_default, unless_empty};
 ghost use Rattle.onix_mapping.specs.Notes.{reason_view};
 ghost use Rattle.onix_mapping.specs.PriceViews.{reason_read};
-ghost use Rattle.onix_mapping.specs.Records.{is_field, term_said, unless};
+ghost use Rattle.onix_mapping.specs.Records.{is_field, parsed_term, unless};
 ghost use Rattle.onix_terms.specs.Amount.{amount_of};
 ghost use Rattle.onix_terms.specs.Code.{code2_of, currency_of};
 ghost use Rattle.onix_terms.specs.Quantity.{quantity_of};
 
-use crate::notes::{Reason, Why, Wrong};
+use crate::notes::{Reason, ReasonKind, Wrong};
 use csv_records::fields::FieldBuffer;
-use onix_message::row::RowFault;
+use onix_records::row::RowFault;
 use onix_terms::amount::Amount;
 use onix_terms::code::{Code2, Currency};
 use onix_terms::quantity::Quantity;
 
 /// The text of bytes, where they are UTF-8.
-pub(crate) fn utf8_text(bytes: &[u8]) -> Option<&str>
+pub fn utf8_text(bytes: &[u8]) -> Option<&str>
     ensures text { IfSome result (λ t. t.now ≡ bytes.now) }
     ensures utf8 { IfSome result (λ t. is_utf8 bytes.now ≡ true) }
     ensures none { IfNone result (is_utf8 bytes.now ≡ false) }
@@ -31,26 +31,26 @@ pub(crate) fn utf8_text(bytes: &[u8]) -> Option<&str>
     }
 }
 
-pub(crate) fn code_said(text: &[u8]) -> Option<Code2>
-    ensures { result ≡ term_said code2_of text.now }
+pub(crate) fn parsed_code(text: &[u8]) -> Option<Code2>
+    ensures { result ≡ parsed_term code2_of text.now }
 {
     utf8_text(text)?.parse().ok()
 }
 
-pub(crate) fn amount_said(text: &[u8]) -> Option<Amount>
-    ensures { result ≡ term_said amount_of text.now }
+pub(crate) fn parsed_amount(text: &[u8]) -> Option<Amount>
+    ensures { result ≡ parsed_term amount_of text.now }
 {
     utf8_text(text)?.parse().ok()
 }
 
-pub(crate) fn currency_said(text: &[u8]) -> Option<Currency>
-    ensures { result ≡ term_said currency_of text.now }
+pub(crate) fn parsed_currency(text: &[u8]) -> Option<Currency>
+    ensures { result ≡ parsed_term currency_of text.now }
 {
     utf8_text(text)?.parse().ok()
 }
 
-pub(crate) fn quantity_said(text: &[u8]) -> Option<Quantity>
-    ensures { result ≡ term_said quantity_of text.now }
+pub(crate) fn parsed_quantity(text: &[u8]) -> Option<Quantity>
+    ensures { result ≡ parsed_term quantity_of text.now }
 {
     utf8_text(text)?.parse().ok()
 }
@@ -106,14 +106,14 @@ pub(crate) fn push_texts(fields: &mut FieldBuffer, texts: &[&[u8]]) -> Result<()
 }
 
 /// A reason where something does not hold.
-pub(crate) fn unless<'a>(holds: bool, why: Wrong, text: &'a [u8]) -> Option<Reason<'a>>
-    ensures { reason_read result ≡ unless holds why text.now }
+pub(crate) fn unless<'a>(holds: bool, kind: Wrong, text: &'a [u8]) -> Option<Reason<'a>>
+    ensures { reason_read result ≡ unless holds kind text.now }
 {
     if holds {
         None
     } else {
         Some(Reason {
-            why: Why::Wrong(why),
+            kind: ReasonKind::Wrong(kind),
             text,
         })
     }

@@ -10,7 +10,7 @@ ghost use Rattle.onix_mapping.specs.declared.notes.Foreign.TheVariants.{CountryN
 ghost use Rattle.onix_terms.specs.Territory.{words_of};
 ghost use Rattle.onix_mapping.specs.Regions.{first_space, front_to, is_capital_or_digit, is_part_of_country, is_world, names_world, other_regions, region_of_no_country, rest_from, IsNextWord};
 
-use crate::notes::{Foreign, Note, Reason, Why};
+use crate::notes::{Foreign, Note, Reason, ReasonKind};
 use onix_outline::Line;
 use std::alloc::{AllocError, Global};
 
@@ -110,11 +110,11 @@ pub(crate) fn region_of_no_country(text: &[u8]) -> Option<&[u8]>
 pub(crate) fn push_regions<'a>(
     notes: &mut Vec<Note<'a>>,
     line: &'a Line,
-    why: Foreign,
+    kind: Foreign,
     text: &'a [u8],
 ) -> Result<(), AllocError>
     ensures { OnOk result (note_views notes.new.items ≡ note_views notes.old.items
-        ++ word_notes (element_view line.now) why (other_regions text.now)) }
+        ++ word_notes (element_view line.now) kind (other_regions text.now)) }
 {
     let mut rest = text;
     while let Some((region, behind)) = next_word(rest) {
@@ -122,7 +122,7 @@ pub(crate) fn push_regions<'a>(
             notes.push(Note {
                 line,
                 reason: Reason {
-                    why: Why::Foreign(why),
+                    kind: ReasonKind::Foreign(kind),
                     text: region,
                 },
             })?;
@@ -154,7 +154,7 @@ pub(crate) fn push_other_names<'a>(
             notes.push(Note {
                 line,
                 reason: Reason {
-                    why: Why::Foreign(Foreign::CountryName),
+                    kind: ReasonKind::Foreign(Foreign::CountryName),
                     text: country,
                 },
             })?;

@@ -16,12 +16,12 @@ ghost use Rattle.onix_outline.specs.Views.{line_views};
 use crate::details::add_detail;
 use crate::elements::{Composite, next_composite};
 use crate::markets::add_markets;
-use crate::notes::{Foreign, Note, Reason, Why, Wrong, push_note, push_reason};
+use crate::notes::{Foreign, Note, Reason, ReasonKind, Wrong, push_note, push_reason};
 use crate::records::former;
 use csv_records::buffer::RecordBuffer;
 use csv_records::fields::FieldBuffer;
-use onix_message::row::Opening;
 use onix_outline::Line;
+use onix_records::row::Opening;
 use std::alloc::{AllocError, Global};
 
 // Adds what comes of a SupplyDetail: its records, and notes on what is left out.
@@ -42,7 +42,7 @@ fn add_one_detail<'a>(
         → OnOk result (note_views notes.new.items ≡ note_views notes.old.items
         ++ outcome_notes c.element (detail_in opening.now preferred.now c)) }
 {
-    let refused = add_detail(
+    let left_out = add_detail(
         alloc,
         opening,
         preferred,
@@ -52,7 +52,7 @@ fn add_one_detail<'a>(
         records,
         notes,
     )?;
-    push_reason(notes, detail.line, refused)
+    push_reason(notes, detail.line, left_out)
 }
 
 // Adds what comes of the SupplyDetails that lines of this depth tell.
@@ -95,7 +95,7 @@ fn no_detail() -> Reason<'static>
     ensures { reason_view result ≡ foreign other.NoSupplyDetail [] }
 {
     Reason {
-        why: Why::Foreign(Foreign::NoSupplyDetail),
+        kind: ReasonKind::Foreign(Foreign::NoSupplyDetail),
         text: b"",
     }
 }
@@ -104,7 +104,7 @@ fn no_detail_left() -> Reason<'static>
     ensures { reason_view result ≡ wrong bad.NoDetailLeft [] }
 {
     Reason {
-        why: Why::Wrong(Wrong::NoDetailLeft),
+        kind: ReasonKind::Wrong(Wrong::NoDetailLeft),
         text: b"",
     }
 }
@@ -123,13 +123,13 @@ fn add_detailed<'a>(
 ) -> Result<Option<Reason<'a>>, AllocError>
     requires { depth < 998 }
     ensures reason { (nodes : Nodes) → line_views lines.now ≡ outline depth nodes
-        → IfOk result (λ why. reason_read why
+        → IfOk result (λ reason. reason_read reason
         ≡ outcome_reason (detailed_outcome opening.now preferred.now nodes)) }
     ensures records { (nodes : Nodes) → line_views lines.now ≡ outline depth nodes
         → OnOk result (records.new ≡ records.old
         ++ outcome_records (detailed_outcome opening.now preferred.now nodes)) }
     ensures notes { (nodes : Nodes) → line_views lines.now ≡ outline depth nodes
-        → IfOk result (λ why. why ≡ None → note_views notes.new.items
+        → IfOk result (λ kind. kind ≡ None → note_views notes.new.items
         ≡ note_views notes.old.items
         ++ notes_below (detailed_outcome opening.now preferred.now nodes)) }
 {
@@ -162,13 +162,13 @@ fn add_supply<'a>(
 ) -> Result<Option<Reason<'a>>, AllocError>
     requires { depth < 998 }
     ensures reason { (nodes : Nodes) → line_views lines.now ≡ outline depth nodes
-        → IfOk result (λ why. reason_read why
+        → IfOk result (λ reason. reason_read reason
         ≡ outcome_reason (supply_outcome opening.now preferred.now nodes)) }
     ensures records { (nodes : Nodes) → line_views lines.now ≡ outline depth nodes
         → OnOk result (records.new ≡ records.old
         ++ outcome_records (supply_outcome opening.now preferred.now nodes)) }
     ensures notes { (nodes : Nodes) → line_views lines.now ≡ outline depth nodes
-        → IfOk result (λ why. why ≡ None → note_views notes.new.items
+        → IfOk result (λ kind. kind ≡ None → note_views notes.new.items
         ≡ note_views notes.old.items
         ++ notes_below (supply_outcome opening.now preferred.now nodes)) }
 {
@@ -184,16 +184,16 @@ fn add_supply<'a>(
 fn push_outcome<'a>(
     notes: &mut Vec<Note<'a>>,
     line: &'a Line,
-    refused: Option<Reason<'a>>,
+    left_out: Option<Reason<'a>>,
     below: &Vec<Note<'a>>,
 ) -> Result<(), AllocError>
     ensures { (element : Element) (outcome : Outcome) → element_view line.now ≡ element
-        → reason_read refused.entry ≡ outcome_reason outcome
-        → (refused.entry ≡ None → note_views below.now.items ≡ notes_below outcome)
+        → reason_read left_out.entry ≡ outcome_reason outcome
+        → (left_out.entry ≡ None → note_views below.now.items ≡ notes_below outcome)
         → OnOk result (note_views notes.new.items
         ≡ note_views notes.old.items ++ outcome_notes element outcome) }
 {
-    match refused {
+    match left_out {
         None => notes.extend_from_slice(below),
         Some(reason) => push_note(notes, line, reason),
     }
@@ -212,7 +212,8 @@ fn add_one_supply<'a>(
     notes: &mut Vec<Note<'a>>,
 ) -> Result<Option<Reason<'a>>, AllocError>
     requires { depth < 998 }
-    ensures reason { (c : Told) → Tells supply.entry depth c → IfOk result (λ why. reason_read why
+    ensures reason { (c : Told) → Tells supply.entry depth c
+        → IfOk result (λ reason. reason_read reason
         ≡ outcome_reason (supply_in opening.now preferred.now c)) }
     ensures records { (c : Told) → Tells supply.entry depth c → OnOk result (records.new
         ≡ records.old ++ outcome_records (supply_in opening.now preferred.now c)) }
@@ -221,7 +222,7 @@ fn add_one_supply<'a>(
         ++ outcome_notes c.element (supply_in opening.now preferred.now c)) }
 {
     let mut below: Vec<Note<'a>> = Vec::new(alloc);
-    let refused = add_supply(
+    let left_out = add_supply(
         alloc,
         opening,
         preferred,
@@ -231,18 +232,19 @@ fn add_one_supply<'a>(
         records,
         &mut below,
     )?;
-    push_outcome(notes, supply.line, refused, &below)?;
-    Ok(refused)
+    push_outcome(notes, supply.line, left_out, &below)?;
+    Ok(left_out)
 }
 
 // The reason for which a ProductSupply that has a SupplyDetail is left out.
-fn lost_by<'a>(refused: Option<Reason<'a>>) -> Option<Reason<'a>>
-    ensures { reason_read result ≡ option_filter (λ r. is_lost r.why) (reason_read refused.entry) }
+fn lost_by<'a>(left_out: Option<Reason<'a>>) -> Option<Reason<'a>>
+    ensures { reason_read result
+        ≡ option_filter (λ r. is_lost r.kind) (reason_read left_out.entry) }
 {
-    match refused {
+    match left_out {
         None => None,
-        Some(reason) => match reason.why {
-            Why::Foreign(Foreign::NoSupplyDetail) => None,
+        Some(reason) => match reason.kind {
+            ReasonKind::Foreign(Foreign::NoSupplyDetail) => None,
             _ => Some(reason),
         },
     }
@@ -262,7 +264,7 @@ fn add_each<'a>(
 ) -> Result<Option<Reason<'a>>, AllocError>
     requires { depth < 997 }
     ensures lost { (nodes : Nodes) → line_views lines.now ≡ outline depth nodes
-        → IfOk result (λ why. reason_read why ≡ first_lost opening.now preferred.now
+        → IfOk result (λ reason. reason_read reason ≡ first_lost opening.now preferred.now
         (composites (codes "ProductSupply") nodes)) }
     ensures records { (nodes : Nodes) → line_views lines.now ≡ outline depth nodes
         → OnOk result (records.new ≡ records.old ++ all_records
@@ -274,7 +276,7 @@ fn add_each<'a>(
     let mut lost = None;
     let mut rest = lines;
     while let Some((supply, behind)) = next_composite(b"ProductSupply", depth, rest) {
-        let refused = add_one_supply(
+        let left_out = add_one_supply(
             alloc,
             opening,
             preferred,
@@ -284,7 +286,7 @@ fn add_each<'a>(
             records,
             notes,
         )?;
-        lost = former(lost, lost_by(refused));
+        lost = former(lost, lost_by(left_out));
         rest = behind;
     }
     Ok(lost)
@@ -294,12 +296,12 @@ fn add_each<'a>(
 fn none_left(first: Reason<'_>) -> Reason<'static>
     ensures { reason_view result ≡ none_left (reason_view first.entry) }
 {
-    let why = if first.why.is_wrong() {
-        Why::Wrong(Wrong::NoSupplyLeft)
+    let kind = if first.kind.is_wrong() {
+        ReasonKind::Wrong(Wrong::NoSupplyLeft)
     } else {
-        Why::Foreign(Foreign::NoSupplyLeft)
+        ReasonKind::Foreign(Foreign::NoSupplyLeft)
     };
-    Reason { why, text: b"" }
+    Reason { kind, text: b"" }
 }
 
 /// Adds the records of all the ProductSupplys that lines of this depth tell, in a message that
@@ -318,7 +320,7 @@ pub(crate) fn add_supplies<'a>(
 ) -> Result<Option<Reason<'a>>, AllocError>
     requires { depth < 997 }
     ensures reason { (nodes : Nodes) → line_views lines.now ≡ outline depth nodes
-        → IfOk result (λ why. reason_read why ≡ supplies_reason opening.now preferred.now
+        → IfOk result (λ reason. reason_read reason ≡ supplies_reason opening.now preferred.now
         (composites (codes "ProductSupply") nodes)) }
     ensures records { (nodes : Nodes) → line_views lines.now ≡ outline depth nodes
         → OnOk result (records.new ≡ records.old ++ all_records

@@ -5,12 +5,12 @@ ghost use Rattle.std.specs.Option.{unwrap_or};
 ghost use Rattle.onix_mapping.specs.Markets.{IsFilled, supply_record, union_fields};
 ghost use Rattle.onix_mapping.specs.Notes.{note_views, reason_view, wrong};
 ghost use Rattle.onix_mapping.specs.PriceViews.{reason_read};
-ghost use Rattle.onix_mapping.specs.Records.{clean, first_some, term_said};
-ghost use Rattle.onix_mapping.specs.Territories.{AreRenamed, area_fields, area_in, area_reasons, area_refusal, area_view, market_of, region_alone, territory_notes, unheld};
+ghost use Rattle.onix_mapping.specs.Records.{clean, first_some, parsed_term};
+ghost use Rattle.onix_mapping.specs.Territories.{AreRenamed, area_fields, area_in, area_reasons, area_reason, area_view, market_of, region_alone, territory_notes, unsupported};
 ghost use Rattle.onix_mapping.specs.declared.notes.Wrong.TheVariants as bad;
-ghost use Rattle.onix_message.specs.Fields.{territory_fields};
-ghost use Rattle.onix_message.specs.Gives.{Gives};
-ghost use Rattle.onix_message.specs.Supply.{supply_of};
+ghost use Rattle.onix_records.specs.Fields.{territory_fields};
+ghost use Rattle.onix_records.specs.Gives.{Gives};
+ghost use Rattle.onix_records.specs.Supply.{supply_of};
 ghost use Rattle.onix_outline.specs.Nodes.{Nodes};
 ghost use Rattle.onix_outline.specs.Outline.{outline};
 ghost use Rattle.onix_outline.specs.Views.{line_views};
@@ -18,18 +18,18 @@ ghost use Rattle.onix_mapping.specs.Regions.{names_world};
 ghost use Rattle.onix_terms.specs.Territory.{countries_of, world_text};
 
 use crate::elements::{first_composite, text_or_empty};
-use crate::notes::{Foreign, Note, Reason, Why, Wrong};
+use crate::notes::{Foreign, Note, Reason, ReasonKind, Wrong};
 use crate::records::{former, push_texts, unless, utf8_text};
 use crate::regions::{
     countries_written, names_world, next_word, push_other_names, push_regions,
     region_of_no_country, renamed,
 };
 use csv_records::fields::FieldBuffer;
-use onix_message::fields::read_fields;
-use onix_message::parts::ProductSupply;
-use onix_message::row::RowFault;
-use onix_message::supply::read_supply;
 use onix_outline::Line;
+use onix_records::fields::read_fields;
+use onix_records::parts::ProductSupply;
+use onix_records::row::RowFault;
+use onix_records::supply::read_supply;
 use onix_terms::countries::{countries_text, read_countries};
 use onix_terms::territory::{TermFault, Territory};
 use std::alloc::{AllocError, Global};
@@ -83,19 +83,19 @@ fn region_alone<'a>(area: &Area<'a>) -> Option<&'a [u8]>
     }
 }
 
-/// Why the desk cannot hold a territory, whatever is left out of it.
-pub fn unheld<'a>(area: &Area<'a>) -> Option<Reason<'a>>
-    ensures { reason_read result ≡ unheld (area_view area.now) }
+/// Why the desk does not support a territory, whatever is left out of it.
+pub fn unsupported<'a>(area: &Area<'a>) -> Option<Reason<'a>>
+    ensures { reason_read result ≡ unsupported (area_view area.now) }
 {
     if let Some(text) = region_alone(area) {
         return Some(Reason {
-            why: Why::Foreign(Foreign::RegionAlone),
+            kind: ReasonKind::Foreign(Foreign::RegionAlone),
             text,
         });
     }
     match region_of_no_country(area.regions_excluded) {
         Some(text) => Some(Reason {
-            why: Why::Foreign(Foreign::RegionOfNoCountry),
+            kind: ReasonKind::Foreign(Foreign::RegionOfNoCountry),
             text,
         }),
         None => None,
@@ -138,7 +138,7 @@ pub(crate) fn area_fields<'b>(area: &'b Area<'_>, renamed: &'b Renamed) -> [&'b 
     [included, world, excluded]
 }
 
-/// Adds the notes on a territory that the desk can hold.
+/// Adds the notes on a territory that the desk supports.
 pub(crate) fn push_territory_notes<'a>(
     notes: &mut Vec<Note<'a>>,
     area: &Area<'a>,
@@ -180,7 +180,7 @@ pub(crate) fn read_market(
 }
 
 fn are_countries(alloc: Global, text: &[u8]) -> Result<bool, AllocError>
-    ensures { IfOk result (λ is. is ≡ is_some (term_said countries_of text.now)) }
+    ensures { IfOk result (λ is. is ≡ is_some (parsed_term countries_of text.now)) }
 {
     let Some(text) = utf8_text(text) else {
         return Ok(false);
@@ -194,12 +194,12 @@ fn are_countries(alloc: Global, text: &[u8]) -> Result<bool, AllocError>
 
 /// The first of the texts of a territory that is no countries, or that the desk would not take it
 /// for another reason.
-pub(crate) fn area_reason<'a>(
+pub(crate) fn countries_reason<'a>(
     alloc: Global,
     area: &Area<'a>,
     renamed: &Renamed,
 ) -> Result<Reason<'a>, AllocError>
-    ensures { AreRenamed renamed.now (area_view area.now) → IfOk result (λ why. reason_view why
+    ensures { AreRenamed renamed.now (area_view area.now) → IfOk result (λ kind. reason_view kind
         ≡ unwrap_or (first_some (area_reasons (area_view area.now))) (wrong bad.Territory [])) }
 {
     let included = unless(
@@ -215,24 +215,24 @@ pub(crate) fn area_reason<'a>(
     match former(included, excluded) {
         Some(reason) => Ok(reason),
         None => Ok(Reason {
-            why: Why::Wrong(Wrong::Territory),
+            kind: ReasonKind::Wrong(Wrong::Territory),
             text: b"",
         }),
     }
 }
 
 /// Why the desk would not take a territory, where it would not.
-pub(crate) fn area_refusal<'a>(
+pub(crate) fn area_reason<'a>(
     alloc: Global,
     area: &Area<'a>,
     renamed: &Renamed,
 ) -> Result<Option<Reason<'a>>, AllocError>
     ensures { AreRenamed renamed.now (area_view area.now)
-        → IfOk result (λ why. reason_read why ≡ area_refusal (area_view area.now)) }
+        → IfOk result (λ reason. reason_read reason ≡ area_reason (area_view area.now)) }
 {
     match read_market(alloc, area, renamed) {
         Ok(_) => Ok(None),
-        Err(RowFault::Wrong) => Ok(Some(area_reason(alloc, area, renamed)?)),
+        Err(RowFault::Wrong) => Ok(Some(countries_reason(alloc, area, renamed)?)),
         Err(RowFault::Memory) => Err(AllocError),
     }
 }

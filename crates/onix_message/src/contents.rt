@@ -4,22 +4,22 @@ ghost use Rattle.std.specs.Prelude.{◌≡◌, [], IfOk, IsErrOf, List, OnOk};
 ghost use Rattle.std.specs.Str.{bytes_eq};
 ghost use Rattle.std.specs.String.{string_bytes};
 ghost use Rattle.csv_records.specs.RecordTexts.{records_of};
-ghost use Rattle.onix_message.specs.ContentsText.{IsContents, contents_text, framed};
-ghost use Rattle.onix_message.specs.Grammar.{IsMessage};
-ghost use Rattle.onix_message.specs.Product.{content_records};
-ghost use Rattle.onix_message.specs.declared.parts.Header.{Header};
-ghost use Rattle.onix_message.specs.declared.parts.Product.{Product};
+ghost use Rattle.onix_records.specs.ContentsText.{IsContents, contents_text, framed};
+ghost use Rattle.onix_records.specs.Grammar.{IsMessage};
+ghost use Rattle.onix_records.specs.Product.{content_records};
+ghost use Rattle.onix_records.specs.declared.parts.Header.{Header};
+ghost use Rattle.onix_records.specs.declared.parts.Product.{Product};
 
-use crate::laws::equal_contents;
 use crate::message::{MessageFault, read_message};
-use crate::parts::Product;
-use crate::product::append_product;
 use csv_records::buffer::RecordBuffer;
 use csv_records::fields::FieldBuffer;
 use csv_records::laws::one_text;
 use csv_records::reading::{RecordReader, append_records};
 use csv_records::writing::write_records;
 use itoa::Buffer;
+use onix_records::laws::equal_contents;
+use onix_records::parts::Product;
+use onix_records::product::append_product;
 use onix_terms::items::Items;
 use std::alloc::{AllocError, Global};
 use std::marker::Model;
@@ -46,7 +46,7 @@ impl From<AllocError> for ContentsFault {
     }
 }
 
-#[tactic(auto, unfolding(crate::specs::Product::content_records))]
+#[tactic(auto, unfolding(onix_records::specs::Product::content_records))]
 fn records_of_contents(alloc: Global, products: &[Product]) -> Result<RecordBuffer, AllocError>
     ensures { IfOk result (λ records. records ≡ content_records products.now) }
 {
@@ -67,7 +67,7 @@ fn records_of_contents(alloc: Global, products: &[Product]) -> Result<RecordBuff
 
 /// The contents text: one record for each part, in order, with each value written in its one
 /// way. Fails only where memory runs out.
-#[tactic(auto, unfolding(crate::specs::ContentsText::contents_text))]
+#[tactic(auto, unfolding(onix_records::specs::ContentsText::contents_text))]
 pub fn write_contents(alloc: Global, contents: &Contents) -> Result<String, AllocError>
     ensures { IfOk result (λ text. string_bytes text ≡ contents_text contents.now) }
 {
@@ -77,7 +77,7 @@ pub fn write_contents(alloc: Global, contents: &Contents) -> Result<String, Allo
 
 // Puts the records of a text between a Message record without defaults and the right end, into a
 // borrowed buffer, so that no early return drops it.
-#[tactic(auto, unfolding(crate::specs::ContentsText::framed))]
+#[tactic(auto, unfolding(onix_records::specs::ContentsText::framed))]
 fn frame(alloc: Global, whole: &mut RecordBuffer, text: &str) -> Result<(), AllocError>
     ensures { whole.old ≡ [] → OnOk result (whole.new ≡ framed (records_of text.now)) }
 {
@@ -156,8 +156,8 @@ pub struct Contents {
 
 impl Model for Contents {
     ghost use Rattle.std.specs.Prelude.{List};
-    ghost use Rattle.onix_message.specs.ContentsText.{IsContents};
-    ghost use Rattle.onix_message.specs.declared.parts.Product.{Product};
+    ghost use Rattle.onix_records.specs.ContentsText.{IsContents};
+    ghost use Rattle.onix_records.specs.declared.parts.Product.{Product};
 
     ghost Value = { List Product };
 
@@ -168,10 +168,10 @@ impl Model for Contents {
 
 impl Contents {
     ghost use Rattle.std.specs.Prelude.{◌≡◌, ◌≤◌, ◌↔◌, All, IsTrue, length};
-    ghost use Rattle.onix_message.specs.ContentsText.{IsContents};
-    ghost use Rattle.onix_message.specs.DetailCount.{detail_count};
-    ghost use Rattle.onix_message.specs.PartRows.{content_rows};
-    ghost use Rattle.onix_message.specs.SameContents.{same_contents};
+    ghost use Rattle.onix_records.specs.ContentsText.{IsContents};
+    ghost use Rattle.onix_records.specs.DetailCount.{detail_count};
+    ghost use Rattle.onix_records.specs.PartRows.{content_rows};
+    ghost use Rattle.onix_records.specs.SameContents.{same_contents};
 
     // The contents of a message that was read.
     pub(crate) fn from_products(products: Items<Product>) -> Contents
@@ -199,7 +199,7 @@ impl Contents {
         self.products.as_slice()
     }
 
-    #[tactic(auto, unfolding(crate::specs::SameContents::same_contents))]
+    #[tactic(auto, unfolding(onix_records::specs::SameContents::same_contents))]
     fn has_same_products(&self, other: &Contents) -> bool
         ensures { result ≡ same_contents self.now other.now }
     {

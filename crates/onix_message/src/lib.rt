@@ -1,41 +1,18 @@
-//! ONIX messages as CSV: what each record says, read of its fields and written as such, the message
-//! that records are, and the one text of contents. It stands on `csv_records` for records and on
-//! `onix_terms` for the values of fields.
+//! Messages and contents: a message is read from its records, and contents are written as their
+//! one text, read from it and compared. It stands on `onix_records` for what records say and which
+//! of them are a message, and hands that on.
 //!
-//! `parts` has what a message is made of. `specs/Row.antt` says what row a record is, and a file
-//! for each thing (`Opening`, `Product`, `Supply`, `Detail`, `Price`) what its fields say and how
-//! it is written. `specs/Grammar.antt` says which records are a message, over
-//! `specs/PartRows.antt`, which rows contents have. `specs/Message.antt` computes the same, and
-//! `laws` ties both. `specs/ContentsText.antt` has the text of contents. `specs/private/` is what
-//! private functions say to one another.
-//!
-//! The records that a message is made of, `Record`, and their reading, `read_records`, are handed on.
-//!
-//! What every desk shares is here too: `agreements` has what a shop and a wholesaler agreed,
-//! `effects` what the products of a message did, and `faults` why a store could not answer.
+//! `specs/Faults.antt` says why a message is not read. `articles` says which identifiers name an
+//! article.
 #![tactic(auto)]
 
-pub mod agreements;
+pub mod articles;
 pub mod contents;
-pub mod detail;
-mod draft;
-pub mod effects;
-pub mod faults;
-pub mod fields;
-pub mod laws;
 pub mod message;
-pub mod opening;
-pub mod parts;
-mod plain;
-pub mod price;
-pub mod product;
-pub mod row;
-mod step;
-pub mod supply;
-pub mod term;
 
-pub use agreements::Agreement;
 pub use csv_records::reading::read_records;
 pub use csv_records::record::Record;
-pub use effects::Effect;
-pub use faults::StoreFault;
+pub use onix_records::{
+    Agreement, Effect, StoreFault, agreements, detail, effects, faults, fields, laws, opening,
+    parts, price, product, row, supply, term,
+};

@@ -1,22 +1,22 @@
 //! Messages: a header and contents, read from records.
 
 ghost use Rattle.std.specs.Prelude.{◌≡◌, ◌∷◌, IfOk, IfErr, Some, true, false};
-ghost use Rattle.onix_message.specs.private.Draft.{has_ended};
-ghost use Rattle.onix_message.specs.ContentsText.{IsContents};
-ghost use Rattle.onix_message.specs.Grammar.{IsMessage};
-ghost use Rattle.onix_message.specs.Message.{Explains};
-ghost use Rattle.onix_message.specs.Opening.{opening_of};
+ghost use Rattle.onix_records.specs.Draft.{has_ended};
+ghost use Rattle.onix_records.specs.ContentsText.{IsContents};
+ghost use Rattle.onix_records.specs.Grammar.{IsMessage};
+ghost use Rattle.onix_message.specs.Faults.{Explains};
+ghost use Rattle.onix_records.specs.Opening.{opening_of};
 ghost use Rattle.onix_message.specs.declared.message.MessageFault.TheVariants.{Malformed};
 
 use crate::contents::Contents;
-use crate::draft::{Draft, Part, StepFault};
-use crate::laws::contents_of_messages;
-use crate::opening::read_opening;
-use crate::parts::Header;
-use crate::row::{Opening, RowFault};
-use crate::step::read_next;
 use csv_records::record::Record;
 use csv_records::records::Records;
+use onix_records::draft::{Draft, Part, StepFault};
+use onix_records::laws::contents_of_messages;
+use onix_records::opening::read_opening;
+use onix_records::parts::Header;
+use onix_records::row::{Opening, RowFault};
+use onix_records::step::read_next;
 use onix_terms::items::Items;
 use std::alloc::Global;
 use thiserror::Error;

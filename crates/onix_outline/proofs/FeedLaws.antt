@@ -6,6 +6,7 @@ use Rattle.std.proofs.lemmas.Bool.{and_parts}
 use Rattle.std.proofs.lemmas.List.Concat.{flat_map-cons}
 use Rattle.std.proofs.lemmas.List.Folds.{list_all-append}
 use Rattle.std.proofs.lemmas.List.Sums.{fold-append}
+use Rattle.onix_outline.specs.Names.{Word}
 use Rattle.xml_text.specs.declared.position.Position.{Position}
 use Rattle.xml_text.specs.Grammar.{Token, raw, reference, cdata, comment, instruction, declaration, doctype, start, empty, end, spelling}
 use Rattle.xml_text.specs.Positions.{first_position, next_position, position_after, position_past}
@@ -66,67 +67,67 @@ pub part_ends : {T : Type 0} (after : T → List Line → T) (t : T) (d : Dialec
     → settled after (feeding t (Some (Ok d)) (growing lines [] 0) true p) (growing lines [] 0) ≡ inside_at (handed after t lines) d [] [] 0 p
 part_ends after t d lines p e = rw e refl
 
-root_leaf : {T : Type 0} (after : T → List Line → T) (t : T) (d : Dialect) (rest : Content) (o : Option (List ℕ)) (tag : Tag) (b : List Binding) (p q : Position)
-    → first_large (with_node o tag [] no_nodes (nodes_in d [] q rest)) ≡ None
-    → ((u : T) → first_large (nodes_in d [] q rest) ≡ None → fold (feed after) (inside_at u d [] [] 0 q) (tokens_of rest) ≡ inside_at (fold after u (parts_of (nodes_in d [] q rest))) d [] [] 0 (position_past q (tokens_of rest)))
+root_leaf : (vocabulary : List Word) {T : Type 0} (after : T → List Line → T) (t : T) (d : Dialect) (rest : Content) (o : Option (List ℕ)) (tag : Tag) (b : List Binding) (p q : Position)
+    → first_large (with_node o tag [] no_nodes (nodes_in vocabulary d [] q rest)) ≡ None
+    → ((u : T) → first_large (nodes_in vocabulary d [] q rest) ≡ None → fold (feed vocabulary after) (inside_at u d [] [] 0 q) (tokens_of rest) ≡ inside_at (fold after u (parts_of (nodes_in vocabulary d [] q rest))) d [] [] 0 (position_past q (tokens_of rest)))
     → (bytes : List ℕ) → position_after p bytes ≡ q
-    → fold (feed after) (moved bytes (let g = opened 0 o tag b no_lines in settled after (feeding t (Some (Ok d)) g true p) (closed g.passed g))) (tokens_of rest)
-    ≡ inside_at (fold after t (parts_of (with_node o tag [] no_nodes (nodes_in d [] q rest)))) d [] [] 0 (position_past q (tokens_of rest))
-root_leaf after t d rest None tag b p q small later bytes is = ap (λ r. fold (feed after) (inside_at t d [] [] 0 r) (tokens_of rest)) is ∙ later t small
-root_leaf after t d rest (Some name) tag b p q small later bytes is =
-    let parts = are_small name tag [] no_nodes (nodes_in d [] q rest) small in
-    ap (λ f. fold (feed after) (moved bytes f) (tokens_of rest)) (part_ends after t d (part name tag [] no_nodes) p parts.first)
-    ∙ ap (λ r. fold (feed after) (inside_at (handed after t (part name tag [] no_nodes)) d [] [] 0 r) (tokens_of rest)) is
+    → fold (feed vocabulary after) (moved bytes (let g = opened 0 o tag b no_lines in settled after (feeding t (Some (Ok d)) g true p) (closed g.passed g))) (tokens_of rest)
+    ≡ inside_at (fold after t (parts_of (with_node o tag [] no_nodes (nodes_in vocabulary d [] q rest)))) d [] [] 0 (position_past q (tokens_of rest))
+root_leaf vocabulary after t d rest None tag b p q small later bytes is = ap (λ r. fold (feed vocabulary after) (inside_at t d [] [] 0 r) (tokens_of rest)) is ∙ later t small
+root_leaf vocabulary after t d rest (Some name) tag b p q small later bytes is =
+    let parts = are_small name tag [] no_nodes (nodes_in vocabulary d [] q rest) small in
+    ap (λ f. fold (feed vocabulary after) (moved bytes f) (tokens_of rest)) (part_ends after t d (part name tag [] no_nodes) p parts.first)
+    ∙ ap (λ r. fold (feed vocabulary after) (inside_at (handed after t (part name tag [] no_nodes)) d [] [] 0 r) (tokens_of rest)) is
     ∙ later (handed after t (part name tag [] no_nodes)) parts.others
-    ∙ ap (λ u. inside_at u d [] [] 0 (position_past q (tokens_of rest))) (handed_first after t name tag [] no_nodes (nodes_in d [] q rest))
+    ∙ ap (λ u. inside_at u d [] [] 0 (position_past q (tokens_of rest))) (handed_first after t name tag [] no_nodes (nodes_in vocabulary d [] q rest))
 
-root_element : {T : Type 0} (after : T → List Line → T) (t : T) (d : Dialect) (name : List ℕ) (inside : Content) (closing : List ℕ) (rest : Content) (o : Option (List ℕ)) (tag : Tag) (b : List Binding) (p : Position) → IsClean inside
-    → first_large (with_node o tag (collapsed (direct_text inside)) (nodes_in d (within o b []) p inside) (nodes_in d [] (place_behind p inside name closing) rest)) ≡ None
-    → ((u : T) → first_large (nodes_in d [] (place_behind p inside name closing) rest) ≡ None → fold (feed after) (inside_at u d [] [] 0 (place_behind p inside name closing)) (tokens_of rest)
-    ≡ inside_at (fold after u (parts_of (nodes_in d [] (place_behind p inside name closing) rest))) d [] [] 0 (position_past (place_behind p inside name closing) (tokens_of rest)))
-    → fold (feed after) (feeding t (Some (Ok d)) (opened 0 o tag b no_lines) true p) (tokens_of inside ++ end name closing ∷ tokens_of rest)
-    ≡ inside_at (fold after t (parts_of (with_node o tag (collapsed (direct_text inside)) (nodes_in d (within o b []) p inside) (nodes_in d [] (place_behind p inside name closing) rest)))) d [] [] 0
+root_element : (vocabulary : List Word) {T : Type 0} (after : T → List Line → T) (t : T) (d : Dialect) (name : List ℕ) (inside : Content) (closing : List ℕ) (rest : Content) (o : Option (List ℕ)) (tag : Tag) (b : List Binding) (p : Position) → IsClean inside
+    → first_large (with_node o tag (collapsed (direct_text inside)) (nodes_in vocabulary d (within o b []) p inside) (nodes_in vocabulary d [] (place_behind p inside name closing) rest)) ≡ None
+    → ((u : T) → first_large (nodes_in vocabulary d [] (place_behind p inside name closing) rest) ≡ None → fold (feed vocabulary after) (inside_at u d [] [] 0 (place_behind p inside name closing)) (tokens_of rest)
+    ≡ inside_at (fold after u (parts_of (nodes_in vocabulary d [] (place_behind p inside name closing) rest))) d [] [] 0 (position_past (place_behind p inside name closing) (tokens_of rest)))
+    → fold (feed vocabulary after) (feeding t (Some (Ok d)) (opened 0 o tag b no_lines) true p) (tokens_of inside ++ end name closing ∷ tokens_of rest)
+    ≡ inside_at (fold after t (parts_of (with_node o tag (collapsed (direct_text inside)) (nodes_in vocabulary d (within o b []) p inside) (nodes_in vocabulary d [] (place_behind p inside name closing) rest)))) d [] [] 0
     (position_past p (tokens_of inside ++ end name closing ∷ tokens_of rest))
-root_element after t d name inside closing rest None tag b p h small later =
+root_element vocabulary after t d name inside closing rest None tag b p h small later =
     let behind = place_behind p inside name closing in
-    fold-append (feed after) (inside_at t d [] [] 1 p) (tokens_of inside) (end name closing ∷ tokens_of rest)
-    ∙ ap (λ f. fold (feed after) f (end name closing ∷ tokens_of rest)) (passes after t d [] [] 0 p inside h)
+    fold-append (feed vocabulary after) (inside_at t d [] [] 1 p) (tokens_of inside) (end name closing ∷ tokens_of rest)
+    ∙ ap (λ f. fold (feed vocabulary after) f (end name closing ∷ tokens_of rest)) (passes vocabulary after t d [] [] 0 p inside h)
     ∙ later t small
-    ∙ ap (λ q. inside_at (fold after t (parts_of (nodes_in d [] behind rest))) d [] [] 0 q) (sym (past-append p (tokens_of inside) (end name closing ∷ tokens_of rest)))
-root_element after t d name inside closing rest (Some m) tag b p h small later =
+    ∙ ap (λ q. inside_at (fold after t (parts_of (nodes_in vocabulary d [] behind rest))) d [] [] 0 q) (sym (past-append p (tokens_of inside) (end name closing ∷ tokens_of rest)))
+root_element vocabulary after t d name inside closing rest (Some m) tag b p h small later =
     let behind = place_behind p inside name closing in
-    let below = nodes_in d (scope m b ∷ []) p inside in
-    let others = nodes_in d [] behind rest in
+    let below = nodes_in vocabulary d (scope m b ∷ []) p inside in
+    let others = nodes_in vocabulary d [] behind rest in
     let text = collapsed (direct_text inside) in
     let parts = are_small m tag text below others small in
     let q = position_past p (tokens_of inside) in
-    fold-append (feed after) (inside_at t d (line 0 m tag [] ∷ []) (open_at 0 false (scope m b) ∷ []) 0 p) (tokens_of inside) (end name closing ∷ tokens_of rest)
-    ∙ ap (λ f. fold (feed after) f (end name closing ∷ tokens_of rest)) (root_inside after t d m tag b p inside h)
-    ∙ ap (λ f. fold (feed after) (moved (spelling (end name closing)) f) (tokens_of rest)) (part_ends after t d (part m tag text below) q parts.first)
+    fold-append (feed vocabulary after) (inside_at t d (line 0 m tag [] ∷ []) (open_at 0 false (scope m b) ∷ []) 0 p) (tokens_of inside) (end name closing ∷ tokens_of rest)
+    ∙ ap (λ f. fold (feed vocabulary after) f (end name closing ∷ tokens_of rest)) (root_inside vocabulary after t d m tag b p inside h)
+    ∙ ap (λ f. fold (feed vocabulary after) (moved (spelling (end name closing)) f) (tokens_of rest)) (part_ends after t d (part m tag text below) q parts.first)
     ∙ later (handed after t (part m tag text below)) parts.others
     ∙ ap (λ u. inside_at u d [] [] 0 (position_past behind (tokens_of rest))) (handed_first after t m tag text below others)
     ∙ ap (λ r. inside_at (fold after t (parts_of (node m tag text below others))) d [] [] 0 r) (sym (past-append p (tokens_of inside) (end name closing ∷ tokens_of rest)))
 
-pub root_feeds : {T : Type 0} (after : T → List Line → T) (t : T) (d : Dialect) (p : Position) (c : Content) → IsClean c → first_large (nodes_in d [] p c) ≡ None
-    → fold (feed after) (inside_at t d [] [] 0 p) (tokens_of c) ≡ inside_at (fold after t (parts_of (nodes_in d [] p c))) d [] [] 0 (position_past p (tokens_of c))
-root_feeds after t d p nothing h small = refl
-root_feeds after t d p (leaf (raw b) rest) h small = root_feeds after t d (position_after p (spelling (raw b))) rest h.2 small
-root_feeds after t d p (leaf (reference body) rest) h small =
-    ap (λ b. fold (feed after) (moved (spelling (reference body)) (feeding t (Some (Ok d)) no_lines (b && true) p)) (tokens_of rest)) h.1
-    ∙ root_feeds after t d (position_after p (spelling (reference body))) rest h.2 small
-root_feeds after t d p (leaf (cdata body) rest) h small = root_feeds after t d (position_after p (spelling (cdata body))) rest h.2 small
-root_feeds after t d p (leaf (comment body) rest) h small = root_feeds after t d (position_after p (spelling (comment body))) rest h.2 small
-root_feeds after t d p (leaf (instruction body) rest) h small = root_feeds after t d (position_after p (spelling (instruction body))) rest h.2 small
-root_feeds after t d p (leaf (declaration body) rest) h small = absurd h.0
-root_feeds after t d p (leaf (doctype body) rest) h small = absurd h.0
-root_feeds after t d p (leaf (start name attributes space) rest) h small = absurd h.0
-root_feeds after t d p (leaf (end name space) rest) h small = absurd h.0
-root_feeds after t d p (leaf (empty name attributes space) rest) h small =
+pub root_feeds : (vocabulary : List Word) {T : Type 0} (after : T → List Line → T) (t : T) (d : Dialect) (p : Position) (c : Content) → IsClean c → first_large (nodes_in vocabulary d [] p c) ≡ None
+    → fold (feed vocabulary after) (inside_at t d [] [] 0 p) (tokens_of c) ≡ inside_at (fold after t (parts_of (nodes_in vocabulary d [] p c))) d [] [] 0 (position_past p (tokens_of c))
+root_feeds vocabulary after t d p nothing h small = refl
+root_feeds vocabulary after t d p (leaf (raw b) rest) h small = root_feeds vocabulary after t d (position_after p (spelling (raw b))) rest h.2 small
+root_feeds vocabulary after t d p (leaf (reference body) rest) h small =
+    ap (λ b. fold (feed vocabulary after) (moved (spelling (reference body)) (feeding t (Some (Ok d)) no_lines (b && true) p)) (tokens_of rest)) h.1
+    ∙ root_feeds vocabulary after t d (position_after p (spelling (reference body))) rest h.2 small
+root_feeds vocabulary after t d p (leaf (cdata body) rest) h small = root_feeds vocabulary after t d (position_after p (spelling (cdata body))) rest h.2 small
+root_feeds vocabulary after t d p (leaf (comment body) rest) h small = root_feeds vocabulary after t d (position_after p (spelling (comment body))) rest h.2 small
+root_feeds vocabulary after t d p (leaf (instruction body) rest) h small = root_feeds vocabulary after t d (position_after p (spelling (instruction body))) rest h.2 small
+root_feeds vocabulary after t d p (leaf (declaration body) rest) h small = absurd h.0
+root_feeds vocabulary after t d p (leaf (doctype body) rest) h small = absurd h.0
+root_feeds vocabulary after t d p (leaf (start name attributes space) rest) h small = absurd h.0
+root_feeds vocabulary after t d p (leaf (end name space) rest) h small = absurd h.0
+root_feeds vocabulary after t d p (leaf (empty name attributes space) rest) h small =
     let q = position_after p (spelling (empty name attributes space)) in
-    root_leaf after t d rest (counted d [] name (bindings_of attributes)) (tag_of p attributes) (bindings_of attributes) p q small (λ u none. root_feeds after u d q rest h.2 none) (spelling (empty name attributes space)) refl
-root_feeds after t d p (element name attributes space inside closing rest) h small =
+    root_leaf vocabulary after t d rest (counted vocabulary d [] name (bindings_of attributes)) (tag_of p attributes) (bindings_of attributes) p q small (λ u none. root_feeds vocabulary after u d q rest h.2 none) (spelling (empty name attributes space)) refl
+root_feeds vocabulary after t d p (element name attributes space inside closing rest) h small =
     let q = content_place p name attributes space in
-    root_element after t d name inside closing rest (counted d [] name (bindings_of attributes)) (tag_of p attributes) (bindings_of attributes) q h.0 small (λ u none. root_feeds after u d (place_behind q inside name closing) rest h.1 none)
+    root_element vocabulary after t d name inside closing rest (counted vocabulary d [] name (bindings_of attributes)) (tag_of p attributes) (bindings_of attributes) q h.0 small (λ u none. root_feeds vocabulary after u d (place_behind q inside name closing) rest h.1 none)
 
 -- ---- around the root
 
@@ -181,39 +182,39 @@ quiet_prolog (start name attributes space ∷ tokens) h = absurd h.0
 quiet_prolog (empty name attributes space ∷ tokens) h = absurd h.0
 quiet_prolog (end name space ∷ tokens) h = absurd h.0
 
-quiet_before : {T : Type 0} (after : T → List Line → T) (t : T) (p : Position) (token : Token) → IsQuiet token → feed after (feed_from t p) token ≡ feed_from t (position_after p (spelling token))
-quiet_before after t p (raw b) h = refl
-quiet_before after t p (comment body) h = refl
-quiet_before after t p (instruction body) h = refl
-quiet_before after t p (declaration body) h = refl
-quiet_before after t p (doctype body) h = refl
-quiet_before after t p (reference body) h = absurd h
-quiet_before after t p (cdata body) h = absurd h
-quiet_before after t p (start name attributes space) h = absurd h
-quiet_before after t p (empty name attributes space) h = absurd h
-quiet_before after t p (end name space) h = absurd h
+quiet_before : (vocabulary : List Word) {T : Type 0} (after : T → List Line → T) (t : T) (p : Position) (token : Token) → IsQuiet token → feed vocabulary after (feed_from t p) token ≡ feed_from t (position_after p (spelling token))
+quiet_before vocabulary after t p (raw b) h = refl
+quiet_before vocabulary after t p (comment body) h = refl
+quiet_before vocabulary after t p (instruction body) h = refl
+quiet_before vocabulary after t p (declaration body) h = refl
+quiet_before vocabulary after t p (doctype body) h = refl
+quiet_before vocabulary after t p (reference body) h = absurd h
+quiet_before vocabulary after t p (cdata body) h = absurd h
+quiet_before vocabulary after t p (start name attributes space) h = absurd h
+quiet_before vocabulary after t p (empty name attributes space) h = absurd h
+quiet_before vocabulary after t p (end name space) h = absurd h
 
-pub misc_before : {T : Type 0} (after : T → List Line → T) (t : T) (p : Position) (tokens : List Token) → AllByRecursion IsQuiet tokens → fold (feed after) (feed_from t p) tokens ≡ feed_from t (position_past p tokens)
-misc_before after t p [] h = refl
-misc_before after t p (token ∷ tokens) h = ap (λ f. fold (feed after) f tokens) (quiet_before after t p token h.0) ∙ misc_before after t (position_after p (spelling token)) tokens h.1
+pub misc_before : (vocabulary : List Word) {T : Type 0} (after : T → List Line → T) (t : T) (p : Position) (tokens : List Token) → AllByRecursion IsQuiet tokens → fold (feed vocabulary after) (feed_from t p) tokens ≡ feed_from t (position_past p tokens)
+misc_before vocabulary after t p [] h = refl
+misc_before vocabulary after t p (token ∷ tokens) h = ap (λ f. fold (feed vocabulary after) f tokens) (quiet_before vocabulary after t p token h.0) ∙ misc_before vocabulary after t (position_after p (spelling token)) tokens h.1
 
-quiet_behind : {T : Type 0} (after : T → List Line → T) (t : T) (d : Dialect) (p : Position) (token : Token) → IsQuiet token
-    → feed after (inside_at t d [] [] 0 p) token ≡ inside_at t d [] [] 0 (position_after p (spelling token))
-quiet_behind after t d p (raw b) h = refl
-quiet_behind after t d p (comment body) h = refl
-quiet_behind after t d p (instruction body) h = refl
-quiet_behind after t d p (declaration body) h = refl
-quiet_behind after t d p (doctype body) h = refl
-quiet_behind after t d p (reference body) h = absurd h
-quiet_behind after t d p (cdata body) h = absurd h
-quiet_behind after t d p (start name attributes space) h = absurd h
-quiet_behind after t d p (empty name attributes space) h = absurd h
-quiet_behind after t d p (end name space) h = absurd h
+quiet_behind : (vocabulary : List Word) {T : Type 0} (after : T → List Line → T) (t : T) (d : Dialect) (p : Position) (token : Token) → IsQuiet token
+    → feed vocabulary after (inside_at t d [] [] 0 p) token ≡ inside_at t d [] [] 0 (position_after p (spelling token))
+quiet_behind vocabulary after t d p (raw b) h = refl
+quiet_behind vocabulary after t d p (comment body) h = refl
+quiet_behind vocabulary after t d p (instruction body) h = refl
+quiet_behind vocabulary after t d p (declaration body) h = refl
+quiet_behind vocabulary after t d p (doctype body) h = refl
+quiet_behind vocabulary after t d p (reference body) h = absurd h
+quiet_behind vocabulary after t d p (cdata body) h = absurd h
+quiet_behind vocabulary after t d p (start name attributes space) h = absurd h
+quiet_behind vocabulary after t d p (empty name attributes space) h = absurd h
+quiet_behind vocabulary after t d p (end name space) h = absurd h
 
-misc_behind : {T : Type 0} (after : T → List Line → T) (t : T) (d : Dialect) (p : Position) (tokens : List Token) → AllByRecursion IsQuiet tokens
-    → fold (feed after) (inside_at t d [] [] 0 p) tokens ≡ inside_at t d [] [] 0 (position_past p tokens)
-misc_behind after t d p [] h = refl
-misc_behind after t d p (token ∷ tokens) h = ap (λ f. fold (feed after) f tokens) (quiet_behind after t d p token h.0) ∙ misc_behind after t d (position_after p (spelling token)) tokens h.1
+misc_behind : (vocabulary : List Word) {T : Type 0} (after : T → List Line → T) (t : T) (d : Dialect) (p : Position) (tokens : List Token) → AllByRecursion IsQuiet tokens
+    → fold (feed vocabulary after) (inside_at t d [] [] 0 p) tokens ≡ inside_at t d [] [] 0 (position_past p tokens)
+misc_behind vocabulary after t d p [] h = refl
+misc_behind vocabulary after t d p (token ∷ tokens) h = ap (λ f. fold (feed vocabulary after) f tokens) (quiet_behind vocabulary after t d p token h.0) ∙ misc_behind vocabulary after t d (position_after p (spelling token)) tokens h.1
 
 quiet_root : (token : Token) (tokens : List Token) → IsQuiet token → root_of (token ∷ tokens) ≡ root_of tokens
 quiet_root (raw b) tokens h = refl
@@ -249,57 +250,57 @@ misc_place p (token ∷ before) tokens h = quiet_place p token (before ++ tokens
 
 -- ---- a document
 
-started_root : {T : Type 0} (after : T → List Line → T) (t : T) (d : Dialect) (name closing : List ℕ) (inside : Content) (behind : List Token) (p : Position)
-    → IsClean inside → first_large (nodes_in d [] p inside) ≡ None → AllByRecursion IsQuiet behind
-    → fold (feed after) (inside_at t d [] [] 0 p) ((tokens_of inside ++ end name closing ∷ []) ++ behind)
-    ≡ inside_at (fold after t (parts_of (nodes_in d [] p inside))) d [] [] 0 (position_past p ((tokens_of inside ++ end name closing ∷ []) ++ behind))
-started_root after t d name closing inside behind p h small m =
+started_root : (vocabulary : List Word) {T : Type 0} (after : T → List Line → T) (t : T) (d : Dialect) (name closing : List ℕ) (inside : Content) (behind : List Token) (p : Position)
+    → IsClean inside → first_large (nodes_in vocabulary d [] p inside) ≡ None → AllByRecursion IsQuiet behind
+    → fold (feed vocabulary after) (inside_at t d [] [] 0 p) ((tokens_of inside ++ end name closing ∷ []) ++ behind)
+    ≡ inside_at (fold after t (parts_of (nodes_in vocabulary d [] p inside))) d [] [] 0 (position_past p ((tokens_of inside ++ end name closing ∷ []) ++ behind))
+started_root vocabulary after t d name closing inside behind p h small m =
     let split : (tokens_of inside ++ end name closing ∷ []) ++ behind ≡ tokens_of inside ++ (end name closing ∷ behind) = append_assoc (tokens_of inside) (end name closing ∷ []) behind in
-    let taken = fold after t (parts_of (nodes_in d [] p inside)) in
-    ap (fold (feed after) (inside_at t d [] [] 0 p)) split
-    ∙ fold-append (feed after) (inside_at t d [] [] 0 p) (tokens_of inside) (end name closing ∷ behind)
-    ∙ ap (λ f. fold (feed after) f (end name closing ∷ behind)) (root_feeds after t d p inside h small)
-    ∙ misc_behind after taken d (place_behind p inside name closing) behind m
+    let taken = fold after t (parts_of (nodes_in vocabulary d [] p inside)) in
+    ap (fold (feed vocabulary after) (inside_at t d [] [] 0 p)) split
+    ∙ fold-append (feed vocabulary after) (inside_at t d [] [] 0 p) (tokens_of inside) (end name closing ∷ behind)
+    ∙ ap (λ f. fold (feed vocabulary after) f (end name closing ∷ behind)) (root_feeds vocabulary after t d p inside h small)
+    ∙ misc_behind vocabulary after taken d (place_behind p inside name closing) behind m
     ∙ ap (λ q. inside_at taken d [] [] 0 q) (sym (past-append p (tokens_of inside) (end name closing ∷ behind)))
     ∙ ap (λ ts. inside_at taken d [] [] 0 (position_past p ts)) (sym split)
 
-root_at : {T : Type 0} (after : T → List Line → T) (t : T) (d : Dialect) (root behind : List Token) (name : List ℕ) (inside : Content) (p : Position) → IsRoot root name inside → HasLeaves inside → AllByRecursion IsQuiet behind
-    → root_of (root ++ behind) ≡ Some (Ok d) → list_all is_known (root ++ behind) ≡ true → first_large (nodes_in d [] (root_place p (root ++ behind)) inside) ≡ None
-    → fold (feed after) (feed_from t p) (root ++ behind)
-    ≡ inside_at (fold after t (parts_of (nodes_in d [] (root_place p (root ++ behind)) inside))) d [] [] 0 (position_past p (root ++ behind))
-root_at after t d [] behind name inside p r h m e k small = absurd r
-root_at after t d (start n attributes space ∷ tokens) behind name inside p r h m e k small =
+root_at : (vocabulary : List Word) {T : Type 0} (after : T → List Line → T) (t : T) (d : Dialect) (root behind : List Token) (name : List ℕ) (inside : Content) (p : Position) → IsRoot root name inside → HasLeaves inside → AllByRecursion IsQuiet behind
+    → root_of (root ++ behind) ≡ Some (Ok d) → list_all is_known (root ++ behind) ≡ true → first_large (nodes_in vocabulary d [] (root_place p (root ++ behind)) inside) ≡ None
+    → fold (feed vocabulary after) (feed_from t p) (root ++ behind)
+    ≡ inside_at (fold after t (parts_of (nodes_in vocabulary d [] (root_place p (root ++ behind)) inside))) d [] [] 0 (position_past p (root ++ behind))
+root_at vocabulary after t d [] behind name inside p r h m e k small = absurd r
+root_at vocabulary after t d (start n attributes space ∷ tokens) behind name inside p r h m e k small =
     let q = position_after p (spelling (start n attributes space)) in
     let bytes = spelling (start n attributes space) in
     let all = (and_parts (list_all is_known tokens) (list_all is_known behind) (sym (list_all-append is_known tokens behind) ∙ k)).0 in
     let known = (and_parts (list_all is_known (tokens_of inside)) (list_all is_known (end name r.1.0 ∷ [])) (sym (list_all-append is_known (tokens_of inside) (end name r.1.0 ∷ [])) ∙ ap (list_all is_known) (sym r.1.1) ∙ all)).0 in
-    ap (λ o. fold (feed after) (moved bytes (feeding t o no_lines true p)) (tokens ++ behind)) e
-    ∙ ap (λ ts. fold (feed after) (inside_at t d [] [] 0 q) (ts ++ behind)) r.1.1
-    ∙ started_root after t d name r.1.0 inside behind q (clean inside h known) small m
-    ∙ ap (λ ts. inside_at (fold after t (parts_of (nodes_in d [] q inside))) d [] [] 0 (position_past q (ts ++ behind))) (sym r.1.1)
-root_at after t d (empty n attributes space ∷ tokens) behind name inside p r h m e k small =
+    ap (λ o. fold (feed vocabulary after) (moved bytes (feeding t o no_lines true p)) (tokens ++ behind)) e
+    ∙ ap (λ ts. fold (feed vocabulary after) (inside_at t d [] [] 0 q) (ts ++ behind)) r.1.1
+    ∙ started_root vocabulary after t d name r.1.0 inside behind q (clean inside h known) small m
+    ∙ ap (λ ts. inside_at (fold after t (parts_of (nodes_in vocabulary d [] q inside))) d [] [] 0 (position_past q (ts ++ behind))) (sym r.1.1)
+root_at vocabulary after t d (empty n attributes space ∷ tokens) behind name inside p r h m e k small =
     let q = position_after p (spelling (empty n attributes space)) in
     let bytes = spelling (empty n attributes space) in
-    ap (λ o. fold (feed after) (moved bytes (feeding t o no_lines true p)) (tokens ++ behind)) e
-    ∙ ap (λ ts. fold (feed after) (inside_at t d [] [] 0 q) (ts ++ behind)) r.2
-    ∙ misc_behind after t d q behind m
-    ∙ ap (λ c. inside_at (fold after t (parts_of (nodes_in d [] q c))) d [] [] 0 (position_past q behind)) (sym r.1)
-    ∙ ap (λ ts. inside_at (fold after t (parts_of (nodes_in d [] q inside))) d [] [] 0 (position_past q (ts ++ behind))) (sym r.2)
-root_at after t d (raw b ∷ tokens) behind name inside p r h m e k small = absurd r
-root_at after t d (reference body ∷ tokens) behind name inside p r h m e k small = absurd r
-root_at after t d (cdata body ∷ tokens) behind name inside p r h m e k small = absurd r
-root_at after t d (comment body ∷ tokens) behind name inside p r h m e k small = absurd r
-root_at after t d (instruction body ∷ tokens) behind name inside p r h m e k small = absurd r
-root_at after t d (declaration body ∷ tokens) behind name inside p r h m e k small = absurd r
-root_at after t d (doctype body ∷ tokens) behind name inside p r h m e k small = absurd r
-root_at after t d (end n space ∷ tokens) behind name inside p r h m e k small = absurd r
+    ap (λ o. fold (feed vocabulary after) (moved bytes (feeding t o no_lines true p)) (tokens ++ behind)) e
+    ∙ ap (λ ts. fold (feed vocabulary after) (inside_at t d [] [] 0 q) (ts ++ behind)) r.2
+    ∙ misc_behind vocabulary after t d q behind m
+    ∙ ap (λ c. inside_at (fold after t (parts_of (nodes_in vocabulary d [] q c))) d [] [] 0 (position_past q behind)) (sym r.1)
+    ∙ ap (λ ts. inside_at (fold after t (parts_of (nodes_in vocabulary d [] q inside))) d [] [] 0 (position_past q (ts ++ behind))) (sym r.2)
+root_at vocabulary after t d (raw b ∷ tokens) behind name inside p r h m e k small = absurd r
+root_at vocabulary after t d (reference body ∷ tokens) behind name inside p r h m e k small = absurd r
+root_at vocabulary after t d (cdata body ∷ tokens) behind name inside p r h m e k small = absurd r
+root_at vocabulary after t d (comment body ∷ tokens) behind name inside p r h m e k small = absurd r
+root_at vocabulary after t d (instruction body ∷ tokens) behind name inside p r h m e k small = absurd r
+root_at vocabulary after t d (declaration body ∷ tokens) behind name inside p r h m e k small = absurd r
+root_at vocabulary after t d (doctype body ∷ tokens) behind name inside p r h m e k small = absurd r
+root_at vocabulary after t d (end n space ∷ tokens) behind name inside p r h m e k small = absurd r
 
 -- the tokens of a message hand on its parts
-pub tree_feeds : {T : Type 0} (after : T → List Line → T) (t : T) (d : Dialect) (tokens : List Token) (name : List ℕ) (inside : Content) → IsTree tokens name inside
-    → root_of tokens ≡ Some (Ok d) → list_all is_known tokens ≡ true → first_large (nodes_in d [] (root_place first_position tokens) inside) ≡ None
-    → fold (feed after) (first_feed t) tokens
-    ≡ inside_at (fold after t (parts_of (nodes_in d [] (root_place first_position tokens) inside))) d [] [] 0 (position_past first_position tokens)
-tree_feeds after t d tokens name inside tree e k small =
+pub tree_feeds : (vocabulary : List Word) {T : Type 0} (after : T → List Line → T) (t : T) (d : Dialect) (tokens : List Token) (name : List ℕ) (inside : Content) → IsTree tokens name inside
+    → root_of tokens ≡ Some (Ok d) → list_all is_known tokens ≡ true → first_large (nodes_in vocabulary d [] (root_place first_position tokens) inside) ≡ None
+    → fold (feed vocabulary after) (first_feed t) tokens
+    ≡ inside_at (fold after t (parts_of (nodes_in vocabulary d [] (root_place first_position tokens) inside))) d [] [] 0 (position_past first_position tokens)
+tree_feeds vocabulary after t d tokens name inside tree e k small =
     let root = tree.root ++ tree.behind in
     let before = quiet_prolog tree.before tree.prolog in
     let behind = all_quiet IsMisc quiet_misc tree.behind tree.misc in
@@ -308,14 +309,14 @@ tree_feeds after t d tokens name inside tree e k small =
     let told : root_of root ≡ Some (Ok d) = sym (misc_root tree.before root before) ∙ ap root_of (sym tree.parts) ∙ e in
     let known : list_all is_known root ≡ true =
     (and_parts (list_all is_known tree.before) (list_all is_known root) (sym (list_all-append is_known tree.before root) ∙ ap (list_all is_known) (sym tree.parts) ∙ k)).1 in
-    let fits : first_large (nodes_in d [] (root_place p root) inside) ≡ None = ap (λ q. first_large (nodes_in d [] q inside)) (sym place) ∙ small in
-    ap (fold (feed after) (first_feed t)) tree.parts
-    ∙ fold-append (feed after) (first_feed t) tree.before root
-    ∙ ap (λ f. fold (feed after) f root) (misc_before after t first_position tree.before before)
-    ∙ root_at after t d tree.root tree.behind name inside p tree.is_root tree.leaves behind told known fits
-    ∙ ap (λ q. inside_at (fold after t (parts_of (nodes_in d [] q inside))) d [] [] 0 (position_past p root)) (sym place)
-    ∙ ap (λ q. inside_at (fold after t (parts_of (nodes_in d [] (root_place first_position tokens) inside))) d [] [] 0 q) (sym (past-append first_position tree.before root))
-    ∙ ap (λ ts. inside_at (fold after t (parts_of (nodes_in d [] (root_place first_position tokens) inside))) d [] [] 0 (position_past first_position ts)) (sym tree.parts)
+    let fits : first_large (nodes_in vocabulary d [] (root_place p root) inside) ≡ None = ap (λ q. first_large (nodes_in vocabulary d [] q inside)) (sym place) ∙ small in
+    ap (fold (feed vocabulary after) (first_feed t)) tree.parts
+    ∙ fold-append (feed vocabulary after) (first_feed t) tree.before root
+    ∙ ap (λ f. fold (feed vocabulary after) f root) (misc_before vocabulary after t first_position tree.before before)
+    ∙ root_at vocabulary after t d tree.root tree.behind name inside p tree.is_root tree.leaves behind told known fits
+    ∙ ap (λ q. inside_at (fold after t (parts_of (nodes_in vocabulary d [] q inside))) d [] [] 0 (position_past p root)) (sym place)
+    ∙ ap (λ q. inside_at (fold after t (parts_of (nodes_in vocabulary d [] (root_place first_position tokens) inside))) d [] [] 0 q) (sym (past-append first_position tree.before root))
+    ∙ ap (λ ts. inside_at (fold after t (parts_of (nodes_in vocabulary d [] (root_place first_position tokens) inside))) d [] [] 0 (position_past first_position ts)) (sym tree.parts)
 
 -- ---- a stretch of text
 
@@ -323,27 +324,27 @@ pub raws : (run : List ℕ) → flat_map spelling (map raw run) ≡ run
 raws [] = refl
 raws (b ∷ run) = flat_map-cons spelling (raw b) (map raw run) ∙ ap (λ (l : List ℕ). b ∷ l) (raws run)
 
-pub text_feeds : {T : Type 0} (after : T → List Line → T) (t : T) (root : Option (Result Dialect Wrong)) (lines : List Line) (opens : List Open) (passed : ℕ) (k : Bool) (p : Position) (run : List ℕ)
-    → fold (feed after) (feeding t root (growing lines opens passed) k p) (map raw run) ≡ moved run (spoken root run true (feeding t root (growing lines opens passed) k p))
-text_feeds after t None lines opens passed k p [] = refl
-text_feeds after t None lines opens passed k p (b ∷ run) = text_feeds after t None lines opens passed k (next_position p b) run
-text_feeds after t (Some (Err w)) lines opens passed k p [] = refl
-text_feeds after t (Some (Err w)) lines opens passed k p (b ∷ run) = text_feeds after t (Some (Err w)) lines opens passed k p run
-text_feeds after t (Some (Ok d)) lines opens (suc passed) true p [] = refl
-text_feeds after t (Some (Ok d)) lines opens (suc passed) true p (b ∷ run) = text_feeds after t (Some (Ok d)) lines opens (suc passed) true (next_position p b) run
-text_feeds after t (Some (Ok d)) lines opens (suc passed) false p [] = refl
-text_feeds after t (Some (Ok d)) lines opens (suc passed) false p (b ∷ run) = text_feeds after t (Some (Ok d)) lines opens (suc passed) false p run
-text_feeds after t (Some (Ok d)) lines [] zero true p [] = refl
-text_feeds after t (Some (Ok d)) lines [] zero true p (b ∷ run) = text_feeds after t (Some (Ok d)) lines [] zero true (next_position p b) run
-text_feeds after t (Some (Ok d)) lines [] zero false p [] = refl
-text_feeds after t (Some (Ok d)) lines [] zero false p (b ∷ run) = text_feeds after t (Some (Ok d)) lines [] zero false p run
-text_feeds after t (Some (Ok d)) lines (o ∷ more) zero true p [] = ap (λ ls. feeding t (Some (Ok d)) (growing ls (o ∷ more) 0) true p) (sym (longer-nil o.waits o.at lines))
-text_feeds after t (Some (Ok d)) lines (o ∷ more) zero true p (b ∷ run) =
+pub text_feeds : (vocabulary : List Word) {T : Type 0} (after : T → List Line → T) (t : T) (root : Option (Result Dialect Wrong)) (lines : List Line) (opens : List Open) (passed : ℕ) (k : Bool) (p : Position) (run : List ℕ)
+    → fold (feed vocabulary after) (feeding t root (growing lines opens passed) k p) (map raw run) ≡ moved run (spoken root run true (feeding t root (growing lines opens passed) k p))
+text_feeds vocabulary after t None lines opens passed k p [] = refl
+text_feeds vocabulary after t None lines opens passed k p (b ∷ run) = text_feeds vocabulary after t None lines opens passed k (next_position p b) run
+text_feeds vocabulary after t (Some (Err w)) lines opens passed k p [] = refl
+text_feeds vocabulary after t (Some (Err w)) lines opens passed k p (b ∷ run) = text_feeds vocabulary after t (Some (Err w)) lines opens passed k p run
+text_feeds vocabulary after t (Some (Ok d)) lines opens (suc passed) true p [] = refl
+text_feeds vocabulary after t (Some (Ok d)) lines opens (suc passed) true p (b ∷ run) = text_feeds vocabulary after t (Some (Ok d)) lines opens (suc passed) true (next_position p b) run
+text_feeds vocabulary after t (Some (Ok d)) lines opens (suc passed) false p [] = refl
+text_feeds vocabulary after t (Some (Ok d)) lines opens (suc passed) false p (b ∷ run) = text_feeds vocabulary after t (Some (Ok d)) lines opens (suc passed) false p run
+text_feeds vocabulary after t (Some (Ok d)) lines [] zero true p [] = refl
+text_feeds vocabulary after t (Some (Ok d)) lines [] zero true p (b ∷ run) = text_feeds vocabulary after t (Some (Ok d)) lines [] zero true (next_position p b) run
+text_feeds vocabulary after t (Some (Ok d)) lines [] zero false p [] = refl
+text_feeds vocabulary after t (Some (Ok d)) lines [] zero false p (b ∷ run) = text_feeds vocabulary after t (Some (Ok d)) lines [] zero false p run
+text_feeds vocabulary after t (Some (Ok d)) lines (o ∷ more) zero true p [] = ap (λ ls. feeding t (Some (Ok d)) (growing ls (o ∷ more) 0) true p) (sym (longer-nil o.waits o.at lines))
+text_feeds vocabulary after t (Some (Ok d)) lines (o ∷ more) zero true p (b ∷ run) =
     let v = waits_behind o.waits (b ∷ []) in
-    text_feeds after t (Some (Ok d)) (change (longer o.waits (b ∷ [])) o.at lines) (open_at o.at v o.scope ∷ more) zero true (next_position p b) run
+    text_feeds vocabulary after t (Some (Ok d)) (change (longer o.waits (b ∷ [])) o.at lines) (open_at o.at v o.scope ∷ more) zero true (next_position p b) run
     ∙ ap (λ ls. feeding t (Some (Ok d)) (growing ls (open_at o.at (waits_behind v run) o.scope ∷ more) 0) true (position_after p (b ∷ run))) (sym (longer-append o.waits o.at (b ∷ []) run lines))
-text_feeds after t (Some (Ok d)) lines (o ∷ more) zero false p [] = ap (λ ls. feeding t (Some (Ok d)) (growing ls (o ∷ more) 0) false p) (sym (longer-nil o.waits o.at lines))
-text_feeds after t (Some (Ok d)) lines (o ∷ more) zero false p (b ∷ run) =
+text_feeds vocabulary after t (Some (Ok d)) lines (o ∷ more) zero false p [] = ap (λ ls. feeding t (Some (Ok d)) (growing ls (o ∷ more) 0) false p) (sym (longer-nil o.waits o.at lines))
+text_feeds vocabulary after t (Some (Ok d)) lines (o ∷ more) zero false p (b ∷ run) =
     let v = waits_behind o.waits (b ∷ []) in
-    text_feeds after t (Some (Ok d)) (change (longer o.waits (b ∷ [])) o.at lines) (open_at o.at v o.scope ∷ more) zero false p run
+    text_feeds vocabulary after t (Some (Ok d)) (change (longer o.waits (b ∷ [])) o.at lines) (open_at o.at v o.scope ∷ more) zero false p run
     ∙ ap (λ ls. feeding t (Some (Ok d)) (growing ls (open_at o.at (waits_behind v run) o.scope ∷ more) 0) false p) (sym (longer-append o.waits o.at (b ∷ []) run lines))

@@ -5,6 +5,7 @@ use Rattle.std.specs.List.{AllByRecursion, list_all}
 use Rattle.std.proofs.lemmas.Bool.{and_from, and_parts, and_right}
 use Rattle.std.proofs.lemmas.List.Folds.{list_all-append}
 use Rattle.std.proofs.lemmas.List.Sums.{fold-append}
+use Rattle.onix_outline.specs.Names.{Word}
 use Rattle.xml_text.specs.declared.position.Position.{Position}
 use Rattle.xml_text.specs.Grammar.{Token, raw, reference, cdata, comment, instruction, declaration, doctype, start, empty, end}
 use Rattle.xml_text.specs.Positions.{first_position, position_past}
@@ -43,11 +44,11 @@ unknown_among [] token behind h = ap (λ b. b && list_all is_known behind) h
 unknown_among (first ∷ before) token behind h = and_right (is_known first) (list_all is_known (before ++ token ∷ behind)) (unknown_among before token behind h)
 
 -- what is known behind the first tag
-known_fold : {T : Type 0} (after : T → List Line → T) (f : Feed T) (tokens : List Token) (d : Dialect) → f.root ≡ Some (Ok d) → (fold (feed after) f tokens).known ≡ (list_all is_known tokens && f.known)
-known_fold after f [] d e = refl
-known_fold after f (token ∷ tokens) d e =
-    known_fold after (feed after f token) tokens d (root_step after f token ∙ ap (λ r. root_behind r (token ∷ [])) e)
-    ∙ ap (λ b. list_all is_known tokens && b) (known_step after f token ∙ ap (λ r. known_behind r token f.known) e)
+known_fold : (vocabulary : List Word) {T : Type 0} (after : T → List Line → T) (f : Feed T) (tokens : List Token) (d : Dialect) → f.root ≡ Some (Ok d) → (fold (feed vocabulary after) f tokens).known ≡ (list_all is_known tokens && f.known)
+known_fold vocabulary after f [] d e = refl
+known_fold vocabulary after f (token ∷ tokens) d e =
+    known_fold vocabulary after (feed vocabulary after f token) tokens d (root_step vocabulary after f token ∙ ap (λ r. root_behind r (token ∷ [])) e)
+    ∙ ap (λ b. list_all is_known tokens && b) (known_step vocabulary after f token ∙ ap (λ r. known_behind r token f.known) e)
     ∙ in_turn (list_all is_known tokens) (is_known token) f.known
   where
     in_turn : (a b c : Bool) → (a && (b && c)) ≡ ((b && a) && c)
@@ -72,33 +73,33 @@ all_known : (tokens : List Token) → AllByRecursion IsQuiet tokens → list_all
 all_known [] h = refl
 all_known (token ∷ tokens) h = and_from (is_known token) (list_all is_known tokens) (quiet_known token h.0) (all_known tokens h.1)
 
-known_root : {T : Type 0} (after : T → List Line → T) (t : T) (d : Dialect) (root behind : List Token) (name : List ℕ) (inside : Content) (p : Position) → IsRoot root name inside
-    → root_of (root ++ behind) ≡ Some (Ok d) → (fold (feed after) (feed_from t p) (root ++ behind)).known ≡ true → list_all is_known (root ++ behind) ≡ true
-known_root after t d [] behind name inside p r e k = absurd r
-known_root after t d (start n attributes space ∷ tokens) behind name inside p r e k =
-    let f = feed after (feed_from t p) (start n attributes space) in
-    (and_parts (list_all is_known (tokens ++ behind)) f.known (sym (known_fold after f (tokens ++ behind) d (root_step after (feed_from t p) (start n attributes space) ∙ e)) ∙ k)).0
-known_root after t d (empty n attributes space ∷ tokens) behind name inside p r e k =
-    let f = feed after (feed_from t p) (empty n attributes space) in
-    (and_parts (list_all is_known (tokens ++ behind)) f.known (sym (known_fold after f (tokens ++ behind) d (root_step after (feed_from t p) (empty n attributes space) ∙ e)) ∙ k)).0
-known_root after t d (raw b ∷ tokens) behind name inside p r e k = absurd r
-known_root after t d (reference body ∷ tokens) behind name inside p r e k = absurd r
-known_root after t d (cdata body ∷ tokens) behind name inside p r e k = absurd r
-known_root after t d (comment body ∷ tokens) behind name inside p r e k = absurd r
-known_root after t d (instruction body ∷ tokens) behind name inside p r e k = absurd r
-known_root after t d (declaration body ∷ tokens) behind name inside p r e k = absurd r
-known_root after t d (doctype body ∷ tokens) behind name inside p r e k = absurd r
-known_root after t d (end n space ∷ tokens) behind name inside p r e k = absurd r
+known_root : (vocabulary : List Word) {T : Type 0} (after : T → List Line → T) (t : T) (d : Dialect) (root behind : List Token) (name : List ℕ) (inside : Content) (p : Position) → IsRoot root name inside
+    → root_of (root ++ behind) ≡ Some (Ok d) → (fold (feed vocabulary after) (feed_from t p) (root ++ behind)).known ≡ true → list_all is_known (root ++ behind) ≡ true
+known_root vocabulary after t d [] behind name inside p r e k = absurd r
+known_root vocabulary after t d (start n attributes space ∷ tokens) behind name inside p r e k =
+    let f = feed vocabulary after (feed_from t p) (start n attributes space) in
+    (and_parts (list_all is_known (tokens ++ behind)) f.known (sym (known_fold vocabulary after f (tokens ++ behind) d (root_step vocabulary after (feed_from t p) (start n attributes space) ∙ e)) ∙ k)).0
+known_root vocabulary after t d (empty n attributes space ∷ tokens) behind name inside p r e k =
+    let f = feed vocabulary after (feed_from t p) (empty n attributes space) in
+    (and_parts (list_all is_known (tokens ++ behind)) f.known (sym (known_fold vocabulary after f (tokens ++ behind) d (root_step vocabulary after (feed_from t p) (empty n attributes space) ∙ e)) ∙ k)).0
+known_root vocabulary after t d (raw b ∷ tokens) behind name inside p r e k = absurd r
+known_root vocabulary after t d (reference body ∷ tokens) behind name inside p r e k = absurd r
+known_root vocabulary after t d (cdata body ∷ tokens) behind name inside p r e k = absurd r
+known_root vocabulary after t d (comment body ∷ tokens) behind name inside p r e k = absurd r
+known_root vocabulary after t d (instruction body ∷ tokens) behind name inside p r e k = absurd r
+known_root vocabulary after t d (declaration body ∷ tokens) behind name inside p r e k = absurd r
+known_root vocabulary after t d (doctype body ∷ tokens) behind name inside p r e k = absurd r
+known_root vocabulary after t d (end n space ∷ tokens) behind name inside p r e k = absurd r
 
 -- a message at whose end all is known has no reference that stands for nothing
-pub known_tree : {T : Type 0} (after : T → List Line → T) (t : T) (d : Dialect) (tokens : List Token) (name : List ℕ) (inside : Content) → IsTree tokens name inside
-    → root_of tokens ≡ Some (Ok d) → (fold (feed after) (first_feed t) tokens).known ≡ true → list_all is_known tokens ≡ true
-known_tree after t d tokens name inside tree e k =
+pub known_tree : (vocabulary : List Word) {T : Type 0} (after : T → List Line → T) (t : T) (d : Dialect) (tokens : List Token) (name : List ℕ) (inside : Content) → IsTree tokens name inside
+    → root_of tokens ≡ Some (Ok d) → (fold (feed vocabulary after) (first_feed t) tokens).known ≡ true → list_all is_known tokens ≡ true
+known_tree vocabulary after t d tokens name inside tree e k =
     let root = tree.root ++ tree.behind in
     let before = quiet_prolog tree.before tree.prolog in
     let p = position_past first_position tree.before in
     let told : root_of root ≡ Some (Ok d) = sym (misc_root tree.before root before) ∙ ap root_of (sym tree.parts) ∙ e in
-    let runs = ap (fold (feed after) (first_feed t)) tree.parts ∙ fold-append (feed after) (first_feed t) tree.before root ∙ ap (λ f. fold (feed after) f root) (misc_before after t first_position tree.before before) in
-    let known : (fold (feed after) (feed_from t p) root).known ≡ true = sym (ap (λ f. f.known) runs) ∙ k in
+    let runs = ap (fold (feed vocabulary after) (first_feed t)) tree.parts ∙ fold-append (feed vocabulary after) (first_feed t) tree.before root ∙ ap (λ f. fold (feed vocabulary after) f root) (misc_before vocabulary after t first_position tree.before before) in
+    let known : (fold (feed vocabulary after) (feed_from t p) root).known ≡ true = sym (ap (λ f. f.known) runs) ∙ k in
     ap (list_all is_known) tree.parts ∙ list_all-append is_known tree.before root
-    ∙ and_from (list_all is_known tree.before) (list_all is_known root) (all_known tree.before before) (known_root after t d tree.root tree.behind name inside p tree.is_root told known)
+    ∙ and_from (list_all is_known tree.before) (list_all is_known root) (all_known tree.before before) (known_root vocabulary after t d tree.root tree.behind name inside p tree.is_root told known)

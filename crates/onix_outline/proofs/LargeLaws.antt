@@ -2,6 +2,7 @@
 use Rattle.std.proofs.Common.{◌≡◌, ℕ, zero, suc, ◌+◌, ◌≤◌, ◌<◌, Bool, true, false, cond, List, [], ◌∷◌, ◌++◌, length, Option, Some, None, Result, Ok, Err, refl, sym, ap, ◌∙◌, length-append, arith, fold}
 use Rattle.std.specs.Prelude.{◌&&◌}
 use Rattle.std.proofs.lemmas.Bool.{lt-leb, leb-false}
+use Rattle.onix_outline.specs.Names.{Word}
 use Rattle.xml_text.specs.declared.position.Position.{Position}
 use Rattle.xml_text.specs.Grammar.{is_filled, Token, raw, reference, cdata, comment, instruction, declaration, doctype, start, empty, end, spelling}
 use Rattle.onix_outline.specs.declared.dialect.Wrong.{Wrong}
@@ -79,49 +80,49 @@ large_stays after f g place s = go (is_idle g) (fits g) refl
     go true false e = s
     go false c e = s
 
-stuck_told : {T : Type 0} (after : T → List Line → T) (t : T) (r : Option (Result Dialect Wrong)) (g : Growing) (k : Bool) (p place : Position) (token : Token) → IsStuck place g
-    → IsStuck place (told after (feeding t r g k p) token).child
-stuck_told after t None g k p place (raw b) s = s
-stuck_told after t None g k p place (reference body) s = s
-stuck_told after t None g k p place (cdata body) s = s
-stuck_told after t None g k p place (comment body) s = s
-stuck_told after t None g k p place (instruction body) s = s
-stuck_told after t None g k p place (declaration body) s = s
-stuck_told after t None g k p place (doctype body) s = s
-stuck_told after t None g k p place (start name attributes space) s = s
-stuck_told after t None g k p place (empty name attributes space) s = s
-stuck_told after t None g k p place (end name space) s = s
-stuck_told after t (Some (Err w)) g k p place (raw b) s = s
-stuck_told after t (Some (Err w)) g k p place (reference body) s = s
-stuck_told after t (Some (Err w)) g k p place (cdata body) s = s
-stuck_told after t (Some (Err w)) g k p place (comment body) s = s
-stuck_told after t (Some (Err w)) g k p place (instruction body) s = s
-stuck_told after t (Some (Err w)) g k p place (declaration body) s = s
-stuck_told after t (Some (Err w)) g k p place (doctype body) s = s
-stuck_told after t (Some (Err w)) g k p place (start name attributes space) s = s
-stuck_told after t (Some (Err w)) g k p place (empty name attributes space) s = s
-stuck_told after t (Some (Err w)) g k p place (end name space) s = s
-stuck_told after t (Some (Ok d)) g k p place (raw b) s = still_stuck place g _ (texted_more g.passed (token_text (raw b)) g.lines g.opens g.passed) s
-stuck_told after t (Some (Ok d)) g k p place (reference body) s = still_stuck place g _ (texted_more g.passed (token_text (reference body)) g.lines g.opens g.passed) s
-stuck_told after t (Some (Ok d)) g k p place (cdata body) s = still_stuck place g _ (texted_more g.passed (token_text (cdata body)) g.lines g.opens g.passed) s
-stuck_told after t (Some (Ok d)) g k p place (comment body) s = still_stuck place g _ (texted_more g.passed (token_text (comment body)) g.lines g.opens g.passed) s
-stuck_told after t (Some (Ok d)) g k p place (instruction body) s = still_stuck place g _ (texted_more g.passed (token_text (instruction body)) g.lines g.opens g.passed) s
-stuck_told after t (Some (Ok d)) g k p place (declaration body) s = still_stuck place g _ (texted_more g.passed (token_text (declaration body)) g.lines g.opens g.passed) s
-stuck_told after t (Some (Ok d)) g k p place (doctype body) s = still_stuck place g _ (texted_more g.passed (token_text (doctype body)) g.lines g.opens g.passed) s
-stuck_told after t (Some (Ok d)) g k p place (start name attributes space) s = still_stuck place g _ (opened_more g.passed (counted d (scopes_of g.opens) name (bindings_of attributes)) (tag_of p attributes) (bindings_of attributes) g) s
-stuck_told after t (Some (Ok d)) g k p place (empty name attributes space) s =
-    let o = opened g.passed (counted d (scopes_of g.opens) name (bindings_of attributes)) (tag_of p attributes) (bindings_of attributes) g in
+stuck_told : (vocabulary : List Word) {T : Type 0} (after : T → List Line → T) (t : T) (r : Option (Result Dialect Wrong)) (g : Growing) (k : Bool) (p place : Position) (token : Token) → IsStuck place g
+    → IsStuck place (told vocabulary after (feeding t r g k p) token).child
+stuck_told vocabulary after t None g k p place (raw b) s = s
+stuck_told vocabulary after t None g k p place (reference body) s = s
+stuck_told vocabulary after t None g k p place (cdata body) s = s
+stuck_told vocabulary after t None g k p place (comment body) s = s
+stuck_told vocabulary after t None g k p place (instruction body) s = s
+stuck_told vocabulary after t None g k p place (declaration body) s = s
+stuck_told vocabulary after t None g k p place (doctype body) s = s
+stuck_told vocabulary after t None g k p place (start name attributes space) s = s
+stuck_told vocabulary after t None g k p place (empty name attributes space) s = s
+stuck_told vocabulary after t None g k p place (end name space) s = s
+stuck_told vocabulary after t (Some (Err w)) g k p place (raw b) s = s
+stuck_told vocabulary after t (Some (Err w)) g k p place (reference body) s = s
+stuck_told vocabulary after t (Some (Err w)) g k p place (cdata body) s = s
+stuck_told vocabulary after t (Some (Err w)) g k p place (comment body) s = s
+stuck_told vocabulary after t (Some (Err w)) g k p place (instruction body) s = s
+stuck_told vocabulary after t (Some (Err w)) g k p place (declaration body) s = s
+stuck_told vocabulary after t (Some (Err w)) g k p place (doctype body) s = s
+stuck_told vocabulary after t (Some (Err w)) g k p place (start name attributes space) s = s
+stuck_told vocabulary after t (Some (Err w)) g k p place (empty name attributes space) s = s
+stuck_told vocabulary after t (Some (Err w)) g k p place (end name space) s = s
+stuck_told vocabulary after t (Some (Ok d)) g k p place (raw b) s = still_stuck place g _ (texted_more g.passed (token_text (raw b)) g.lines g.opens g.passed) s
+stuck_told vocabulary after t (Some (Ok d)) g k p place (reference body) s = still_stuck place g _ (texted_more g.passed (token_text (reference body)) g.lines g.opens g.passed) s
+stuck_told vocabulary after t (Some (Ok d)) g k p place (cdata body) s = still_stuck place g _ (texted_more g.passed (token_text (cdata body)) g.lines g.opens g.passed) s
+stuck_told vocabulary after t (Some (Ok d)) g k p place (comment body) s = still_stuck place g _ (texted_more g.passed (token_text (comment body)) g.lines g.opens g.passed) s
+stuck_told vocabulary after t (Some (Ok d)) g k p place (instruction body) s = still_stuck place g _ (texted_more g.passed (token_text (instruction body)) g.lines g.opens g.passed) s
+stuck_told vocabulary after t (Some (Ok d)) g k p place (declaration body) s = still_stuck place g _ (texted_more g.passed (token_text (declaration body)) g.lines g.opens g.passed) s
+stuck_told vocabulary after t (Some (Ok d)) g k p place (doctype body) s = still_stuck place g _ (texted_more g.passed (token_text (doctype body)) g.lines g.opens g.passed) s
+stuck_told vocabulary after t (Some (Ok d)) g k p place (start name attributes space) s = still_stuck place g _ (opened_more g.passed (counted vocabulary d (scopes_of g.opens) name (bindings_of attributes)) (tag_of p attributes) (bindings_of attributes) g) s
+stuck_told vocabulary after t (Some (Ok d)) g k p place (empty name attributes space) s =
+    let o = opened g.passed (counted vocabulary d (scopes_of g.opens) name (bindings_of attributes)) (tag_of p attributes) (bindings_of attributes) g in
     large_stays after (feeding t (Some (Ok d)) o k p) (closed o.passed o) place
-    (still_stuck place o (closed o.passed o) (closed_more o.passed o) (still_stuck place g o (opened_more g.passed (counted d (scopes_of g.opens) name (bindings_of attributes)) (tag_of p attributes) (bindings_of attributes) g) s))
-stuck_told after t (Some (Ok d)) g k p place (end name space) s = large_stays after (feeding t (Some (Ok d)) g k p) (closed g.passed g) place (still_stuck place g (closed g.passed g) (closed_more g.passed g) s)
+    (still_stuck place o (closed o.passed o) (closed_more o.passed o) (still_stuck place g o (opened_more g.passed (counted vocabulary d (scopes_of g.opens) name (bindings_of attributes)) (tag_of p attributes) (bindings_of attributes) g) s))
+stuck_told vocabulary after t (Some (Ok d)) g k p place (end name space) s = large_stays after (feeding t (Some (Ok d)) g k p) (closed g.passed g) place (still_stuck place g (closed g.passed g) (closed_more g.passed g) s)
 
-stuck_feed : {T : Type 0} (after : T → List Line → T) (f : Feed T) (token : Token) (place : Position) → IsStuck place f.child → IsStuck place (feed after f token).child
-stuck_feed after f token place s =
-    rw (moves (spelling token) (told after f token)).child (stuck_told after f.taker f.root f.child f.known f.place place token s)
+stuck_feed : (vocabulary : List Word) {T : Type 0} (after : T → List Line → T) (f : Feed T) (token : Token) (place : Position) → IsStuck place f.child → IsStuck place (feed vocabulary after f token).child
+stuck_feed vocabulary after f token place s =
+    rw (moves (spelling token) (told vocabulary after f token)).child (stuck_told vocabulary after f.taker f.root f.child f.known f.place place token s)
 
-pub stuck : {T : Type 0} (after : T → List Line → T) (f : Feed T) (tokens : List Token) (place : Position) → IsStuck place f.child → IsStuck place (fold (feed after) f tokens).child
-stuck after f [] place s = s
-stuck after f (token ∷ tokens) place s = stuck after (feed after f token) tokens place (stuck_feed after f token place s)
+pub stuck : (vocabulary : List Word) {T : Type 0} (after : T → List Line → T) (f : Feed T) (tokens : List Token) (place : Position) → IsStuck place f.child → IsStuck place (fold (feed vocabulary after) f tokens).child
+stuck vocabulary after f [] place s = s
+stuck vocabulary after f (token ∷ tokens) place s = stuck vocabulary after (feed vocabulary after f token) tokens place (stuck_feed vocabulary after f token place s)
 
 -- lines that are too large have a first one
 pub is_stuck : (g : Growing) (p : Position) → fits g ≡ false → IsStuck (first_place_of g.lines p) g

@@ -6,6 +6,7 @@ use Rattle.std.specs.Option.{option_or}
 use Rattle.std.proofs.lemmas.Bool.{and_parts}
 use Rattle.std.proofs.lemmas.List.Folds.{list_all-append}
 use Rattle.std.proofs.lemmas.List.Sums.{fold-append}
+use Rattle.onix_outline.specs.Names.{Word}
 use Rattle.xml_text.specs.declared.position.Position.{Position}
 use Rattle.xml_text.specs.Grammar.{Attribute, Token, raw, reference, cdata, comment, instruction, declaration, doctype, start, empty, end, spelling}
 use Rattle.xml_text.specs.Positions.{first_position, position_after, position_past}
@@ -39,37 +40,37 @@ or_assoc None b c = refl
 or_assoc (Some p) b c = refl
 
 -- the first such tag that was met, behind these tokens
-abbrev pub many_behind : {T : Type 0} → (T → List Line → T) → Feed T → Option Position → List Token → Option Position
-many_behind after f m [] = m
-many_behind after f m (token ∷ tokens) = many_behind after (feed after f token) (option_or m (many_of f token)) tokens
+abbrev pub many_behind : (vocabulary : List Word) {T : Type 0} → (T → List Line → T) → Feed T → Option Position → List Token → Option Position
+many_behind vocabulary after f m [] = m
+many_behind vocabulary after f m (token ∷ tokens) = many_behind vocabulary after (feed vocabulary after f token) (option_or m (many_of f token)) tokens
 
 -- what is read within the bound
-pub bounds : {T : Type 0} (after : T → List Line → T) (f : Feed T) (m : Option Position) (tokens : List Token)
-    → fold (bound after) (bounded f m) tokens ≡ bounded (fold (feed after) f tokens) (many_behind after f m tokens)
-bounds after f m [] = refl
-bounds after f m (token ∷ tokens) = bounds after (feed after f token) (option_or m (many_of f token)) tokens
+pub bounds : (vocabulary : List Word) {T : Type 0} (after : T → List Line → T) (f : Feed T) (m : Option Position) (tokens : List Token)
+    → fold (bound vocabulary after) (bounded f m) tokens ≡ bounded (fold (feed vocabulary after) f tokens) (many_behind vocabulary after f m tokens)
+bounds vocabulary after f m [] = refl
+bounds vocabulary after f m (token ∷ tokens) = bounds vocabulary after (feed vocabulary after f token) (option_or m (many_of f token)) tokens
 
-many-append : {T : Type 0} (after : T → List Line → T) (f : Feed T) (m : Option Position) (x y : List Token)
-    → many_behind after f m (x ++ y) ≡ many_behind after (fold (feed after) f x) (many_behind after f m x) y
-many-append after f m [] y = refl
-many-append after f m (token ∷ x) y = many-append after (feed after f token) (option_or m (many_of f token)) x y
+many-append : (vocabulary : List Word) {T : Type 0} (after : T → List Line → T) (f : Feed T) (m : Option Position) (x y : List Token)
+    → many_behind vocabulary after f m (x ++ y) ≡ many_behind vocabulary after (fold (feed vocabulary after) f x) (many_behind vocabulary after f m x) y
+many-append vocabulary after f m [] y = refl
+many-append vocabulary after f m (token ∷ x) y = many-append vocabulary after (feed vocabulary after f token) (option_or m (many_of f token)) x y
 
 -- the first one stays the first
-stays : {T : Type 0} (after : T → List Line → T) (f : Feed T) (p : Position) (tokens : List Token) → many_behind after f (Some p) tokens ≡ Some p
-stays after f p [] = refl
-stays after f p (token ∷ tokens) = stays after (feed after f token) p tokens
+stays : (vocabulary : List Word) {T : Type 0} (after : T → List Line → T) (f : Feed T) (p : Position) (tokens : List Token) → many_behind vocabulary after f (Some p) tokens ≡ Some p
+stays vocabulary after f p [] = refl
+stays vocabulary after f p (token ∷ tokens) = stays vocabulary after (feed vocabulary after f token) p tokens
 
 -- text is no tag
-pub text_bound : {T : Type 0} (after : T → List Line → T) (f : Feed T) (m : Option Position) (run : List ℕ)
-    → many_behind after f m (map raw run) ≡ m
-text_bound after f m [] = refl
-text_bound after f m (b ∷ run) = text_bound after (feed after f (raw b)) (option_or m None) run ∙ or_none m
+pub text_bound : (vocabulary : List Word) {T : Type 0} (after : T → List Line → T) (f : Feed T) (m : Option Position) (run : List ℕ)
+    → many_behind vocabulary after f m (map raw run) ≡ m
+text_bound vocabulary after f m [] = refl
+text_bound vocabulary after f m (b ∷ run) = text_bound vocabulary after (feed vocabulary after f (raw b)) (option_or m None) run ∙ or_none m
 
 -- so text changes what was read alone
-pub text_hands : {T : Type 0} (after : T → List Line → T) (b : Bounded T) (run : List ℕ)
-    → bounded (fold (feed after) b.feed (map raw run)) b.many ≡ fold (bound after) b (map raw run)
-text_hands after b run =
-    sym (bounds after b.feed b.many (map raw run) ∙ ap (λ m. bounded (fold (feed after) b.feed (map raw run)) m) (text_bound after b.feed b.many run))
+pub text_hands : (vocabulary : List Word) {T : Type 0} (after : T → List Line → T) (b : Bounded T) (run : List ℕ)
+    → bounded (fold (feed vocabulary after) b.feed (map raw run)) b.many ≡ fold (bound vocabulary after) b (map raw run)
+text_hands vocabulary after b run =
+    sym (bounds vocabulary after b.feed b.many (map raw run) ∙ ap (λ m. bounded (fold (feed vocabulary after) b.feed (map raw run)) m) (text_bound vocabulary after b.feed b.many run))
 
 -- ---- an element that is passed over
 
@@ -85,21 +86,21 @@ passed_leaf t d lines opens passed p (start name attributes space) h = absurd h
 passed_leaf t d lines opens passed p (empty name attributes space) h = refl
 passed_leaf t d lines opens passed p (end name space) h = absurd h
 
-passes_many : {T : Type 0} (after : T → List Line → T) (t : T) (d : Dialect) (lines : List Line) (opens : List Open) (passed : ℕ) (p : Position) (c : Content) (m : Option Position) → IsClean c
-    → many_behind after (inside_at t d lines opens (suc passed) p) m (tokens_of c) ≡ m
-passes_many after t d lines opens passed p nothing m h = refl
-passes_many after t d lines opens passed p (leaf token rest) m h =
-    ap (λ f. many_behind after f (option_or m (many_of (inside_at t d lines opens (suc passed) p) token)) (tokens_of rest)) (pass_leaf after t d lines opens passed p token h.0 h.1)
-    ∙ passes_many after t d lines opens passed (position_after p (spelling token)) rest (option_or m (many_of (inside_at t d lines opens (suc passed) p) token)) h.2
+passes_many : (vocabulary : List Word) {T : Type 0} (after : T → List Line → T) (t : T) (d : Dialect) (lines : List Line) (opens : List Open) (passed : ℕ) (p : Position) (c : Content) (m : Option Position) → IsClean c
+    → many_behind vocabulary after (inside_at t d lines opens (suc passed) p) m (tokens_of c) ≡ m
+passes_many vocabulary after t d lines opens passed p nothing m h = refl
+passes_many vocabulary after t d lines opens passed p (leaf token rest) m h =
+    ap (λ f. many_behind vocabulary after f (option_or m (many_of (inside_at t d lines opens (suc passed) p) token)) (tokens_of rest)) (pass_leaf vocabulary after t d lines opens passed p token h.0 h.1)
+    ∙ passes_many vocabulary after t d lines opens passed (position_after p (spelling token)) rest (option_or m (many_of (inside_at t d lines opens (suc passed) p) token)) h.2
     ∙ ap (option_or m) (passed_leaf t d lines opens passed p token h.0) ∙ or_none m
-passes_many after t d lines opens passed p (element name attributes space inside closing rest) m h =
+passes_many vocabulary after t d lines opens passed p (element name attributes space inside closing rest) m h =
     let q = content_place p name attributes space in
     let f = inside_at t d lines opens (suc (suc passed)) q in
-    many-append after f (option_or m None) (tokens_of inside) (end name closing ∷ tokens_of rest)
-    ∙ ap (λ g. many_behind after g (many_behind after f (option_or m None) (tokens_of inside)) (end name closing ∷ tokens_of rest)) (passes after t d lines opens (suc passed) q inside h.0)
-    ∙ ap (λ n. many_behind after (inside_at t d lines opens (suc (suc passed)) (position_past q (tokens_of inside))) n (end name closing ∷ tokens_of rest))
-    (passes_many after t d lines opens (suc passed) q inside (option_or m None) h.0 ∙ or_none m)
-    ∙ passes_many after t d lines opens passed (place_behind q inside name closing) rest (option_or m None) h.1
+    many-append vocabulary after f (option_or m None) (tokens_of inside) (end name closing ∷ tokens_of rest)
+    ∙ ap (λ g. many_behind vocabulary after g (many_behind vocabulary after f (option_or m None) (tokens_of inside)) (end name closing ∷ tokens_of rest)) (passes vocabulary after t d lines opens (suc passed) q inside h.0)
+    ∙ ap (λ n. many_behind vocabulary after (inside_at t d lines opens (suc (suc passed)) (position_past q (tokens_of inside))) n (end name closing ∷ tokens_of rest))
+    (passes_many vocabulary after t d lines opens (suc passed) q inside (option_or m None) h.0 ∙ or_none m)
+    ∙ passes_many vocabulary after t d lines opens passed (place_behind q inside name closing) rest (option_or m None) h.1
     ∙ or_none m
 
 -- ---- below these elements
@@ -140,44 +141,44 @@ empty_here after t d lines opens p None tag b = settled_here after t d (growing 
 empty_here after t d lines opens p (Some name) tag b =
     settled_here after t d (opened 0 (Some name) tag b (growing lines opens 0)) (lines ++ line (length opens) name tag [] ∷ []) opens p
 
-leaf_here : {T : Type 0} (after : T → List Line → T) (t : T) (d : Dialect) (lines : List Line) (opens : List Open) (p : Position) (token : Token) → IsLeaf token → is_known token ≡ true
-    → Stands d (scopes_of opens) (position_after p (spelling token)) (feed after (inside_at t d lines opens 0 p) token)
-leaf_here after t d lines opens p (raw b) h k = moved_on d _ p _ (spelling (raw b)) (texted_here t d lines opens (b ∷ []) p)
-leaf_here after t d lines opens p (reference body) h k =
+leaf_here : (vocabulary : List Word) {T : Type 0} (after : T → List Line → T) (t : T) (d : Dialect) (lines : List Line) (opens : List Open) (p : Position) (token : Token) → IsLeaf token → is_known token ≡ true
+    → Stands d (scopes_of opens) (position_after p (spelling token)) (feed vocabulary after (inside_at t d lines opens 0 p) token)
+leaf_here vocabulary after t d lines opens p (raw b) h k = moved_on d _ p _ (spelling (raw b)) (texted_here t d lines opens (b ∷ []) p)
+leaf_here vocabulary after t d lines opens p (reference body) h k =
     subst (λ b. Stands d (scopes_of opens) (position_after p (spelling (reference body))) (moved (spelling (reference body)) (feeding t (Some (Ok d)) (texted 0 (token_text (reference body)) (growing lines opens 0)) (b && true) p))) (sym k)
     (moved_on d _ p _ (spelling (reference body)) (texted_here t d lines opens (token_text (reference body)) p))
-leaf_here after t d lines opens p (cdata body) h k = moved_on d _ p _ (spelling (cdata body)) (texted_here t d lines opens body p)
-leaf_here after t d lines opens p (comment body) h k = moved_on d _ p _ (spelling (comment body)) (texted_here t d lines opens [] p)
-leaf_here after t d lines opens p (instruction body) h k = moved_on d _ p _ (spelling (instruction body)) (texted_here t d lines opens [] p)
-leaf_here after t d lines opens p (declaration body) h k = absurd h
-leaf_here after t d lines opens p (doctype body) h k = absurd h
-leaf_here after t d lines opens p (start name attributes space) h k = absurd h
-leaf_here after t d lines opens p (empty name attributes space) h k =
-    moved_on d _ p _ (spelling (empty name attributes space)) (empty_here after t d lines opens p (counted d (scopes_of opens) name (bindings_of attributes)) (tag_of p attributes) (bindings_of attributes))
-leaf_here after t d lines opens p (end name space) h k = absurd h
+leaf_here vocabulary after t d lines opens p (cdata body) h k = moved_on d _ p _ (spelling (cdata body)) (texted_here t d lines opens body p)
+leaf_here vocabulary after t d lines opens p (comment body) h k = moved_on d _ p _ (spelling (comment body)) (texted_here t d lines opens [] p)
+leaf_here vocabulary after t d lines opens p (instruction body) h k = moved_on d _ p _ (spelling (instruction body)) (texted_here t d lines opens [] p)
+leaf_here vocabulary after t d lines opens p (declaration body) h k = absurd h
+leaf_here vocabulary after t d lines opens p (doctype body) h k = absurd h
+leaf_here vocabulary after t d lines opens p (start name attributes space) h k = absurd h
+leaf_here vocabulary after t d lines opens p (empty name attributes space) h k =
+    moved_on d _ p _ (spelling (empty name attributes space)) (empty_here after t d lines opens p (counted vocabulary d (scopes_of opens) name (bindings_of attributes)) (tag_of p attributes) (bindings_of attributes))
+leaf_here vocabulary after t d lines opens p (end name space) h k = absurd h
 
-leaf_many : {T : Type 0} (t : T) (d : Dialect) (lines : List Line) (opens : List Open) (p : Position) (token : Token) → IsLeaf token → many_of (inside_at t d lines opens 0 p) token ≡ leaf_with_many d (scopes_of opens) p token
-leaf_many t d lines opens p (raw b) h = refl
-leaf_many t d lines opens p (reference body) h = refl
-leaf_many t d lines opens p (cdata body) h = refl
-leaf_many t d lines opens p (comment body) h = refl
-leaf_many t d lines opens p (instruction body) h = refl
-leaf_many t d lines opens p (declaration body) h = refl
-leaf_many t d lines opens p (doctype body) h = refl
-leaf_many t d lines opens p (start name attributes space) h = absurd h
-leaf_many t d lines opens p (empty name attributes space) h = refl
-leaf_many t d lines opens p (end name space) h = absurd h
+leaf_many : (vocabulary : List Word) {T : Type 0} (t : T) (d : Dialect) (lines : List Line) (opens : List Open) (p : Position) (token : Token) → IsLeaf token → many_of (inside_at t d lines opens 0 p) token ≡ leaf_with_many vocabulary d (scopes_of opens) p token
+leaf_many vocabulary t d lines opens p (raw b) h = refl
+leaf_many vocabulary t d lines opens p (reference body) h = refl
+leaf_many vocabulary t d lines opens p (cdata body) h = refl
+leaf_many vocabulary t d lines opens p (comment body) h = refl
+leaf_many vocabulary t d lines opens p (instruction body) h = refl
+leaf_many vocabulary t d lines opens p (declaration body) h = refl
+leaf_many vocabulary t d lines opens p (doctype body) h = refl
+leaf_many vocabulary t d lines opens p (start name attributes space) h = absurd h
+leaf_many vocabulary t d lines opens p (empty name attributes space) h = refl
+leaf_many vocabulary t d lines opens p (end name space) h = absurd h
 
 -- content is looked at, tag by tag
-pub record Looks {T : Type 0} (after : T → List Line → T) (d : Dialect) (around : List Scope) (p : Position) (c : Content) (f : Feed T) (m : Option Position) : Type 0 where
-  pub many : many_behind after f m (tokens_of c) ≡ option_or m (first_with_many d around p c)
-  pub stands : Stands d around (position_past p (tokens_of c)) (fold (feed after) f (tokens_of c))
+pub record Looks (vocabulary : List Word) {T : Type 0} (after : T → List Line → T) (d : Dialect) (around : List Scope) (p : Position) (c : Content) (f : Feed T) (m : Option Position) : Type 0 where
+  pub many : many_behind vocabulary after f m (tokens_of c) ≡ option_or m (first_with_many vocabulary d around p c)
+  pub stands : Stands d around (position_past p (tokens_of c)) (fold (feed vocabulary after) f (tokens_of c))
 
 -- the end tag of an element whose scope is the innermost
-end_here : {T : Type 0} (after : T → List Line → T) (d : Dialect) (s : Scope) (around : List Scope) (p : Position) (f : Feed T) (name closing : List ℕ) → Stands d (s ∷ around) p f
-    → Stands d around (position_after p (spelling (end name closing))) (feed after f (end name closing))
-end_here {T = T} after d s around p f name closing h =
-    subst (λ g. Stands d around (position_after p (spelling (end name closing))) (feed after g (end name closing))) (sym h.is)
+end_here : (vocabulary : List Word) {T : Type 0} (after : T → List Line → T) (d : Dialect) (s : Scope) (around : List Scope) (p : Position) (f : Feed T) (name closing : List ℕ) → Stands d (s ∷ around) p f
+    → Stands d around (position_after p (spelling (end name closing))) (feed vocabulary after f (end name closing))
+end_here vocabulary {T = T} after d s around p f name closing h =
+    subst (λ g. Stands d around (position_after p (spelling (end name closing))) (feed vocabulary after g (end name closing))) (sym h.is)
     (moved_on d around p _ (spelling (end name closing)) (go h.opens h.scopes))
   where
     rest_is : (x y : Scope) (xs ys : List Scope) → x ∷ xs ≡ y ∷ ys → xs ≡ ys
@@ -194,76 +195,76 @@ end_here {T = T} after d s around p f name closing h =
         (settled_here after h.taker d (growing h.lines (o ∷ opens) 0) h.lines opens p)
 
 -- from an element's tag to what follows it
-abbrev Follows : {T : Type 0} → (T → List Line → T) → Dialect → List Scope → Position → List ℕ → Content → List ℕ → Content → Option (List ℕ) → List Binding → Feed T → Option Position → Type 0
-Follows after d around q name inside closing rest o b f m =
-    (many_behind after f m (tokens_of inside ++ end name closing ∷ tokens_of rest)
-    ≡ option_or m (option_or (if_counted o (first_with_many d (within o b around) q inside)) (first_with_many d around (place_behind q inside name closing) rest)))
-    × Stands d around (position_past q (tokens_of inside ++ end name closing ∷ tokens_of rest)) (fold (feed after) f (tokens_of inside ++ end name closing ∷ tokens_of rest))
+abbrev Follows : (vocabulary : List Word) {T : Type 0} → (T → List Line → T) → Dialect → List Scope → Position → List ℕ → Content → List ℕ → Content → Option (List ℕ) → List Binding → Feed T → Option Position → Type 0
+Follows vocabulary after d around q name inside closing rest o b f m =
+    (many_behind vocabulary after f m (tokens_of inside ++ end name closing ∷ tokens_of rest)
+    ≡ option_or m (option_or (if_counted o (first_with_many vocabulary d (within o b around) q inside)) (first_with_many vocabulary d around (place_behind q inside name closing) rest)))
+    × Stands d around (position_past q (tokens_of inside ++ end name closing ∷ tokens_of rest)) (fold (feed vocabulary after) f (tokens_of inside ++ end name closing ∷ tokens_of rest))
 
 -- the same behind what stands in it
-behind_inside : {T : Type 0} (after : T → List Line → T) (d : Dialect) (around : List Scope) (q : Position) (name : List ℕ) (inside : Content) (closing : List ℕ) (rest : Content) (f : Feed T) (m n : Option Position)
-    → many_behind after f m (tokens_of inside) ≡ n
-    → Looks after d around (place_behind q inside name closing) rest (feed after (fold (feed after) f (tokens_of inside)) (end name closing)) (option_or n None)
-    → (many_behind after f m (tokens_of inside ++ end name closing ∷ tokens_of rest) ≡ option_or n (first_with_many d around (place_behind q inside name closing) rest))
-    × Stands d around (position_past q (tokens_of inside ++ end name closing ∷ tokens_of rest)) (fold (feed after) f (tokens_of inside ++ end name closing ∷ tokens_of rest))
-behind_inside after d around q name inside closing rest f m n e l =
+behind_inside : (vocabulary : List Word) {T : Type 0} (after : T → List Line → T) (d : Dialect) (around : List Scope) (q : Position) (name : List ℕ) (inside : Content) (closing : List ℕ) (rest : Content) (f : Feed T) (m n : Option Position)
+    → many_behind vocabulary after f m (tokens_of inside) ≡ n
+    → Looks vocabulary after d around (place_behind q inside name closing) rest (feed vocabulary after (fold (feed vocabulary after) f (tokens_of inside)) (end name closing)) (option_or n None)
+    → (many_behind vocabulary after f m (tokens_of inside ++ end name closing ∷ tokens_of rest) ≡ option_or n (first_with_many vocabulary d around (place_behind q inside name closing) rest))
+    × Stands d around (position_past q (tokens_of inside ++ end name closing ∷ tokens_of rest)) (fold (feed vocabulary after) f (tokens_of inside ++ end name closing ∷ tokens_of rest))
+behind_inside vocabulary after d around q name inside closing rest f m n e l =
     let behind = end name closing ∷ tokens_of rest in (
-      many-append after f m (tokens_of inside) behind
-          ∙ ap (λ x. many_behind after (fold (feed after) f (tokens_of inside)) x behind) e
-          ∙ l.many ∙ ap (λ x. option_or x (first_with_many d around (place_behind q inside name closing) rest)) (or_none n),
-      subst (λ r. Stands d around r (fold (feed after) f (tokens_of inside ++ behind))) (sym (past-append q (tokens_of inside) behind))
-          (subst (λ g. Stands d around (position_past (place_behind q inside name closing) (tokens_of rest)) g) (sym (fold-append (feed after) f (tokens_of inside) behind)) l.stands),
+      many-append vocabulary after f m (tokens_of inside) behind
+          ∙ ap (λ x. many_behind vocabulary after (fold (feed vocabulary after) f (tokens_of inside)) x behind) e
+          ∙ l.many ∙ ap (λ x. option_or x (first_with_many vocabulary d around (place_behind q inside name closing) rest)) (or_none n),
+      subst (λ r. Stands d around r (fold (feed vocabulary after) f (tokens_of inside ++ behind))) (sym (past-append q (tokens_of inside) behind))
+          (subst (λ g. Stands d around (position_past (place_behind q inside name closing) (tokens_of rest)) g) (sym (fold-append (feed vocabulary after) f (tokens_of inside) behind)) l.stands),
     )
 
-element_follows : {T : Type 0} (after : T → List Line → T) (t : T) (d : Dialect) (lines : List Line) (opens : List Open) (q : Position) (name : List ℕ) (inside : Content) (closing : List ℕ) (rest : Content)
+element_follows : (vocabulary : List Word) {T : Type 0} (after : T → List Line → T) (t : T) (d : Dialect) (lines : List Line) (opens : List Open) (q : Position) (name : List ℕ) (inside : Content) (closing : List ℕ) (rest : Content)
     (o : Option (List ℕ)) (tag : Tag) (b : List Binding) (m : Option Position) → IsClean inside
-    → ((lines : List Line) (opens : List Open) (m : Option Position) → Looks after d (scopes_of opens) q inside (inside_at t d lines opens 0 q) m)
-    → ((f : Feed T) (m : Option Position) → Stands d (scopes_of opens) (place_behind q inside name closing) f → Looks after d (scopes_of opens) (place_behind q inside name closing) rest f m)
-    → Follows after d (scopes_of opens) q name inside closing rest o b (feeding t (Some (Ok d)) (opened 0 o tag b (growing lines opens 0)) true q) m
-element_follows after t d lines opens q name inside closing rest None tag b m h inner later =
+    → ((lines : List Line) (opens : List Open) (m : Option Position) → Looks vocabulary after d (scopes_of opens) q inside (inside_at t d lines opens 0 q) m)
+    → ((f : Feed T) (m : Option Position) → Stands d (scopes_of opens) (place_behind q inside name closing) f → Looks vocabulary after d (scopes_of opens) (place_behind q inside name closing) rest f m)
+    → Follows vocabulary after d (scopes_of opens) q name inside closing rest o b (feeding t (Some (Ok d)) (opened 0 o tag b (growing lines opens 0)) true q) m
+element_follows vocabulary after t d lines opens q name inside closing rest None tag b m h inner later =
     let f = inside_at t d lines opens 1 q in
     let r = position_past q (tokens_of inside) in
-    let stands : Stands d (scopes_of opens) (place_behind q inside name closing) (feed after (fold (feed after) f (tokens_of inside)) (end name closing)) =
-    subst (λ g. Stands d (scopes_of opens) (place_behind q inside name closing) (feed after g (end name closing))) (sym (passes after t d lines opens 0 q inside h))
+    let stands : Stands d (scopes_of opens) (place_behind q inside name closing) (feed vocabulary after (fold (feed vocabulary after) f (tokens_of inside)) (end name closing)) =
+    subst (λ g. Stands d (scopes_of opens) (place_behind q inside name closing) (feed vocabulary after g (end name closing))) (sym (passes vocabulary after t d lines opens 0 q inside h))
     (moved_on d _ r _ (spelling (end name closing)) (settled_here after t d (growing lines opens 1) lines opens r)) in
-    behind_inside after d (scopes_of opens) q name inside closing rest f m m (passes_many after t d lines opens 0 q inside m h) (later _ (option_or m None) stands)
-element_follows after t d lines opens q name inside closing rest (Some n) tag b m h inner later =
+    behind_inside vocabulary after d (scopes_of opens) q name inside closing rest f m m (passes_many vocabulary after t d lines opens 0 q inside m h) (later _ (option_or m None) stands)
+element_follows vocabulary after t d lines opens q name inside closing rest (Some n) tag b m h inner later =
     let l = inner (lines ++ line (length opens) n tag [] ∷ []) (open_at (length lines) false (scope n b) ∷ opens) m in
-    let found = first_with_many d (scope n b ∷ scopes_of opens) q inside in
-    let x = behind_inside after d (scopes_of opens) q name inside closing rest _ m (option_or m found) l.many
-    (later _ (option_or (option_or m found) None) (end_here after d (scope n b) (scopes_of opens) _ _ name closing l.stands)) in
-    (x.0 ∙ or_assoc m found (first_with_many d (scopes_of opens) (place_behind q inside name closing) rest), x.1)
+    let found = first_with_many vocabulary d (scope n b ∷ scopes_of opens) q inside in
+    let x = behind_inside vocabulary after d (scopes_of opens) q name inside closing rest _ m (option_or m found) l.many
+    (later _ (option_or (option_or m found) None) (end_here vocabulary after d (scope n b) (scopes_of opens) _ _ name closing l.stands)) in
+    (x.0 ∙ or_assoc m found (first_with_many vocabulary d (scopes_of opens) (place_behind q inside name closing) rest), x.1)
 
 -- the same from wherever nothing is passed over
-looks_from : {T : Type 0} (after : T → List Line → T) (d : Dialect) (around : List Scope) (p : Position) (c : Content) (f : Feed T) (m : Option Position) (s : Stands d around p f)
-    → Looks after d (scopes_of s.opens) p c (inside_at s.taker d s.lines s.opens 0 p) m → Looks after d around p c f m
-looks_from after d around p c f m s l =
-    subst (λ g. Looks after d around p c g m) (sym s.is) (subst (λ a. Looks after d a p c (inside_at s.taker d s.lines s.opens 0 p) m) s.scopes l)
+looks_from : (vocabulary : List Word) {T : Type 0} (after : T → List Line → T) (d : Dialect) (around : List Scope) (p : Position) (c : Content) (f : Feed T) (m : Option Position) (s : Stands d around p f)
+    → Looks vocabulary after d (scopes_of s.opens) p c (inside_at s.taker d s.lines s.opens 0 p) m → Looks vocabulary after d around p c f m
+looks_from vocabulary after d around p c f m s l =
+    subst (λ g. Looks vocabulary after d around p c g m) (sym s.is) (subst (λ a. Looks vocabulary after d a p c (inside_at s.taker d s.lines s.opens 0 p) m) s.scopes l)
 
-pub content_looks : {T : Type 0} (after : T → List Line → T) (t : T) (d : Dialect) (p : Position) (c : Content) (lines : List Line) (opens : List Open) (m : Option Position) → IsClean c
-    → Looks after d (scopes_of opens) p c (inside_at t d lines opens 0 p) m
-content_looks after t d p nothing lines opens m h = record { many = sym (or_none m); stands = here t d lines opens p }
-content_looks after t d p (leaf token rest) lines opens m h =
+pub content_looks : (vocabulary : List Word) {T : Type 0} (after : T → List Line → T) (t : T) (d : Dialect) (p : Position) (c : Content) (lines : List Line) (opens : List Open) (m : Option Position) → IsClean c
+    → Looks vocabulary after d (scopes_of opens) p c (inside_at t d lines opens 0 p) m
+content_looks vocabulary after t d p nothing lines opens m h = record { many = sym (or_none m); stands = here t d lines opens p }
+content_looks vocabulary after t d p (leaf token rest) lines opens m h =
     let f = inside_at t d lines opens 0 p in
-    let s = leaf_here after t d lines opens p token h.0 h.1 in
+    let s = leaf_here vocabulary after t d lines opens p token h.0 h.1 in
     let q = position_after p (spelling token) in
     let n = option_or m (many_of f token) in
-    let l = looks_from after d (scopes_of opens) q rest (feed after f token) n s (content_looks after s.taker d q rest s.lines s.opens n h.2) in
+    let l = looks_from vocabulary after d (scopes_of opens) q rest (feed vocabulary after f token) n s (content_looks vocabulary after s.taker d q rest s.lines s.opens n h.2) in
     record {
-      many = l.many ∙ or_assoc m (many_of f token) (first_with_many d (scopes_of opens) q rest)
-          ∙ ap (λ o. option_or m (option_or o (first_with_many d (scopes_of opens) q rest))) (leaf_many t d lines opens p token h.0);
+      many = l.many ∙ or_assoc m (many_of f token) (first_with_many vocabulary d (scopes_of opens) q rest)
+          ∙ ap (λ o. option_or m (option_or o (first_with_many vocabulary d (scopes_of opens) q rest))) (leaf_many vocabulary t d lines opens p token h.0);
       stands = l.stands;
     }
-content_looks after t d p (element name attributes space inside closing rest) lines opens m h =
+content_looks vocabulary after t d p (element name attributes space inside closing rest) lines opens m h =
     let q = content_place p name attributes space in
     let b = bindings_of attributes in
-    let o = counted d (scopes_of opens) name b in
+    let o = counted vocabulary d (scopes_of opens) name b in
     let here_many = place_if (has_many d (scopes_of opens) b) p in
-    let x = element_follows after t d lines opens q name inside closing rest o (tag_of p attributes) b (option_or m here_many) h.0
-    (λ ls os n. content_looks after t d q inside ls os n h.0)
-    (λ f n s. looks_from after d (scopes_of opens) (place_behind q inside name closing) rest f n s (content_looks after s.taker d (place_behind q inside name closing) rest s.lines s.opens n h.1)) in
+    let x = element_follows vocabulary after t d lines opens q name inside closing rest o (tag_of p attributes) b (option_or m here_many) h.0
+    (λ ls os n. content_looks vocabulary after t d q inside ls os n h.0)
+    (λ f n s. looks_from vocabulary after d (scopes_of opens) (place_behind q inside name closing) rest f n s (content_looks vocabulary after s.taker d (place_behind q inside name closing) rest s.lines s.opens n h.1)) in
     record {
-      many = x.0 ∙ or_assoc m here_many (option_or (if_counted o (first_with_many d (within o b (scopes_of opens)) q inside)) (first_with_many d (scopes_of opens) (place_behind q inside name closing) rest));
+      many = x.0 ∙ or_assoc m here_many (option_or (if_counted o (first_with_many vocabulary d (within o b (scopes_of opens)) q inside)) (first_with_many vocabulary d (scopes_of opens) (place_behind q inside name closing) rest));
       stands = x.1;
     }
 
@@ -281,56 +282,56 @@ quiet_token f (start name attributes space) h = absurd h
 quiet_token f (empty name attributes space) h = absurd h
 quiet_token f (end name space) h = absurd h
 
-quiet_tokens : {T : Type 0} (after : T → List Line → T) (f : Feed T) (m : Option Position) (tokens : List Token) → AllByRecursion IsQuiet tokens → many_behind after f m tokens ≡ m
-quiet_tokens after f m [] h = refl
-quiet_tokens after f m (token ∷ tokens) h =
-    quiet_tokens after (feed after f token) (option_or m (many_of f token)) tokens h.1 ∙ ap (option_or m) (quiet_token f token h.0) ∙ or_none m
+quiet_tokens : (vocabulary : List Word) {T : Type 0} (after : T → List Line → T) (f : Feed T) (m : Option Position) (tokens : List Token) → AllByRecursion IsQuiet tokens → many_behind vocabulary after f m tokens ≡ m
+quiet_tokens vocabulary after f m [] h = refl
+quiet_tokens vocabulary after f m (token ∷ tokens) h =
+    quiet_tokens vocabulary after (feed vocabulary after f token) (option_or m (many_of f token)) tokens h.1 ∙ ap (option_or m) (quiet_token f token h.0) ∙ or_none m
 
-started_many : {T : Type 0} (after : T → List Line → T) (t : T) (d : Dialect) (name closing : List ℕ) (inside : Content) (behind : List Token) (p : Position) → IsClean inside → AllByRecursion IsQuiet behind
-    → many_behind after (inside_at t d [] [] 0 p) None ((tokens_of inside ++ end name closing ∷ []) ++ behind) ≡ first_with_many d [] p inside
-started_many after t d name closing inside behind p h quiet =
+started_many : (vocabulary : List Word) {T : Type 0} (after : T → List Line → T) (t : T) (d : Dialect) (name closing : List ℕ) (inside : Content) (behind : List Token) (p : Position) → IsClean inside → AllByRecursion IsQuiet behind
+    → many_behind vocabulary after (inside_at t d [] [] 0 p) None ((tokens_of inside ++ end name closing ∷ []) ++ behind) ≡ first_with_many vocabulary d [] p inside
+started_many vocabulary after t d name closing inside behind p h quiet =
     let f = inside_at t d [] [] 0 p in
-    let found = first_with_many d [] p inside in
-    let g = fold (feed after) f (tokens_of inside) in
-    ap (many_behind after f None) (append_assoc (tokens_of inside) (end name closing ∷ []) behind)
-    ∙ many-append after f None (tokens_of inside) (end name closing ∷ behind)
-    ∙ ap (λ m. many_behind after g m (end name closing ∷ behind)) (content_looks after t d p inside [] [] None h).many
-    ∙ quiet_tokens after (feed after g (end name closing)) (option_or found None) behind quiet
+    let found = first_with_many vocabulary d [] p inside in
+    let g = fold (feed vocabulary after) f (tokens_of inside) in
+    ap (many_behind vocabulary after f None) (append_assoc (tokens_of inside) (end name closing ∷ []) behind)
+    ∙ many-append vocabulary after f None (tokens_of inside) (end name closing ∷ behind)
+    ∙ ap (λ m. many_behind vocabulary after g m (end name closing ∷ behind)) (content_looks vocabulary after t d p inside [] [] None h).many
+    ∙ quiet_tokens vocabulary after (feed vocabulary after g (end name closing)) (option_or found None) behind quiet
     ∙ or_none found
 
-root_many : {T : Type 0} (after : T → List Line → T) (t : T) (d : Dialect) (root behind : List Token) (name : List ℕ) (inside : Content) (p : Position) → IsRoot root name inside → HasLeaves inside → AllByRecursion IsQuiet behind
+root_many : (vocabulary : List Word) {T : Type 0} (after : T → List Line → T) (t : T) (d : Dialect) (root behind : List Token) (name : List ℕ) (inside : Content) (p : Position) → IsRoot root name inside → HasLeaves inside → AllByRecursion IsQuiet behind
     → root_of (root ++ behind) ≡ Some (Ok d) → list_all is_known (root ++ behind) ≡ true
-    → many_behind after (feed_from t p) None (root ++ behind) ≡ first_with_many d [] (root_place p (root ++ behind)) inside
-root_many after t d [] behind name inside p r h quiet e k = absurd r
-root_many after t d (start n attributes space ∷ tokens) behind name inside p r h quiet e k =
+    → many_behind vocabulary after (feed_from t p) None (root ++ behind) ≡ first_with_many vocabulary d [] (root_place p (root ++ behind)) inside
+root_many vocabulary after t d [] behind name inside p r h quiet e k = absurd r
+root_many vocabulary after t d (start n attributes space ∷ tokens) behind name inside p r h quiet e k =
     let q = position_after p (spelling (start n attributes space)) in
     let bytes = spelling (start n attributes space) in
     let all = (and_parts (list_all is_known tokens) (list_all is_known behind) (sym (list_all-append is_known tokens behind) ∙ k)).0 in
     let known = (and_parts (list_all is_known (tokens_of inside)) (list_all is_known (end name r.1.0 ∷ [])) (sym (list_all-append is_known (tokens_of inside) (end name r.1.0 ∷ [])) ∙ ap (list_all is_known) (sym r.1.1) ∙ all)).0 in
-    ap (λ o. many_behind after (moved bytes (feeding t o no_lines true p)) None (tokens ++ behind)) e
-    ∙ ap (λ ts. many_behind after (inside_at t d [] [] 0 q) None (ts ++ behind)) r.1.1
-    ∙ started_many after t d name r.1.0 inside behind q (clean inside h known) quiet
-root_many after t d (empty n attributes space ∷ tokens) behind name inside p r h quiet e k =
+    ap (λ o. many_behind vocabulary after (moved bytes (feeding t o no_lines true p)) None (tokens ++ behind)) e
+    ∙ ap (λ ts. many_behind vocabulary after (inside_at t d [] [] 0 q) None (ts ++ behind)) r.1.1
+    ∙ started_many vocabulary after t d name r.1.0 inside behind q (clean inside h known) quiet
+root_many vocabulary after t d (empty n attributes space ∷ tokens) behind name inside p r h quiet e k =
     let q = position_after p (spelling (empty n attributes space)) in
     let bytes = spelling (empty n attributes space) in
-    ap (λ o. many_behind after (moved bytes (feeding t o no_lines true p)) None (tokens ++ behind)) e
-    ∙ ap (λ ts. many_behind after (inside_at t d [] [] 0 q) None (ts ++ behind)) r.2
-    ∙ quiet_tokens after (inside_at t d [] [] 0 q) None behind quiet
-    ∙ ap (first_with_many d [] q) (sym r.1)
-root_many after t d (raw b ∷ tokens) behind name inside p r h quiet e k = absurd r
-root_many after t d (reference body ∷ tokens) behind name inside p r h quiet e k = absurd r
-root_many after t d (cdata body ∷ tokens) behind name inside p r h quiet e k = absurd r
-root_many after t d (comment body ∷ tokens) behind name inside p r h quiet e k = absurd r
-root_many after t d (instruction body ∷ tokens) behind name inside p r h quiet e k = absurd r
-root_many after t d (declaration body ∷ tokens) behind name inside p r h quiet e k = absurd r
-root_many after t d (doctype body ∷ tokens) behind name inside p r h quiet e k = absurd r
-root_many after t d (end n space ∷ tokens) behind name inside p r h quiet e k = absurd r
+    ap (λ o. many_behind vocabulary after (moved bytes (feeding t o no_lines true p)) None (tokens ++ behind)) e
+    ∙ ap (λ ts. many_behind vocabulary after (inside_at t d [] [] 0 q) None (ts ++ behind)) r.2
+    ∙ quiet_tokens vocabulary after (inside_at t d [] [] 0 q) None behind quiet
+    ∙ ap (first_with_many vocabulary d [] q) (sym r.1)
+root_many vocabulary after t d (raw b ∷ tokens) behind name inside p r h quiet e k = absurd r
+root_many vocabulary after t d (reference body ∷ tokens) behind name inside p r h quiet e k = absurd r
+root_many vocabulary after t d (cdata body ∷ tokens) behind name inside p r h quiet e k = absurd r
+root_many vocabulary after t d (comment body ∷ tokens) behind name inside p r h quiet e k = absurd r
+root_many vocabulary after t d (instruction body ∷ tokens) behind name inside p r h quiet e k = absurd r
+root_many vocabulary after t d (declaration body ∷ tokens) behind name inside p r h quiet e k = absurd r
+root_many vocabulary after t d (doctype body ∷ tokens) behind name inside p r h quiet e k = absurd r
+root_many vocabulary after t d (end n space ∷ tokens) behind name inside p r h quiet e k = absurd r
 
 -- the first such tag that was met is that of the tree
-pub tree_many : {T : Type 0} (after : T → List Line → T) (t : T) (d : Dialect) (tokens : List Token) (name : List ℕ) (inside : Content) → IsTree tokens name inside
+pub tree_many : (vocabulary : List Word) {T : Type 0} (after : T → List Line → T) (t : T) (d : Dialect) (tokens : List Token) (name : List ℕ) (inside : Content) → IsTree tokens name inside
     → root_of tokens ≡ Some (Ok d) → list_all is_known tokens ≡ true
-    → many_behind after (first_feed t) None tokens ≡ first_with_many d [] (root_place first_position tokens) inside
-tree_many after t d tokens name inside tree e k =
+    → many_behind vocabulary after (first_feed t) None tokens ≡ first_with_many vocabulary d [] (root_place first_position tokens) inside
+tree_many vocabulary after t d tokens name inside tree e k =
     let root = tree.root ++ tree.behind in
     let before = quiet_prolog tree.before tree.prolog in
     let behind = all_quiet IsMisc quiet_misc tree.behind tree.misc in
@@ -339,12 +340,12 @@ tree_many after t d tokens name inside tree e k =
     let told : root_of root ≡ Some (Ok d) = sym (misc_root tree.before root before) ∙ ap root_of (sym tree.parts) ∙ e in
     let known : list_all is_known root ≡ true =
     (and_parts (list_all is_known tree.before) (list_all is_known root) (sym (list_all-append is_known tree.before root) ∙ ap (list_all is_known) (sym tree.parts) ∙ k)).1 in
-    ap (many_behind after (first_feed t) None) tree.parts
-    ∙ many-append after (first_feed t) None tree.before root
-    ∙ ap (λ f. many_behind after f (many_behind after (first_feed t) None tree.before) root) (misc_before after t first_position tree.before before)
-    ∙ ap (λ m. many_behind after (feed_from t p) m root) (quiet_tokens after (first_feed t) None tree.before before)
-    ∙ root_many after t d tree.root tree.behind name inside p tree.is_root tree.leaves behind told known
-    ∙ ap (λ q. first_with_many d [] q inside) (sym place)
+    ap (many_behind vocabulary after (first_feed t) None) tree.parts
+    ∙ many-append vocabulary after (first_feed t) None tree.before root
+    ∙ ap (λ f. many_behind vocabulary after f (many_behind vocabulary after (first_feed t) None tree.before) root) (misc_before vocabulary after t first_position tree.before before)
+    ∙ ap (λ m. many_behind vocabulary after (feed_from t p) m root) (quiet_tokens vocabulary after (first_feed t) None tree.before before)
+    ∙ root_many vocabulary after t d tree.root tree.behind name inside p tree.is_root tree.leaves behind told known
+    ∙ ap (λ q. first_with_many vocabulary d [] q inside) (sym place)
 
 -- ---- tokens that are refused
 
@@ -366,29 +367,29 @@ token_root f (doctype body) q e = absurd cc
 token_root f (end name space) q e = absurd cc
 
 -- it is met below the root of a message
-pub many_root : {T : Type 0} (after : T → List Line → T) (f : Feed T) (tokens : List Token) (q : Position) → many_behind after f None tokens ≡ Some q → (d : Dialect) × ((fold (feed after) f tokens).root ≡ Some (Ok d))
-many_root after f [] q e = absurd cc
-many_root after f (token ∷ tokens) q e = go (many_of f token) refl e (λ h. many_root after (feed after f token) tokens q h)
+pub many_root : (vocabulary : List Word) {T : Type 0} (after : T → List Line → T) (f : Feed T) (tokens : List Token) (q : Position) → many_behind vocabulary after f None tokens ≡ Some q → (d : Dialect) × ((fold (feed vocabulary after) f tokens).root ≡ Some (Ok d))
+many_root vocabulary after f [] q e = absurd cc
+many_root vocabulary after f (token ∷ tokens) q e = go (many_of f token) refl e (λ h. many_root vocabulary after (feed vocabulary after f token) tokens q h)
   where
-    go : (o : Option Position) → many_of f token ≡ o → many_behind after (feed after f token) o tokens ≡ Some q
-        → (many_behind after (feed after f token) None tokens ≡ Some q → (d : Dialect) × ((fold (feed after) (feed after f token) tokens).root ≡ Some (Ok d)))
-        → (d : Dialect) × ((fold (feed after) (feed after f token) tokens).root ≡ Some (Ok d))
+    go : (o : Option Position) → many_of f token ≡ o → many_behind vocabulary after (feed vocabulary after f token) o tokens ≡ Some q
+        → (many_behind vocabulary after (feed vocabulary after f token) None tokens ≡ Some q → (d : Dialect) × ((fold (feed vocabulary after) (feed vocabulary after f token) tokens).root ≡ Some (Ok d)))
+        → (d : Dialect) × ((fold (feed vocabulary after) (feed vocabulary after f token) tokens).root ≡ Some (Ok d))
     go None met h later = later h
     go (Some p) met h later =
         let r = token_root f token p met in (
           r.0,
-          roots after (feed after f token) tokens ∙ ap (λ o. root_behind o tokens) (root_step after f token ∙ ap (λ o. root_behind o (token ∷ [])) r.1),
+          roots vocabulary after (feed vocabulary after f token) tokens ∙ ap (λ o. root_behind o tokens) (root_step vocabulary after f token ∙ ap (λ o. root_behind o (token ∷ [])) r.1),
         )
 
-pub is_many : {T : Type 0} (after : T → List Line → T) (t : T) (d : Dialect) (tokens : List Token) (place : Position) → root_of tokens ≡ Some (Ok d)
-    → many_behind after (first_feed t) None tokens ≡ Some place → IsManyAt tokens place
-is_many after t d tokens place e met = (
+pub is_many : (vocabulary : List Word) {T : Type 0} (after : T → List Line → T) (t : T) (d : Dialect) (tokens : List Token) (place : Position) → root_of tokens ≡ Some (Ok d)
+    → many_behind vocabulary after (first_feed t) None tokens ≡ Some place → IsManyAt vocabulary tokens place
+is_many vocabulary after t d tokens place e met = (
   d,
   e,
   λ more name inside tree k.
-      ap (λ q. first_with_many d [] q inside) (sym (place_front first_position tokens more (Ok d) e))
-      ∙ sym (tree_many after t d (tokens ++ more) name inside tree (root_front tokens more (Ok d) e) k)
-      ∙ many-append after (first_feed t) None tokens more
-      ∙ ap (λ m. many_behind after (fold (feed after) (first_feed t) tokens) m more) met
-      ∙ stays after (fold (feed after) (first_feed t) tokens) place more,
+      ap (λ q. first_with_many vocabulary d [] q inside) (sym (place_front first_position tokens more (Ok d) e))
+      ∙ sym (tree_many vocabulary after t d (tokens ++ more) name inside tree (root_front tokens more (Ok d) e) k)
+      ∙ many-append vocabulary after (first_feed t) None tokens more
+      ∙ ap (λ m. many_behind vocabulary after (fold (feed vocabulary after) (first_feed t) tokens) m more) met
+      ∙ stays vocabulary after (fold (feed vocabulary after) (first_feed t) tokens) place more,
 )

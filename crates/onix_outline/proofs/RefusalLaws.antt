@@ -1,6 +1,7 @@
 -- What is refused of any tokens, and where.
 use Rattle.std.proofs.Common.{◌≡◌, ℕ, Bool, true, false, cond, List, [], ◌∷◌, ◌++◌, Option, Some, None, Result, Ok, Err, refl, sym, ap, ◌∙◌, fold}
 use Rattle.std.specs.Prelude.{◌&&◌}
+use Rattle.onix_outline.specs.Names.{Word}
 use Rattle.xml_text.specs.declared.position.Position.{Position}
 use Rattle.xml_text.specs.Grammar.{Token, raw, reference, cdata, comment, instruction, declaration, doctype, start, empty, end, spelling}
 use Rattle.xml_text.specs.Positions.{position_after, position_past}
@@ -44,40 +45,40 @@ pub record Tells {T : Type 0} (r : Option (Result Dialect Wrong)) (k : Bool) (p 
   pub known : g.known ≡ known_behind r token k
   pub place : g.place ≡ p
 
-told_tells : {T : Type 0} (after : T → List Line → T) (t : T) (r : Option (Result Dialect Wrong)) (g : Growing) (k : Bool) (p : Position) (token : Token) → Tells r k p token (told after (feeding t r g k p) token)
-told_tells after t None g k p (raw b) = record { root = refl; known = refl; place = refl }
-told_tells after t None g k p (reference body) = record { root = refl; known = refl; place = refl }
-told_tells after t None g k p (cdata body) = record { root = refl; known = refl; place = refl }
-told_tells after t None g k p (comment body) = record { root = refl; known = refl; place = refl }
-told_tells after t None g k p (instruction body) = record { root = refl; known = refl; place = refl }
-told_tells after t None g k p (declaration body) = record { root = refl; known = refl; place = refl }
-told_tells after t None g k p (doctype body) = record { root = refl; known = refl; place = refl }
-told_tells after t None g k p (start name attributes space) = record { root = refl; known = refl; place = refl }
-told_tells after t None g k p (empty name attributes space) = record { root = refl; known = refl; place = refl }
-told_tells after t None g k p (end name space) = record { root = refl; known = refl; place = refl }
-told_tells after t (Some (Err w)) g k p (raw b) = record { root = refl; known = refl; place = refl }
-told_tells after t (Some (Err w)) g k p (reference body) = record { root = refl; known = refl; place = refl }
-told_tells after t (Some (Err w)) g k p (cdata body) = record { root = refl; known = refl; place = refl }
-told_tells after t (Some (Err w)) g k p (comment body) = record { root = refl; known = refl; place = refl }
-told_tells after t (Some (Err w)) g k p (instruction body) = record { root = refl; known = refl; place = refl }
-told_tells after t (Some (Err w)) g k p (declaration body) = record { root = refl; known = refl; place = refl }
-told_tells after t (Some (Err w)) g k p (doctype body) = record { root = refl; known = refl; place = refl }
-told_tells after t (Some (Err w)) g k p (start name attributes space) = record { root = refl; known = refl; place = refl }
-told_tells after t (Some (Err w)) g k p (empty name attributes space) = record { root = refl; known = refl; place = refl }
-told_tells after t (Some (Err w)) g k p (end name space) = record { root = refl; known = refl; place = refl }
-told_tells after t (Some (Ok d)) g k p (raw b) = record { root = refl; known = refl; place = refl }
-told_tells after t (Some (Ok d)) g k p (reference body) = record { root = refl; known = refl; place = refl }
-told_tells after t (Some (Ok d)) g k p (cdata body) = record { root = refl; known = refl; place = refl }
-told_tells after t (Some (Ok d)) g k p (comment body) = record { root = refl; known = refl; place = refl }
-told_tells after t (Some (Ok d)) g k p (instruction body) = record { root = refl; known = refl; place = refl }
-told_tells after t (Some (Ok d)) g k p (declaration body) = record { root = refl; known = refl; place = refl }
-told_tells after t (Some (Ok d)) g k p (doctype body) = record { root = refl; known = refl; place = refl }
-told_tells after t (Some (Ok d)) g k p (start name attributes space) = record { root = refl; known = refl; place = refl }
-told_tells after t (Some (Ok d)) g k p (empty name attributes space) =
-    let o = opened g.passed (counted d (scopes_of g.opens) name (bindings_of attributes)) (tag_of p attributes) (bindings_of attributes) g in
+told_tells : (vocabulary : List Word) {T : Type 0} (after : T → List Line → T) (t : T) (r : Option (Result Dialect Wrong)) (g : Growing) (k : Bool) (p : Position) (token : Token) → Tells r k p token (told vocabulary after (feeding t r g k p) token)
+told_tells vocabulary after t None g k p (raw b) = record { root = refl; known = refl; place = refl }
+told_tells vocabulary after t None g k p (reference body) = record { root = refl; known = refl; place = refl }
+told_tells vocabulary after t None g k p (cdata body) = record { root = refl; known = refl; place = refl }
+told_tells vocabulary after t None g k p (comment body) = record { root = refl; known = refl; place = refl }
+told_tells vocabulary after t None g k p (instruction body) = record { root = refl; known = refl; place = refl }
+told_tells vocabulary after t None g k p (declaration body) = record { root = refl; known = refl; place = refl }
+told_tells vocabulary after t None g k p (doctype body) = record { root = refl; known = refl; place = refl }
+told_tells vocabulary after t None g k p (start name attributes space) = record { root = refl; known = refl; place = refl }
+told_tells vocabulary after t None g k p (empty name attributes space) = record { root = refl; known = refl; place = refl }
+told_tells vocabulary after t None g k p (end name space) = record { root = refl; known = refl; place = refl }
+told_tells vocabulary after t (Some (Err w)) g k p (raw b) = record { root = refl; known = refl; place = refl }
+told_tells vocabulary after t (Some (Err w)) g k p (reference body) = record { root = refl; known = refl; place = refl }
+told_tells vocabulary after t (Some (Err w)) g k p (cdata body) = record { root = refl; known = refl; place = refl }
+told_tells vocabulary after t (Some (Err w)) g k p (comment body) = record { root = refl; known = refl; place = refl }
+told_tells vocabulary after t (Some (Err w)) g k p (instruction body) = record { root = refl; known = refl; place = refl }
+told_tells vocabulary after t (Some (Err w)) g k p (declaration body) = record { root = refl; known = refl; place = refl }
+told_tells vocabulary after t (Some (Err w)) g k p (doctype body) = record { root = refl; known = refl; place = refl }
+told_tells vocabulary after t (Some (Err w)) g k p (start name attributes space) = record { root = refl; known = refl; place = refl }
+told_tells vocabulary after t (Some (Err w)) g k p (empty name attributes space) = record { root = refl; known = refl; place = refl }
+told_tells vocabulary after t (Some (Err w)) g k p (end name space) = record { root = refl; known = refl; place = refl }
+told_tells vocabulary after t (Some (Ok d)) g k p (raw b) = record { root = refl; known = refl; place = refl }
+told_tells vocabulary after t (Some (Ok d)) g k p (reference body) = record { root = refl; known = refl; place = refl }
+told_tells vocabulary after t (Some (Ok d)) g k p (cdata body) = record { root = refl; known = refl; place = refl }
+told_tells vocabulary after t (Some (Ok d)) g k p (comment body) = record { root = refl; known = refl; place = refl }
+told_tells vocabulary after t (Some (Ok d)) g k p (instruction body) = record { root = refl; known = refl; place = refl }
+told_tells vocabulary after t (Some (Ok d)) g k p (declaration body) = record { root = refl; known = refl; place = refl }
+told_tells vocabulary after t (Some (Ok d)) g k p (doctype body) = record { root = refl; known = refl; place = refl }
+told_tells vocabulary after t (Some (Ok d)) g k p (start name attributes space) = record { root = refl; known = refl; place = refl }
+told_tells vocabulary after t (Some (Ok d)) g k p (empty name attributes space) =
+    let o = opened g.passed (counted vocabulary d (scopes_of g.opens) name (bindings_of attributes)) (tag_of p attributes) (bindings_of attributes) g in
     let s = settled_stays after (feeding t (Some (Ok d)) o k p) (closed o.passed o) in
     record { root = s.root; known = s.known; place = s.place }
-told_tells after t (Some (Ok d)) g k p (end name space) =
+told_tells vocabulary after t (Some (Ok d)) g k p (end name space) =
     let s = settled_stays after (feeding t (Some (Ok d)) g k p) (closed g.passed g) in
     record { root = s.root; known = s.known; place = s.place }
 
@@ -96,30 +97,30 @@ moves bytes f = go (is_sound f) refl
     go true e = record { root = refl; known = refl; child = refl; sound = λ h. refl; refused = λ h. absurd (cc (sym e ∙ h)) }
     go false e = record { root = refl; known = refl; child = refl; sound = λ h. absurd (cc (sym e ∙ h)); refused = λ h. refl }
 
-pub root_step : {T : Type 0} (after : T → List Line → T) (f : Feed T) (token : Token) → (feed after f token).root ≡ root_behind f.root (token ∷ [])
-root_step after f token = (moves (spelling token) (told after f token)).root ∙ (told_tells after f.taker f.root f.child f.known f.place token).root
+pub root_step : (vocabulary : List Word) {T : Type 0} (after : T → List Line → T) (f : Feed T) (token : Token) → (feed vocabulary after f token).root ≡ root_behind f.root (token ∷ [])
+root_step vocabulary after f token = (moves (spelling token) (told vocabulary after f token)).root ∙ (told_tells vocabulary after f.taker f.root f.child f.known f.place token).root
 
-pub known_step : {T : Type 0} (after : T → List Line → T) (f : Feed T) (token : Token) → (feed after f token).known ≡ known_behind f.root token f.known
-known_step after f token = (moves (spelling token) (told after f token)).known ∙ (told_tells after f.taker f.root f.child f.known f.place token).known
+pub known_step : (vocabulary : List Word) {T : Type 0} (after : T → List Line → T) (f : Feed T) (token : Token) → (feed vocabulary after f token).known ≡ known_behind f.root token f.known
+known_step vocabulary after f token = (moves (spelling token) (told vocabulary after f token)).known ∙ (told_tells vocabulary after f.taker f.root f.child f.known f.place token).known
 
 same_sound : {T : Type 0} (f g : Feed T) → g.root ≡ f.root → g.known ≡ f.known → is_sound g ≡ is_sound f
 same_sound f g r k = ap (λ o. is_sound_with o g.known) r ∙ ap (λ b. is_sound_with f.root b) k
 
-feed_sound : {T : Type 0} (after : T → List Line → T) (f : Feed T) (token : Token) → is_sound (feed after f token) ≡ is_sound (told after f token)
-feed_sound after f token =
-    let m = moves (spelling token) (told after f token) in
-    same_sound (told after f token) (feed after f token) m.root m.known
+feed_sound : (vocabulary : List Word) {T : Type 0} (after : T → List Line → T) (f : Feed T) (token : Token) → is_sound (feed vocabulary after f token) ≡ is_sound (told vocabulary after f token)
+feed_sound vocabulary after f token =
+    let m = moves (spelling token) (told vocabulary after f token) in
+    same_sound (told vocabulary after f token) (feed vocabulary after f token) m.root m.known
 
 -- a token that is not refused is passed, and one that is keeps its place
-place_passed : {T : Type 0} (after : T → List Line → T) (f : Feed T) (token : Token) → is_sound (feed after f token) ≡ true → (feed after f token).place ≡ position_after f.place (spelling token)
-place_passed after f token h =
-    (moves (spelling token) (told after f token)).sound (sym (feed_sound after f token) ∙ h)
-    ∙ ap (λ p. position_after p (spelling token)) (told_tells after f.taker f.root f.child f.known f.place token).place
+place_passed : (vocabulary : List Word) {T : Type 0} (after : T → List Line → T) (f : Feed T) (token : Token) → is_sound (feed vocabulary after f token) ≡ true → (feed vocabulary after f token).place ≡ position_after f.place (spelling token)
+place_passed vocabulary after f token h =
+    (moves (spelling token) (told vocabulary after f token)).sound (sym (feed_sound vocabulary after f token) ∙ h)
+    ∙ ap (λ p. position_after p (spelling token)) (told_tells vocabulary after f.taker f.root f.child f.known f.place token).place
 
-place_kept : {T : Type 0} (after : T → List Line → T) (f : Feed T) (token : Token) → is_sound (feed after f token) ≡ false → (feed after f token).place ≡ f.place
-place_kept after f token h =
-    (moves (spelling token) (told after f token)).refused (sym (feed_sound after f token) ∙ h)
-    ∙ (told_tells after f.taker f.root f.child f.known f.place token).place
+place_kept : (vocabulary : List Word) {T : Type 0} (after : T → List Line → T) (f : Feed T) (token : Token) → is_sound (feed vocabulary after f token) ≡ false → (feed vocabulary after f token).place ≡ f.place
+place_kept vocabulary after f token h =
+    (moves (spelling token) (told vocabulary after f token)).refused (sym (feed_sound vocabulary after f token) ∙ h)
+    ∙ (told_tells vocabulary after f.taker f.root f.child f.known f.place token).place
 
 -- ---- the root
 
@@ -137,14 +138,14 @@ root_further None (empty name attributes space) tokens = refl
 root_further None (end name space) tokens = refl
 
 -- the root is told by the first tag
-pub roots : {T : Type 0} (after : T → List Line → T) (f : Feed T) (tokens : List Token) → (fold (feed after) f tokens).root ≡ root_behind f.root tokens
-roots after f [] = go f.root
+pub roots : (vocabulary : List Word) {T : Type 0} (after : T → List Line → T) (f : Feed T) (tokens : List Token) → (fold (feed vocabulary after) f tokens).root ≡ root_behind f.root tokens
+roots vocabulary after f [] = go f.root
   where
     go : (r : Option (Result Dialect Wrong)) → r ≡ root_behind r []
     go None = refl
     go (Some r) = refl
-roots after f (token ∷ tokens) =
-    roots after (feed after f token) tokens ∙ ap (λ r. root_behind r tokens) (root_step after f token) ∙ root_further f.root token tokens
+roots vocabulary after f (token ∷ tokens) =
+    roots vocabulary after (feed vocabulary after f token) tokens ∙ ap (λ r. root_behind r tokens) (root_step vocabulary after f token) ∙ root_further f.root token tokens
 
 -- ---- what was refused stays so
 
@@ -157,30 +158,30 @@ refused_step (Some (Ok d)) k token h = both_false (is_known token) k h
     both_false true c h = h
     both_false false c h = refl
 
-refused_feed : {T : Type 0} (after : T → List Line → T) (f : Feed T) (token : Token) → is_sound f ≡ false → is_sound (feed after f token) ≡ false
-refused_feed after f token h =
-    ap (λ r. is_sound_with r (feed after f token).known) (root_step after f token) ∙ ap (λ b. is_sound_with (root_behind f.root (token ∷ [])) b) (known_step after f token)
+refused_feed : (vocabulary : List Word) {T : Type 0} (after : T → List Line → T) (f : Feed T) (token : Token) → is_sound f ≡ false → is_sound (feed vocabulary after f token) ≡ false
+refused_feed vocabulary after f token h =
+    ap (λ r. is_sound_with r (feed vocabulary after f token).known) (root_step vocabulary after f token) ∙ ap (λ b. is_sound_with (root_behind f.root (token ∷ [])) b) (known_step vocabulary after f token)
     ∙ refused_step f.root f.known token h
 
-refused_stays : {T : Type 0} (after : T → List Line → T) (f : Feed T) (tokens : List Token) → is_sound f ≡ false → is_sound (fold (feed after) f tokens) ≡ false
-refused_stays after f [] h = h
-refused_stays after f (token ∷ tokens) h = refused_stays after (feed after f token) tokens (refused_feed after f token h)
+refused_stays : (vocabulary : List Word) {T : Type 0} (after : T → List Line → T) (f : Feed T) (tokens : List Token) → is_sound f ≡ false → is_sound (fold (feed vocabulary after) f tokens) ≡ false
+refused_stays vocabulary after f [] h = h
+refused_stays vocabulary after f (token ∷ tokens) h = refused_stays vocabulary after (feed vocabulary after f token) tokens (refused_feed vocabulary after f token h)
 
-refused_place : {T : Type 0} (after : T → List Line → T) (f : Feed T) (tokens : List Token) → is_sound f ≡ false → (fold (feed after) f tokens).place ≡ f.place
-refused_place after f [] h = refl
-refused_place after f (token ∷ tokens) h =
-    let later = refused_feed after f token h in
-    refused_place after (feed after f token) tokens later ∙ place_kept after f token later
+refused_place : (vocabulary : List Word) {T : Type 0} (after : T → List Line → T) (f : Feed T) (tokens : List Token) → is_sound f ≡ false → (fold (feed vocabulary after) f tokens).place ≡ f.place
+refused_place vocabulary after f [] h = refl
+refused_place vocabulary after f (token ∷ tokens) h =
+    let later = refused_feed vocabulary after f token h in
+    refused_place vocabulary after (feed vocabulary after f token) tokens later ∙ place_kept vocabulary after f token later
 
 -- where the next token stands, while none is refused
-pub places : {T : Type 0} (after : T → List Line → T) (f : Feed T) (tokens : List Token) → is_sound (fold (feed after) f tokens) ≡ true → (fold (feed after) f tokens).place ≡ position_past f.place tokens
-places after f [] h = refl
-places after f (token ∷ tokens) h = go (is_sound (feed after f token)) refl (places after (feed after f token) tokens h)
+pub places : (vocabulary : List Word) {T : Type 0} (after : T → List Line → T) (f : Feed T) (tokens : List Token) → is_sound (fold (feed vocabulary after) f tokens) ≡ true → (fold (feed vocabulary after) f tokens).place ≡ position_past f.place tokens
+places vocabulary after f [] h = refl
+places vocabulary after f (token ∷ tokens) h = go (is_sound (feed vocabulary after f token)) refl (places vocabulary after (feed vocabulary after f token) tokens h)
   where
-    go : (b : Bool) → is_sound (feed after f token) ≡ b → (fold (feed after) (feed after f token) tokens).place ≡ position_past (feed after f token).place tokens
-        → (fold (feed after) (feed after f token) tokens).place ≡ position_past f.place (token ∷ tokens)
-    go true e later = later ∙ ap (λ p. position_past p tokens) (place_passed after f token e)
-    go false e later = absurd (cc (sym (refused_stays after (feed after f token) tokens e) ∙ h))
+    go : (b : Bool) → is_sound (feed vocabulary after f token) ≡ b → (fold (feed vocabulary after) (feed vocabulary after f token) tokens).place ≡ position_past (feed vocabulary after f token).place tokens
+        → (fold (feed vocabulary after) (feed vocabulary after f token) tokens).place ≡ position_past f.place (token ∷ tokens)
+    go true e later = later ∙ ap (λ p. position_past p tokens) (place_passed vocabulary after f token e)
+    go false e later = absurd (cc (sym (refused_stays vocabulary after (feed vocabulary after f token) tokens e) ∙ h))
 
 -- a place is the one of a token of which, with the tokens before it, this holds
 pub record Finds (P : List Token → Token → Type 0) (from : Position) (tokens : List Token) (place : Position) : Type 0 where
@@ -204,31 +205,31 @@ further_on P Q from next place first tokens is holds h = record {
 }
 
 -- the place of a root that is refused
-pub finds_root : {T : Type 0} (after : T → List Line → T) (f : Feed T) (tokens : List Token) (w : Wrong) → f.root ≡ None → (fold (feed after) f tokens).root ≡ Some (Err w)
-    → Finds (IsRefusedRoot w) f.place tokens (fold (feed after) f tokens).place
-finds_root after f [] w none h = absurd (cc (sym none ∙ h))
-finds_root after f (token ∷ tokens) w none h =
-    go (root_of (token ∷ [])) refl (λ e. finds_root after (feed after f token) tokens w e h)
+pub finds_root : (vocabulary : List Word) {T : Type 0} (after : T → List Line → T) (f : Feed T) (tokens : List Token) (w : Wrong) → f.root ≡ None → (fold (feed vocabulary after) f tokens).root ≡ Some (Err w)
+    → Finds (IsRefusedRoot w) f.place tokens (fold (feed vocabulary after) f tokens).place
+finds_root vocabulary after f [] w none h = absurd (cc (sym none ∙ h))
+finds_root vocabulary after f (token ∷ tokens) w none h =
+    go (root_of (token ∷ [])) refl (λ e. finds_root vocabulary after (feed vocabulary after f token) tokens w e h)
   where
-    next : (feed after f token).root ≡ root_of (token ∷ [])
-    next = root_step after f token ∙ ap (λ r. root_behind r (token ∷ [])) none
+    next : (feed vocabulary after f token).root ≡ root_of (token ∷ [])
+    next = root_step vocabulary after f token ∙ ap (λ r. root_behind r (token ∷ [])) none
 
-    go : (o : Option (Result Dialect Wrong)) → root_of (token ∷ []) ≡ o → ((feed after f token).root ≡ None → Finds (IsRefusedRoot w) (feed after f token).place tokens (fold (feed after) (feed after f token) tokens).place)
-        → Finds (IsRefusedRoot w) f.place (token ∷ tokens) (fold (feed after) (feed after f token) tokens).place
+    go : (o : Option (Result Dialect Wrong)) → root_of (token ∷ []) ≡ o → ((feed vocabulary after f token).root ≡ None → Finds (IsRefusedRoot w) (feed vocabulary after f token).place tokens (fold (feed vocabulary after) (feed vocabulary after f token) tokens).place)
+        → Finds (IsRefusedRoot w) f.place (token ∷ tokens) (fold (feed vocabulary after) (feed vocabulary after f token) tokens).place
     go None e later =
-        let sound : is_sound (feed after f token) ≡ true = ap (λ r. is_sound_with r (feed after f token).known) (next ∙ e) in
-        further_on (IsRefusedRoot w) (IsRefusedRoot w) f.place (feed after f token).place (fold (feed after) (feed after f token) tokens).place token tokens (place_passed after f token sound)
+        let sound : is_sound (feed vocabulary after f token) ≡ true = ap (λ r. is_sound_with r (feed vocabulary after f token).known) (next ∙ e) in
+        further_on (IsRefusedRoot w) (IsRefusedRoot w) f.place (feed vocabulary after f token).place (fold (feed vocabulary after) (feed vocabulary after f token) tokens).place token tokens (place_passed vocabulary after f token sound)
         (λ before tag x. (sym (root_further None token before) ∙ ap (λ r. root_behind r before) e ∙ x.0, x.1)) (later (next ∙ e))
     go (Some r) e later =
-        let told : Some r ≡ Some (Err w) = sym (roots after (feed after f token) tokens ∙ ap (λ o. root_behind o tokens) (next ∙ e)) ∙ h in
-        let wrong : is_sound (feed after f token) ≡ false = ap (λ o. is_sound_with o (feed after f token).known) (next ∙ e ∙ told) in
+        let says : Some r ≡ Some (Err w) = sym (roots vocabulary after (feed vocabulary after f token) tokens ∙ ap (λ o. root_behind o tokens) (next ∙ e)) ∙ h in
+        let wrong : is_sound (feed vocabulary after f token) ≡ false = ap (λ o. is_sound_with o (feed vocabulary after f token).known) (next ∙ e ∙ says) in
         record {
           before = [];
           token = token;
           behind = tokens;
           parts = refl;
-          holds = (refl, e ∙ told);
-          at = refused_place after (feed after f token) tokens wrong ∙ place_kept after f token wrong;
+          holds = (refl, e ∙ says);
+          at = refused_place vocabulary after (feed vocabulary after f token) tokens wrong ∙ place_kept vocabulary after f token wrong;
         }
 
 known_part : (r : Option (Result Dialect Wrong)) (token : Token) → known_behind r token true ≡ false → is_known token ≡ false
@@ -245,33 +246,33 @@ none_behind None tokens h = refl
 none_behind (Some r) tokens h = absurd cc
 
 -- the place of a reference that stands for nothing
-pub finds_unknown : {T : Type 0} (after : T → List Line → T) (f : Feed T) (tokens : List Token) → f.known ≡ true → (fold (feed after) f tokens).known ≡ false
-    → is_sound (fold (feed after) f tokens) ≡ false → ((w : Wrong) → (fold (feed after) f tokens).root ≡ Some (Err w) → ⊥)
-    → Finds IsUnknown f.place tokens (fold (feed after) f tokens).place
-finds_unknown after f [] k h s other = absurd (cc (sym k ∙ h))
-finds_unknown after f (token ∷ tokens) k h s other =
-    go (feed after f token).known refl (feed after f token).root refl (λ e. finds_unknown after (feed after f token) tokens e h s other)
+pub finds_unknown : (vocabulary : List Word) {T : Type 0} (after : T → List Line → T) (f : Feed T) (tokens : List Token) → f.known ≡ true → (fold (feed vocabulary after) f tokens).known ≡ false
+    → is_sound (fold (feed vocabulary after) f tokens) ≡ false → ((w : Wrong) → (fold (feed vocabulary after) f tokens).root ≡ Some (Err w) → ⊥)
+    → Finds IsUnknown f.place tokens (fold (feed vocabulary after) f tokens).place
+finds_unknown vocabulary after f [] k h s other = absurd (cc (sym k ∙ h))
+finds_unknown vocabulary after f (token ∷ tokens) k h s other =
+    go (feed vocabulary after f token).known refl (feed vocabulary after f token).root refl (λ e. finds_unknown vocabulary after (feed vocabulary after f token) tokens e h s other)
   where
-    go : (b : Bool) → (feed after f token).known ≡ b → (r : Option (Result Dialect Wrong)) → (feed after f token).root ≡ r
-        → ((feed after f token).known ≡ true → Finds IsUnknown (feed after f token).place tokens (fold (feed after) (feed after f token) tokens).place)
-        → Finds IsUnknown f.place (token ∷ tokens) (fold (feed after) (feed after f token) tokens).place
-    go b e (Some (Err w)) o later = absurd (other w (roots after (feed after f token) tokens ∙ ap (λ r. root_behind r tokens) o))
+    go : (b : Bool) → (feed vocabulary after f token).known ≡ b → (r : Option (Result Dialect Wrong)) → (feed vocabulary after f token).root ≡ r
+        → ((feed vocabulary after f token).known ≡ true → Finds IsUnknown (feed vocabulary after f token).place tokens (fold (feed vocabulary after) (feed vocabulary after f token) tokens).place)
+        → Finds IsUnknown f.place (token ∷ tokens) (fold (feed vocabulary after) (feed vocabulary after f token) tokens).place
+    go b e (Some (Err w)) o later = absurd (other w (roots vocabulary after (feed vocabulary after f token) tokens ∙ ap (λ r. root_behind r tokens) o))
     go true e None o later =
-        let sound : is_sound (feed after f token) ≡ true = ap (λ r. is_sound_with r (feed after f token).known) o in
-        further_on IsUnknown IsUnknown f.place (feed after f token).place (fold (feed after) (feed after f token) tokens).place token tokens (place_passed after f token sound) (λ before t x. x) (later e)
+        let sound : is_sound (feed vocabulary after f token) ≡ true = ap (λ r. is_sound_with r (feed vocabulary after f token).known) o in
+        further_on IsUnknown IsUnknown f.place (feed vocabulary after f token).place (fold (feed vocabulary after) (feed vocabulary after f token) tokens).place token tokens (place_passed vocabulary after f token sound) (λ before t x. x) (later e)
     go true e (Some (Ok d)) o later =
-        let sound : is_sound (feed after f token) ≡ true = ap (λ r. is_sound_with r (feed after f token).known) o ∙ e in
-        further_on IsUnknown IsUnknown f.place (feed after f token).place (fold (feed after) (feed after f token) tokens).place token tokens (place_passed after f token sound) (λ before t x. x) (later e)
+        let sound : is_sound (feed vocabulary after f token) ≡ true = ap (λ r. is_sound_with r (feed vocabulary after f token).known) o ∙ e in
+        further_on IsUnknown IsUnknown f.place (feed vocabulary after f token).place (fold (feed vocabulary after) (feed vocabulary after f token) tokens).place token tokens (place_passed vocabulary after f token sound) (λ before t x. x) (later e)
     go false e None o later =
-        let none : f.root ≡ None = none_behind f.root (token ∷ []) (sym (root_step after f token) ∙ o) in
-        absurd (cc (sym (known_step after f token ∙ ap (λ r. known_behind r token f.known) none ∙ k) ∙ e))
+        let none : f.root ≡ None = none_behind f.root (token ∷ []) (sym (root_step vocabulary after f token) ∙ o) in
+        absurd (cc (sym (known_step vocabulary after f token ∙ ap (λ r. known_behind r token f.known) none ∙ k) ∙ e))
     go false e (Some (Ok d)) o later =
-        let wrong : is_sound (feed after f token) ≡ false = ap (λ r. is_sound_with r (feed after f token).known) o ∙ e in
+        let wrong : is_sound (feed vocabulary after f token) ≡ false = ap (λ r. is_sound_with r (feed vocabulary after f token).known) o ∙ e in
         record {
           before = [];
           token = token;
           behind = tokens;
           parts = refl;
-          holds = known_part f.root token (ap (λ b. known_behind f.root token b) (sym k) ∙ sym (known_step after f token) ∙ e);
-          at = refused_place after (feed after f token) tokens wrong ∙ place_kept after f token wrong;
+          holds = known_part f.root token (ap (λ b. known_behind f.root token b) (sym k) ∙ sym (known_step vocabulary after f token) ∙ e);
+          at = refused_place vocabulary after (feed vocabulary after f token) tokens wrong ∙ place_kept vocabulary after f token wrong;
         }

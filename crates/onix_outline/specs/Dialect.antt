@@ -7,7 +7,7 @@ use Rattle.xml_text.specs.Values.{normalized_value_of}
 use Rattle.onix_outline.specs.declared.names.Naming.{Naming}
 use Rattle.onix_outline.specs.declared.dialect.Wrong.{Wrong}
 use Rattle.onix_outline.specs.declared.dialect.Wrong.TheVariants.{Root, Release}
-use Rattle.onix_outline.specs.Names.{naming_of_root, name_of, root, stranger}
+use Rattle.onix_outline.specs.Names.{Word, naming_of_root, name_among, root, stranger}
 use Rattle.onix_outline.specs.Namespaces.{Binding, Scope, scope, bindings_of, prefix_of, local_of}
 use Rattle.onix_outline.specs.Namespaces.{address_among, address_within, undeclared}
 use Rattle.onix_outline.specs.Spaces.{collapsed, filled}
@@ -62,12 +62,13 @@ or_stranger is_in_namespace reference = if is_in_namespace then reference else s
 -- The reference name of an element with this name and these declarations, where it counts: it is
 -- called as one that stands in the innermost of those around it, and is in the root's namespace.
 -- In another namespace it is a stranger.
-abbrev pub counted : Dialect → List Scope → List ℕ → List Binding → Option (List ℕ)
-counted d around name bindings =
+abbrev pub counted : List Word → Dialect → List Scope → List ℕ → List Binding
+    → Option (List ℕ)
+counted vocabulary d around name bindings =
     option_map
     (or_stranger (bytes_eq
     (address_of d (scope [] bindings ∷ around) (prefix_of name)) d.address))
-    (name_of d.naming (composite_of around) (local_of name))
+    (name_among d.naming vocabulary (composite_of around) (local_of name))
 
 -- the attribute `dateformat` of an element, where it has a text
 abbrev pub format_of : List Attribute → Option (List ℕ)

@@ -18,6 +18,7 @@ use Rattle.onix_outline.specs.declared.reading.Fault.{Fault}
 use Rattle.onix_outline.specs.declared.reading.Fault.TheVariants.{Document, Message, Reference}
 use Rattle.onix_outline.specs.declared.reading.Fault.TheVariants.{TooLarge, ManyPrefixes}
 use Rattle.onix_outline.specs.Dialect.{Dialect}
+use Rattle.onix_outline.specs.Names.{Word}
 use Rattle.onix_outline.specs.Nodes.{is_known, nodes_in}
 use Rattle.onix_outline.specs.Prefixes.{first_with_many}
 use Rattle.onix_outline.specs.Sizes.{first_large}
@@ -34,12 +35,12 @@ IsFirstAt first tokens place =
     → first d (root_place first_position tokens) inside ≡ Some place)
 
 -- a Header or Product that is too large
-abbrev pub IsLargeAt : List Token → Position → Type 0
-IsLargeAt = IsFirstAt (λ d p inside. first_large (nodes_in d [] p inside))
+abbrev pub IsLargeAt : List Word → List Token → Position → Type 0
+IsLargeAt vocabulary = IsFirstAt (λ d p inside. first_large (nodes_in vocabulary d [] p inside))
 
 -- a tag at which too many prefixes hold
-abbrev pub IsManyAt : List Token → Position → Type 0
-IsManyAt = IsFirstAt (λ d p inside. first_with_many d [] p inside)
+abbrev pub IsManyAt : List Word → List Token → Position → Type 0
+IsManyAt vocabulary = IsFirstAt (λ d p inside. first_with_many vocabulary d [] p inside)
 
 -- the first tag, which is that of a refused root
 abbrev pub IsRefusedRoot : Wrong → List Token → Token → Type 0
@@ -50,7 +51,7 @@ IsRefusedRoot wrong before token =
 abbrev pub IsUnknown : List Token → Token → Type 0
 IsUnknown before token = is_known token ≡ false
 
-module _ (bytes : Option (List ℕ)) where
+module _ (vocabulary : List Word) (bytes : Option (List ℕ)) where
   -- the text of the bytes that a reader has left, where it tells them, begins with tokens of which
   -- this holds
   abbrev pub BeginsSo : (List Token → Type 0) → Type 0
@@ -91,5 +92,5 @@ module _ (bytes : Option (List ℕ)) where
   Explains (Document other) place = Unit {0}
   Explains (Message wrong) place = IsPlaceOf (IsRefusedRoot wrong) place
   Explains Reference place = IsPlaceOf IsUnknown place
-  Explains TooLarge place = BeginsSo (λ tokens. IsLargeAt tokens place)
-  Explains ManyPrefixes place = BeginsSo (λ tokens. IsManyAt tokens place)
+  Explains TooLarge place = BeginsSo (λ tokens. IsLargeAt vocabulary tokens place)
+  Explains ManyPrefixes place = BeginsSo (λ tokens. IsManyAt vocabulary tokens place)

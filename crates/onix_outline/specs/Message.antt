@@ -8,6 +8,7 @@ use Rattle.xml_text.specs.Documents.{IsDocument}
 use Rattle.xml_text.specs.Tree.{Content}
 use Rattle.xml_text.specs.Trees.{IsTree}
 use Rattle.onix_outline.specs.Dialect.{Dialect}
+use Rattle.onix_outline.specs.Names.{Word}
 use Rattle.onix_outline.specs.Nodes.{is_known, nodes_in}
 use Rattle.onix_outline.specs.Prefixes.{first_with_many}
 use Rattle.onix_outline.specs.Sizes.{first_large}
@@ -15,9 +16,9 @@ use Rattle.onix_outline.specs.Roots.{root_of, root_place}
 
 -- The text is a document. Its root is that of a message of release 3.0 or 3.1 that is written so,
 -- and has this in it, from a place on; each reference stands for something, no Header or Product is
--- too large, and nowhere do too many prefixes hold.
-pub record IsMessage (text : List ℕ) (d : Dialect) (place : Position) (inside : Content)
-    : Type 0 where
+-- too large, and nowhere do too many prefixes hold. The vocabulary says which elements count.
+pub record IsMessage (vocabulary : List Word) (text : List ℕ) (d : Dialect) (place : Position)
+    (inside : Content) : Type 0 where
   pub tokens : List Token
   pub name : List ℕ
   pub document : IsDocument text tokens
@@ -25,5 +26,5 @@ pub record IsMessage (text : List ℕ) (d : Dialect) (place : Position) (inside 
   pub root : root_of tokens ≡ Some (Ok d)
   pub begins : root_place first_position tokens ≡ place
   pub known : list_all is_known tokens ≡ true
-  pub fits : first_large (nodes_in d [] place inside) ≡ None
-  pub few : first_with_many d [] place inside ≡ None
+  pub fits : first_large (nodes_in vocabulary d [] place inside) ≡ None
+  pub few : first_with_many vocabulary d [] place inside ≡ None

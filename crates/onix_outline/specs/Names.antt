@@ -1,4 +1,5 @@
 -- The names of ONIX for Books, release 3.0 and 3.1, as far as they are read.
+use Prim.Native.String.{String}
 use Rattle.std.specs.Prelude.{ℕ, ◌&&◌, List, [], ◌∷◌, Option}
 use Rattle.std.specs.Prelude.{◌==◌, if◌then◌else◌, codes, map, option_map}
 use Rattle.std.specs.List.{after_first, before_first, find, flat_map, slice_split}
@@ -43,46 +44,15 @@ children (composite ∷ names) = map (word composite) names
 abbrev pub root : List ℕ
 root = codes "ONIXMessage"
 
--- the elements that count: of each composite its name, and then its children
-unfoldable pub vocabulary : List Word
-vocabulary =
-    flat_map (λ row. children (slice_split (λ b. b == 32) (codes row)))
-    ("ONIXMessage Header Product"
-    ∷ "Header Sender Addressee MessageNumber=m180 MessageRepeat=m181 SentDateTime=x307"
-    ∷ "Header DefaultPriceType=x310 DefaultCurrencyCode=m186"
-    ∷ "Sender SenderIdentifier"
-    ∷ "SenderIdentifier SenderIDType=m379 IDValue=b244"
-    ∷ "Addressee AddresseeIdentifier"
-    ∷ "AddresseeIdentifier AddresseeIDType=m380 IDValue=b244"
-    ∷ "Product RecordReference=a001 NotificationType=a002 ProductIdentifier ProductSupply"
-    ∷ "ProductIdentifier ProductIDType=b221 IDValue=b244"
-    ∷ "ProductSupply Market SupplyDetail"
-    ∷ "Market Territory"
-    ∷ "Territory CountriesIncluded=x449 RegionsIncluded=x450 CountriesExcluded=x451"
-    ∷ "Territory RegionsExcluded=x452"
-    ∷ "SupplyDetail OrderQuantityMinimum=x532 Supplier ProductAvailability=j396"
-    ∷ "SupplyDetail UnpricedItemType=j192 Price"
-    ∷ "Supplier SupplierRole=j292 SupplierIdentifier SupplierName=j137"
-    ∷ "SupplierIdentifier SupplierIDType=j345 IDValue=b244"
-    ∷ "Price PriceType=x462 PriceQualifier=j261 PricePer=j239 PriceCondition PriceConstraint"
-    ∷ "Price MinimumOrderQuantity=j263 PriceCoded PriceAmount=j151 UnpricedItemType=j192"
-    ∷ "Price CurrencyCode=j152 CurrencyZone=x475 EpubLicense PriceTypeCode=j148"
-    ∷ "Price PriceEffectiveFrom=j161 PriceEffectiveUntil=j162 CountryCode=b251 Territory PriceDate"
-    ∷ "Price Discount DiscountCoded"
-    ∷ "PriceCondition PriceConditionType=x463"
-    ∷ "PriceConstraint PriceConstraintType=x529"
-    ∷ "PriceDate PriceDateRole=x476 DateFormat=j260 Date=b306"
-    ∷ [])
+-- a vocabulary, by rows: of each composite its name, and then its children
+abbrev pub vocabulary_of : List String → List Word
+vocabulary_of rows = flat_map (λ row. children (slice_split (λ b. b == 32) (codes row))) rows
 
 -- the root of a message: its name tells which kind of names it has
 abbrev pub naming_of_root : List ℕ → Option Naming
 naming_of_root name =
     entry (λ key. bytes_eq name (codes key))
     (("ONIXMessage", Reference) ∷ ("ONIXmessage", Short) ∷ [])
-
--- the reference name of a child of a composite that is written so, where it counts
-abbrev pub name_of : Naming → List ℕ → List ℕ → Option (List ℕ)
-name_of naming composite name = name_among naming vocabulary composite name
 
 -- The name of a stranger: an element that is called as one that counts where it stands, and is in
 -- another namespace. No element of ONIX is called so.

@@ -8,6 +8,7 @@ use Rattle.xml_text.specs.Positions.{position_after, position_past}
 use Rattle.xml_text.specs.References.{reference_text}
 use Rattle.xml_text.specs.Tree.{Content, nothing, leaf, element, tokens_of}
 use Rattle.onix_outline.specs.Dialect.{Dialect, counted, format_of}
+use Rattle.onix_outline.specs.Names.{Word}
 use Rattle.onix_outline.specs.Namespaces.{Binding, Scope, scope, bindings_of}
 use Rattle.onix_outline.specs.Spaces.{collapsed}
 
@@ -63,11 +64,11 @@ abbrev pub within : Option (List ℕ) → List Binding → List Scope → List S
 within None bindings around = around
 within (Some name) bindings around = scope name bindings ∷ around
 
-module _ (d : Dialect) where
+module _ (vocabulary : List Word) (d : Dialect) where
   abbrev pub leaf_nodes : List Scope → Position → Token → Nodes → Nodes
   leaf_nodes around p (empty name attributes space) rest =
-      with_node (counted d around name (bindings_of attributes)) (tag_of p attributes) [] no_nodes
-      rest
+      with_node (counted vocabulary d around name (bindings_of attributes)) (tag_of p attributes)
+      [] no_nodes rest
   leaf_nodes around p other rest = rest
 
   -- The elements that count of what stands from a place on below these elements, each only where
@@ -78,7 +79,7 @@ module _ (d : Dialect) where
       leaf_nodes around p token (nodes_in around (position_after p (spelling token)) rest)
   nodes_in around p (element name attributes space inside closing rest) =
       let bindings = bindings_of attributes in
-      let found = counted d around name bindings in
+      let found = counted vocabulary d around name bindings in
       let from = content_place p name attributes space in
       with_node found (tag_of p attributes) (collapsed (direct_text inside))
       (nodes_in (within found bindings around) from inside)

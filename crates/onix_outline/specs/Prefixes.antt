@@ -9,6 +9,7 @@ use Rattle.xml_text.specs.Grammar.{Token, empty, spelling}
 use Rattle.xml_text.specs.Positions.{position_after}
 use Rattle.xml_text.specs.Tree.{Content, nothing, leaf, element}
 use Rattle.onix_outline.specs.Dialect.{Dialect, counted}
+use Rattle.onix_outline.specs.Names.{Word}
 use Rattle.onix_outline.specs.Namespaces.{Binding, Scope, scope, bindings_of, address_among}
 use Rattle.onix_outline.specs.Nodes.{content_place, place_behind, within}
 
@@ -44,7 +45,7 @@ has_many d around bindings = is_declaring bindings && are_many d (scope [] bindi
 abbrev pub place_if : Bool → Position → Option Position
 place_if b p = if b then Some p else None
 
-module _ (d : Dialect) where
+module _ (vocabulary : List Word) (d : Dialect) where
   abbrev pub leaf_with_many : List Scope → Position → Token → Option Position
   leaf_with_many around p (empty name attributes space) =
       place_if (has_many d around (bindings_of attributes)) p
@@ -58,7 +59,7 @@ module _ (d : Dialect) where
       (first_with_many around (position_after p (spelling token)) rest)
   first_with_many around p (element name attributes space inside closing rest) =
       let bindings = bindings_of attributes in
-      let found = counted d around name bindings in
+      let found = counted vocabulary d around name bindings in
       let from = content_place p name attributes space in
       option_or (place_if (has_many d around bindings) p)
       (option_or

@@ -21,10 +21,12 @@ line_view l = record { depth = l.depth; name = l.name.now; tag = tag_view l; tex
 abbrev pub line_views : List Line → List Told
 line_views lines = map line_view lines
 
+-- a word, as its texts
 abbrev pub word_view : Word → Spelled
 word_view w =
     record { composite = w.composite.now; reference = w.reference.now; short = w.short.now }
 
+-- words, as that
 abbrev pub word_views : List Word → List Spelled
 word_views words = map word_view words
 

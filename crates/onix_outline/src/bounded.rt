@@ -87,7 +87,8 @@ impl<T: Taker + Drop> BoundedOutliner<T> {
     fn hand_on(&mut self, piece: Piece<'_>, spelled: &[u8]) -> Result<(), AllocError>
         requires { spelled.now ≡ flat_map spelling (piece_view piece) }
         ensures { OnOk result (self.new ≡ bounded
-            (fold (feed T.after) self.old.feed (piece_view piece.entry)) self.old.many) }
+            (fold (feed T.vocabulary T.after) self.old.feed (piece_view piece.entry))
+            self.old.many) }
     {
         self.outliner.take(piece, spelled)?;
         Ok(())
@@ -111,7 +112,7 @@ impl<T: Taker + Drop> BoundedOutliner<T> {
 impl<T: Taker + Drop> Sink for BoundedOutliner<T> {
     ghost use Rattle.onix_outline.specs.private.Bounded.{bound, goes_on};
 
-    ghost after = { λ b token. bound T.after b token };
+    ghost after = { λ b token. bound T.vocabulary T.after b token };
 
     ghost goes_on = { λ b. goes_on b };
 

@@ -5,10 +5,10 @@ ghost use Rattle.onix_outline.specs.Dialect.{address_of, counted, dialect_of, fo
 ghost use Rattle.onix_outline.specs.private.Growing.{scopes_of};
 ghost use Rattle.onix_outline.specs.Namespaces.{scope};
 ghost use Rattle.onix_outline.specs.Prefixes.{has_many};
-ghost use Rattle.onix_outline.specs.Views.{binding_views};
+ghost use Rattle.onix_outline.specs.Views.{binding_views, word_views};
 
 use crate::grower::Grower;
-use crate::names::{Naming, name_of, naming_of_root, stranger};
+use crate::names::{Naming, Word, name_among, naming_of_root, stranger};
 use crate::namespaces::{Binding, address_among, bindings_of, split_name, undeclared};
 use crate::prefixes::are_many_at;
 use crate::spaces::fill;
@@ -132,18 +132,20 @@ impl Dialect {
     }
 
     /// The reference name of an element with this name and these declarations below what a grower
-    /// has open, where it counts; a stranger's name, where it would in the root's namespace.
+    /// has open, where it counts by a vocabulary; a stranger's name, where it would in the
+    /// namespace of the root.
     pub(crate) fn counted(
         &self,
+        vocabulary: &[Word],
         around: &Grower,
         name: &[u8],
         bindings: &[Binding],
     ) -> Option<&'static [u8]>
-        ensures { option_map (λ n. n.now) result ≡ counted self.now
+        ensures { option_map (λ n. n.now) result ≡ counted (word_views vocabulary.now) self.now
             (scopes_of around.now.opens) name.now (binding_views bindings.now) }
     {
         let (prefix, local) = split_name(name);
-        let reference = name_of(self.naming, around.composite(), local)?;
+        let reference = name_among(self.naming, vocabulary, around.composite(), local)?;
         if self.address_of(around, prefix, bindings) == self.address.as_slice() {
             Some(reference)
         } else {

@@ -13,7 +13,7 @@ ghost use Rattle.onix_outline.specs.Views.{line_views};
 use crate::dialect::{Dialect, Wrong, format_of};
 use crate::grower::Grower;
 use crate::line::Line;
-use crate::names::{Naming, stranger};
+use crate::names::{Naming, Word, stranger};
 use crate::namespaces::bindings_of;
 use crate::reading::{Fault, Stopped};
 use crate::told::Told;
@@ -24,11 +24,20 @@ use xml_text::{Attributes, Bytes, Piece, Position, Sink, Token, push_reference};
 /// What takes the outlines of a message: that of its Header, of each of its Products, and of each
 /// stranger that is called so, in order.
 pub trait Taker {
-    ghost use Rattle.std.specs.Prelude.{List};
+    ghost use Rattle.std.specs.Prelude.{◌≡◌, List};
+    ghost use Rattle.onix_outline.specs.Names.{Word};
     ghost use Rattle.onix_outline.specs.Outline.{Line};
+    ghost use Rattle.onix_outline.specs.Views.{word_views};
+
+    /// The elements that count for it.
+    ghost vocabulary: { List Word };
 
     /// What it is after an outline.
     ghost after: { Self → List Line → Self };
+
+    /// The elements that count for it.
+    fn vocabulary() -> &'static [Word]
+        ensures { word_views result.now ≡ vocabulary };
 
     /// Takes an outline, whose first line is the Header, the Product or the stranger itself.
     fn take(&mut self, lines: &[Line]) -> Result<(), AllocError>
@@ -222,7 +231,8 @@ impl<T: Taker + Drop> Outliner<T> {
     // Takes the tag of an element. In one that is passed over nothing is asked of it.
     #[tactic(auto, using(crate::proofs::GrowerLaws::opened_in_passed))]
     fn begin(&mut self, name: &[u8], attributes: &Attributes<'_>) -> Result<(), AllocError>
-        ensures { OnOk result (self.new ≡ begun self.old.root name.now attributes.now self.old) }
+        ensures { OnOk result (self.new
+            ≡ begun T.vocabulary self.old.root name.now attributes.now self.old) }
     {
         match &self.root {
             None => {
@@ -235,7 +245,7 @@ impl<T: Taker + Drop> Outliner<T> {
                     return self.child.pass();
                 }
                 let bindings = bindings_of(self.alloc, attributes)?;
-                let name = dialect.counted(&self.child, name, &bindings);
+                let name = dialect.counted(T::vocabulary(), &self.child, name, &bindings);
                 let format = format_of(self.alloc, attributes)?;
                 self.child.open(name, self.place, format, bindings)
             }
@@ -283,7 +293,7 @@ impl<T: Taker + Drop> Outliner<T> {
     // Takes an empty element.
     fn empty(&mut self, name: &[u8], attributes: &Attributes<'_>) -> Result<(), AllocError>
         ensures { OnOk result (self.new
-            ≡ emptied T.after self.old.root name.now attributes.now self.old) }
+            ≡ emptied T.vocabulary T.after self.old.root name.now attributes.now self.old) }
     {
         let is_root = self.root.is_none();
         self.begin(name, attributes)?;
@@ -319,7 +329,8 @@ impl<T: Taker + Drop> Outliner<T> {
 
     // Takes a token, but for its place.
     fn take_token(&mut self, token: Token<'_>) -> Result<(), AllocError>
-        ensures { OnOk result (self.new ≡ told T.after self.old (token_view token.entry)) }
+        ensures { OnOk result (self.new
+            ≡ told T.vocabulary T.after self.old (token_view token.entry)) }
     {
         match token {
             Token::Start(name, attributes, _) => self.begin(name, &attributes),
@@ -384,7 +395,7 @@ impl<T: Taker + Drop> Outliner<T> {
 impl<T: Taker + Drop> Sink for Outliner<T> {
     ghost use Rattle.onix_outline.specs.private.Feed.{feed, takes_more};
 
-    ghost after = { λ f token. feed T.after f token };
+    ghost after = { λ f token. feed T.vocabulary T.after f token };
 
     ghost goes_on = { λ f. takes_more f };
 

@@ -68,10 +68,10 @@ pub fn read_message<R: Read, T: Taker + Drop>(
 ) -> Result<T, Stopped<T>>
     ensures message { IfOk result (λ taken. (text : List ℕ) × (d : Dialect) × (place : Position)
         × (inside : Content) × IsTextOf (R.remaining reader.old) text
-        × IsMessage text d place inside
-        × (taken ≡ fold T.after taker (parts_of (nodes_in d [] place inside)))) }
+        × IsMessage T.vocabulary text d place inside
+        × (taken ≡ fold T.after taker (parts_of (nodes_in T.vocabulary d [] place inside)))) }
     ensures refused { IfErr result (λ stopped.
-        Explains (R.remaining reader.old) stopped.fault stopped.place) }
+        Explains T.vocabulary (R.remaining reader.old) stopped.fault stopped.place) }
 {
     let mut outliner = BoundedOutliner::new(alloc, taker);
     match read_document(alloc, reader, &mut outliner) {

@@ -10,7 +10,7 @@ use Rattle.price_rules.proofs.Members.{first_in, in_cons, in_one, not_in_none, r
 use Rattle.price_rules.proofs.CurrentPrice.{current_exact, current_is}
 use Rattle.price_rules.specs.Calendar.{on_day}
 use Rattle.price_rules.specs.Breaks.{Breaks, IsBreakDays, IsSteady, within, begins_within, ends_within, breaks_of}
-use Rattle.onix_message.specs.declared.parts.Price.{Price}
+use Rattle.onix_records.specs.declared.parts.Price.{Price}
 use Rattle.price_rules.specs.declared.offer.Offer.{Offer}
 use Rattle.price_rules.specs.declared.offer.CalendarQuery.{CalendarQuery}
 

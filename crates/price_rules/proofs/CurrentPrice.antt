@@ -12,7 +12,7 @@ use Rattle.std.proofs.lemmas.Slice.Eq.{bytes_eq-Decides}
 use Rattle.onix_terms.specs.Plain.{decides-same, option-decides}
 use Rattle.onix_terms.specs.Territory.{IsIn}
 use Rattle.onix_terms.specs.declared.territory.Territory.{Territory}
-use Rattle.onix_message.specs.declared.parts.Price.{Price}
+use Rattle.onix_records.specs.declared.parts.Price.{Price}
 use Rattle.price_rules.specs.Order.{IsBest, IsGreater, IsLess}
 use Rattle.price_rules.specs.Price.{HasBegun, HasNotEnded, Holds, IsCurrent, IsLater, Outranks}
 use Rattle.price_rules.specs.Current.{current, has_begun, has_code, has_not_ended, holds, is_in, is_later, outranks}

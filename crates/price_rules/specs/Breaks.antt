@@ -1,7 +1,7 @@
 -- The days on which the current prices of an offer may change.
 use Rattle.std.specs.Prelude.{◌≡◌, ◌↔◌, ℤ, pos, ◌+ℤ◌, ◌≤ℤ◌, ◌<ℤ◌, List, [], ◌∷◌, ◌++◌, Option, Some, None, ◌⊎◌, ◌&&◌, int_lt, not, Contains, if◌then◌else◌}
 use Rattle.std.specs.List.{AllPairs}
-use Rattle.onix_message.specs.declared.parts.Price.{Price}
+use Rattle.onix_records.specs.declared.parts.Price.{Price}
 use Rattle.price_rules.specs.Calendar.{on_day}
 use Rattle.price_rules.specs.Current.{current}
 use Rattle.price_rules.specs.declared.offer.Offer.{Offer}

@@ -5,7 +5,7 @@ use Rattle.std.specs.Option.{option_eq}
 use Rattle.std.specs.Ordering.{int_eq}
 use Rattle.std.specs.Str.{bytes_eq}
 use Rattle.onix_terms.specs.declared.territory.Territory.{Territory}
-use Rattle.onix_message.specs.declared.parts.Price.{Price}
+use Rattle.onix_records.specs.declared.parts.Price.{Price}
 use Rattle.price_rules.specs.Order.{best_of, by_then}
 use Rattle.price_rules.specs.declared.offer.Offer.{Offer}
 use Rattle.price_rules.specs.declared.offer.PriceQuery.{PriceQuery}

@@ -2,7 +2,7 @@
 use Rattle.std.specs.Prelude.{◌≡◌, ℕ, ◌<◌, ◌≤◌, ℤ, ◌≤ℤ◌, ◌<ℤ◌, Option, Some, None}
 use Rattle.onix_terms.specs.Territory.{IsIn}
 use Rattle.onix_terms.specs.declared.territory.Territory.{Territory}
-use Rattle.onix_message.specs.declared.parts.Price.{Price}
+use Rattle.onix_records.specs.declared.parts.Price.{Price}
 use Rattle.price_rules.specs.Order.{ByThen, IsBest, IsGreater}
 use Rattle.price_rules.specs.declared.offer.Offer.{Offer}
 use Rattle.price_rules.specs.declared.offer.PriceQuery.{PriceQuery}

@@ -8,7 +8,7 @@ ghost use Rattle.price_rules.specs.Calendar.{IsBadRange};
 
 use crate::calendar::{CalendarFault, is_bad_range};
 use crate::offer::Offer;
-use onix_message::parts::Price;
+use onix_records::parts::Price;
 use onix_terms::day::Day;
 use std::alloc::{AllocError, Global};
 

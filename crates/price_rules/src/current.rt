@@ -7,7 +7,7 @@ ghost use Rattle.price_rules.specs.Price.{HasBegun, HasNotEnded, Holds, IsCurren
 ghost use Rattle.price_rules.specs.Steps.{IsTurn};
 
 use crate::offer::{Offer, PriceQuery};
-use onix_message::parts::Price;
+use onix_records::parts::Price;
 use onix_terms::amount::Amount;
 use onix_terms::day::Day;
 use onix_terms::territory::Territory;

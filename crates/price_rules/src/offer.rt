@@ -3,7 +3,7 @@
 ghost use Rattle.std.specs.Prelude.{◌≡◌, option_map};
 ghost use Rattle.price_rules.specs.Queries.{copies_asked, price_query, until};
 
-use onix_message::parts::{Price, Supplier};
+use onix_records::parts::{Price, Supplier};
 use onix_terms::code::{Code2, Country, Currency};
 use onix_terms::day::Day;
 use onix_terms::items::Items;

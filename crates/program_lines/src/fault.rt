@@ -3,7 +3,7 @@
 ghost use Rattle.std.specs.Prelude.{◌≡◌};
 
 use csv_records::reading::RecordFault;
-use onix_message::StoreFault;
+use onix_records::StoreFault;
 use std::io::Write;
 use thiserror::Error;
 

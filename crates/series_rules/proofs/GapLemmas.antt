@@ -6,10 +6,10 @@ use Rattle.std.specs.List.{Contains, range_with_len}
 use Rattle.std.proofs.lemmas.List.Elements.{All-head, All-tail}
 use Rattle.std.proofs.lemmas.Bool.Decides.{nat_tests}
 use Rattle.std.proofs.lemmas.Slice.Eq.{bytes_eq-Decides}
-use Rattle.onix_message.specs.Message.{message_of}
-use Rattle.onix_message.specs.declared.parts.Header.{Header}
-use Rattle.onix_message.specs.declared.parts.Product.{Product}
-use Rattle.onix_message.specs.declared.agreements.Agreement.{Agreement}
+use Rattle.onix_records.specs.Message.{message_of}
+use Rattle.onix_records.specs.declared.parts.Header.{Header}
+use Rattle.onix_records.specs.declared.parts.Product.{Product}
+use Rattle.onix_records.specs.declared.agreements.Agreement.{Agreement}
 use Rattle.series_rules.specs.Agreements.{AreDistinct, agreements_of, between, named}
 use Rattle.series_rules.specs.Firsts.{first_at, put_at, admitted, admitted_at, admitted_message, admitted_number}
 use Rattle.series_rules.specs.Series.{next_of}

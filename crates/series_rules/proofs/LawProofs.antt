@@ -4,10 +4,10 @@ use Rattle.std.specs.Prelude.{option_map, is_some}
 use Rattle.std.specs.FinMap as map
 use Rattle.std.specs.Option.{option_or}
 use Rattle.onix_terms.specs.declared.party.Party.{Party}
-use Rattle.onix_message.specs.Message.{message_of, bad_row}
-use Rattle.onix_message.specs.declared.parts.Header.{Header}
-use Rattle.onix_message.specs.declared.parts.Product.{Product}
-use Rattle.onix_message.specs.declared.agreements.Agreement.{Agreement}
+use Rattle.onix_records.specs.Message.{message_of, bad_row}
+use Rattle.onix_records.specs.declared.parts.Header.{Header}
+use Rattle.onix_records.specs.declared.parts.Product.{Product}
+use Rattle.onix_records.specs.declared.agreements.Agreement.{Agreement}
 use Rattle.series_rules.specs.Agreements.{agreements_of, named, between}
 use Rattle.series_rules.specs.Firsts.{first_at, put_at, admitted, admitted_at, admitted_number, admitted_message}
 use Rattle.series_rules.specs.Series.{in_front_of, without_gap, front_of, kept_of, after_all, catalogue_of}

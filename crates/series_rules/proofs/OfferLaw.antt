@@ -17,9 +17,9 @@ use Rattle.std.proofs.lemmas.List.Folds.{Any-from_list_any, list_any-from_Any}
 use Rattle.std.proofs.lemmas.Slice.Eq.{bytes_eq-Decides}
 use Rattle.catalogue_rules.specs.Offers.{entry_details, entry_offers, has_article, is_article, offer_of, record_offers}
 use Rattle.catalogue_rules.specs.declared.entry.Entry.{Entry}
-use Rattle.onix_message.specs.declared.agreements.Agreement.{Agreement}
-use Rattle.onix_message.specs.declared.parts.ProductIdentifier.{ProductIdentifier}
-use Rattle.onix_message.specs.declared.parts.SupplyDetail.{SupplyDetail}
+use Rattle.onix_records.specs.declared.agreements.Agreement.{Agreement}
+use Rattle.onix_records.specs.declared.parts.ProductIdentifier.{ProductIdentifier}
+use Rattle.onix_records.specs.declared.parts.SupplyDetail.{SupplyDetail}
 use Rattle.onix_terms.specs.declared.territory.Territory.{Territory}
 use Rattle.price_rules.specs.declared.offer.Offer.{Offer}
 use Rattle.series_rules.specs.Agreements.{agreements_of, named}

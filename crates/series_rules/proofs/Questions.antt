@@ -1,7 +1,7 @@
 -- Requests that change nothing leave what the requests come to.
 use Rattle.std.specs.Prelude.{is_none, not}
 use Rattle.std.proofs.Common.{◌≡◌, ℕ, Bool, true, false, List, ◌∷◌, ◌++◌, [], Option, Some, None, refl, sym, ap, ◌∙◌, cond}
-use Rattle.onix_message.specs.declared.agreements.Agreement.{Agreement}
+use Rattle.onix_records.specs.declared.agreements.Agreement.{Agreement}
 use Rattle.series_rules.specs.Agreements.{agreements_of, clashes, named, with_agreement}
 use Rattle.series_rules.specs.Changes.{changes, is_question, puts_something}
 use Rattle.series_rules.specs.Content.{SameContent}

@@ -2,7 +2,7 @@
 use Rattle.std.proofs.Common.{◌≡◌, ◌⊎◌, ◌||◌, zero, suc, Bool, true, false, List, [], ◌∷◌, Ok, Err, inl, inr, refl, sym, subst, arith, cond}
 use Rattle.std.specs.Prelude.{All, Contains, IfErr, Result, is_err}
 use Rattle.std.proofs.lemmas.List.Elements.{All-nil, All-cons, All-head, All-tail}
-use Rattle.onix_message.specs.declared.faults.StoreFault.{StoreFault}
+use Rattle.onix_records.specs.declared.faults.StoreFault.{StoreFault}
 use Rattle.price_rules.specs.declared.precedence.Rule.{Rule}
 use Rattle.series_rules.proofs.LawProofs.{by_content_alone}
 use Rattle.series_rules.proofs.Questions.{unchanged}

@@ -1,7 +1,7 @@
 -- What follows of a call, from what is said of its kind.
 use Rattle.std.proofs.Common.{◌≡◌, Bool, true, false, List, ◌∷◌, ◌⊎◌, inl, inr, Result, Ok, Err, refl}
 use Rattle.std.specs.Prelude.{OnOk}
-use Rattle.onix_message.specs.declared.faults.StoreFault.{StoreFault}
+use Rattle.onix_records.specs.declared.faults.StoreFault.{StoreFault}
 use Rattle.series_rules.specs.Changes.{changes, is_question}
 use Rattle.series_rules.specs.Views.{Asks, DeskKind, LeavesOnly, Tells, View}
 use Rattle.series_rules.specs.declared.requests.Request.{Request}

@@ -3,8 +3,8 @@
 use Rattle.std.specs.Prelude.{◌≡◌, ◌≢◌, AllPairs, Bool, ◌||◌, ◌&&◌, List, [], ◌∷◌, ◌++◌, Option, Some, bytes_eq, find, is_some, if◌then◌else◌, ℕ}
 use Rattle.std.specs.Option.{option_eq}
 use Rattle.onix_terms.specs.declared.party.Party.{Party}
-use Rattle.onix_message.specs.SameContents.{same_party}
-use Rattle.onix_message.specs.declared.agreements.Agreement.{Agreement}
+use Rattle.onix_records.specs.SameContents.{same_party}
+use Rattle.onix_records.specs.declared.agreements.Agreement.{Agreement}
 use Rattle.series_rules.specs.declared.requests.Request.{Request}
 use Rattle.series_rules.specs.declared.requests.Request.TheVariants.{Agree}
 

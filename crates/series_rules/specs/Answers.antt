@@ -1,11 +1,11 @@
 -- The answer to each request, after a list of requests.
 use Rattle.std.specs.Prelude.{◌+◌, ◌-◌, ◌&&◌, Bool, List, [], ◌∷◌, Option, Some, None, bytes_eq, nat_eq, nat_lt, if◌then◌else◌, ℕ, length, option_map}
 use Rattle.catalogue_rules.specs.Records.{ByReference}
-use Rattle.onix_message.specs.Message.{message_of, bad_row}
-use Rattle.onix_message.specs.SameContents.{same_contents, same_party}
-use Rattle.onix_message.specs.declared.agreements.Agreement.{Agreement}
-use Rattle.onix_message.specs.declared.parts.Header.{Header}
-use Rattle.onix_message.specs.declared.parts.Product.{Product}
+use Rattle.onix_records.specs.Message.{message_of, bad_row}
+use Rattle.onix_records.specs.SameContents.{same_contents, same_party}
+use Rattle.onix_records.specs.declared.agreements.Agreement.{Agreement}
+use Rattle.onix_records.specs.declared.parts.Header.{Header}
+use Rattle.onix_records.specs.declared.parts.Product.{Product}
 use Rattle.series_rules.specs.Agreements.{agreements_of, named, between, same_addressee}
 use Rattle.series_rules.specs.Firsts.{first_at}
 use Rattle.series_rules.specs.Series.{front_of, kept_of, catalogue_of}

@@ -2,10 +2,10 @@
 -- put there that may put something there.
 use Rattle.std.specs.Prelude.{◌&&◌, List, [], ◌∷◌, Option, Some, None, bytes_eq, nat_eq, nat_lt, if◌then◌else◌, ℕ}
 use Rattle.std.specs.Option.{option_or}
-use Rattle.onix_message.specs.Message.{message_of}
-use Rattle.onix_message.specs.declared.agreements.Agreement.{Agreement}
-use Rattle.onix_message.specs.declared.parts.Header.{Header}
-use Rattle.onix_message.specs.declared.parts.Product.{Product}
+use Rattle.onix_records.specs.Message.{message_of}
+use Rattle.onix_records.specs.declared.agreements.Agreement.{Agreement}
+use Rattle.onix_records.specs.declared.parts.Header.{Header}
+use Rattle.onix_records.specs.declared.parts.Product.{Product}
 use Rattle.series_rules.specs.Agreements.{agreements_of, named, between}
 use Rattle.series_rules.specs.declared.requests.Request.{Request}
 use Rattle.series_rules.specs.declared.requests.Request.TheVariants.{Deliver, Waive}

@@ -1,7 +1,7 @@
 -- The gaps of a series.
 use Rattle.std.specs.Prelude.{◌≡◌, ◌+◌, ◌-◌, ◌<◌, ℕ, List, [], ◌∷◌, Option, Some, None, IsSome, max, bytes_eq, nat_eq, filter, length, is_none, is_some, nat_lt, if◌then◌else◌, ◌≤◌, ◌⊎◌}
 use Rattle.std.specs.List.{All, Contains, range_with_len}
-use Rattle.onix_message.specs.declared.agreements.Agreement.{Agreement}
+use Rattle.onix_records.specs.declared.agreements.Agreement.{Agreement}
 use Rattle.series_rules.specs.Agreements.{agreements_of}
 use Rattle.series_rules.specs.Firsts.{first_at, admitted}
 use Rattle.series_rules.specs.Series.{next_of, IsNext}

@@ -1,6 +1,6 @@
 -- Laws of the definitions.
 use Rattle.std.specs.Prelude.{◌≡◌, ◌<◌, ◌≤◌, ◌++◌, ℕ, List, ◌∷◌, Some}
-use Rattle.onix_message.specs.declared.agreements.Agreement.{Agreement}
+use Rattle.onix_records.specs.declared.agreements.Agreement.{Agreement}
 use Rattle.series_rules.specs.Agreements.{AreDistinct, NoTwoClash, agreements_of, named}
 use Rattle.series_rules.specs.Firsts.{first_at}
 use Rattle.series_rules.specs.Series.{front_of, next_of, kept_at, IsFront, IsNext}

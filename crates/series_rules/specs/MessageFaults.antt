@@ -1,6 +1,6 @@
 -- Why the records of a delivery are no message, as its answer computes it.
 use Rattle.std.specs.Prelude.{◌≡◌, ℕ, List, None, ⊤}
-use Rattle.onix_message.specs.Message.{bad_row, message_of}
+use Rattle.onix_records.specs.Message.{bad_row, message_of}
 use Rattle.onix_message.specs.declared.message.MessageFault.{MessageFault}
 use Rattle.onix_message.specs.declared.message.MessageFault.TheVariants as fault
 

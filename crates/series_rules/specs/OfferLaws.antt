@@ -6,9 +6,9 @@ use Rattle.std.specs.Ordering.{nat_cmp}
 use Rattle.std.specs.declared.cmp.Ordering.TheVariants.{Less}
 use Rattle.catalogue_rules.specs.Offers.{entry_details}
 use Rattle.catalogue_rules.specs.declared.entry.Entry.{Entry}
-use Rattle.onix_message.specs.declared.agreements.Agreement.{Agreement}
-use Rattle.onix_message.specs.declared.parts.ProductIdentifier.{ProductIdentifier}
-use Rattle.onix_message.specs.declared.parts.SupplyDetail.{SupplyDetail}
+use Rattle.onix_records.specs.declared.agreements.Agreement.{Agreement}
+use Rattle.onix_records.specs.declared.parts.ProductIdentifier.{ProductIdentifier}
+use Rattle.onix_records.specs.declared.parts.SupplyDetail.{SupplyDetail}
 use Rattle.price_rules.specs.declared.offer.Offer.{Offer}
 use Rattle.series_rules.specs.Agreements.{agreements_of, named}
 use Rattle.series_rules.specs.Offers.{offers_after}

@@ -1,6 +1,6 @@
 -- What the steps of a desk come to, for every list of requests that it stood for.
 use Rattle.std.specs.Prelude.{◌≡◌, ◌⊎◌, ◌||◌, All, Bool, true, false, Contains, IfErr, List, [], ◌∷◌, Result, Ok, Err, if◌then◌else◌, is_err, map, ⊤}
-use Rattle.onix_message.specs.declared.faults.StoreFault.{StoreFault}
+use Rattle.onix_records.specs.declared.faults.StoreFault.{StoreFault}
 use Rattle.price_rules.specs.declared.precedence.Rule.{Rule}
 use Rattle.series_rules.specs.Answers.{answer_to}
 use Rattle.series_rules.specs.Changes.{changes, is_question}

@@ -1,7 +1,7 @@
 -- What is seen of a desk, and what each kind of call does to that.
 use Rattle.std.specs.Prelude.{◌≡◌, ◌⊎◌, true, false, List, ◌∷◌, Result, IfErr, IfOk, OnErr, OnOk}
-use Rattle.onix_message.specs.declared.faults.StoreFault.{StoreFault}
-use Rattle.onix_message.specs.declared.faults.StoreFault.TheVariants as fault
+use Rattle.onix_records.specs.declared.faults.StoreFault.{StoreFault}
+use Rattle.onix_records.specs.declared.faults.StoreFault.TheVariants as fault
 use Rattle.series_rules.specs.Changes.{changes, is_question}
 use Rattle.series_rules.specs.Content.{SameContent}
 use Rattle.series_rules.specs.declared.requests.Request.{Request}

@@ -1,7 +1,7 @@
 //! The records of a delivery, read by what its answer computes of them.
 
 ghost use Rattle.std.specs.Prelude.{◌≡◌, IfErr, IfOk, Some};
-ghost use Rattle.onix_message.specs.Message.{message_of};
+ghost use Rattle.onix_records.specs.Message.{message_of};
 ghost use Rattle.series_rules.specs.MessageFaults.{IsComputedFault};
 
 use csv_records::records::Records;

@@ -4,9 +4,9 @@ use crate::mapping::choosing::choices_in;
 use csv_records::buffer::RecordBuffer;
 use csv_records::fields::FieldBuffer;
 use csv_records::writing::write_records;
-use onix_mapping::{Composite, HeaderFault, Note, add_product, read_heading};
-use onix_message::row::Opening;
-use onix_outline::{Line, Taker};
+use onix_mapping::{Composite, HeaderFault, Note, add_product, desk_vocabulary, read_heading};
+use onix_outline::{Line, Taker, Word};
+use onix_records::row::Opening;
 use std::alloc::{AllocError, Global};
 use std::marker::Model;
 
@@ -95,12 +95,12 @@ impl Shown {
     // A line with the place of what a note speaks of, the reason and its text.
     fn push_note(&mut self, note: &Note<'_>) -> Result<(), AllocError> {
         let place = note.line.place;
-        let why = note.reason.why;
+        let kind = note.reason.kind;
         let text = match std::str::from_utf8(note.reason.text) {
             Ok(text) => text,
             Err(_) => "(no text)",
         };
-        let line = format!(in self.alloc; "{}:{} {why:?}({text})\n", place.line, place.column)?;
+        let line = format!(in self.alloc; "{}:{} {kind:?}({text})\n", place.line, place.column)?;
         self.text.push_str(line.as_str())
     }
 
@@ -145,7 +145,15 @@ impl Shown {
 }
 
 impl Taker for Shown {
+    ghost use Rattle.onix_mapping.specs.Vocabulary.{desk_vocabulary};
+
+    ghost vocabulary = { desk_vocabulary };
+
     ghost after = { λ s lines. tt };
+
+    fn vocabulary() -> &'static [Word] {
+        desk_vocabulary()
+    }
 
     fn take(&mut self, lines: &[Line]) -> Result<(), AllocError> {
         let [line, below @ ..] = lines else {

@@ -2,15 +2,15 @@
 use Rattle.std.specs.Prelude.{◌≡◌, ℕ, Result, Ok, Err}
 use Rattle.xml_text.specs.declared.position.Position.{Position}
 use Rattle.onix_outline.specs.declared.reading.Fault.{Fault as Unread}
-use Rattle.onix_conversion.specs.declared.rejection.Fault.{Fault}
-use Rattle.onix_conversion.specs.declared.rejection.Fault.TheVariants as fault
-use Rattle.onix_conversion.specs.declared.rejection.Rejection.{Rejection}
+use Rattle.onix_conversion.specs.declared.refusal.Fault.{Fault}
+use Rattle.onix_conversion.specs.declared.refusal.Fault.TheVariants as fault
+use Rattle.onix_conversion.specs.declared.refusal.Refusal.{Refusal}
 use Rattle.onix_conversion.specs.private.Stages.{Taken, taken}
 
 -- how it ended at the end of the message, by what comes of it
-abbrev pub Ends : {P N : Type 0} → Result ℕ Fault → P → N → Result (Taken P N) Rejection → Type 0
+abbrev pub Ends : {P N : Type 0} → Result ℕ Fault → P → N → Result (Taken P N) Refusal → Type 0
 Ends (Ok wrong) parts notes comes = comes ≡ Ok (taken parts notes wrong)
-Ends (Err (fault.Refused rejection)) parts notes comes = comes ≡ Err rejection
+Ends (Err (fault.Refused refusal)) parts notes comes = comes ≡ Err refusal
 Ends (Err fault.Memory) parts notes comes = Unit {0}
 Ends (Err (fault.Unread unread place told)) parts notes comes = ⊥
 

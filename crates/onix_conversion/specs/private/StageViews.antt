@@ -21,7 +21,7 @@ begun_view b = record {
 
 abbrev pub stage_view : LentStage → Stage
 stage_view stage.Unbegun = unbegun
-stage_view (stage.Refused rejection) = refused rejection
+stage_view (stage.Refused refusal) = refused refusal
 stage_view (stage.Within b) = within (begun_view b)
 
 abbrev pub state : {P N : Type 0} → Lent → P → N → LentStage → State P N

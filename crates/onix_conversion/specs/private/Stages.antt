@@ -9,22 +9,22 @@ use Rattle.csv_records.specs.RecordTexts.{limit, records_text}
 use Rattle.onix_outline.specs.Composites.{has_stranger}
 use Rattle.onix_outline.specs.Names.{stranger}
 use Rattle.onix_outline.specs.Nodes.{Nodes, no_nodes, node}
-use Rattle.onix_message.specs.Grammar.{most_records}
-use Rattle.onix_message.specs.declared.row.Opening.{Opening}
-use Rattle.onix_mapping.specs.Elements.{Composite}
+use Rattle.onix_records.specs.Grammar.{most_records}
+use Rattle.onix_records.specs.declared.row.Opening.{Opening}
+use Rattle.onix_mapping.specs.Elements.{Composite, composite}
 use Rattle.onix_mapping.specs.Header.{Heading, heading_in, message_fields}
 use Rattle.onix_mapping.specs.Notes.{Note, note, wrong}
-use Rattle.onix_mapping.specs.ProductRecords.{Form, forms}
+use Rattle.onix_mapping.specs.ProductRecords.{Variant, variants}
 use Rattle.onix_mapping.specs.Products.{reference_in}
-use Rattle.onix_mapping.specs.declared.header.Refusal.{Refusal}
+use Rattle.onix_mapping.specs.declared.header.HeaderRefusal.{HeaderRefusal}
 use Rattle.onix_mapping.specs.declared.notes.Wrong.TheVariants.{TooLarge}
-use Rattle.onix_conversion.specs.Conversion.{Options, composite, header_refused}
+use Rattle.onix_conversion.specs.Conversion.{Options, header_refused}
 use Rattle.onix_conversion.specs.Keeping.{Keeping}
 use Rattle.onix_conversion.specs.Messages.{end_record}
 use Rattle.onix_conversion.specs.Packing.{beyond_at, product_notes}
 use Rattle.onix_conversion.specs.Tallies.{no_tally, place_of, refused_for, tallied}
-use Rattle.onix_conversion.specs.declared.rejection.Rejection.{Rejection}
-use Rattle.onix_conversion.specs.declared.rejection.Rejection.TheVariants as why
+use Rattle.onix_conversion.specs.declared.refusal.Refusal.{Refusal}
+use Rattle.onix_conversion.specs.declared.refusal.Refusal.TheVariants as why
 use Rattle.onix_conversion.specs.declared.tally.Tally.{Tally}
 
 -- the parts of a message: the fields of their first records before and behind the number, the
@@ -52,18 +52,18 @@ abbrev pub taken : {P N : Type 0} → P → N → ℕ → Taken P N
 taken parts notes wrong = record { parts = parts; notes = notes; wrong = wrong }
 
 -- the parts of a message, with what the target has made of those that it has taken
-pub record Held (P N : Type 0) : Type 0 where
+pub record Stored (P N : Type 0) : Type 0 where
   pub begun : Begun
   pub parts : P
   pub notes : N
 
-abbrev pub held : {P N : Type 0} → Begun → P → N → Held P N
-held begun parts notes = record { begun = begun; parts = parts; notes = notes }
+abbrev pub stored : {P N : Type 0} → Begun → P → N → Stored P N
+stored begun parts notes = record { begun = begun; parts = parts; notes = notes }
 
 -- where a message is: before its Header, refused, or in its parts
 pub data Stage : Type 0 where
   unbegun : Stage
-  refused : Rejection → Stage
+  refused : Refusal → Stage
   within : Begun → Stage
 
 -- a message that is being converted, with what the target has made of what it has taken
@@ -102,8 +102,8 @@ abbrev pub grown : Begun → ℕ → List ℕ → Begun
 grown b more text = record b { count = b.count + more; text = b.text ++ text }
 
 -- with so many records, of this text, of a product at this place in the next part
-abbrev pub turned : ℕ → Begun → Position → ℕ → List ℕ → Begun
-turned most b place more text = record {
+abbrev pub in_next_part : ℕ → Begun → Position → ℕ → List ℕ → Begun
+in_next_part most b place more text = record {
   front = b.front;
   back = b.back;
   number = b.number;
@@ -120,49 +120,50 @@ abbrev pub with_part : {P N : Type 0} → Keeping P N → ℕ → ℕ → List �
 with_part k most full text parts = if nat_lt full most then k.with_part parts text else parts
 
 -- the parts, with the one that was begun
-abbrev pub written : {P N : Type 0} → Keeping P N → ℕ → Held P N → P
-written k most h = with_part k most h.begun.full (h.begun.text ++ end_text h.begun.count) h.parts
+abbrev pub with_begun : {P N : Type 0} → Keeping P N → ℕ → Stored P N → P
+with_begun k most h = with_part k most h.begun.full (h.begun.text ++ end_text h.begun.count) h.parts
 
 -- with a product of so many records, of this text, in the part that was begun, in the next one, or
 -- in none
-unfoldable pub kept : {P N : Type 0} → Keeping P N → ℕ → Held P N → Position → ℕ → List ℕ
-    → Option (Held P N)
+unfoldable pub kept : {P N : Type 0} → Keeping P N → ℕ → Stored P N → Position → ℕ → List ℕ
+    → Option (Stored P N)
 kept k most h place more text =
     if has_room h.begun.count (length h.begun.text) more (length text)
-    then Some (held (grown h.begun more text) h.parts h.notes)
+    then Some (stored (grown h.begun more text) h.parts h.notes)
     else if has_room 1 (length (first_text h.begun (h.begun.full + 1))) more (length text)
-    then Some (held (turned most h.begun place more text) (written k most h) h.notes)
+    then Some (stored (in_next_part most h.begun place more text) (with_begun k most h) h.notes)
     else None
 
 -- a call kept a product, or changed nothing
-abbrev pub IsKept : {P N : Type 0} → Bool → Held P N → Held P N → Option (Held P N) → Type 0
+abbrev pub IsKept : {P N : Type 0} → Bool → Stored P N → Stored P N → Option (Stored P N) → Type 0
 IsKept true old new told = told ≡ Some new
 IsKept false old new told = (told ≡ None) × (new ≡ old)
 
 -- ---- products
 
 -- with one more product, which has these notes
-abbrev pub noted : {P N : Type 0} → Keeping P N → Composite → List Note → Held P N → Held P N
+abbrev pub noted : {P N : Type 0} → Keeping P N → Composite → List Note → Stored P N → Stored P N
 noted k c notes h =
-    held (record h.begun { tally = tallied h.begun.tally c notes }) h.parts
+    stored (record h.begun { tally = tallied h.begun.tally c notes }) h.parts
     (fold k.with_note h.notes (product_notes (reference_in c.below) notes))
 
--- a form of a product, in the part that was begun, in the next one, or in none
-abbrev pub with_form : {P N : Type 0} → Keeping P N → ℕ → Held P N → Composite
-    → List (List (List ℕ)) → List Note → Option (Held P N)
-with_form k most h c records notes =
+-- a variant of a product, in the part that was begun, in the next one, or in none
+abbrev pub with_variant : {P N : Type 0} → Keeping P N → ℕ → Stored P N → Composite
+    → List (List (List ℕ)) → List Note → Option (Stored P N)
+with_variant k most h c records notes =
     option_map (noted k c notes)
     (kept k most h (place_of c) (length records) (records_text records))
 
-abbrev pub with_forms : {P N : Type 0} → Keeping P N → ℕ → Held P N → Composite → List Form
-    → Held P N
-with_forms k most h c [] = noted k c (note c.element (wrong TooLarge []) ∷ []) h
-with_forms k most h c (f ∷ forms) =
-    unwrap_or (with_form k most h c f.records f.notes) (with_forms k most h c forms)
+abbrev pub with_variants : {P N : Type 0} → Keeping P N → ℕ → Stored P N → Composite → List Variant
+    → Stored P N
+with_variants k most h c [] = noted k c (note c.element (wrong TooLarge []) ∷ []) h
+with_variants k most h c (v ∷ more) =
+    unwrap_or (with_variant k most h c v.records v.notes) (with_variants k most h c more)
 
-unfoldable pub after_product : {P N : Type 0} → Keeping P N → Options → Held P N → Composite
-    → Held P N
-after_product k o h c = with_forms k o.choices.parts h c (forms h.begun.opening o.choices.id_type c)
+unfoldable pub after_product : {P N : Type 0} → Keeping P N → Options → Stored P N → Composite
+    → Stored P N
+after_product k o h c =
+    with_variants k o.choices.parts h c (variants h.begun.opening o.choices.id_type c)
 
 -- ---- elements
 
@@ -185,7 +186,7 @@ first_begun h header = record {
   tally = no_tally;
 }
 
-abbrev pub begun_by : Composite → Result Heading Refusal → Stage
+abbrev pub begun_by : Composite → Result Heading HeaderRefusal → Stage
 begun_by header (Err refusal) = refused (header_refused header refusal)
 begun_by header (Ok h) = within (first_begun h header.below)
 
@@ -194,25 +195,26 @@ abbrev pub stage_after_header : Stage → Options → Composite → Stage
 stage_after_header unbegun o c =
     if has_stranger c.below then refused (why.OtherNamespace (place_of c))
     else begun_by c (heading_in o.choices c.below)
-stage_after_header (refused rejection) o c = refused rejection
+stage_after_header (refused refusal) o c = refused refusal
 stage_after_header (within b) o c = refused (why.SecondHeader (place_of c))
 
 -- an element of another namespace refuses it
 abbrev pub stage_after_stranger : Stage → Composite → Stage
-stage_after_stranger (refused rejection) c = refused rejection
+stage_after_stranger (refused refusal) c = refused refusal
 stage_after_stranger other c = refused (why.OtherNamespace (place_of c))
 
 abbrev pub at_stage : {P N : Type 0} → State P N → Stage → State P N
 at_stage s stage = record s { stage = stage }
 
-abbrev pub with_held : {P N : Type 0} → State P N → Held P N → State P N
-with_held s h =
+abbrev pub with_stored : {P N : Type 0} → State P N → Stored P N → State P N
+with_stored s h =
     record { options = s.options; parts = h.parts; notes = h.notes; stage = within h.begun }
 
 abbrev pub with_product : {P N : Type 0} → Keeping P N → Stage → State P N → Composite → State P N
 with_product k unbegun s c = at_stage s (refused (why.NoHeader (Some (place_of c))))
-with_product k (refused rejection) s c = s
-with_product k (within b) s c = with_held s (after_product k s.options (held b s.parts s.notes) c)
+with_product k (refused refusal) s c = s
+with_product k (within b) s c =
+    with_stored s (after_product k s.options (stored b s.parts s.notes) c)
 
 abbrev pub after_element : {P N : Type 0} → Keeping P N → State P N → Composite → State P N
 after_element k s c =
@@ -236,31 +238,31 @@ empty_parts b before (suc more) =
     (first_text b before ++ end_text 1) ∷ empty_parts b (suc before) more
 
 -- the parts at the end: with the one that was begun, and those that are left over
-abbrev pub all_written : {P N : Type 0} → Keeping P N → ℕ → Held P N → P
-all_written k most h =
-    fold k.with_part (written k most h)
+abbrev pub all_parts : {P N : Type 0} → Keeping P N → ℕ → Stored P N → P
+all_parts k most h =
+    fold k.with_part (with_begun k most h)
     (empty_parts h.begun (h.begun.full + 1) (most - (h.begun.full + 1)))
 
 -- what the target has made of all at the end
-abbrev pub ended_at : {P N : Type 0} → Keeping P N → ℕ → Held P N → Option Position
-    → Result (Taken P N) Rejection
+abbrev pub ended_at : {P N : Type 0} → Keeping P N → ℕ → Stored P N → Option Position
+    → Result (Taken P N) Refusal
 ended_at k most h (Some place) = Err (why.Parts (h.begun.full + 1) place)
-ended_at k most h None = Ok (taken (all_written k most h) h.notes h.begun.tally.wrong)
+ended_at k most h None = Ok (taken (all_parts k most h) h.notes h.begun.tally.wrong)
 
-abbrev pub ended_by : {P N : Type 0} → Keeping P N → ℕ → Held P N → Option Rejection
-    → Result (Taken P N) Rejection
-ended_by k most h (Some rejection) = Err rejection
+abbrev pub ended_by : {P N : Type 0} → Keeping P N → ℕ → Stored P N → Option Refusal
+    → Result (Taken P N) Refusal
+ended_by k most h (Some refusal) = Err refusal
 ended_by k most h None = ended_at k most h h.begun.beyond
 
-abbrev pub ended : {P N : Type 0} → Keeping P N → Options → Held P N → Result (Taken P N) Rejection
+abbrev pub ended : {P N : Type 0} → Keeping P N → Options → Stored P N → Result (Taken P N) Refusal
 ended k o h = ended_by k o.choices.parts h (refused_for o.wrong h.begun.tally)
 
 abbrev pub finished_at : {P N : Type 0} → Keeping P N → Stage → State P N
-    → Result (Taken P N) Rejection
+    → Result (Taken P N) Refusal
 finished_at k unbegun s = Err (why.NoHeader None)
-finished_at k (refused rejection) s = Err rejection
-finished_at k (within b) s = ended k s.options (held b s.parts s.notes)
+finished_at k (refused refusal) s = Err refusal
+finished_at k (within b) s = ended k s.options (stored b s.parts s.notes)
 
 -- what has come of a message at its end
-abbrev pub finished : {P N : Type 0} → Keeping P N → State P N → Result (Taken P N) Rejection
+abbrev pub finished : {P N : Type 0} → Keeping P N → State P N → Result (Taken P N) Refusal
 finished k s = finished_at k s.stage s

@@ -7,24 +7,24 @@ use Rattle.std.specs.Str.{bytes_eq}
 use Rattle.onix_outline.specs.Composites.{has_stranger}
 use Rattle.onix_outline.specs.Names.{stranger}
 use Rattle.onix_outline.specs.Nodes.{Nodes, Tag, no_nodes, node}
-use Rattle.onix_mapping.specs.Elements.{Composite, composites, first, text_or_empty}
+use Rattle.onix_mapping.specs.Elements.{Composite, composite, composites, first, text_or_empty}
 use Rattle.onix_mapping.specs.Header.{Choices, Heading, heading_in, message_fields}
-use Rattle.onix_mapping.specs.declared.header.Refusal.{Refusal}
-use Rattle.onix_conversion.specs.declared.rejection.Rejection.{Rejection}
-use Rattle.onix_conversion.specs.declared.rejection.Rejection.TheVariants as why
+use Rattle.onix_mapping.specs.declared.header.HeaderRefusal.{HeaderRefusal}
+use Rattle.onix_conversion.specs.declared.refusal.Refusal.{Refusal}
+use Rattle.onix_conversion.specs.declared.refusal.Refusal.TheVariants as why
 use Rattle.onix_conversion.specs.declared.options.Allowed.{Allowed}
-use Rattle.onix_conversion.specs.Packing.{Converted, Terms, after_products, ended, no_work}
+use Rattle.onix_conversion.specs.Packing.{Converted, Settings, after_products, ended, no_packing}
 use Rattle.onix_conversion.specs.Tallies.{place_of}
-use Rattle.onix_conversion.specs.Conversion.{Options, composite, header_in, header_refused}
-use Rattle.onix_conversion.specs.Conversion.{products_in, terms}
+use Rattle.onix_conversion.specs.Conversion.{Options, header_in, header_refused}
+use Rattle.onix_conversion.specs.Conversion.{products_in, settings}
 
-abbrev pub by_heading : Options → List Composite → Composite → Result Heading Refusal
-    → Result Converted Rejection
+abbrev pub by_heading : Options → List Composite → Composite → Result Heading HeaderRefusal
+    → Result Converted Refusal
 by_heading o products header (Err refusal) = Err (header_refused header refusal)
 by_heading o products header (Ok h) =
-    let t = terms o h header.below in ended t (after_products t no_work products)
+    let t = settings o h header.below in ended t (after_products t no_packing products)
 
-abbrev pub by_header : Options → List Composite → Option Composite → Result Converted Rejection
+abbrev pub by_header : Options → List Composite → Option Composite → Result Converted Refusal
 by_header o products None = Err (why.NoHeader (option_map place_of (first products)))
 by_header o products (Some header) =
     by_heading o products header (heading_in o.choices header.below)
@@ -32,14 +32,14 @@ by_header o products (Some header) =
 -- ---- what is refused
 
 -- why a Header is refused: an element in it is of another namespace, or for what it says
-abbrev pub header_refusal : Options → Composite → Option Rejection
+abbrev pub header_refusal : Options → Composite → Option Refusal
 header_refusal o c =
     if has_stranger c.below then Some (why.OtherNamespace (place_of c))
     else option_map (header_refused c) (result_err (heading_in o.choices c.below))
 
 -- why the elements in the root from here on are refused, by the first of them, before or behind the
 -- Header
-abbrev pub first_refusal : Options → Bool → Nodes → Option Rejection
+abbrev pub first_refusal : Options → Bool → Nodes → Option Refusal
 first_refusal o true no_nodes = None
 first_refusal o false no_nodes = Some (why.NoHeader None)
 first_refusal o true (node name tag text below rest) =
@@ -54,10 +54,10 @@ first_refusal o false (node name tag text below rest) =
     else if bytes_eq name stranger then Some (why.OtherNamespace tag.place)
     else first_refusal o false rest
 
-abbrev pub by_refusal : Options → Nodes → Option Rejection → Result Converted Rejection
-by_refusal o nodes (Some rejection) = Err rejection
+abbrev pub by_refusal : Options → Nodes → Option Refusal → Result Converted Refusal
+by_refusal o nodes (Some refusal) = Err refusal
 by_refusal o nodes None = by_header o (products_in nodes) (header_in nodes)
 
 -- what comes of the elements in the root of a message
-abbrev pub decided : Options → Nodes → Result Converted Rejection
+abbrev pub decided : Options → Nodes → Result Converted Refusal
 decided o nodes = by_refusal o nodes (first_refusal o false nodes)

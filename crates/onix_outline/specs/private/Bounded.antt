@@ -8,6 +8,7 @@ use Rattle.onix_outline.specs.declared.dialect.Wrong.{Wrong}
 use Rattle.onix_outline.specs.declared.reading.Fault.TheVariants.{ManyPrefixes}
 use Rattle.onix_outline.specs.declared.reading.Stopped.{Stopped}
 use Rattle.onix_outline.specs.Dialect.{Dialect}
+use Rattle.onix_outline.specs.Names.{Word}
 use Rattle.onix_outline.specs.Namespaces.{bindings_of}
 use Rattle.onix_outline.specs.Outline.{Line}
 use Rattle.onix_outline.specs.Prefixes.{has_many, place_if}
@@ -43,8 +44,10 @@ many_of f (empty name attributes space) = many_at f.root f.child f.place attribu
 many_of f other = None
 
 -- what a token makes of what was read so far
-abbrev pub bound : {T : Type 0} → (T → List Line → T) → Bounded T → Token → Bounded T
-bound after b token = bounded (feed after b.feed token) (option_or b.many (many_of b.feed token))
+abbrev pub bound : {T : Type 0}
+    → List Word → (T → List Line → T) → Bounded T → Token → Bounded T
+bound vocabulary after b token =
+    bounded (feed vocabulary after b.feed token) (option_or b.many (many_of b.feed token))
 
 abbrev pub first_bounded : {T : Type 0} → T → Bounded T
 first_bounded taker = bounded (first_feed taker) None

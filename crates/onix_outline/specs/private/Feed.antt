@@ -7,6 +7,7 @@ use Rattle.xml_text.specs.Grammar.{Attribute, Token, start, empty, end, spelling
 use Rattle.xml_text.specs.Positions.{first_position, position_after}
 use Rattle.onix_outline.specs.declared.dialect.Wrong.{Wrong}
 use Rattle.onix_outline.specs.Dialect.{Dialect, dialect_of, counted}
+use Rattle.onix_outline.specs.Names.{Word}
 use Rattle.onix_outline.specs.Nodes.{token_text, is_known, tag_of}
 use Rattle.onix_outline.specs.Outline.{Line, is_part}
 use Rattle.onix_outline.specs.private.Growing.{Growing, no_lines, opened, closed, texted, is_idle}
@@ -47,13 +48,13 @@ settled after f g =
 
 -- the tag of an element, of which the first is the root
 abbrev pub begun : {T : Type 0}
-    → Option (Result Dialect Wrong) → List ℕ → List Attribute → Feed T → Feed T
-begun None name attributes f =
+    → List Word → Option (Result Dialect Wrong) → List ℕ → List Attribute → Feed T → Feed T
+begun vocabulary None name attributes f =
     feeding f.taker (Some (dialect_of name attributes)) f.child f.known f.place
-begun (Some (Err wrong)) name attributes f = f
-begun (Some (Ok d)) name attributes f =
+begun vocabulary (Some (Err wrong)) name attributes f = f
+begun vocabulary (Some (Ok d)) name attributes f =
     let bindings = bindings_of attributes in
-    let found = counted d (scopes_of f.child.opens) name bindings in
+    let found = counted vocabulary d (scopes_of f.child.opens) name bindings in
     feeding f.taker f.root
     (opened f.child.passed found (tag_of f.place attributes) bindings f.child) f.known f.place
 
@@ -65,11 +66,11 @@ ended after (Some (Ok d)) f = settled after f (closed f.child.passed f.child)
 
 -- an empty element; an empty root has no end of its own
 abbrev pub emptied : {T : Type 0}
-    → (T → List Line → T) → Option (Result Dialect Wrong) → List ℕ → List Attribute → Feed T
-    → Feed T
-emptied after None name attributes f = begun None name attributes f
-emptied after (Some root) name attributes f =
-    ended after (Some root) (begun (Some root) name attributes f)
+    → List Word → (T → List Line → T) → Option (Result Dialect Wrong) → List ℕ → List Attribute
+    → Feed T → Feed T
+emptied vocabulary after None name attributes f = begun vocabulary None name attributes f
+emptied vocabulary after (Some root) name attributes f =
+    ended after (Some root) (begun vocabulary (Some root) name attributes f)
 
 -- text, which outside of the root of a message is none
 abbrev pub spoken : {T : Type 0} → Option (Result Dialect Wrong) → List ℕ → Bool → Feed T → Feed T
@@ -79,11 +80,12 @@ spoken (Some (Ok d)) text known f =
     feeding f.taker f.root (texted f.child.passed text f.child) (known && f.known) f.place
 
 -- what a token tells, but for its place
-abbrev pub told : {T : Type 0} → (T → List Line → T) → Feed T → Token → Feed T
-told after f (start name attributes space) = begun f.root name attributes f
-told after f (empty name attributes space) = emptied after f.root name attributes f
-told after f (end name space) = ended after f.root f
-told after f token = spoken f.root (token_text token) (is_known token) f
+abbrev pub told : {T : Type 0} → List Word → (T → List Line → T) → Feed T → Token → Feed T
+told vocabulary after f (start name attributes space) = begun vocabulary f.root name attributes f
+told vocabulary after f (empty name attributes space) =
+    emptied vocabulary after f.root name attributes f
+told vocabulary after f (end name space) = ended after f.root f
+told vocabulary after f token = spoken f.root (token_text token) (is_known token) f
 
 -- the root is that of a message, as far as it was read, and each reference stands for something
 abbrev pub is_sound_with : Option (Result Dialect Wrong) → Bool → Bool
@@ -101,8 +103,8 @@ moved bytes f =
     else f
 
 -- what a token makes of what was taken of a message so far
-abbrev pub feed : {T : Type 0} → (T → List Line → T) → Feed T → Token → Feed T
-feed after f token = moved (spelling token) (told after f token)
+abbrev pub feed : {T : Type 0} → List Word → (T → List Line → T) → Feed T → Token → Feed T
+feed vocabulary after f token = moved (spelling token) (told vocabulary after f token)
 
 -- from a place on
 abbrev pub feed_from : {T : Type 0} → T → Position → Feed T

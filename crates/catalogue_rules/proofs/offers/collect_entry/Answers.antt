@@ -1,7 +1,7 @@
 use Rattle.std.proofs.Common.{◌+◌, ℕ, List, ap, fold, length, sym, take, ◌∙◌}
 use Rattle.std.proofs.lemmas.List.Sums.{fold-append, sum_by_push}
-use Rattle.onix_message.specs.DetailCount.{detail_count}
-use Rattle.onix_message.specs.declared.parts.ProductSupply.{ProductSupply}
+use Rattle.onix_records.specs.DetailCount.{detail_count}
+use Rattle.onix_records.specs.declared.parts.ProductSupply.{ProductSupply}
 use Rattle.catalogue_rules.specs.Offers.{entry_details, offers_from, supply_details}
 use Rattle.catalogue_rules.proofs.Places.{offers-supply, take-next}
 use Rattle.catalogue_rules.proofs.offers.collect_entry.Goals as goal

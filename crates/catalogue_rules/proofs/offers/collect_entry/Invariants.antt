@@ -1,5 +1,5 @@
 use Rattle.std.proofs.Common.{◌≡◌, fold, take}
-use Rattle.onix_message.specs.DetailCount.{detail_count}
+use Rattle.onix_records.specs.DetailCount.{detail_count}
 use Rattle.catalogue_rules.specs.Offers.{entry_details, offers_from}
 use Rattle.catalogue_rules.proofs.offers.collect_entry.Given as goal
 

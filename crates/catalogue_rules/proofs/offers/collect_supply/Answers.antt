@@ -1,6 +1,6 @@
 use Rattle.std.proofs.Common.{◌≡◌, ◌<◌, ◌+◌, ◌∷◌, [], ℕ, List, subst, fold, ap, arith, length, length-take, map, sym, take, ◌∙◌}
 use Rattle.std.proofs.lemmas.List.Sums.{fold-append}
-use Rattle.onix_message.specs.declared.parts.SupplyDetail.{SupplyDetail}
+use Rattle.onix_records.specs.declared.parts.SupplyDetail.{SupplyDetail}
 use Rattle.catalogue_rules.specs.Offers.{offer_of, offers_from}
 use Rattle.catalogue_rules.proofs.Places.{offers-push, take-next}
 use Rattle.catalogue_rules.proofs.offers.collect_supply.Goals as goal

@@ -2,7 +2,7 @@ use Rattle.std.proofs.Common.{◌≡◌, ◌+◌, [], Ok, Some, take, refl, rule
 use Rattle.std.specs.FinMap as fin
 use Rattle.std.proofs.lemmas.List.{take_all}
 use Rattle.sqlite.specs.Held.{state}
-use Rattle.onix_message.specs.declared.faults.StoreFault.TheVariants.{Memory}
+use Rattle.onix_records.specs.declared.faults.StoreFault.TheVariants.{Memory}
 use Rattle.catalogue_rules.specs.Records.{ByReference}
 use Rattle.catalogue_rules.specs.declared.entry.Entry.{Entry}
 use Rattle.desk_tables.specs.Rows.{DeskRows}

@@ -5,11 +5,11 @@ use Rattle.std.proofs.lemmas.Slice.{between_to_end}
 use Rattle.std.proofs.lemmas.List.Elements.{All-drop}
 use Rattle.std.specs.List.{All}
 use Rattle.sqlite.specs.Held.{state}
-use Rattle.onix_message.specs.declared.parts.Product.{Product}
+use Rattle.onix_records.specs.declared.parts.Product.{Product}
 use Rattle.catalogue_rules.specs.Effects.{after as after_all, no_effect}
 use Rattle.catalogue_rules.specs.Plans.{total}
 use Rattle.catalogue_rules.specs.Records.{ByReference}
-use Rattle.onix_message.specs.declared.effects.Effect.{Effect}
+use Rattle.onix_records.specs.declared.effects.Effect.{Effect}
 use Rattle.desk_tables.specs.RecordAnswers.{has_minimums}
 use Rattle.desk_tables.specs.Rows.{DeskRows}
 use Rattle.catalogue_store.proofs.AchievesLemmas.{achieves_as, achieves_failed, achieves_then, does, handed_on}

@@ -1,7 +1,7 @@
 use Rattle.std.proofs.Common.{◌≡◌, true, List, Ok, subst, sym, ◌∙◌, rules}
 use Rattle.sqlite.specs.Held.{state}
-use Rattle.onix_message.specs.declared.parts.ProductIdentifier.{ProductIdentifier}
-use Rattle.onix_message.specs.declared.effects.Effect.{Effect}
+use Rattle.onix_records.specs.declared.parts.ProductIdentifier.{ProductIdentifier}
+use Rattle.onix_records.specs.declared.effects.Effect.{Effect}
 use Rattle.desk_tables.specs.Rows.{DeskRows}
 use Rattle.catalogue_store.proofs.AchievesLemmas.{achieves_as, achieves_failed, achieves_then, does, handed_on}
 use Rattle.catalogue_store.specs.ReadRows.{Finds}

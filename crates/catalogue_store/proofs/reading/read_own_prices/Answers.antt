@@ -1,6 +1,6 @@
 use Rattle.std.proofs.Common.{◌≡◌, false, List, rules}
 use Rattle.sqlite.specs.Held.{state}
-use Rattle.onix_message.specs.declared.parts.Price.{Price}
+use Rattle.onix_records.specs.declared.parts.Price.{Price}
 use Rattle.desk_tables.specs.RecordChanges.{has_minimums_of}
 use Rattle.desk_tables.specs.Rows.{DeskRows, unchanged}
 use Rattle.catalogue_store.proofs.AchievesLemmas.{achieves_also, achieves_call, does}

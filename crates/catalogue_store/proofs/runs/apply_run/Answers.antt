@@ -3,7 +3,7 @@ use Rattle.std.proofs.lemmas.List.{length-take-le}
 use Rattle.std.proofs.lemmas.List.Elements.{All-take}
 use Rattle.sqlite.specs.Held.{state}
 use Rattle.catalogue_rules.specs.Effects.{after as after_all}
-use Rattle.onix_message.specs.declared.effects.Effect.{Effect}
+use Rattle.onix_records.specs.declared.effects.Effect.{Effect}
 use Rattle.desk_tables.specs.Rows.{DeskRows}
 use Rattle.catalogue_store.proofs.AchievesLemmas.{achieves_as, achieves_failed, achieves_then, does, handed_on}
 use Rattle.catalogue_store.specs.Holding.{HoldsCatalogue, other_catalogues}

@@ -2,7 +2,7 @@ use Rattle.std.proofs.Common.{◌≡◌, ◌+◌, ◌<◌, ◌≤◌, Bool, fals
 use Rattle.std.specs.List.{list_any}
 use Rattle.std.specs.Str.{bytes_eq}
 use Rattle.sqlite.specs.Held.{state}
-use Rattle.onix_message.specs.declared.parts.Product.{Product}
+use Rattle.onix_records.specs.declared.parts.Product.{Product}
 use Rattle.desk_tables.specs.Rows.{DeskRows}
 use Rattle.catalogue_store.proofs.AchievesLemmas.{achieves_as, achieves_failed, achieves_nothing, achieves_then, does, handed_on}
 use Rattle.catalogue_store.specs.Holding.{HoldsCatalogue}

@@ -1,6 +1,6 @@
 use Rattle.std.proofs.Common.{◌≡◌, List, subst, sym, ◌∙◌, rules}
 use Rattle.sqlite.specs.Held.{state}
-use Rattle.onix_message.specs.declared.parts.ProductIdentifier.{ProductIdentifier}
+use Rattle.onix_records.specs.declared.parts.ProductIdentifier.{ProductIdentifier}
 use Rattle.desk_tables.specs.Rows.{DeskRows}
 use Rattle.catalogue_store.proofs.AchievesLemmas.{achieves_as, does}
 use Rattle.catalogue_store.specs.ReadRows.{Finds}

@@ -1,6 +1,7 @@
 use Rattle.std.proofs.Common.{◌≡◌, ◌++◌, List, drop}
 use Rattle.series_rules.specs.declared.requests.Request.{Request}
-use Rattle.desk_export.specs.Exporting.{IsDone, requests_between, texts_of}
+use Rattle.desk_export.specs.Exporting.{requests_between, texts_of}
+use Rattle.desk_export.proofs.TakenTexts.{IsDone}
 use Rattle.desk_export.proofs.export.export_held.Given as goal
 
 -- some of the requests were exported, and the others are left

@@ -1,5 +1,6 @@
 use Rattle.std.proofs.Common.{◌≤◌, ◌-◌}
-use Rattle.desk_export.specs.Exporting.{IsDone, texts_of}
+use Rattle.desk_export.specs.Exporting.{texts_of}
+use Rattle.desk_export.proofs.TakenTexts.{IsDone}
 use Rattle.desk_export.specs.Exports.{requests_from}
 use Rattle.desk_export.proofs.export.export_range.Given as goal
 

@@ -1,5 +1,5 @@
 use Rattle.std.proofs.Common.{ap, None, arith}
-use Rattle.onix_message.specs.declared.agreements.Agreement.{Agreement}
+use Rattle.onix_records.specs.declared.agreements.Agreement.{Agreement}
 use Rattle.series_rules.specs.Agreements.{has_parties}
 use Rattle.desk_memory.proofs.Kept.{first_in, none_in, between_kept, own_place, set_same, on_fault}
 use Rattle.desk_memory.proofs.AfterRequests.{delivered_unknown, delivered_before, delivered_at, stands_again}

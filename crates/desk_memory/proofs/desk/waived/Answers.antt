@@ -1,5 +1,5 @@
 use Rattle.std.proofs.Common.{ap, arith}
-use Rattle.onix_message.specs.declared.agreements.Agreement.{Agreement}
+use Rattle.onix_records.specs.declared.agreements.Agreement.{Agreement}
 use Rattle.series_rules.specs.Agreements.{has_name}
 use Rattle.desk_memory.proofs.Kept.{first_in, none_in, set_same, on_fault}
 use Rattle.desk_memory.proofs.AfterRequests.{waived_unknown, waived_before, waived_at, stands_again, named_place}

@@ -2,8 +2,8 @@ use Rattle.std.proofs.Common.{subst}
 use Rattle.std.proofs.KnownBytes.{Appends-nil}
 use Rattle.std.specs.Io.KnownBytes.{Appends}
 use Rattle.sqlite.specs.Files.{file_state}
-use Rattle.desk_store.specs.Openings.{MakesNothing}
-use Rattle.desk_store.specs.Seen.{seen_in}
+use Rattle.desk_versions.specs.Openings.{MakesIndex}
+use Rattle.desk_rows.specs.Seen.{seen_in}
 use Rattle.desk_program.proofs.ClosingLemmas.{opened_comes, spares_settled}
 use Rattle.desk_program.proofs.EndLemmas.{ComesTo}
 use Rattle.desk_program.proofs.ListingLemmas.{listing_closed, spared}
@@ -22,7 +22,7 @@ pub returns-in-Err-clause-end : goal.returns-in-Err-clause-end
 returns-in-Err-clause-end g c = λ image settled. (
   c.report-status.ensures,
   Appends-nil (g.W.Write.contents c.args.output.now),
-  λ clean. spares_settled g.D.Disk MakesNothing image c.args.database c.in-Err.left settled (c.in-Err.ensures.left clean),
+  λ clean. spares_settled g.D.Disk MakesIndex image c.args.database c.in-Err.left settled (c.in-Err.ensures.left clean),
 )
 
 pub returns-in-Ok-clause-spares : goal.returns-in-Ok-clause-spares

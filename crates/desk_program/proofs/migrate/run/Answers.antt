@@ -5,8 +5,8 @@ use Rattle.sqlite.specs.Files.{image_of}
 use Rattle.sqlite_disk.specs.declared.Disk.{Ghosts}
 use Rattle.sqlite_disk.specs.declared.Files.{Files}
 use Rattle.sqlite_wal.specs.Recovery.{Image}
-use Rattle.desk_store.specs.Migrations.{MakesSecond}
-use Rattle.desk_store.specs.declared.migrating.MigrateAnswer.{MigrateAnswer}
+use Rattle.desk_versions.specs.Migrations.{MakesSecond}
+use Rattle.desk_versions.specs.declared.migration.MigrateAnswer.{MigrateAnswer}
 use Rattle.desk_program.proofs.ClosingLemmas.{spares_settled}
 use Rattle.database_files.specs.Databases.{AreSettled}
 use Rattle.desk_program.specs.MigrationEnd.{IsMigrationDone, migration_line}

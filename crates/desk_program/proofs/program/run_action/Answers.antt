@@ -1,7 +1,3 @@
-use Rattle.std.proofs.Common.{List, map, subst, ℕ}
-use Rattle.std.specs.Borrow.{Bor}
-use Rattle.std.specs.Io.KnownBytes.{Appends}
-use Rattle.onix_files.specs.Runs.{RunEnds, run_asking}
 use Rattle.desk_program.proofs.program.run_action.Goals as goal
 
 pub returns-in-InMemory-clause-end : goal.returns-in-InMemory-clause-end
@@ -20,15 +16,7 @@ pub returns-in-Send-clause-end : goal.returns-in-Send-clause-end
 returns-in-Send-clause-end g c = rw c.in-Send.is (tt, c.run-status.ensures.end)
 
 pub returns-in-Convert-clause-end : goal.returns-in-Convert-clause-end
-returns-in-Convert-clause-end g c =
-    let asked = c.in-Convert.conversion.run in
-    rw c.in-Convert.is (
-      tt,
-      subst (λ names. RunEnds (run_asking g.F.NamedFiles.is_told asked) (g.R.Read.remaining c.args.input.now) (g.F.NamedFiles.holds c.args.files.now)
-          (g.F.NamedFiles.holds c.convert_files-status.new.files) (map (λ (name : Bor (List ℕ)). name.now) names)
-          (Appends (g.W.Write.contents c.args.output.now) (g.W.Write.contents c.convert_files-status.new.output)) c.convert_files-status.result)
-          c.as_slice-names.ensures.value c.convert_files-status.ensures.end,
-    )
+returns-in-Convert-clause-end g c = rw c.in-Convert.is (tt, c.run-status-in-Convert.ensures.end)
 
 pub returns-in-CheckRules-clause-end : goal.returns-in-CheckRules-clause-end
 returns-in-CheckRules-clause-end g c = rw c.in-CheckRules.is (tt, c.run-status-in-CheckRules.ensures.end)

@@ -3,7 +3,7 @@ use Rattle.std.specs.Io.KnownBytes.{Appends}
 use Rattle.sqlite.specs.Files.{file_state}
 use Rattle.series_rules.proofs.StepLemmas.{traces_lead}
 use Rattle.series_rules.specs.Steps.{Leads}
-use Rattle.desk_store.specs.Seen.{seen_in}
+use Rattle.desk_rows.specs.Seen.{seen_in}
 use Rattle.desk_program.proofs.EndLemmas.{task_as}
 use Rattle.desk_program.proofs.program.run_and_close.Goals as goal
 

@@ -1,6 +1,6 @@
 use Rattle.std.proofs.Common.{◌≡◌, Ok, Err, inl, inr, refl, rules, subst, sym}
 use Rattle.desk_tables.specs.Calls.{seen, state_of}
-use Rattle.desk_store.specs.Desks.{Finishes}
+use Rattle.desk_rows.specs.Desks.{Finishes}
 use Rattle.desk_store.proofs.committing.commit_answer.Goals as goal
 
 pub returns-in_err-answer : goal.returns-in_err-answer

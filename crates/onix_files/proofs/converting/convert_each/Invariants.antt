@@ -1,9 +1,9 @@
-use Rattle.std.proofs.Common.{◌≡◌, ◌≤◌, ℕ, List, drop, map}
+use Rattle.std.proofs.Common.{◌≡◌, ◌≤◌, ℕ, List, drop, map, true}
 use Rattle.std.specs.Borrow.{Bor}
 use Rattle.std.specs.Io.KnownBytes.{Appends}
 use Rattle.onix_files.specs.Ends.{FileEnd}
 use Rattle.onix_files.specs.Runs.{outputs, run_asking, status_of_all}
-use Rattle.onix_files.proofs.RunLemmas.{Continues}
+use Rattle.onix_files.proofs.RunLemmas.{Continues, Notes}
 use Rattle.onix_files.proofs.converting.convert_each.Given as goal
 
 -- the FILEs so far have ended
@@ -14,6 +14,8 @@ invariant-loop-file g l = record {
       (map (λ (f : Bor (List ℕ)). f.now) l.fn.names) (g.R.Read.remaining l.input) (g.F.NamedFiles.holds l.files)
       (drop l.file-index (map (λ (f : Bor (List ℕ)). f.now) l.fn.names)) ends;
   written : Appends (g.W.Write.contents l.fn.output) (g.W.Write.contents l.output) (outputs ends);
+  noted : l.converted.is_whole ≡ true → Notes (map (λ (f : Bor (List ℕ)). f.now) l.fn.names) (drop l.file-index (map (λ (f : Bor (List ℕ)). f.now) l.fn.names)) ends
+      (map (λ (f : Bor (List ℕ)). f.now) l.converted.names.items);
   status_is : l.status ≡ status_of_all ends;
   most : l.status ≤ 3;
 }

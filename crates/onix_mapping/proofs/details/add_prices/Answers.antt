@@ -5,7 +5,7 @@ use Rattle.onix_mapping.specs.Elements.{Composite}
 use Rattle.onix_mapping.specs.Details.{price_in}
 use Rattle.onix_mapping.specs.Notes.{note_views}
 use Rattle.onix_mapping.specs.Outcomes.{all_notes, all_records, outcome_notes, outcome_records}
-use Rattle.onix_mapping.specs.Prices.{Around, price_outcome}
+use Rattle.onix_mapping.specs.Prices.{PriceContext, price_outcome}
 use Rattle.onix_mapping.proofs.ElementLaws.{one-deeper, one-more}
 use Rattle.onix_mapping.proofs.details.add_prices.Goals as goal
 
@@ -14,8 +14,8 @@ loop-price-preserved c nodes o told same =
     let (left, told_left, rs, ns) = c.loop-price.invariant nodes o told same in
     let (p, others, parts, tells, told_others) = c.in-Some.ensures.next left told_left in
     let below = one-deeper c.in-Some.price c.args.depth p tells in
-    let made = c.in_ok-add_price.ensures.records p below ∙ ap (λ (a : Around). c.loop-price.records ++ outcome_records (price_outcome a p.below)) same in
-    let noted = c.in_ok-add_price.ensures.notes p below ∙ ap (λ (a : Around). note_views c.loop-price.notes.items ++ outcome_notes p.element (price_outcome a p.below)) same in (
+    let made = c.in_ok-add_price.ensures.records p below ∙ ap (λ (a : PriceContext). c.loop-price.records ++ outcome_records (price_outcome a p.below)) same in
+    let noted = c.in_ok-add_price.ensures.notes p below ∙ ap (λ (a : PriceContext). note_views c.loop-price.notes.items ++ outcome_notes p.element (price_outcome a p.below)) same in (
       others,
       told_others,
       one-more (λ x. outcome_records (price_in o nodes x)) _ _ _ p _ _ parts made rs,

@@ -10,8 +10,8 @@ pub loop-found-preserved : goal.loop-found-preserved
 loop-found-preserved c nodes told =
     let (left, told_left, ns) = c.loop-found.invariant nodes told in
     let (i, others, parts, tells, told_others) = c.in-Some.ensures.next left told_left in
-    let made : (x : Composite) → List Note = λ x. note x.element (foreign c.args.why []) ∷ [] in
-    let noted = c.in_ok-push_note.ensures ∙ ap (λ e. note_views c.loop-found.notes.items ++ note e (foreign c.args.why []) ∷ []) tells.element in (
+    let made : (x : Composite) → List Note = λ x. note x.element (foreign c.args.kind []) ∷ [] in
+    let noted = c.in_ok-push_note.ensures ∙ ap (λ e. note_views c.loop-found.notes.items ++ note e (foreign c.args.kind []) ∷ []) tells.element in (
       others,
       told_others,
       one-more made _ _ _ i _ _ parts noted ns,
@@ -21,5 +21,5 @@ pub returns : goal.returns
 returns c nodes told =
     let (left, told_left, ns) = c.loop-found.invariant nodes told in
     let none : composites c.args.name.now left ≡ [] = c.in_default.ensures.next left told_left in
-    let made : (x : Composite) → List Note = λ x. note x.element (foreign c.args.why []) ∷ [] in
+    let made : (x : Composite) → List Note = λ x. note x.element (foreign c.args.kind []) ∷ [] in
     sym (append-nil (note_views c.loop-found.notes.items)) ∙ ap (λ (cs : List Composite). note_views c.loop-found.notes.items ++ flat_map made cs) (sym none) ∙ ns

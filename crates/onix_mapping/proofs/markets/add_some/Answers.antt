@@ -6,4 +6,4 @@ use Rattle.onix_mapping.proofs.markets.add_some.Goals as goal
 
 pub returns-clause-reason : goal.returns-clause-reason
 returns-clause-reason c nodes told =
-    rw (c.in_ok-held.ensures.first nodes told, c.in_ok-held.ensures.territories nodes told, c.in_ok-held.ensures.foreign nodes told) at (c.add_held.ensures.reason (flat_map market_notes (composites (codes "Market") nodes)))
+    rw (c.in_ok-kept.ensures.first nodes told, c.in_ok-kept.ensures.territories nodes told, c.in_ok-kept.ensures.foreign nodes told) at (c.add_kept.ensures.reason (flat_map market_notes (composites (codes "Market") nodes)))

@@ -1,6 +1,6 @@
 use Rattle.std.proofs.Common.{option_map}
 use Rattle.std.specs.Prelude.{option_to_list}
-use Rattle.onix_mapping.specs.Markets.{held_area, is_foreign_market, market_notes, territory_of}
+use Rattle.onix_mapping.specs.Markets.{kept_area, is_foreign_market, market_notes, territory_of}
 use Rattle.onix_mapping.specs.Territories.{area_view}
 use Rattle.onix_mapping.proofs.ElementLaws.{any-more, first-more, one-deeper, one-more}
 use Rattle.onix_mapping.proofs.markets.take_markets.Goals as goal
@@ -13,7 +13,7 @@ loop-market-preserved c nodes told =
       others,
       told_others,
       one-more (λ x. option_to_list (territory_of x)) _ _ _ m _ _ parts (c.in_ok-take_market.ensures.territories m below) ts,
-      first-more held_area (option_map area_view c.loop-market.held.first) _ _ m _ _ parts (c.in_ok-take_market.ensures.first m below) fs,
-      any-more is_foreign_market c.loop-market.held.some_foreign _ _ m _ _ parts (c.in_ok-take_market.ensures.foreign m below) ws,
+      first-more kept_area (option_map area_view c.loop-market.kept.first) _ _ m _ _ parts (c.in_ok-take_market.ensures.first m below) fs,
+      any-more is_foreign_market c.loop-market.kept.some_foreign _ _ m _ _ parts (c.in_ok-take_market.ensures.foreign m below) ws,
       one-more market_notes _ _ _ m _ _ parts (c.in_ok-take_market.ensures.notes m below) ns,
     )

@@ -4,7 +4,7 @@ use Rattle.std.specs.Prelude.{codes}
 use Rattle.onix_mapping.specs.Elements.{composites}
 use Rattle.std.specs.List.{flat_map, list_any}
 use Rattle.std.specs.Option.{option_or}
-use Rattle.onix_mapping.specs.Markets.{first_held, is_foreign_market, market_notes, territories_of}
+use Rattle.onix_mapping.specs.Markets.{first_kept, is_foreign_market, market_notes, territories_of}
 use Rattle.onix_mapping.specs.Notes.{note_views}
 use Rattle.onix_mapping.specs.Territories.{area_view}
 use Rattle.onix_outline.specs.Nodes.{Nodes}
@@ -15,9 +15,9 @@ use Rattle.onix_mapping.proofs.markets.take_markets.Given as goal
 abbrev pub invariant-loop-market : goal.invariant-loop-market
 invariant-loop-market l = (nodes : Nodes) → line_views l.lines ≡ outline l.depth nodes → (left : Nodes)
     × (line_views l.rest ≡ outline l.depth left)
-    × (l.held.territories ++ territories_of (composites (codes "Market") left) ≡ territories_of (composites (codes "Market") nodes))
-    × (option_or (option_map area_view l.held.first) (first_held (composites (codes "Market") left)) ≡ first_held (composites (codes "Market") nodes))
-    × ((l.held.some_foreign || list_any is_foreign_market (composites (codes "Market") left)) ≡ list_any is_foreign_market (composites (codes "Market") nodes))
+    × (l.kept.territories ++ territories_of (composites (codes "Market") left) ≡ territories_of (composites (codes "Market") nodes))
+    × (option_or (option_map area_view l.kept.first) (first_kept (composites (codes "Market") left)) ≡ first_kept (composites (codes "Market") nodes))
+    × ((l.kept.some_foreign || list_any is_foreign_market (composites (codes "Market") left)) ≡ list_any is_foreign_market (composites (codes "Market") nodes))
     × (note_views l.notes.items ++ flat_map market_notes (composites (codes "Market") left) ≡ note_views l.initial.notes.items ++ flat_map market_notes (composites (codes "Market") nodes))
 
 abbrev pub decreases-loop-market : goal.decreases-loop-market

@@ -7,7 +7,7 @@ use Rattle.onix_mapping.specs.Dates.{days, days_in}
 use Rattle.onix_mapping.specs.Notes.{Reason, note_views, reason_view}
 use Rattle.onix_mapping.specs.Outcomes.{notes_below, outcome_records}
 use Rattle.onix_mapping.specs.PriceViews.{reason_read}
-use Rattle.onix_mapping.specs.Prices.{around_view, outcome_of, right_days}
+use Rattle.onix_mapping.specs.Prices.{context_view, outcome_of, right_days}
 use Rattle.onix_mapping.proofs.prices.add_priced.Goals as goal
 
 pub returns-in-None-clause-reason : goal.returns-in-None-clause-reason
@@ -16,9 +16,9 @@ returns-in-None-clause-reason c nodes told =
     let read = c.days_in-dated.ensures nodes told in
     let wrong : reason_read c.wrong_date.result ≡ result_err (days_in nodes) = c.wrong_date.ensures ∙ ap result_err read in
     let right : c.right_days.result ≡ right_days nodes = c.right_days.ensures ∙ ap (λ r. result_unwrap_or r (days None None)) read in
-    let around = around_view c.args.around.now in
-    subst (λ (x : Option Reason). IfOk c.add_known.result (λ why. reason_read why ≡ x))
-    (sym (known around nodes (c.in-None.ensures nodes told area wrong))) (c.add_known.ensures.reason nodes told area right)
+    let context = context_view c.args.context.now in
+    subst (λ (x : Option Reason). IfOk c.add_known.result (λ reason. reason_read reason ≡ x))
+    (sym (known context nodes (c.in-None.ensures nodes told area wrong))) (c.add_known.ensures.reason nodes told area right)
 
 pub returns-in-None-clause-records : goal.returns-in-None-clause-records
 returns-in-None-clause-records c nodes told =
@@ -26,9 +26,9 @@ returns-in-None-clause-records c nodes told =
     let read = c.days_in-dated.ensures nodes told in
     let wrong : reason_read c.wrong_date.result ≡ result_err (days_in nodes) = c.wrong_date.ensures ∙ ap result_err read in
     let right : c.right_days.result ≡ right_days nodes = c.right_days.ensures ∙ ap (λ r. result_unwrap_or r (days None None)) read in
-    let around = around_view c.args.around.now in
-    subst (λ (x : Option Reason). OnOk c.add_known.result (c.add_known.new.records ≡ c.args.records.now ++ outcome_records (outcome_of x around nodes)))
-    (sym (known around nodes (c.in-None.ensures nodes told area wrong))) (c.add_known.ensures.records nodes told area right)
+    let context = context_view c.args.context.now in
+    subst (λ (x : Option Reason). OnOk c.add_known.result (c.add_known.new.records ≡ c.args.records.now ++ outcome_records (outcome_of x context nodes)))
+    (sym (known context nodes (c.in-None.ensures nodes told area wrong))) (c.add_known.ensures.records nodes told area right)
 
 pub returns-in-None-clause-notes : goal.returns-in-None-clause-notes
 returns-in-None-clause-notes c nodes told =
@@ -36,31 +36,31 @@ returns-in-None-clause-notes c nodes told =
     let read = c.days_in-dated.ensures nodes told in
     let wrong : reason_read c.wrong_date.result ≡ result_err (days_in nodes) = c.wrong_date.ensures ∙ ap result_err read in
     let right : c.right_days.result ≡ right_days nodes = c.right_days.ensures ∙ ap (λ r. result_unwrap_or r (days None None)) read in
-    let around = around_view c.args.around.now in
-    subst (λ (x : Option Reason). OnOk c.add_known.result (note_views c.add_known.new.notes.items ≡ note_views c.args.notes.now.items ++ notes_below (outcome_of x around nodes)))
-    (sym (known around nodes (c.in-None.ensures nodes told area wrong))) (c.add_known.ensures.notes nodes told area right)
+    let context = context_view c.args.context.now in
+    subst (λ (x : Option Reason). OnOk c.add_known.result (note_views c.add_known.new.notes.items ≡ note_views c.args.notes.now.items ++ notes_below (outcome_of x context nodes)))
+    (sym (known context nodes (c.in-None.ensures nodes told area wrong))) (c.add_known.ensures.notes nodes told area right)
 
 pub returns-in-Some-clause-reason : goal.returns-in-Some-clause-reason
 returns-in-Some-clause-reason c nodes told =
     let area = c.area_in-area.ensures nodes told in
     let read = c.days_in-dated.ensures nodes told in
     let wrong : reason_read c.wrong_date.result ≡ result_err (days_in nodes) = c.wrong_date.ensures ∙ ap result_err read in
-    sym (early (around_view c.args.around.now) nodes (reason_view c.in-Some.reason) (c.in-Some.ensures nodes told area wrong))
+    sym (early (context_view c.args.context.now) nodes (reason_view c.in-Some.reason) (c.in-Some.ensures nodes told area wrong))
 
 pub returns-in-Some-clause-records : goal.returns-in-Some-clause-records
 returns-in-Some-clause-records c nodes told =
     let area = c.area_in-area.ensures nodes told in
     let read = c.days_in-dated.ensures nodes told in
     let wrong : reason_read c.wrong_date.result ≡ result_err (days_in nodes) = c.wrong_date.ensures ∙ ap result_err read in
-    let around = around_view c.args.around.now in
-    subst (λ (x : Option Reason). c.args.records.now ≡ c.args.records.now ++ outcome_records (outcome_of x around nodes))
-    (sym (early around nodes (reason_view c.in-Some.reason) (c.in-Some.ensures nodes told area wrong))) (sym (append-nil c.args.records.now))
+    let context = context_view c.args.context.now in
+    subst (λ (x : Option Reason). c.args.records.now ≡ c.args.records.now ++ outcome_records (outcome_of x context nodes))
+    (sym (early context nodes (reason_view c.in-Some.reason) (c.in-Some.ensures nodes told area wrong))) (sym (append-nil c.args.records.now))
 
 pub returns-in-Some-clause-notes : goal.returns-in-Some-clause-notes
 returns-in-Some-clause-notes c nodes told =
     let area = c.area_in-area.ensures nodes told in
     let read = c.days_in-dated.ensures nodes told in
     let wrong : reason_read c.wrong_date.result ≡ result_err (days_in nodes) = c.wrong_date.ensures ∙ ap result_err read in
-    let around = around_view c.args.around.now in
-    subst (λ (x : Option Reason). note_views c.args.notes.now.items ≡ note_views c.args.notes.now.items ++ notes_below (outcome_of x around nodes))
-    (sym (early around nodes (reason_view c.in-Some.reason) (c.in-Some.ensures nodes told area wrong))) (sym (append-nil (note_views c.args.notes.now.items)))
+    let context = context_view c.args.context.now in
+    subst (λ (x : Option Reason). note_views c.args.notes.now.items ≡ note_views c.args.notes.now.items ++ notes_below (outcome_of x context nodes))
+    (sym (early context nodes (reason_view c.in-Some.reason) (c.in-Some.ensures nodes told area wrong))) (sym (append-nil (note_views c.args.notes.now.items)))

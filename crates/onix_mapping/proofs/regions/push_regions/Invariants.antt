@@ -6,8 +6,8 @@ use Rattle.onix_mapping.specs.Territories.{word_notes}
 use Rattle.onix_mapping.proofs.regions.push_regions.Given as goal
 
 abbrev pub invariant-loop-region : goal.invariant-loop-region
-invariant-loop-region l = note_views l.notes.items ++ word_notes (element_view l.line) l.why (other_regions l.rest)
-    ≡ note_views l.initial.notes.items ++ word_notes (element_view l.line) l.why (other_regions l.text)
+invariant-loop-region l = note_views l.notes.items ++ word_notes (element_view l.line) l.kind (other_regions l.rest)
+    ≡ note_views l.initial.notes.items ++ word_notes (element_view l.line) l.kind (other_regions l.text)
 
 abbrev pub decreases-loop-region : goal.decreases-loop-region
 decreases-loop-region l = length l.rest

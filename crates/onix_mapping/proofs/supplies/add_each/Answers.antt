@@ -16,10 +16,10 @@ loop-supply-preserved c nodes told =
     let below = one-deeper c.in-Some.supply c.args.depth s tells in
     let opening = c.args.opening.now in
     let preferred = c.args.preferred.now in
-    let lost = c.former-lost.ensures ∙ ap (option_or (reason_read c.loop-supply.lost)) (c.lost_by.ensures ∙ ap (λ (why : Option Reason). option_filter (λ r. is_lost r.why) why) (c.in_ok-refused.ensures.reason s below)) in (
+    let lost = c.former-lost.ensures ∙ ap (option_or (reason_read c.loop-supply.lost)) (c.lost_by.ensures ∙ ap (λ (kind : Option Reason). option_filter (λ r. is_lost r.kind) kind) (c.in_ok-left_out.ensures.reason s below)) in (
       others,
       told_others,
-      one-more (λ x. outcome_records (supply_in opening preferred x)) _ _ _ s _ _ parts (c.in_ok-refused.ensures.records s below) rs,
-      one-more (λ x. outcome_notes x.element (supply_in opening preferred x)) _ _ _ s _ _ parts (c.in_ok-refused.ensures.notes s below) ns,
-      first-more (λ x. option_filter (λ r. is_lost r.why) (outcome_reason (supply_in opening preferred x))) (reason_read c.loop-supply.lost) _ _ s _ _ parts lost ls,
+      one-more (λ x. outcome_records (supply_in opening preferred x)) _ _ _ s _ _ parts (c.in_ok-left_out.ensures.records s below) rs,
+      one-more (λ x. outcome_notes x.element (supply_in opening preferred x)) _ _ _ s _ _ parts (c.in_ok-left_out.ensures.notes s below) ns,
+      first-more (λ x. option_filter (λ r. is_lost r.kind) (outcome_reason (supply_in opening preferred x))) (reason_read c.loop-supply.lost) _ _ s _ _ parts lost ls,
     )

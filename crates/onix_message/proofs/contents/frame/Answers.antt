@@ -1,5 +1,5 @@
 use Rattle.std.proofs.Common.{refl}
-use Rattle.onix_message.specs.ContentsText.{framed}
+use Rattle.onix_records.specs.ContentsText.{framed}
 use Rattle.onix_message.proofs.contents.frame.Goals as goal
 
 pub returns : goal.returns

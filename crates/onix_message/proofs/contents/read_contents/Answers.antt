@@ -1,5 +1,5 @@
 use Rattle.std.proofs.Common.{◌∙◌, sym, refl}
-use Rattle.onix_message.proofs.OneText.{read-none, read-other, read-same}
+use Rattle.onix_records.proofs.OneText.{read-none, read-other, read-same}
 use Rattle.onix_message.proofs.contents.read_contents.Goals as goal
 
 pub returns-in-Err-NotContents-clause-none : goal.returns-in-Err-NotContents-clause-none

@@ -1,5 +1,5 @@
 use Rattle.std.proofs.Common.{List, ℕ, ◌∙◌, sym, subst}
-use Rattle.onix_message.specs.Grammar.{IsMessage}
+use Rattle.onix_records.specs.Grammar.{IsMessage}
 use Rattle.onix_message.proofs.contents.read_framed.Goals as goal
 
 pub returns-in-Err-Malformed-clause-none : goal.returns-in-Err-Malformed-clause-none

@@ -1,6 +1,6 @@
 use Rattle.std.proofs.Common.{◌≡◌, take}
 use Rattle.std.specs.List.{flat_map}
-use Rattle.onix_message.specs.Product.{product_records}
+use Rattle.onix_records.specs.Product.{product_records}
 use Rattle.onix_message.proofs.contents.records_of_contents.Given as goal
 
 abbrev pub invariant-loop-product : goal.invariant-loop-product

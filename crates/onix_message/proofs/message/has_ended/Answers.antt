@@ -1,7 +1,7 @@
 use Rattle.std.proofs.Common.{ℕ, ◌≡◌, false, refl}
-use Rattle.onix_message.specs.private.Draft.{has_ended}
-use Rattle.onix_message.specs.declared.draft.Part.{Part}
-use Rattle.onix_message.specs.declared.draft.Part.TheVariants as part
+use Rattle.onix_records.specs.Draft.{has_ended}
+use Rattle.onix_records.specs.declared.draft.Part.{Part}
+use Rattle.onix_records.specs.declared.draft.Part.TheVariants as part
 use Rattle.onix_message.proofs.message.has_ended.Goals as goal
 
 not-ended : (p : Part) → ((n : ℕ) → p ≡ part.Ended n → ⊥) → false ≡ has_ended p

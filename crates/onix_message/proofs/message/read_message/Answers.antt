@@ -1,5 +1,5 @@
 use Rattle.std.proofs.Common.{ap, length}
-use Rattle.onix_message.proofs.Fronts.{stops-none, stops-one}
+use Rattle.onix_records.proofs.Fronts.{stops-none, stops-one}
 use Rattle.onix_message.proofs.message.read_message.Goals as goal
 
 pub returns-in_default-clause-fault : goal.returns-in_default-clause-fault

@@ -1,8 +1,8 @@
 use Rattle.std.proofs.Common.{◌+◌, ◌∷◌, refl, sym, arith}
 use Rattle.std.proofs.lemmas.Option.{get_or_from_slice_get}
 use Rattle.std.proofs.lemmas.Result.{IfErr-weaker, IfOk-weaker}
-use Rattle.onix_message.proofs.Fronts.{begins, ends-well, goes-on, its-end, no-end, stops-end, stops-in, stops-many}
-use Rattle.onix_message.proofs.RowParts.{message-computed}
+use Rattle.onix_records.proofs.Fronts.{begins, ends-well, goes-on, its-end, no-end, stops-end, stops-in, stops-many}
+use Rattle.onix_records.proofs.RowParts.{message-computed}
 use Rattle.onix_message.proofs.message.read_products.Goals as goal
 
 pub loop-i-init : goal.loop-i-init

@@ -1,7 +1,7 @@
 use Rattle.std.proofs.Common.{subst, ◌∙◌}
 use Rattle.std.specs.List.{All}
 use Rattle.std.proofs.lemmas.List.{take_all}
-use Rattle.onix_message.specs.declared.parts.Product.{Product}
+use Rattle.onix_records.specs.declared.parts.Product.{Product}
 use Rattle.catalogue_rules.specs.ArticleIndex.{ListsArticles}
 use Rattle.catalogue_rules.proofs.ArticleIndexes.{lists_message, lists_more}
 use Rattle.catalogue_rules.proofs.article_index.ArticleIndex.list.Goals as goal

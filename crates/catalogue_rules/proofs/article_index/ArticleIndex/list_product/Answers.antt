@@ -1,5 +1,5 @@
 use Rattle.std.proofs.Common.{◌≡◌, List, true, take, sym, subst}
-use Rattle.onix_message.specs.Product.{is_article_type}
+use Rattle.onix_records.specs.Product.{is_article_type}
 use Rattle.catalogue_rules.specs.ArticleIndex.{ListsArticles, is_listed}
 use Rattle.catalogue_rules.proofs.ArticleIndexes.{articles_more}
 use Rattle.catalogue_rules.proofs.Places.{take-next}

@@ -2,8 +2,8 @@ use Rattle.std.proofs.Common.{◌≡◌, ◌≤◌, ℕ, List, Bor, ap, subst, s
 use Rattle.std.specs.FinMap as map
 use Rattle.std.specs.List.{All, Contains}
 use Rattle.std.proofs.lemmas.Result.{IfOk-from_err}
-use Rattle.onix_message.specs.DetailCount.{detail_count}
-use Rattle.onix_message.specs.declared.parts.Product.{Product}
+use Rattle.onix_records.specs.DetailCount.{detail_count}
+use Rattle.onix_records.specs.declared.parts.Product.{Product}
 use Rattle.catalogue_rules.specs.Effects.{after}
 use Rattle.catalogue_rules.specs.Plans.{all_bytes}
 use Rattle.catalogue_rules.specs.Records.{EachHas, HasFewDetails}

@@ -3,7 +3,7 @@ use Rattle.std.specs.Borrow.{Bor}
 use Rattle.std.specs.Prelude.{option_copied, slice_get}
 use Rattle.std.specs.Slice.{IsItemAt}
 use Rattle.std.proofs.lemmas.Option.{slice_get_past, slice_get_read}
-use Rattle.onix_message.specs.declared.effects.Effect.{Effect}
+use Rattle.onix_records.specs.declared.effects.Effect.{Effect}
 use Rattle.desk_memory.proofs.fold.Fold.effect_of.Goals as goal
 
 got_at : (effects : List Effect) (i : ℕ) (got : Option (Bor Effect)) → IsItemAt effects i got → option_copied got ≡ slice_get effects i

@@ -1,4 +1,4 @@
-use Rattle.desk_store.proofs.ComesTo.{come_rows, rows_come}
+use Rattle.desk_rows.proofs.ComesTo.{come_rows, rows_come}
 use Rattle.desk_store.proofs.desk.DeskStore.is_by_its_tables.Goals as goal
 
 pub returns-clause-rows : goal.returns-clause-rows

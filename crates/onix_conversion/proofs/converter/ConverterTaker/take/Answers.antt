@@ -1,6 +1,6 @@
 use Rattle.std.proofs.Common.{refl}
 use Rattle.onix_outline.specs.Views.{tag_view}
-use Rattle.onix_conversion.specs.Conversion.{composite}
+use Rattle.onix_mapping.specs.Elements.{composite}
 use Rattle.onix_conversion.proofs.converter.ConverterTaker.take.Goals as goal
 
 pub returns-in-Some : goal.returns-in-Some

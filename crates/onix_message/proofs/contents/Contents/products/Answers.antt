@@ -1,11 +1,11 @@
 use Rattle.std.proofs.Common.{◌≤◌, List, arith, length, subst}
 use Rattle.std.specs.List.{All}
-use Rattle.onix_message.proofs.DetailCounts.{details-within}
-use Rattle.onix_message.proofs.OneText.{contents-few}
-use Rattle.onix_message.proofs.RowLists.{length-products}
-use Rattle.onix_message.specs.DetailCount.{detail_count}
-use Rattle.onix_message.specs.PartRows.{content_rows}
-use Rattle.onix_message.specs.declared.parts.Product.{Product}
+use Rattle.onix_records.proofs.DetailCounts.{details-within}
+use Rattle.onix_records.proofs.OneText.{contents-few}
+use Rattle.onix_records.proofs.RowLists.{length-products}
+use Rattle.onix_records.specs.DetailCount.{detail_count}
+use Rattle.onix_records.specs.PartRows.{content_rows}
+use Rattle.onix_records.specs.declared.parts.Product.{Product}
 use Rattle.onix_message.proofs.contents.Contents.products.Goals as goal
 
 pub returns-clause-few : goal.returns-clause-few

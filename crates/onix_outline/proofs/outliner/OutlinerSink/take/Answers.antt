@@ -17,4 +17,4 @@ returns-in_ok-speak-in-Text-clause-taken g c =
     let run = c.in-Text.run'.now in
     let spelled : c.args.spelled.now ≡ run = c.requires ∙ ap (λ q. flat_map spelling (piece_view q)) c.in-Text.is ∙ raws run in
     rw c.in-Text.is (ok_then c.move_on.result c.move_on.ensures.moved (λ m. m ∙ ap (λ bytes. moved bytes c.speak.new.self) spelled ∙ ap (moved run) c.in_ok-speak-in-Text.ensures
-    ∙ sym (text_feeds g.T.Taker.after f.taker f.root f.child.lines f.child.opens f.child.passed f.known f.place run)))
+    ∙ sym (text_feeds g.T.Taker.vocabulary g.T.Taker.after f.taker f.root f.child.lines f.child.opens f.child.passed f.known f.place run)))

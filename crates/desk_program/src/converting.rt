@@ -1,0 +1,35 @@
+//! The command `convert`.
+
+ghost use Rattle.std.specs.Prelude.{◌≤◌};
+ghost use Rattle.std.specs.Io.KnownBytes.{Appends};
+ghost use Rattle.desk_program.specs.ConvertEnds.{ConvertEnds};
+
+use command_line::convert_words::Conversion;
+use named_files::NamedFiles;
+use onix_files::{convert_files, convert_with_titles};
+use std::io::{Read, Write};
+use std::rt::HostRuntime;
+
+/// Converts FILEs, and writes their titles where they are asked for.
+pub(crate) fn run<F: NamedFiles, R: Read, W: Write, E: Write>(
+    rt: &HostRuntime,
+    conversion: &Conversion<'_>,
+    files: &mut F,
+    input: &mut R,
+    output: &mut W,
+    errors: &mut E,
+) -> u8
+    ensures status { result ≤ 3 }
+    ensures end { ConvertEnds F.is_told (F.holds files.old) (F.holds files.new)
+        (R.remaining input.old) (Appends (W.contents output.old) (W.contents output.new))
+        conversion.now result }
+{
+    let run = &conversion.run;
+    let names = conversion.files.as_slice();
+    match conversion.titles {
+        None => convert_files(rt, run, names, files, input, output, errors),
+        Some(titles) => {
+            convert_with_titles(rt, run, titles, names, files, input, output, errors)
+        }
+    }
+}

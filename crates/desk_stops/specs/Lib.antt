@@ -1,0 +1,7 @@
+pub mod Events
+pub mod Runs
+pub mod Effective
+pub mod Connections
+pub mod Clauses
+pub mod Files
+pub mod Sessions

@@ -1,0 +1,75 @@
+//! Laws that tie the runs to what the desk's methods promise: each clause of theirs is what an event
+//! of a run asks for.
+
+ghost use Rattle.std.specs.Prelude.{List};
+ghost use Rattle.desk_stops.specs.Clauses.{ClosingsAreEvents, TracesAreRuns, OpeningsAreEvents, QuestionsAreEvents, RequestsAreEvents, StopsAreEvents, UnaskedAreEvents};
+ghost use Rattle.desk_stops.specs.Files.{FileOpeningsAreEvents, FilesAreLeft};
+ghost use Rattle.desk_stops.specs.Sessions.{AskedAreRuns, SessionsAreRuns};
+ghost use Rattle.desk_store.specs.declared.desk.DeskStore.{DeskStore};
+ghost use Rattle.price_rules.specs.declared.precedence.Rule.{Rule};
+
+use sqlite::Alter;
+use sqlite_disk::Disk;
+
+/// What `agree`, `deliver` and `waive` promise makes each answer, and each fault, an event of a run.
+pub fn requests_are_events<S: Alter>()
+    ensures { (rules : List Rule) → RequestsAreEvents S.Store rules }
+{}
+
+/// So does what `offers_of`, `gaps` and `catalogue` promise, with each answer that is made of what
+/// they give, and with a fault after they gave it.
+pub fn questions_are_events<S: Alter>()
+    ensures { (rules : List Rule) → QuestionsAreEvents S.Store rules }
+{}
+
+/// What `answer` promises makes it an event too, and a trace of requests, as a batch is one, goes on
+/// with a run.
+pub fn traces_are_runs<S: Alter>()
+    ensures { (rules : List Rule) → TracesAreRuns S.Store rules }
+{}
+
+/// What was asked of a desk one after the other, as a batch is, goes on with a run.
+pub fn asked_are_runs<S: Alter>()
+    ensures { (rules : List Rule)
+        → AskedAreRuns S.Store (λ (desk : DeskStore S). desk.tables.connection) rules }
+{}
+
+/// A desk in two files that is opened, asked, closed and opened again is a run, by the clauses of
+/// its calls alone.
+pub fn sessions_are_runs<D: Disk>()
+    ensures { (rules : List Rule) → SessionsAreRuns D.Disk rules }
+{}
+
+/// A request that was answered or faulted before the desk was asked is an event too.
+pub fn unasked_are_events<S: Alter>()
+    ensures { (rules : List Rule) → UnaskedAreEvents S.Store rules }
+{}
+
+/// What the opening of a desk promises makes it an event of a run, with a desk or without one.
+pub fn openings_are_events<S: Alter>()
+    ensures { (rules : List Rule) → OpeningsAreEvents S.Store rules }
+{}
+
+/// What the closing of a desk's files promises makes it an event of a run, where the next opening
+/// is of these files. A closing that fails, or that a stop comes into, is a stop.
+pub fn closings_are_events<D: Disk>()
+    ensures { (rules : List Rule) → ClosingsAreEvents D.Disk rules }
+{}
+
+/// What a stop leaves of a desk's files makes it an event of a run: a connection that is opened on
+/// them finds one of the databases that the stop may leave.
+pub fn stops_are_events<D: Disk, E: Disk>()
+    ensures { (rules : List Rule) → StopsAreEvents D.Disk E.Disk rules }
+{}
+
+/// At files that hold a database, or whose database has no byte yet, the clauses of an opening of
+/// them make it an event: with a desk `stands` and `alone`, with a fault `left`.
+pub fn file_openings_are_events<D: Disk>()
+    ensures { (rules : List Rule) → FileOpeningsAreEvents D.Disk rules }
+{}
+
+/// The files that a stop may leave, and those that a closing gives back, hold a database at which
+/// the next opening is an event.
+pub fn files_are_left<D: Disk>()
+    ensures { (rules : List Rule) → FilesAreLeft D.Disk rules }
+{}

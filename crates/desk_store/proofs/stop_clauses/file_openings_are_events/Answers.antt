@@ -1,5 +1,0 @@
-use Rattle.desk_store.proofs.FileLemmas.{file_openings_are_events}
-use Rattle.desk_store.proofs.stop_clauses.file_openings_are_events.Goals as goal
-
-pub returns : goal.returns
-returns g c rules = file_openings_are_events g.D.Disk rules

@@ -1,7 +1,0 @@
-use Rattle.desk_store.specs.Connections.{storage}
-use Rattle.desk_store.proofs.ConnectionLaws.{lawful}
-use Rattle.desk_store.proofs.RunLemmas.{answered_as_if_never_stopped}
-use Rattle.desk_store.proofs.stop_laws.answered_as_if_never_stopped.Goals as goal
-
-pub returns : goal.returns
-returns g c rules = answered_as_if_never_stopped (storage g.S.Store rules) (lawful g.S.Store rules)

@@ -1,7 +1,0 @@
-use Rattle.desk_store.specs.Connections.{storage}
-use Rattle.desk_store.proofs.ConnectionLaws.{lawful}
-use Rattle.desk_store.proofs.RunLemmas.{what_is_left_is_effective}
-use Rattle.desk_store.proofs.stop_laws.what_is_left_is_effective.Goals as goal
-
-pub returns : goal.returns
-returns g c rules = what_is_left_is_effective (storage g.S.Store rules) (lawful g.S.Store rules)

@@ -1,0 +1,3 @@
+pub mod Openings
+pub mod Migrations
+pub mod FirstForm

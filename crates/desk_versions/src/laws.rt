@@ -1,0 +1,46 @@
+//! What files without a desk hold, and what version 1 kept, as laws without code.
+
+ghost use Rattle.std.specs.Prelude.{◌≡◌, [], false, List};
+ghost use Rattle.std.specs.List.{list_any};
+ghost use Rattle.sqlite.specs.Effect.{Database, IsDatabase};
+ghost use Rattle.sqlite.specs.Files.{AreFoundIn, HoldsDatabase, IsEmpty, IsNothing};
+ghost use Rattle.sqlite_trees.specs.Tree.{Trees};
+ghost use Rattle.sqlite_wal.specs.Recovery.{Image};
+ghost use Rattle.desk_tables.specs.Rows.{DeskRows};
+ghost use Rattle.desk_tables.specs.Schema.{is_desk_table};
+ghost use Rattle.series_rules.specs.declared.requests.Request.{Request};
+ghost use Rattle.desk_versions.specs.FirstForm.{AreOfFormOne, ComeFromFirst, VersionsAgree};
+ghost use Rattle.desk_versions.specs.Openings.{AreEmptyFiles, TellNoVersion};
+ghost use Rattle.desk_rows.specs.Stands.{StandsFor};
+
+/// Where each message is of form 1, the tables have no minimums: but for the version they are
+/// tables of version 1.
+pub fn form_one_has_no_minimums()
+    ensures { (rows : DeskRows) (L : List Request) → StandsFor rows L → AreOfFormOne L
+        → ComeFromFirst rows }
+{}
+
+/// Files of which the database has no byte, as at the first run of every shop, hold an empty
+/// database, whatever their log holds.
+pub fn files_without_a_byte_are_empty()
+    ensures { (image : Image) → image.db ≡ [] → AreEmptyFiles image }
+{}
+
+/// In files of which `sqlite` says that no database was made yet, as in those without a byte or
+/// with a first page that a stop cut short, nothing is found but the empty database.
+pub fn nothing_is_found_where_none_was_made()
+    ensures { (image : Image) → IsNothing image → (d : Trees) → AreFoundIn image d → IsEmpty d }
+{}
+
+/// Files that hold a database of strangers' tables alone, none of them with a name of the desk's,
+/// tell no version. So an opening of them never ends with that of another one.
+pub fn tables_of_strangers_tell_no_version()
+    ensures { (image : Image) (db : Database) → ∥ HoldsDatabase image db.trees ∥₁ → IsDatabase db
+        → list_any is_desk_table db.schema.tables ≡ false → TellNoVersion image }
+{}
+
+/// Tables of version 1 and of version 2 are of the same requests, where each message is of form 1:
+/// `FirstStandsFor` says what version 1 kept, in words of its own.
+pub fn versions_agree()
+    ensures { VersionsAgree }
+{}

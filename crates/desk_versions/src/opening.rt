@@ -1,0 +1,102 @@
+//! What is found where a desk is opened.
+
+ghost use Rattle.std.specs.Prelude.{◌≡◌, IfErr, IfOk, IsTrue};
+ghost use Rattle.sqlite.specs.Files.{IsCleanLeft, IsOpened, LeavesFiles, file_state, image_of};
+ghost use Rattle.sqlite.specs.Held.{state};
+ghost use Rattle.sqlite.specs.State.{HasCleanDisk};
+ghost use Rattle.sqlite_wal.specs.Reads.{AreClean};
+ghost use Rattle.desk_versions.specs.Openings.{AreFoundAs, IsCreated, IsIndexed, IsReady, IsVersionRead};
+
+use desk_tables::rows::fault::fault_of;
+use desk_tables::tables::Tables;
+use onix_records::StoreFault;
+use sqlite::{Alter, Connection, FileStore, Files, Leftover, Options};
+use sqlite_disk::Disk;
+use std::alloc::Global;
+use thiserror::Error;
+
+/// Why a desk was not opened.
+#[derive(Debug, Drop, Error)]
+pub enum OpenFault {
+    /// The store could not be opened, read or written.
+    #[error("{0}")]
+    Store(StoreFault),
+    /// The tables are of another version, `found`, than those that are taken: 2, and to migrate 1.
+    #[error("other version {found}")]
+    OtherVersion { found: u32 },
+}
+
+/// The version of the tables, or `None` where there are none.
+pub(crate) fn read_version<S: Alter>(tables: &mut Tables<S>) -> Result<Option<u32>, StoreFault>
+    ensures { IsVersionRead (state S.Store tables.old.connection)
+        (state S.Store tables.new.connection) result }
+{
+    let mut work = tables.work()?;
+    work.version()
+}
+
+/// Makes the tables, all at once.
+pub(crate) fn create_tables<S: Alter>(tables: &mut Tables<S>) -> Result<(), StoreFault>
+    ensures { IsCreated (state S.Store tables.old.connection)
+        (state S.Store tables.new.connection) result }
+{
+    let mut work = tables.work()?;
+    work.create()?;
+    work.commit()
+}
+
+/// Makes the index on articles, all at once.
+fn index_articles<S: Alter>(tables: &mut Tables<S>) -> Result<(), StoreFault>
+    ensures { IsIndexed (state S.Store tables.old.connection)
+        (state S.Store tables.new.connection) result }
+{
+    let mut work = tables.work()?;
+    work.index_articles()?;
+    work.commit()
+}
+
+/// Takes the tables that are there, if they are of version 2, and makes the index on articles where
+/// it alone is missing; or makes the tables where there are none.
+pub fn prepare<S: Alter>(tables: &mut Tables<S>) -> Result<(), OpenFault>
+    ensures { IsReady (state S.Store tables.old.connection)
+        (state S.Store tables.new.connection) result }
+{
+    match read_version(tables) {
+        Ok(Some(2)) => {
+            if !tables.lacks_index() {
+                return Ok(());
+            }
+            match index_articles(tables) {
+                Ok(()) => Ok(()),
+                Err(fault) => Err(OpenFault::Store(fault)),
+            }
+        }
+        Ok(Some(found)) => Err(OpenFault::OtherVersion { found }),
+        Ok(None) => match create_tables(tables) {
+            Ok(()) => Ok(()),
+            Err(fault) => Err(OpenFault::Store(fault)),
+        },
+        Err(fault) => Err(OpenFault::Store(fault)),
+    }
+}
+
+/// A connection to the database that is found in two files, or what is left of them.
+pub fn connect<D: Disk + Drop>(
+    alloc: Global,
+    files: Files<D>,
+    options: Options,
+) -> Result<Connection<FileStore<D>>, (StoreFault, Leftover<D>)>
+    requires log { IsTrue (D.Disk.is_usable files.log) }
+    requires db { IsTrue (D.Disk.is_usable files.db) }
+    ensures opened { IfOk result (λ c. HasCleanDisk (file_state c) → IsOpened c) }
+    ensures clean { IfOk result (λ c. HasCleanDisk (file_state c)
+        → AreClean D.Disk files.log files.db) }
+    ensures taken { IfOk result (λ c. HasCleanDisk (file_state c)
+        → AreFoundAs (image_of D.Disk files) (file_state c).committed.trees) }
+    ensures left { IfErr result (λ e. IsCleanLeft e.1 → LeavesFiles files e.1) }
+{
+    match Connection::open_files(alloc, files, options) {
+        Ok(connection) => Ok(connection),
+        Err((error, left)) => Err((fault_of(error), left)),
+    }
+}

@@ -1,8 +1,0 @@
-use Rattle.onix_message.proofs.EndedFronts.{ended-fronts}
-use Rattle.onix_message.proofs.Explained.{computed-none}
-use Rattle.onix_message.proofs.Fronts.{fronts}
-use Rattle.onix_message.proofs.RowParts.{message-computed, message-meant}
-use Rattle.onix_message.proofs.laws.messages.Goals as goal
-
-pub returns : goal.returns
-returns c = record { computed = message-computed; meant = message-meant; none = computed-none; fronts = fronts; ended = ended-fronts }

@@ -1,5 +1,0 @@
-use Rattle.onix_message.proofs.OneText.{one-contents}
-use Rattle.onix_message.proofs.laws.one_contents_text.Goals as goal
-
-pub returns : goal.returns
-returns c = one-contents (record { read = c.one_text.ensures.read; only = c.one_text.ensures.only })

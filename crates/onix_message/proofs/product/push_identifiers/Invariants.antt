@@ -1,7 +1,0 @@
-use Rattle.std.proofs.Common.{◌≡◌, ◌++◌, length, take}
-use Rattle.std.specs.List.{flat_map}
-use Rattle.onix_message.specs.Product.{identifier_fields}
-use Rattle.onix_message.proofs.product.push_identifiers.Given as goal
-
-abbrev pub invariant-loop-id : goal.invariant-loop-id
-invariant-loop-id l = (l.count ≡ length l.fn.fields) × (l.fields ≡ l.fn.fields ++ flat_map identifier_fields (take l.id-index l.ids))

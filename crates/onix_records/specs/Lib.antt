@@ -1,0 +1,15 @@
+pub mod Gives
+pub mod Fields
+pub mod Opening
+pub mod Product
+pub mod Supply
+pub mod Detail
+pub mod Price
+pub mod Row
+pub mod PartRows
+pub mod DetailCount
+pub mod Grammar
+pub mod Message
+pub mod SameContents
+pub mod ContentsText
+pub mod Draft

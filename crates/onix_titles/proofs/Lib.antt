@@ -1,0 +1,3 @@
+pub mod OrderLaws
+pub mod IsbnLaws
+pub mod StateLaws

@@ -1,0 +1,25 @@
+use Rattle.std.proofs.Common.{◌≡◌, ◌∙◌, Some, add-one, ap, sym, take}
+use Rattle.std.specs.Prelude.{codes, fold}
+use Rattle.onix_mapping.specs.Elements.{composites}
+use Rattle.onix_titles.specs.ContributorViews.{contributor_view, contributor_views}
+use Rattle.onix_titles.specs.Contributors.{contributors_in, in_order, named, put_in_order}
+use Rattle.onix_titles.proofs.OrderLaws.{named_first, three_few, three_more}
+use Rattle.onix_titles.proofs.contributors.first_three.Goals as goal
+
+pub loop-found-preserved-in_ok-put_in_order : goal.loop-found-preserved-in_ok-put_in_order
+loop-found-preserved-in_ok-put_in_order c =
+    let old = contributor_views c.loop-found.ordered.items in
+    let new = contributor_views c.put_in_order.new.ordered.items in
+    let one = contributor_view c.in-Some-named.contributor in
+    let put : new ≡ take 3 (put_in_order old one) = c.in_ok-put_in_order.ensures in record {
+      few = three_few old new one put;
+      others = λ nodes told.
+          let (left, told_left, before) = c.loop-found.invariant.others nodes told in
+          let (found, others, parts, tells, told_others) = c.in-Some.ensures.next left told_left in
+          let is : named found ≡ Some one = sym (c.in-Some-named.ensures found (rw add-one tells.below)) in
+          let first = named_first found (composites (codes "Contributor") left) (composites (codes "Contributor") others) one parts is in (
+            others,
+            told_others,
+            three_more old new (take 3 (in_order (contributors_in nodes))) (contributors_in others) one put (ap (λ k. take 3 (fold put_in_order old k)) (sym first) ∙ before),
+          );
+    }

@@ -1,0 +1,18 @@
+//! The titles in an ONIX for Books message: a row for each product that has an ISBN, with what the
+//! message says of the book besides its prices.
+#![tactic(auto)]
+
+mod contributors;
+mod elements;
+mod isbns;
+mod reading;
+mod rows;
+mod taker;
+mod target;
+#[cfg(test)]
+mod tests;
+mod texts;
+mod vocabulary;
+
+pub use reading::read_titles;
+pub use target::TitleTarget;

@@ -1,0 +1,112 @@
+"""The titles of feeds that are done, handed to onixdesk-titles: their rows, which a second run of the converter writes
+into a file of a folder that both share. What goes wrong with them is told, and keeps no feed."""
+
+import contextlib
+import os
+import re
+import shutil
+from dataclasses import dataclass, replace
+from pathlib import Path
+from typing import NamedTuple
+
+from command_lines.ending import Fault
+from onixdesk_inbox.conversion import Converter
+from onixdesk_inbox.desk import Accepted, Reply, accepted
+from onixdesk_inbox.feeding import unpack
+from onixdesk_inbox.names import PACKED, shown
+from onixdesk_inbox.settings import NEXT, Settings
+from onixdesk_inbox.state import Work
+from onixdesk_inbox.verdicts import Refusal
+
+# The most bytes of rows that wait, and of a packed feed, which is unpacked into a file for its titles.
+MOST_WAITING = MOST_UNPACKED = 1 << 30
+
+is_reply = re.compile(r"(20[02]) (\{.*\})\n?").fullmatch
+is_name = re.compile(r"([0-9]{10})-([0-9]{1,10})-([a-z0-9-]{1,32})\.csv").fullmatch
+
+
+class Message(NamedTuple):
+    """Where a feed stands: its series, the desk's number of its first message, and the second since 1970 of the
+    desk's answer."""
+
+    series: str
+    number: int
+    moment: int
+
+    def name(self) -> str:
+        """That of the file of its rows."""
+        return f"{self.moment:010}-{self.number}-{self.series}.csv"
+
+
+def messages_in(folder: Path) -> list[tuple[Path, Message]]:
+    """The files of rows that wait, the oldest message first."""
+    names = filter(None, map(is_name, sorted(os.listdir(folder))))
+    return [(folder / found[0], Message(found[3], int(found[2]), int(found[1]))) for found in names]
+
+
+def stands(answer: Path) -> Accepted:
+    """Where the first message of a feed stands, by the desk's replies in its answer."""
+    with answer.open(encoding="utf-8", errors="replace") as lines:
+        for line in lines:
+            if found := is_reply(line):
+                return accepted(Reply(int(found[1]), found[2].encode()))
+    raise Fault("its answer has no number")
+
+
+def bytes_in(folder: Path) -> int:
+    found = 0
+    with os.scandir(folder) as entries:
+        for entry in entries:
+            # What is taken is removed meanwhile.
+            with contextlib.suppress(FileNotFoundError):
+                found += entry.stat().st_size
+    return found
+
+
+@dataclass(frozen=True)
+class Handing:
+    converter: Converter
+    settings: Settings
+    scratch: Path
+
+    def fault_of(self, name: str, source: Path, answer: Path) -> str:
+        """Hands over the rows of a feed of that name; why it could not, or an empty text."""
+        try:
+            self.hand_over(name, source, answer)
+        except Exception as error:
+            # Whatever it is, the desk has the feed.
+            return shown(str(error) or type(error).__name__)
+        finally:
+            shutil.rmtree(self.scratch, ignore_errors=True)
+        return ""
+
+    def hand_over(self, name: str, source: Path, answer: Path) -> None:
+        folder = self.settings.titles
+        assert folder
+        place = stands(answer)
+        message = Message(place.series, place.number, int(answer.stat().st_mtime))
+        rows = self.rows_of(name, source)
+        if bytes_in(folder) + rows.stat().st_size > MOST_WAITING:
+            raise Fault(f"{folder} is full of rows that wait for onixdesk-titles")
+        new = folder / f".{self.scratch.name}-{message.series}"
+        with rows.open("rb") as written, new.open("wb") as copy:
+            shutil.copyfileobj(written, copy)
+            os.fchmod(copy.fileno(), 0o640)
+            os.fsync(copy.fileno())
+        os.replace(new, folder / message.name())
+
+    def rows_of(self, name: str, source: Path) -> Path:
+        """The rows of a feed, written into the scratch folder."""
+        work = Work(self.scratch)
+        work.begin(name)
+        feed = work.source(name)
+        os.link(source, feed)
+        if feed.suffix in PACKED:
+            feed = unpack(feed, MOST_UNPACKED, self.settings.conversion_seconds)
+        rows = work.folder / "rows"
+        converter = replace(self.converter, words=(*self.converter.words, "--titles", str(rows)))
+        number = 1 if self.settings.number == NEXT else None
+        said = converter.convert(name, feed, number, work.messages, work.answer)
+        if not rows.exists():
+            raise Refusal(said.last or "the converter wrote none")
+        return rows

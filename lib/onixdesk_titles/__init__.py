@@ -1,0 +1,1 @@
+"""Keeps what feeds say of titles, by ISBN, in files for the buyers' page."""

@@ -1,0 +1,100 @@
+// Titles beside the desk's answers. The files are written by hand, as docs/INBOX.md has their form.
+
+import assert from "node:assert/strict";
+import { afterEach, beforeEach, test } from "node:test";
+
+import { areTitlesKept, fileOf, titlesOf, titleTexts } from "../page/titles.js";
+
+const ISBN = "9781900001014";
+const OTHER = "9781900001021";
+
+const { fetch: realFetch } = globalThis;
+let asked;
+let reply;
+
+beforeEach(() => {
+  asked = [];
+  globalThis.document = { baseURI: "https://desk.example.org/" };
+  globalThis.fetch = async (url) => {
+    asked.push(url.pathname);
+    return reply();
+  };
+});
+afterEach(() => {
+  globalThis.fetch = realFetch;
+  delete globalThis.document;
+});
+
+const has = (file) => { reply = () => new Response(typeof file === "string" ? file : JSON.stringify(file)); };
+const signal = new AbortController().signal;
+const textsOf = async (isbn = ISBN) => titleTexts((await titlesOf([isbn], signal)).get(isbn));
+
+const NORTH = ["north", 5, 1795849200, "The Lamplighter’s Almanac", "A Year", "Éilís Byrne (A01); Jo Roe (B06); X (Z99)", "Quay"];
+
+test("a title is asked for by the first digits of its ISBN, in the file of others that begin so", async () => {
+  has({ [ISBN]: [NORTH] });
+  const titles = await titlesOf([ISBN, OTHER], signal);
+  assert.deepEqual(asked, ["/titles/97819/97819000.json"]);
+  assert.equal(fileOf(ISBN), "titles/97819/97819000.json");
+  assert.deepEqual([...titles.keys()], [ISBN, OTHER]);
+  assert.equal(titles.get(ISBN).series, "north");
+  assert.deepEqual(titles.get(OTHER), {});
+});
+
+test("it is shown with its subtitle, its contributors with their roles, and its publisher", async () => {
+  has({ [ISBN]: [NORTH] });
+  assert.deepEqual(await textsOf(), [
+    "The Lamplighter’s Almanac: A Year", "Éilís Byrne (author); Jo Roe (translator); X (Z99)", "Quay",
+  ]);
+  has({ [ISBN]: [["north", 5, 1795849200, "Almanac", "", "", ""]] });
+  assert.deepEqual(await textsOf(), ["Almanac"]);
+});
+
+test("of several series the first one counts that has not deleted its own", async () => {
+  const south = ["south", 1, 1795849100, "Another title", "", "", ""];
+  has({ [ISBN]: [NORTH, south] });
+  assert.equal((await textsOf())[0], "The Lamplighter’s Almanac: A Year");
+  has({ [ISBN]: [["north", 6, 1795849300], south] });
+  assert.deepEqual(await textsOf(), ["Another title"]);
+  has({ [ISBN]: [["north", 6, 1795849300]] });
+  assert.deepEqual(await textsOf(), []);
+});
+
+test("what is no file of titles says nothing", async () => {
+  for (const file of [
+    {}, [], { [ISBN]: {} }, { [ISBN]: [NORTH.slice(0, 6)] }, { [ISBN]: [null, [...NORTH.slice(0, 3), 1, 2, 3, 4]] },
+  ]) {
+    has(file);
+    assert.deepEqual(await textsOf(), [], JSON.stringify(file));
+  }
+  for (const status of [204, 404]) {
+    reply = () => new Response(null, { status });
+    assert.deepEqual(await textsOf(), []);
+  }
+});
+
+test("where the file cannot be read, nothing is known", async () => {
+  for (const broken of ["{", "", "null"]) {
+    has(broken);
+    assert.equal((await titlesOf([ISBN], signal)).size, 0, broken);
+  }
+  reply = () => new Response("", { status: 503 });
+  assert.equal((await titlesOf([ISBN], signal)).size, 0);
+  reply = () => { throw new TypeError("unreached"); };
+  assert.equal((await titlesOf([ISBN], signal)).size, 0);
+  const left = new AbortController();
+  left.abort();
+  await assert.rejects(titlesOf([ISBN], left.signal), { name: "AbortError" });
+});
+
+test("titles are kept where their mark is there", async () => {
+  has("{}");
+  assert.equal(await areTitlesKept(), true);
+  for (const status of [204, 404]) {
+    reply = () => new Response(null, { status });
+    assert.equal(await areTitlesKept(), false);
+  }
+  reply = () => { throw new TypeError("unreached"); };
+  assert.equal(await areTitlesKept(), false);
+  assert.deepEqual(new Set(asked), new Set(["/titles.json"]));
+});

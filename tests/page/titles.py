@@ -1,0 +1,156 @@
+"""Titles behind the desk's answers, of files as onixdesk-titles writes them, by hand."""
+
+import json
+from collections.abc import Iterator
+
+from tests.page import order_desk
+from tests.page.browser import Browser
+from tests.page.order_desk import isbn_of
+from tests.page.orders import file_rows, look_up, open_list, row_of, save_to, saved
+from tests.page.site import Site
+from tests.page.week import HOSTILE
+from tests.running import Outcome
+
+ISBN, OTHER, HOSTILE_ISBN, UNTITLED = (isbn_of(number) for number in (1, 4, 7, 10))
+
+HEAD = "Title, as a feed said last (not proved)"
+SAID = "as a feed of Beta & Sons said last; not proved"
+UNKNOWN = "no feed has said a title"
+WHOLE = "The Lamplighter’s Almanac: A year of small lights · Éilís Byrne (author); Noor Haddad (illustrator) · Quayside Editions"
+
+TITLES = {
+    ISBN: [["beta", 5, 1795849200, "The Lamplighter’s Almanac", "A year of small lights",
+            "Éilís Byrne (A01); Noor Haddad (A12)", "Quayside Editions"], ["alpha", 9, 1795849100, "Older", "", "", ""]],
+    OTHER: [["alpha", 9, 1795849300], ["beta", 1, 1795849100, "=1+1", "", "", ""]],
+    HOSTILE_ISBN: [["odd", 1, 1795849200, HOSTILE, "one\u202etwo", "\u05d0\u05d1 (A01)", "{isbn}"]],
+}
+
+
+def article(isbn: str) -> str:
+    return f"#article?isbn={isbn}&quantity=1"
+
+
+def file_of(site: Site, isbn: str) -> str:
+    path = site.titles / "titles" / isbn[:5] / f"{isbn[:8]}.json"
+    path.parent.mkdir(parents=True, exist_ok=True)
+    return str(path)
+
+
+def asked(site: Site, since: int) -> list[str]:
+    """What has been asked for since, of titles and of the desk, without what stands behind a `?`."""
+    paths = [line.split(" ")[3].partition("?")[0] for line in site.requests()[since:]]
+    return [path for path in paths if path.startswith(("/titles.json", "/titles/", "/desk/articles"))]
+
+
+def not_kept(site: Site, browser: Browser) -> Iterator[Outcome]:
+    """A shop that keeps none sees nothing of them, and the page asks for none."""
+    order_desk.deliver(site)
+    site.write_settings(order_desk.settings())
+    since = len(site.requests())
+    browser.complaints()
+    browser.open(article(ISBN))
+    browser.wait_for_text("#article-status", "Buy 1 from")
+    yield Outcome("no titles are kept: the answer", browser.text("#title"), "")
+    open_list(browser)
+    look_up(browser, ISBN)
+    heads = browser.texts("#list thead th")
+    yield Outcome("no titles are kept: the columns", HEAD in heads, False)
+    found = {path for path in asked(site, since) if path.startswith("/titles")}
+    yield Outcome("no titles are kept: what is asked for", found, {"/titles.json"})
+    yield Outcome("no titles are kept: no complaint", browser.complaints(), [])
+    site.titles.joinpath("titles.json").write_text("{}", encoding="utf-8")
+    with open(file_of(site, ISBN), "w", encoding="utf-8") as file:
+        json.dump(TITLES, file)
+
+
+def of_an_article(site: Site, browser: Browser) -> Iterator[Outcome]:
+    """It comes behind the answer, and says whose feed said it."""
+    browser.complaints()
+    since = len(site.requests())
+    browser.open(article(ISBN))
+    yield Outcome("a title", browser.wait_for_text("#title", "Almanac"), f"{WHOLE} · {SAID}")
+    paths = asked(site, since)
+    answers = [paths.index(f"/desk/articles/{ISBN}/{what}") for what in ("price", "choice")]
+    title = paths.index(f"/titles/{ISBN[:5]}/{ISBN[:8]}.json")
+    yield Outcome("it is asked for behind the answer", max(answers) < title, True)
+    for isbn, wanted in [
+        (OTHER, f"=1+1 · {SAID}"),
+        (UNTITLED, UNKNOWN),
+        (HOSTILE_ISBN, f"{HOSTILE}: one\u202etwo · \u05d0\u05d1 (author) · {{isbn}} · as a feed of odd said last; not proved"),
+        (order_desk.NOBODYS, UNKNOWN),
+    ]:
+        browser.open(article(isbn))
+        browser.wait_for_text("#title", wanted[:9])
+        came = browser.run("return document.getElementById('title').textContent")
+        yield Outcome(f"the title of {isbn}", came, wanted)
+    yield Outcome("no element of a title", browser.all("main img, main script"), [])
+    yield Outcome("no complaint of the browser", browser.complaints(), [])
+    browser.driver.execute_cdp_cmd("Emulation.setEmulatedMedia", {"media": "print"})
+    yield Outcome("it is on paper", browser.one("#title").is_displayed(), True)
+    browser.driver.execute_cdp_cmd("Emulation.setEmulatedMedia", {"media": ""})
+
+
+def that_cannot_be_read(site: Site, browser: Browser) -> Iterator[Outcome]:
+    """The answer stands, and no title is said to be unknown."""
+    path = file_of(site, "97899999")
+    with open(path, "w", encoding="utf-8") as file:
+        file.write("{")
+    browser.open(article("9789999900003"))
+    none = "No wholesaler offers this book"
+    yield Outcome("a damaged file: the answer", none in browser.wait_for_text("#article-status", none), True)
+    was_asked = browser.wait(lambda: any("/titles/97899/" in path for path in asked(site, 0)))
+    yield Outcome("a damaged file: the title", (was_asked, browser.text("#title")), (True, ""))
+
+
+def of_a_list(site: Site, browser: Browser) -> Iterator[Outcome]:
+    """A column of the table, on paper too, and the last one of the file; books are asked for by their files."""
+    folder = site.room.path("titles-of-orders")
+    save_to(browser, folder)
+    since = len(site.requests())
+    open_list(browser)
+    look_up(browser, f"{ISBN} 2 Anna\n{OTHER}\n{HOSTILE_ISBN}\n{UNTITLED}\n{order_desk.NOBODYS}")
+    came = browser.wait(lambda: row_of(browser, UNTITLED)[2])
+    yield Outcome("a book without a title", came, UNKNOWN)
+    found = [row_of(browser, isbn)[2] for isbn in (ISBN, OTHER, HOSTILE_ISBN, order_desk.NOBODYS)]
+    whole = f"{HOSTILE}: one\u202etwo · \u05d0\u05d1 (author) · {{isbn}}"
+    yield Outcome("the titles of a list", found, [WHOLE, "=1+1", whole, UNKNOWN])
+    yield Outcome("their column", browser.texts("#list thead th")[2], HEAD)
+    paths = asked(site, since)
+    files = [path for path in paths if path.startswith("/titles/")]
+    wanted = {f"/titles/{isbn[:5]}/{isbn[:8]}.json" for isbn in (ISBN, order_desk.NOBODYS)}
+    yield Outcome("each file is asked for once", (sorted(files), len(files)), (sorted(wanted), len(wanted)))
+    answers = [at for at, path in enumerate(paths) if path.endswith("/choice")]
+    yield Outcome("behind the answers", max(answers[:5]) < paths.index(files[0]), True)
+    row = row_of(browser, order_desk.NOBODYS)
+    yield Outcome("a book without an offer keeps its columns", len(row), 6)
+    wide = browser.run("return document.documentElement.scrollWidth <= innerWidth")
+    yield Outcome("the table is no wider than the window", wide, True)
+    browser.driver.execute_cdp_cmd("Emulation.setEmulatedMedia", {"media": "print"})
+    seen = [text for _, text in browser.call("seen", "#list tbody td[data-column^=Title]")]
+    yield Outcome("titles on paper", WHOLE in seen, True)
+    browser.driver.execute_cdp_cmd("Emulation.setEmulatedMedia", {"media": ""})
+    browser.one("#csv-all").click()
+    rows = file_rows(saved(browser, folder))
+    yield Outcome("the columns of the file", [rows[0][0], *rows[0][-2:]], ["ISBN", "Note", HEAD])
+    wanted_rows = [(ISBN, WHOLE), (OTHER, "'=1+1"), (HOSTILE_ISBN, whole), (UNTITLED, "")]
+    yield Outcome("the titles of the file", [(row[0], row[-1]) for row in rows[1:]], wanted_rows)
+
+
+def of_the_site(site: Site, browser: Browser) -> Iterator[Outcome]:
+    """nginx hands out the files that have such names, with a password."""
+    site.titles.joinpath("secret.json").write_text("{}", encoding="utf-8")
+    path = f"/titles/{ISBN[:5]}/{ISBN[:8]}.json"
+    for name, asked_for, wanted in [
+        ("a file", site.fetch(path), 200),
+        ("one that is not there", site.fetch("/titles/00000/00000000.json"), 204),
+        ("the mark", site.fetch("/titles.json"), 200),
+        ("another name", site.fetch("/titles/secret.json"), 404),
+        ("the way up", site.fetch("/titles/%2e%2e/secret.json"), 404),
+        ("no password", site.fetch(path, password=None), 401),
+        ("another method", site.fetch(path, method="POST"), 403),
+        ("another site", site.fetch(path, fields=[("Origin", "https://stranger.example.net")]), 403),
+    ]:
+        yield Outcome(f"titles of the site: {name}", asked_for[0], wanted)
+
+
+CASES = [not_kept, of_an_article, that_cannot_be_read, of_a_list, of_the_site]

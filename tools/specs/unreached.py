@@ -1,0 +1,42 @@
+"""The definitions of specs/ that no contract reaches, of a public function or a private one: such belong into proofs/."""
+
+import sys
+from pathlib import Path
+
+from tools.root import ROOT
+from tools.specs.contracts import modules
+from tools.specs.definitions import File, Name, imported, names_in, read_crate
+from tools.specs.page import crates
+
+
+def is_reached(file: File, word: str, found: set[Name]) -> bool:
+    """Whether it is among those found; what is written as an operator has another name where it stands."""
+    return "◌" in word or Name(file.crate, file.name, word) in found
+
+
+def unreached(root: Path) -> list[Name]:
+    """They, in the order of crates and files."""
+    folders = [root / "crates" / name for name in crates(root)]
+    files = [file for folder in folders for file in read_crate(folder)]
+    uses = {
+        Name(file.crate, file.name, word): cited | {Name(file.crate, file.name, own) for own in file.own[word]}
+        for file in files
+        for word, cited in file.cited.items()
+    }
+    uses |= {Name(file.crate, file.name, it.word): {it} for file in files for it in file.handed_on}
+    texts = [text for folder in folders for text in modules(folder).values()]
+    left = [name for text in texts for name in names_in(text, imported(text))]
+    found = set()
+    while left:
+        name = left.pop()
+        if name not in found:
+            found.add(name)
+            left += uses.get(name, ())
+    return [Name(file.crate, file.name, word) for file in files for word in file.comments if not is_reached(file, word, found)]
+
+
+if __name__ == "__main__":
+    lost = unreached(ROOT)
+    for name in lost:
+        print(f"crates/{name.crate}/specs/{name.file}.antt: no contract reaches {name.word}")
+    sys.exit(1 if lost else 0)

@@ -38,8 +38,12 @@ function showProblems(file, problems) {
   found("settings-wrong").hidden = false;
 }
 
+// The part of the address that is shown.
+let shownHash;
+
 function show(views) {
-  const { view, given } = readAddress(location.hash);
+  shownHash = location.hash;
+  const { view, given } = readAddress(shownHash);
   for (const [name, shown] of Object.entries(views)) {
     const isShown = name === view;
     found(`${name}-view`).hidden = !isShown;
@@ -102,7 +106,11 @@ async function start() {
     event.preventDefault();
     found("content").focus();
   });
-  window.addEventListener("hashchange", () => show(views));
+  // An address that was set just before the page stood is shown already when the browser tells of it: to show it
+  // once more would ask everything twice.
+  window.addEventListener("hashchange", () => {
+    if (location.hash !== shownHash) show(views);
+  });
   show(views);
   reports.begin();
 }

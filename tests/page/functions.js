@@ -382,6 +382,18 @@ function hurry(pace) {
   window.setInterval = (act, wait = 0, ...given) => each(act, wait / pace, ...given);
 }
 
+// An address that is set while the page begins: it has its texts and settings, and shows its first view next.
+function beginWith(hash) {
+  const real = Object.getOwnPropertyDescriptor(HTMLElement.prototype, 'lang');
+  Object.defineProperty(HTMLElement.prototype, 'lang', {
+    ...real,
+    set(language) {
+      real.set.call(this, language);
+      if (this === document.documentElement) location.hash = hash;
+    },
+  });
+}
+
 function keepNothing() {
   Object.defineProperty(window, 'localStorage', { get() { throw new Error('kept'); } });
 }

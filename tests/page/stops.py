@@ -204,6 +204,18 @@ def unanswered_later(site: Site, browser: Browser) -> Iterator[Outcome]:
     stop()
 
 
+def set_early(site: Site, browser: Browser) -> Iterator[Outcome]:
+    """An address that was set while the page began is asked for once, though the browser tells of it too."""
+    stop = browser.put("beginWith", article())
+    with standing_in(site, lambda: MEMORY) as asked:
+        browser.open("")
+        told = browser.wait_for_text("#question-wrong", LACKING)
+        yield Outcome("an address set early: its answer", told, LACKING)
+        found = counts(asked)
+        yield Outcome(f"an address set early: asked once, {found}", max(found.values()), 1)
+    stop()
+
+
 def hurried(check: Check) -> Check:
     """A case in whose pages the time goes faster."""
 
@@ -215,4 +227,7 @@ def hurried(check: Check) -> Check:
     return outcomes
 
 
-CASES = [*map(hurried, [stopped, silent, faulty, unreached, unanswered, unanswered_later, missing_view])]
+CASES = [
+    *map(hurried, [stopped, silent, faulty, unreached, unanswered, unanswered_later, missing_view]),
+    set_early,
+]

@@ -72,10 +72,12 @@ class Archive:
     def put(self, name: str, source: Path, digest: str, answer: Path) -> str:
         """Moves a file of that name and digest there, with its answer, and gives the name that it has there: that of
         one with the same bytes, where there is one. The answer goes first: until the file is there, it is taken
-        again."""
+        again. A file has the time of its first answer, and the answer that of the last one."""
         size = source.stat().st_size
         found = self.same(name, size, digest)
         kept = found or self.new_name(name)
+        first = (self.folder / found if found else answer).stat().st_mtime_ns
+        os.utime(source, ns=(first, first))
         room = room_of(answer.stat().st_size)
         os.replace(answer, self.folder / f"{kept}{ANSWER}")
         os.replace(source, self.folder / kept)

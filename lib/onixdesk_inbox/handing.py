@@ -27,7 +27,7 @@ is_name = re.compile(r"([0-9]{10})-([0-9]{1,10})-([a-z0-9-]{1,32})\.csv").fullma
 
 class Message(NamedTuple):
     """Where a feed stands: its series, the desk's number of its first message, and the second since 1970 of the
-    desk's answer."""
+    desk's first answer."""
 
     series: str
     number: int
@@ -69,10 +69,11 @@ class Handing:
     settings: Settings
     scratch: Path
 
-    def fault_of(self, name: str, source: Path, answer: Path) -> str:
-        """Hands over the rows of a feed of that name; why it could not, or an empty text."""
+    def fault_of(self, name: str, source: Path, answer: Path, answered: Path) -> str:
+        """Hands over the rows of a feed of that name; why it could not, or an empty text. The file `answered` has the
+        time of its first answer."""
         try:
-            self.hand_over(name, source, answer)
+            self.hand_over(name, source, answer, answered)
         except Exception as error:
             # Whatever it is, the desk has the feed.
             return shown(str(error) or type(error).__name__)
@@ -80,11 +81,11 @@ class Handing:
             shutil.rmtree(self.scratch, ignore_errors=True)
         return ""
 
-    def hand_over(self, name: str, source: Path, answer: Path) -> None:
+    def hand_over(self, name: str, source: Path, answer: Path, answered: Path) -> None:
         folder = self.settings.titles
         assert folder
         place = stands(answer)
-        message = Message(place.series, place.number, int(answer.stat().st_mtime))
+        message = Message(place.series, place.number, int(answered.stat().st_mtime))
         rows = self.rows_of(name, source)
         if bytes_in(folder) + rows.stat().st_size > MOST_WAITING:
             raise Fault(f"{folder} is full of rows that wait for onixdesk-titles")

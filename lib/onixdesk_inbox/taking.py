@@ -60,7 +60,7 @@ class Taker:
             return taken
         work = self.state.work
         handing = Handing(self.converter, self.settings, work.folder / "titles")
-        return replace(taken, no_titles=handing.fault_of(copied.name, copied.source, work.answer))
+        return replace(taken, no_titles=handing.fault_of(copied.name, copied.source, work.answer, work.answer))
 
     def archive(self, copied: Copied, is_refused: bool) -> str:
         """Moves the file to those that are at their end, and gives the name that it has there."""

@@ -38,7 +38,8 @@ def faults_of(settings: Settings, state: Path, program: Path) -> list[str]:
             continue
         with tempfile.TemporaryDirectory(dir=state, prefix="titles-") as scratch:
             handing = Handing(converter, settings, Path(scratch))
-            if why := handing.fault_of(name, done.folder / name, done.folder / f"{name}{ANSWER}"):
+            feed = done.folder / name
+            if why := handing.fault_of(name, feed, done.folder / f"{name}{ANSWER}", feed):
                 faults.append(f"{state.name}: {shown(name)}: {why}")
     os.close(lock)
     return faults

@@ -5,6 +5,7 @@ import gzip
 import json
 import os
 import shutil
+import time
 from collections.abc import Iterator
 from functools import partial
 from pathlib import Path
@@ -304,6 +305,22 @@ def made_anew(room: Room) -> Iterator[Outcome]:
     yield Outcome("titles: nothing is left of it", left, [])
 
 
+def repeated(room: Room) -> Iterator[Outcome]:
+    """A repeat is no newer than what it repeats, also where all is made anew."""
+    shop = Shop(room)
+    north, south = feed(1, row(ONE, "A")), feed(1, row(ONE, "B"))
+    for name, data, series in ("a.xml", north, "north"), ("b.xml", south, "south"), ("again.xml", north, "north"):
+        # Each in a second of its own.
+        time.sleep(1 - time.time() % 1)
+        shop.feed({name: data}, series)
+    shop.take()
+    before = files_in(shop.kept)
+    yield Outcome("titles: a repeat of the newest message", shop.first(), {ONE: "B"})
+    shutil.rmtree(shop.kept / "titles")
+    came = shop.rebuild(), shop.take(), files_in(shop.kept)
+    yield Outcome("titles: a rebuild behind a repeat", came, (Ran(0), Ran(0), before))
+
+
 def bad_calls(room: Room) -> Iterator[Outcome]:
     for words in "", "keep", "take --row x":
         came = room.call([PROGRAM, *words.split()])
@@ -324,10 +341,10 @@ def turned_on(room: Room) -> Iterator[Outcome]:
     for lines in ["SENDER=06,4012345000009"], lines_of(ROOT / "examples/inbox/example.conf"):
         wanted = [*(each for each in lines if each != "TITLES="), "TITLES=/var/lib/onixdesk-title-rows"]
         room.write("north.conf", "".join(f"{each}\n" for each in lines).encode())
-        for time in "once", "again":
+        for turn in "once", "again":
             came = room.call(["sh", "-c", line.replace("/etc/onixdesk/inbox/", "")])
             found = came, lines_of(room.path("north.conf"))
-            yield Outcome(f"titles: turned on {time} in {len(lines)} lines", found, (Ran(0), wanted))
+            yield Outcome(f"titles: turned on {turn} in {len(lines)} lines", found, (Ran(0), wanted))
     package = lines_of(ROOT / "packaging/debian/onixdesk.README.Debian")
     yield Outcome("titles: turned on with the package", f"    {line}" in package, True)
 

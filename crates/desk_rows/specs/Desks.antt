@@ -11,7 +11,7 @@ use Rattle.series_rules.specs.Series.{IsNext}
 use Rattle.series_rules.specs.declared.answers.GapReport.{GapReport}
 use Rattle.series_rules.specs.declared.requests.Request.{Request}
 use Rattle.series_rules.specs.declared.requests.Standing.{Standing}
-use Rattle.desk_rows.specs.Stands.{StandsFor}
+use Rattle.desk_rows.specs.Stands.{StandsFor, StandsForIn}
 
 -- the database holds what those requests come to
 abbrev pub HoldsRequests : Database → List Request → Type 0
@@ -23,7 +23,7 @@ HoldsSecond db rows = Holds db rows ⊎ (HoldsUnindexed db rows × (version_in r
 
 -- so it may hold, in a file, what those requests come to
 abbrev pub StoresRequests : Database → List Request → Type 0
-StoresRequests db L = (rows : DeskRows) × HoldsSecond db rows × StandsFor rows L
+StoresRequests db L = (rows : DeskRows) × HoldsSecond db rows × StandsForIn 2 rows L
 
 -- the trees are those of a database that holds what those requests come to, with the index or
 -- without it

@@ -59,11 +59,12 @@ abbrev pub series_of : Option Agreement → DeskRows → Option SeriesRow
 series_of None rows = None
 series_of (Some a) rows = series_at a.name rows
 
--- the tables are what those requests come to: the agreements, and of each series what stands up to
--- its first gap applied, with texts and counts, all else held, and the catalogue of what is
--- applied. With the keys of the tables this says which rows there are, whatever their order
-pub record StandsFor (rows : DeskRows) (L : List Request) : Type 0 where
-  pub version : rows.meta ≡ record { item = codes "version"; amount = 2 } ∷ []
+-- the tables are what those requests come to, in that version: the agreements, and of each series
+-- what stands up to its first gap applied, with texts and counts, all else held, and the catalogue
+-- of what is applied. With the keys of the tables this says which rows there are, whatever their
+-- order
+pub record StandsForIn (number : ℕ) (rows : DeskRows) (L : List Request) : Type 0 where
+  pub version : rows.meta ≡ record { item = codes "version"; amount = number } ∷ []
   pub by_name : (name : List ℕ) → agreement_at name rows ≡ named (agreements_of L) name
   pub by_parties : (sender : Party) (addressee : Option Party)
       → series_between sender addressee rows ≡ series_of
@@ -71,6 +72,10 @@ pub record StandsFor (rows : DeskRows) (L : List Request) : Type 0 where
   pub series : (a : Agreement) → named (agreements_of L) a.name ≡ Some a
       → IsAppliedToGap (first_at L a.name) a rows
   pub others : (name : List ℕ) → named (agreements_of L) name ≡ None → HasNothing name rows
+
+-- so they are in the version that the desk works with
+abbrev pub StandsFor : DeskRows → List Request → Type 0
+StandsFor = StandsForIn 2
 
 -- ---- the tables between two statements
 

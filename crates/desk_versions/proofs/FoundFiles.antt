@@ -103,7 +103,7 @@ module _ (image : Image) (s0 s1 : State) (opened : HasCleanDisk s0 → Opens s0 
   found_meta clean db both meta has = meta_again db s0.now meta has (live clean) (same_trees clean db.trees both)
 
   found_either : HasCleanDisk s0 → (L : List Request) → AreFilesOfEither image L → IsOfRequests s0.now L
-  found_either clean L (inl (db, both, old)) = inl (old.0, first db s0.now old.0 old.1 (live clean) (same_trees clean db.trees both), old.2, old.3)
+  found_either clean L (inl (db, both, old)) = inl (old.0, first db s0.now old.0 old.1 (live clean) (same_trees clean db.trees both), old.2)
   found_either clean L (inr are) = inr (found_for clean L are)
 
   -- what holds of a database that is of the requests holds of the files

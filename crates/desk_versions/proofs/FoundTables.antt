@@ -8,7 +8,7 @@ use Rattle.sqlite_trees.specs.Tree.{Trees}
 use Rattle.desk_tables.proofs.MetaAlone.{first_has_meta, has_its_meta, second_has_meta, unindexed_has_meta}
 use Rattle.desk_tables.proofs.MissingIndex.{first_lacks_more, second_has_index, unindexed_lacks_index}
 use Rattle.desk_tables.specs.Meta.{HoldsMeta, version_among}
-use Rattle.desk_tables.specs.Rows.{DeskRows, Holds, HoldsFirst, HoldsUnindexed, MetaRow, first_rows, version_in}
+use Rattle.desk_tables.specs.Rows.{DeskRows, Holds, HoldsFirst, HoldsUnindexed, MetaRow, first_rows}
 use Rattle.desk_tables.specs.Schema.{is_meta, lacks_index, schema_0}
 use Rattle.desk_tables.specs.Transactions.{IsEmptied}
 use Rattle.onix_records.specs.declared.faults.StoreFault.{StoreFault}
@@ -20,11 +20,9 @@ use Rattle.desk_versions.specs.declared.opening.OpenFault.{OpenFault}
 use Rattle.desk_versions.specs.declared.opening.OpenFault.TheVariants.{Store, OtherVersion}
 use Rattle.desk_rows.proofs.ComesTo.{stored}
 use Rattle.desk_versions.proofs.EmptyFiles.{first_stand}
+use Rattle.desk_versions.proofs.SetVersions.{version_stands}
 
 -- ---- what is found
-
-pub version_of_requests : (rows : DeskRows) (L : List Request) → StandsFor rows L → version_in rows ≡ Some 2
-version_of_requests rows L stands = rw stands.version refl
 
 pub no_meta : (db : Database) → IsEmptied schema_0 db → list_any is_meta db.schema.tables ≡ false
 no_meta db emptied = rw emptied.schema_is refl
@@ -326,7 +324,7 @@ module _ (s0 s1 s2 : State) (read : IsVersionRead s0 s1 (Ok None)) where
 
   -- so the database is empty, and the list too
   emptied_here : HasCleanDisk s1 → (db : Database) → ShowsOnly db s0 → (L : List Request) → IsFoundFor db L → IsEmptied schema_0 db × (L ≡ [])
-  emptied_here clean db only L (inl held) = absurd (differ (read.present clean db only held.0.meta (any_has_meta db held.0 (inl held.1)) ∙ version_of_requests held.0 L held.2))
+  emptied_here clean db only L (inl held) = absurd (differ (read.present clean db only held.0.meta (any_has_meta db held.0 (inl held.1)) ∙ version_stands 2 held.0 L held.2))
   emptied_here clean db only L (inr none) = none
 
   first_requests : (made : Database) (L : List Request) → L ≡ [] → Holds made first_rows → HoldsRequests made L

@@ -6,3 +6,4 @@ pub mod MadeTables
 pub mod FirstForm
 pub mod FirstEntries
 pub mod NoMinimums
+pub mod SetVersions

@@ -15,7 +15,8 @@ use Rattle.desk_versions.specs.Openings.{AreTreesOf, CouldLeave, HasNoMeta, Hold
 use Rattle.desk_versions.specs.declared.migration.MigrateAnswer.TheVariants.{Migrated, AlreadyTwo}
 use Rattle.desk_versions.specs.declared.opening.OpenFault.TheVariants.{Store, OtherVersion}
 use Rattle.desk_versions.proofs.EmptyFiles.{first_stand}
-use Rattle.desk_versions.proofs.FoundTables.{IsSettled, any_has_meta, alone_here, no_meta, no_rows_here, spares_created, spares_read, tells_other, tells_store, version_of_requests}
+use Rattle.desk_versions.proofs.FoundTables.{IsSettled, any_has_meta, alone_here, no_meta, no_rows_here, spares_created, spares_read, tells_other, tells_store}
+use Rattle.desk_versions.proofs.SetVersions.{stands_set, version_stands}
 
 some_is : (m n : ℕ) → ◌≡◌ {A = Option ℕ} (Some m) (Some n) → m ≡ n
 some_is m n e = cc
@@ -33,10 +34,10 @@ two_answers is = absurd cc
 
 module _ (s0 s1 : State) (version : Option ℕ) (read : IsVersionRead s0 s1 (Ok version)) (clean : HasCleanDisk s1) (db : Database) (only : ShowsOnly db s0) where
   second_says : (L : List Request) → StoresRequests db L → version ≡ Some 2
-  second_says L held = read.present clean db only held.0.meta (any_has_meta db held.0 (inl held.1)) ∙ version_of_requests held.0 L held.2
+  second_says L held = read.present clean db only held.0.meta (any_has_meta db held.0 (inl held.1)) ∙ version_stands 2 held.0 L held.2
 
   first_says : (L : List Request) → HoldsFirstRequests db L → version ≡ Some 1
-  first_says L first = read.present clean db only first.0.meta (any_has_meta db first.0 (inr first.1)) ∙ first.2
+  first_says L first = read.present clean db only first.0.meta (any_has_meta db first.0 (inr first.1)) ∙ version_stands 1 first.0 L first.2
 
   none_says : IsEmptied schema_0 db → version ≡ None
   none_says emptied = read.absent clean db only (no_meta db emptied)
@@ -104,7 +105,7 @@ module _ (s0 s1 s2 : State) (read : IsVersionRead s0 s1 (Ok (Some 1))) where
   first_here clean db only L (inr (inr none)) = absurd (none_is 1 (sym (none_says s0 s1 (Some 1) read clean db only none.0)))
 
   held_then : (db made : Database) (L : List Request) (first : HoldsFirstRequests db L) → Holds made (with_version 2 first.0) → StoresRequests made L
-  held_then db made L first held = (with_version 2 first.0, inl held, first.3)
+  held_then db made L first held = (with_version 2 first.0, inl held, stands_set 2 first.0 1 L first.2)
 
   abbrev Makes : Result ⊤ StoreFault → Type 0
   Makes result = (rows : DeskRows) → MakesAll (λ db. HoldsFirst db rows) (λ db. Holds db (with_version 2 rows)) s1 s2 result

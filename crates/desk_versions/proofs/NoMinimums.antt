@@ -1,23 +1,18 @@
 -- The tables of requests whose messages are of form 1 have no minimums.
-use Rattle.std.proofs.Common.{◌≡◌, ◌+◌, ◌∷◌, ◌∙◌, [], ℕ, suc, Bool, List, true, false, cond, filter, inl, inr, ◌&&◌, Option, Some, None, IfSome, refl, ap, subst, map, nat_eq, arith}
+use Rattle.std.proofs.Common.{◌≡◌, ◌+◌, ◌∷◌, ◌∙◌, [], ℕ, suc, List, true, false, cond, ◌&&◌, Option, Some, None, IfSome, refl, ap, subst, map, nat_eq, arith}
 use Rattle.std.specs.Prelude.{bytes_eq, codes, nat_lt}
 use Rattle.std.specs.FinMap as fin
 use Rattle.std.specs.List.{AllByRecursion, list_any}
 use Rattle.std.specs.Option.{option_or}
-use Rattle.std.proofs.lemmas.Bool.{cases_Bool}
-use Rattle.std.proofs.lemmas.List.Sorted.{IsPermutation-refl}
 use Rattle.onix_records.proofs.RowParts.{message-meant}
 use Rattle.onix_records.specs.Message.{message_of}
 use Rattle.onix_records.specs.PartRows.{content_rows}
 use Rattle.onix_records.specs.declared.agreements.Agreement.{Agreement}
 use Rattle.onix_records.specs.declared.parts.Header.{Header}
 use Rattle.onix_records.specs.declared.parts.Product.{Product}
-use Rattle.catalogue_rules.specs.Records.{ByReference, EachHas}
-use Rattle.catalogue_rules.specs.declared.entry.Entry.{Entry}
-use Rattle.catalogue_store.specs.EntryRows.{has_minimum, price_rows_of, supplies_of}
-use Rattle.catalogue_store.specs.Holding.{HoldsCatalogue, HoldsEntry}
-use Rattle.catalogue_store.proofs.MinimumLemmas.{any_minimum, none_at_start, records_without_minimums}
-use Rattle.catalogue_store.specs.Minimums.{HasNoMinimums, supplies_have_minimums}
+use Rattle.catalogue_rules.specs.Records.{EachHas}
+use Rattle.catalogue_store.proofs.MinimumLemmas.{none_at_start, records_without_minimums}
+use Rattle.catalogue_store.specs.Minimums.{HasNoMinimums}
 use Rattle.desk_tables.specs.RecordChanges.{has_minimums_of, is_minimum_of}
 use Rattle.desk_tables.specs.declared.prices.MinimumRow.{MinimumRow}
 use Rattle.desk_tables.specs.Rows.{DeskRows, version_set, with_version}
@@ -29,10 +24,11 @@ use Rattle.series_rules.specs.declared.requests.Request.{Request}
 use Rattle.series_rules.specs.declared.requests.Request.TheVariants.{Deliver, Waive}
 use Rattle.series_rules.specs.declared.requests.Standing.{Standing}
 use Rattle.series_rules.specs.declared.requests.Standing.TheVariants.{Message, Waived}
-use Rattle.desk_versions.specs.FirstForm.{AreOfFormOne, ComeFromFirst, FirstCatalogue, FirstEntry, FirstSeries, IsOfFormOne, VersionsAgree}
-use Rattle.desk_rows.specs.Stands.{IsAppliedToGap, SeriesStands, StandsFor, series_of}
+use Rattle.desk_versions.specs.FirstForm.{AreOfFormOne, IsOfFormOne, VersionsAgree}
+use Rattle.desk_rows.specs.Stands.{IsAppliedToGap, StandsFor}
 use Rattle.desk_versions.proofs.FirstForm.{HasNoMinimum, contents_are}
 use Rattle.desk_versions.proofs.FirstEntries.{StandingHasNone, none_after_all, of_products}
+use Rattle.desk_versions.proofs.SetVersions.{stands_set}
 
 -- ---- what stands
 
@@ -81,6 +77,9 @@ begun_have_none f each from (h ∷ hs) begins = (
   begun_have_none f each (from + 1) hs (λ k lt. let next : from + 1 + k ≡ from + suc k = omega arith in ap f next ∙ begins (suc k) (omega arith)),
 )
 
+catalogue_has_none : (L : List Request) → AreOfFormOne L → (a : Agreement) (hs : List Standing) → BeginsWith (first_at L a.name) a.first hs → EachHas HasNoMinimums (after_all fin.empty hs)
+catalogue_has_none L one a hs begins = none_after_all fin.empty hs (begun_have_none (first_at L a.name) (firsts_have_none L one a.name) a.first hs begins) none_at_start
+
 -- ---- the tables
 
 -- where no record has a row of minimums, there is none
@@ -98,7 +97,7 @@ module _ (rows : DeskRows) (L : List Request) (stands : StandsFor rows L) (one :
   none_of_series : (a : Agreement) → IsAppliedToGap (first_at L a.name) a rows → (reference : List ℕ) → has_minimums_of a.name reference rows ≡ false
   none_of_series a whole =
       λ reference. records_without_minimums a.name reference (after_all fin.empty whole.0) rows whole.2.catalogue
-      (none_after_all fin.empty whole.0 (begun_have_none (first_at L a.name) (firsts_have_none L one a.name) a.first whole.0 whole.2.begins) none_at_start)
+      (catalogue_has_none L one a whole.0 whole.2.begins)
 
   none_of_name : (name : List ℕ) (o : Option Agreement) → named (agreements_of L) name ≡ o → (reference : List ℕ) → has_minimums_of name reference rows ≡ false
   none_of_name name None found reference = records_without_minimums name reference fin.empty rows (stands.others name found).catalogue none_at_start
@@ -109,86 +108,9 @@ module _ (rows : DeskRows) (L : List Request) (stands : StandsFor rows L) (one :
   no_minimums : rows.minimums ≡ []
   no_minimums = none_at_all rows.minimums (λ series reference. none_of_name series (named (agreements_of L) series) refl reference)
 
-  -- but for the version they are rows of version 1
-  pub come_from_first : ComeFromFirst rows
-  come_from_first = record {
-    first = with_version 1 rows;
-    version = rw stands.version refl;
-    minimums = no_minimums;
-    second = version_back rows stands.version;
-  }
-
--- ---- version 1
-
-none_filtered : {A : Type 0} (p : A → Bool) (xs : List A) → list_any p xs ≡ false → filter p xs ≡ []
-none_filtered p [] none = refl
-none_filtered p (x ∷ xs) none = elim (cases_Bool (p x)) [
-  | inl here ↦ absurd (let found : true ≡ false = rw here at none in cc)
-  | inr misses ↦ let rest : list_any p xs ≡ false = rw misses at none in rw misses (none_filtered p xs rest)
-]
-
-supplies_lack : (o : Option Entry) → IfSome o HasNoMinimums → supplies_have_minimums (supplies_of o) ≡ false
-supplies_lack None none = refl
-supplies_lack (Some e) none = none
-
--- the rows of an entry without minimums, in version 2
-entry_up : (series reference : List ℕ) (o : Option Entry) (rows : DeskRows) → rows.minimums ≡ [] → IfSome o HasNoMinimums → FirstEntry series reference o rows → HoldsEntry series reference o (with_version 2 rows)
-entry_up series reference o rows none lacks e =
-    let bare : filter has_minimum (price_rows_of series reference (supplies_of o)) ≡ [] = none_filtered has_minimum (price_rows_of series reference (supplies_of o)) (any_minimum series reference (supplies_of o) ∙ supplies_lack o lacks) in
-    record { storable = e.storable; records = e.records; articles = e.articles; offers = e.offers; prices = e.prices; minimums = rw (none, bare) (IsPermutation-refl []) }
-
-catalogue_up : (series : List ℕ) (m : ByReference) (rows : DeskRows) → rows.minimums ≡ [] → EachHas HasNoMinimums m → FirstCatalogue series m rows → HoldsCatalogue series m (with_version 2 rows)
-catalogue_up series m rows none lack first = λ reference. entry_up series reference (fin.get m reference) rows none (lack reference) (first reference)
-
-catalogue_down : (series : List ℕ) (m : ByReference) (rows : DeskRows) → HoldsCatalogue series m rows → FirstCatalogue series m (with_version 1 rows)
-catalogue_down series m rows held = λ reference. let e = held reference in record { storable = e.storable; records = e.records; articles = e.articles; offers = e.offers; prices = e.prices }
-
-series_up : (L : List Request) → AreOfFormOne L → (a : Agreement) (hs : List Standing) (rows : DeskRows) → rows.minimums ≡ [] → FirstSeries (first_at L a.name) a hs rows → SeriesStands (first_at L a.name) a hs (with_version 2 rows)
-series_up L one a hs rows none s = record {
-  can_be_kept = s.can_be_kept;
-  begins = s.begins;
-  row = s.row;
-  applied = s.applied;
-  none_applied = s.none_applied;
-  held = s.held;
-  none_held = s.none_held;
-  catalogue = catalogue_up a.name (after_all fin.empty hs) rows none (none_after_all fin.empty hs (begun_have_none (first_at L a.name) (firsts_have_none L one a.name) a.first hs s.begins) none_at_start) s.catalogue;
-}
-
-series_down : (f : ℕ → Option Standing) (a : Agreement) (hs : List Standing) (rows : DeskRows) → SeriesStands f a hs rows → FirstSeries f a hs (with_version 1 rows)
-series_down f a hs rows s = record {
-  can_be_kept = s.can_be_kept;
-  begins = s.begins;
-  row = s.row;
-  applied = s.applied;
-  none_applied = s.none_applied;
-  held = s.held;
-  none_held = s.none_held;
-  catalogue = catalogue_down a.name (after_all fin.empty hs) rows s.catalogue;
-}
-
-series_of_set : (o : Option Agreement) (version : ℕ) (rows : DeskRows) → series_of o rows ≡ series_of o (with_version version rows)
-series_of_set None version rows = refl
-series_of_set (Some a) version rows = refl
-
 pub versions_agree : VersionsAgree
 versions_agree = record {
-  up = λ rows L one first. record {
-    version = rw first.version refl;
-    by_name = first.by_name;
-    by_parties = λ sender addressee. first.by_parties sender addressee ∙ series_of_set (between (agreements_of L) sender addressee) 2 rows;
-    series = λ a found. let it = first.series a found in (it.0, it.1, series_up L one a it.0 rows first.minimums it.2);
-    others = λ name none. let it = first.others name none in record { held = it.held; applied = it.applied; catalogue = catalogue_up name fin.empty rows first.minimums none_at_start it.catalogue };
-  };
-  down = λ rows L one stands. (
-    record {
-      version = rw stands.version refl;
-      minimums = no_minimums rows L stands one;
-      by_name = stands.by_name;
-      by_parties = λ sender addressee. stands.by_parties sender addressee ∙ series_of_set (between (agreements_of L) sender addressee) 1 rows;
-      series = λ a found. let it = stands.series a found in (it.0, it.1, series_down (first_at L a.name) a it.0 rows it.2);
-      others = λ name none. let it = stands.others name none in record { held = it.held; applied = it.applied; catalogue = catalogue_down name fin.empty rows it.catalogue };
-    },
-    version_back rows stands.version,
-  );
+  up = λ rows L first. stands_set 2 rows 1 L first.0;
+  down = λ rows L one stands. ((stands_set 1 rows 2 L stands, no_minimums rows L stands one), version_back rows stands.version);
+  whole = catalogue_has_none;
 }

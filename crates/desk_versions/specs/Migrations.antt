@@ -12,18 +12,15 @@ use Rattle.desk_tables.specs.Transactions.{IsEmptied}
 use Rattle.series_rules.specs.declared.requests.Request.{Request}
 use Rattle.desk_rows.specs.Desks.{AreRowsOf, StoresRequests}
 use Rattle.desk_versions.specs.Openings.{AreFilesOf, AreFoundAs, CouldLeave, HasNoMeta, HoldsAny, IsFoundFor, ShowsOnly, Spares, StaysShown, TellsFound}
-use Rattle.desk_rows.specs.Stands.{StandsFor}
+use Rattle.desk_rows.specs.Stands.{StandsForIn}
 use Rattle.desk_versions.specs.declared.migration.MigrateAnswer.{MigrateAnswer}
 use Rattle.desk_versions.specs.declared.migration.MigrateAnswer.TheVariants.{Migrated, AlreadyTwo}
 use Rattle.desk_versions.specs.declared.opening.OpenFault.{OpenFault}
 use Rattle.desk_versions.specs.declared.opening.OpenFault.TheVariants.{Store, OtherVersion}
 
--- the database is one of version 1, and but for the version its rows are what those requests come
--- to
+-- the database is one of version 1, with the rows of what those requests come to
 abbrev pub HoldsFirstRequests : Database → List Request → Type 0
-HoldsFirstRequests db L =
-    (rows : DeskRows) × HoldsFirst db rows × (version_in rows ≡ Some 1)
-    × StandsFor (with_version 2 rows) L
+HoldsFirstRequests db L = (rows : DeskRows) × HoldsFirst db rows × StandsForIn 1 rows L
 
 -- the database is of those requests, in version 1 or in version 2, or it has no table and they are
 -- none

@@ -1,24 +1,14 @@
 //! What files without a desk hold, and what version 1 kept, as laws without code.
 
-ghost use Rattle.std.specs.Prelude.{◌≡◌, [], false, List};
+ghost use Rattle.std.specs.Prelude.{◌≡◌, [], false};
 ghost use Rattle.std.specs.List.{list_any};
 ghost use Rattle.sqlite.specs.Effect.{Database, IsDatabase};
 ghost use Rattle.sqlite.specs.Files.{AreFoundIn, HoldsDatabase, IsEmpty, IsNothing};
 ghost use Rattle.sqlite_trees.specs.Tree.{Trees};
 ghost use Rattle.sqlite_wal.specs.Recovery.{Image};
-ghost use Rattle.desk_tables.specs.Rows.{DeskRows};
 ghost use Rattle.desk_tables.specs.Schema.{is_desk_table};
-ghost use Rattle.series_rules.specs.declared.requests.Request.{Request};
-ghost use Rattle.desk_versions.specs.FirstForm.{AreOfFormOne, ComeFromFirst, VersionsAgree};
+ghost use Rattle.desk_versions.specs.FirstForm.{VersionsAgree};
 ghost use Rattle.desk_versions.specs.Openings.{AreEmptyFiles, TellNoVersion};
-ghost use Rattle.desk_rows.specs.Stands.{StandsFor};
-
-/// Where each message is of form 1, the tables have no minimums: but for the version they are
-/// tables of version 1.
-pub fn form_one_has_no_minimums()
-    ensures { (rows : DeskRows) (L : List Request) → StandsFor rows L → AreOfFormOne L
-        → ComeFromFirst rows }
-{}
 
 /// Files of which the database has no byte, as at the first run of every shop, hold an empty
 /// database, whatever their log holds.
@@ -40,7 +30,7 @@ pub fn tables_of_strangers_tell_no_version()
 {}
 
 /// Tables of version 1 and of version 2 are of the same requests, where each message is of form 1:
-/// `FirstStandsFor` says what version 1 kept, in words of its own.
+/// their rows are the same but for the version, and have no minimums.
 pub fn versions_agree()
     ensures { VersionsAgree }
 {}

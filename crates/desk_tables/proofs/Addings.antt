@@ -49,17 +49,6 @@ adding_stopped e first = record {
   survives = first.survives;
 }
 
--- with another answer
-pub adding_as : {A B : Type 0} {f g : DeskRows → DeskRows} {old new : State} {a : A} (b : B) → Adding f g old new (Ok a) → Adding f g old new (Ok b)
-adding_as b adds = record {
-  gives = adds.gives;
-  goes_on = adds.goes_on;
-  keeps_schema = adds.keeps_schema;
-  stays_open = adds.stays_open;
-  kept = adds.kept;
-  survives = adds.survives;
-}
-
 -- further statements
 pub adding_then : {A B : Type 0} {f g h : DeskRows → DeskRows} {old mid new : State} {a : A} {r : Result B StoreFault} → Adding f g old mid (Ok a) → Adding g h mid new r → Adding f h old new r
 adding_then {A} {B} {f} {g} {h} {old} {mid} {new} {a} {r} first second = record {
@@ -149,9 +138,9 @@ adds_done a same unspent still adds = record {
 }
 
 -- a statement behind those had a fault
-pub adds_failed : {S A B : Type 0} {store : Ghosts S} {f g h k : DeskRows → DeskRows} {old mid new : Work S} {sql : List ℕ} {params : Row} {a : A} {e : StoreFault} {r : Result B StoreFault} → r ≡ Err e → mid.tables.ghost_name ≡ old.tables.ghost_name → old.spent ≡ false
-    → Adding f g (seen store old) (seen store mid) (Ok a) → Runs store sql params mid new (Err e) → Adding {A = ℕ} g k (seen store mid) (seen store new) (Err e) → AddsBetween store f h old new r
-adds_failed {S} {A} {B} {store} {f} {g} {h} {k} {old} {mid} {new} {sql} {params} {a} {e} is same unspent first ran second =
+pub adds_failed : {S A B C : Type 0} {store : Ghosts S} {f g h k : DeskRows → DeskRows} {old mid new : Work S} {sql : List ℕ} {params : Row} {a : A} {e : StoreFault} {r : Result B StoreFault} → r ≡ Err e → mid.tables.ghost_name ≡ old.tables.ghost_name → old.spent ≡ false
+    → Adding f g (seen store old) (seen store mid) (Ok a) → Runs {A = C} store sql params mid new (Err e) → Adding {A = C} g k (seen store mid) (seen store new) (Err e) → AddsBetween store f h old new r
+adds_failed {S} {A} {B} {C} {store} {f} {g} {h} {k} {old} {mid} {new} {sql} {params} {a} {e} is same unspent first ran second =
     subst (λ (q : Result B StoreFault). AddsBetween store f h old new q) (sym is)
     (record {
       same_reference = ran.same_reference ∙ same;

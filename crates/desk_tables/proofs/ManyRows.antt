@@ -178,15 +178,15 @@ module _ (t : CatalogueTable) (eight : Bool) (xs : List (RowOf t)) (place : ℕ)
       subst (Holds new.now) behind (puts_text t eight ys long old new count (with_rows t (take from xs) rows) h (subst (λ (p : Row). Executes (text_of t eight) p old new (Ok count)) mine ran))
 
   -- which adds them
-  adds_next : (params values : Row) → values ≡ flat_map (columns_of t) xs → params ≡ take (many_of eight * width_of t) (drop (place * (many_of eight * width_of t)) values) → many_of eight * (place + 1) ≤ length xs
-      → (sql : List ℕ) → sql ≡ text_of t eight → (old new : State) (r : Result ℕ StoreFault) → RunsIn sql params old new r → Adding (with_rows t (take (many_of eight * place) xs)) (with_rows t (take (many_of eight * (place + 1)) xs)) old new r
+  adds_next : {A : Type 0} (params values : Row) → values ≡ flat_map (columns_of t) xs → params ≡ take (many_of eight * width_of t) (drop (place * (many_of eight * width_of t)) values) → many_of eight * (place + 1) ≤ length xs
+      → (sql : List ℕ) → sql ≡ text_of t eight → (old new : State) (r : Result A StoreFault) → RunsIn sql params old new r → Adding (with_rows t (take (many_of eight * place) xs)) (with_rows t (take (many_of eight * (place + 1)) xs)) old new r
   adds_next params values are is within sql text old new r ran =
       let insert = inserts_text t eight in
       adding_ran (text_of t eight) _ insert.command insert.plain refl params old new r (subst (λ (s : List ℕ). RunsIn s params old new r) text ran) (λ count rows h x. puts_next params values are is within old new count rows h x)
 
   -- the same of the part of the values that it is given
-  pub adds_part : (values : List ValueRef) (many width to : ℕ) → many ≡ many_of eight → width ≡ width_of t → bound values ≡ flat_map (columns_of t) xs → place < to → many_of eight * to ≤ length xs
-      → (sql : List ℕ) → sql ≡ text_of t eight → (old new : State) (r : Result ℕ StoreFault) → RunsIn sql (bound (slice_range values (place * (many * width)) (place * (many * width) + many * width))) old new r
+  pub adds_part : {A : Type 0} (values : List ValueRef) (many width to : ℕ) → many ≡ many_of eight → width ≡ width_of t → bound values ≡ flat_map (columns_of t) xs → place < to → many_of eight * to ≤ length xs
+      → (sql : List ℕ) → sql ≡ text_of t eight → (old new : State) (r : Result A StoreFault) → RunsIn sql (bound (slice_range values (place * (many * width)) (place * (many * width) + many * width))) old new r
       → Adding (with_rows t (take (many_of eight * place) xs)) (with_rows t (take (many_of eight * (place + 1)) xs)) old new r
   adds_part values many width to many_is width_is are low within sql text old new r ran =
       let n = many * width in

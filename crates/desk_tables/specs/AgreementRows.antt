@@ -1,6 +1,6 @@
 -- The rows of the tables of the version, of agreements, and of held and applied messages, as plain
 -- values, and those tables as lists of columns.
-use Rattle.std.specs.Prelude.{ℕ, List, [], ◌∷◌, codes}
+use Rattle.std.specs.Prelude.{ℕ, List, [], ◌∷◌}
 use Rattle.sqlite_schema.specs.declared.schema.Action.TheVariants.{NoAction}
 use Rattle.sqlite_value.specs.Order.{Row}
 use Rattle.onix_records.specs.declared.effects.Effect.{Effect}
@@ -18,33 +18,29 @@ pub record MetaRow : Type 0 where
 -- an item stands once
 abbrev pub meta_definition : TableDefinition MetaRow
 meta_definition = record {
-  name = codes "meta";
+  name = "meta";
   columns =
-      text_column (codes "item") (λ r. r.item) ∷ number_column (codes "amount") (λ r. r.amount)
+      text_column "item" (λ r. r.item) ∷ number_column "amount" (λ r. r.amount)
       ∷ [];
   key = 1;
   uniques = [];
   foreign = [];
 }
 
--- a row of `meta` as the values of its columns
-abbrev pub meta_columns : MetaRow → Row
-meta_columns = values_of meta_definition
-
 -- ---- series
 
 -- an agreement, with the number that is applied next: its name stands once, and so do its parties
 abbrev pub series_definition : TableDefinition SeriesRow
 series_definition = record {
-  name = codes "series";
+  name = "series";
   columns =
-      text_column (codes "name") (λ r. r.agreement.name)
-      ∷ text_column (codes "sender_type") (λ r. r.agreement.sender.id_type)
-      ∷ text_column (codes "sender_value") (λ r. r.agreement.sender.id_value)
-      ∷ text_column (codes "addressee_type") (λ r. party_type r.agreement.addressee)
-      ∷ text_column (codes "addressee_value") (λ r. party_value r.agreement.addressee)
-      ∷ number_column (codes "first_number") (λ r. r.agreement.first)
-      ∷ number_column (codes "next_number") (λ r. r.next)
+      text_column "name" (λ r. r.agreement.name)
+      ∷ text_column "sender_type" (λ r. r.agreement.sender.id_type)
+      ∷ text_column "sender_value" (λ r. r.agreement.sender.id_value)
+      ∷ text_column "addressee_type" (λ r. party_type r.agreement.addressee)
+      ∷ text_column "addressee_value" (λ r. party_value r.agreement.addressee)
+      ∷ number_column "first_number" (λ r. r.agreement.first)
+      ∷ number_column "next_number" (λ r. r.next)
       ∷ [];
   key = 1;
   uniques = (2 ∷ 3 ∷ 4 ∷ 5 ∷ []) ∷ [];
@@ -57,7 +53,7 @@ series_columns = values_of series_definition
 
 -- the rows of other tables that are of a series
 abbrev pub to_series : ForeignKey
-to_series = record { parent = codes "series"; columns = codes "name" ∷ []; on_delete = NoAction }
+to_series = record { parent = "series"; columns = "name" ∷ []; on_delete = NoAction }
 
 -- ---- held
 
@@ -70,18 +66,14 @@ pub record HeldRow : Type 0 where
 -- a number of a series stands once
 abbrev pub held_definition : TableDefinition HeldRow
 held_definition = record {
-  name = codes "held";
+  name = "held";
   columns =
-      text_column (codes "series") (λ r. r.series) ∷ number_column (codes "number") (λ r. r.number)
-      ∷ text_column (codes "contents") (λ r. r.contents) ∷ [];
+      text_column "series" (λ r. r.series) ∷ number_column "number" (λ r. r.number)
+      ∷ text_column "contents" (λ r. r.contents) ∷ [];
   key = 2;
   uniques = [];
   foreign = to_series ∷ [];
 }
-
--- a row of `held` as the values of its columns
-abbrev pub held_columns : HeldRow → Row
-held_columns = values_of held_definition
 
 -- the row of a message that is held
 abbrev pub held_row : List ℕ → ℕ → List ℕ → HeldRow
@@ -99,25 +91,21 @@ pub record AppliedRow : Type 0 where
 -- a number of a series stands once
 abbrev pub applied_definition : TableDefinition AppliedRow
 applied_definition = record {
-  name = codes "applied";
+  name = "applied";
   columns =
-      text_column (codes "series") (λ r. r.series)
-      ∷ number_column (codes "number") (λ r. r.number)
-      ∷ text_column (codes "contents") (λ r. r.contents)
-      ∷ number_column (codes "replaced") (λ r. r.effect.replaced)
-      ∷ number_column (codes "updated") (λ r. r.effect.updated)
-      ∷ number_column (codes "deleted") (λ r. r.effect.deleted)
-      ∷ number_column (codes "unknown") (λ r. r.effect.unknown)
-      ∷ number_column (codes "ignored") (λ r. r.effect.ignored)
+      text_column "series" (λ r. r.series)
+      ∷ number_column "number" (λ r. r.number)
+      ∷ text_column "contents" (λ r. r.contents)
+      ∷ number_column "replaced" (λ r. r.effect.replaced)
+      ∷ number_column "updated" (λ r. r.effect.updated)
+      ∷ number_column "deleted" (λ r. r.effect.deleted)
+      ∷ number_column "unknown" (λ r. r.effect.unknown)
+      ∷ number_column "ignored" (λ r. r.effect.ignored)
       ∷ [];
   key = 2;
   uniques = [];
   foreign = to_series ∷ [];
 }
-
--- a row of `applied` as the values of its columns
-abbrev pub applied_columns : AppliedRow → Row
-applied_columns = values_of applied_definition
 
 -- the row of a message that is applied
 abbrev pub applied_row : List ℕ → ℕ → List ℕ → Effect → AppliedRow

@@ -25,8 +25,8 @@ on_delete_text _ = []
 
 abbrev pub references_text : ForeignKey → List ℕ
 references_text k =
-    codes " REFERENCES " ++ k.parent ++ codes " " ++ in_brackets (listed k.columns)
-    ++ on_delete_text k.on_delete
+    codes " REFERENCES " ++ codes k.parent ++ codes " "
+    ++ in_brackets (listed (map codes k.columns)) ++ on_delete_text k.on_delete
 
 -- the name and the type of a column
 abbrev pub column_text : {A : Type 0} → Column A → List ℕ
@@ -70,7 +70,7 @@ unique_text names places =
 -- the text that makes the table
 abbrev pub create_text : {A : Type 0} → TableDefinition A → List ℕ
 create_text d =
-    codes "CREATE TABLE " ++ d.name ++ codes " "
+    codes "CREATE TABLE " ++ codes d.name ++ codes " "
     ++ in_brackets (listed (column_texts d.key d.foreign d.columns
     ++ map (unique_text (names_of d)) d.uniques ++ primary_texts d.key (names_of d)
     ++ foreign_texts d.foreign (names_of d))) ++ codes " STRICT"
@@ -94,7 +94,7 @@ repeated (suc n) text = text ∷ repeated n text
 -- the text of an INSERT up to its values
 abbrev pub into_text : {A : Type 0} → TableDefinition A → List ℕ
 into_text d =
-    codes "INSERT INTO " ++ d.name ++ codes " " ++ in_brackets (listed (names_of d))
+    codes "INSERT INTO " ++ codes d.name ++ codes " " ++ in_brackets (listed (names_of d))
     ++ codes " VALUES "
 
 -- the text that puts a row
@@ -128,11 +128,12 @@ order_text (name ∷ more) = codes " ORDER BY " ++ listed (name ∷ more)
 abbrev pub select_text : {A : Type 0} → TableDefinition A → List (List ℕ) → List (List ℕ)
     → List (List ℕ) → List ℕ
 select_text d shown by order =
-    codes "SELECT " ++ listed shown ++ codes " FROM " ++ d.name ++ where_text by ++ order_text order
+    codes "SELECT " ++ listed shown ++ codes " FROM " ++ codes d.name ++ where_text by
+    ++ order_text order
 
 -- the text that removes the rows whose columns `by` are the parameters
 abbrev pub delete_text : {A : Type 0} → TableDefinition A → List (List ℕ) → List ℕ
-delete_text d by = codes "DELETE FROM " ++ d.name ++ where_text by
+delete_text d by = codes "DELETE FROM " ++ codes d.name ++ where_text by
 
 -- the names of the columns of the primary key
 abbrev pub key_of : {A : Type 0} → TableDefinition A → List (List ℕ)

@@ -1,6 +1,7 @@
 -- A table as a list of columns, and what follows of it: its rows as values, and the table that its
 -- text means.
-use Rattle.std.specs.Prelude.{ℕ, ℤ, pos, zero, suc, ◌+◌, Bool, true, false, List, [], ◌∷◌, length, map, Option, None, if◌then◌else◌}
+use Prim.Native.String.{String}
+use Rattle.std.specs.Prelude.{ℕ, ℤ, pos, zero, suc, ◌+◌, Bool, true, false, List, [], ◌∷◌, codes, length, map, Option, None, if◌then◌else◌}
 use Rattle.sqlite_value.specs.declared.value.Value.{Value}
 use Rattle.sqlite_value.specs.declared.value.Value.TheVariants.{Int, Null, Text}
 use Rattle.sqlite_value.specs.declared.keys.Collation.TheVariants.{Binary}
@@ -17,21 +18,21 @@ use Rattle.sqlite.specs.Values.{or_null}
 -- a column by its name, and what a row has in it: a text, a whole number, true or false, or a day
 -- that may be none
 pub data Column (A : Type 0) : Type 0 where
-  text_column : List ℕ → (A → List ℕ) → Column A
-  number_column : List ℕ → (A → ℕ) → Column A
-  flag_column : List ℕ → (A → Bool) → Column A
-  day_column : List ℕ → (A → Option ℤ) → Column A
+  text_column : String → (A → List ℕ) → Column A
+  number_column : String → (A → ℕ) → Column A
+  flag_column : String → (A → Bool) → Column A
+  day_column : String → (A → Option ℤ) → Column A
 
 -- the first columns refer to these columns of another table
 pub record ForeignKey : Type 0 where
-  pub parent : List ℕ
-  pub columns : List (List ℕ)
+  pub parent : String
+  pub columns : List String
   pub on_delete : Action
 
 -- a table: its name, its columns in their order, how many of the first are its primary key, the
 -- places of those that are a further key, counted from 1, and the tables that it refers to
 pub record TableDefinition (A : Type 0) : Type 0 where
-  pub name : List ℕ
+  pub name : String
   pub columns : List (Column A)
   pub key : ℕ
   pub uniques : List (List ℕ)
@@ -58,10 +59,10 @@ values_of d r = map (value_in r) d.columns
 
 -- the name of a column
 abbrev pub name_of : {A : Type 0} → Column A → List ℕ
-name_of (text_column name of) = name
-name_of (number_column name of) = name
-name_of (flag_column name of) = name
-name_of (day_column name of) = name
+name_of (text_column name of) = codes name
+name_of (number_column name of) = codes name
+name_of (flag_column name of) = codes name
+name_of (day_column name of) = codes name
 
 -- the names of the columns in their order
 abbrev pub names_of : {A : Type 0} → TableDefinition A → List (List ℕ)
@@ -95,8 +96,8 @@ places_from first (suc n) = first ∷ places_from (first + 1) n
 abbrev pub reference_of : ForeignKey → Reference
 reference_of k = record {
   columns = places_from 1 (length k.columns);
-  parent = k.parent;
-  parent_columns = k.columns;
+  parent = codes k.parent;
+  parent_columns = map codes k.columns;
   on_delete = k.on_delete;
   on_update = NoAction;
   is_deferred = false;
@@ -122,5 +123,5 @@ strict_table name tree columns uniques primary references = record {
 -- the table, with its rows in that tree
 abbrev pub table_of : {A : Type 0} → TableDefinition A → ℕ → Table
 table_of d tree =
-    strict_table d.name tree (map schema_column d.columns) (places_from 1 d.key ∷ d.uniques)
+    strict_table (codes d.name) tree (map schema_column d.columns) (places_from 1 d.key ∷ d.uniques)
     (places_from 1 d.key) (map reference_of d.foreign)

@@ -4,22 +4,19 @@
 ghost use Rattle.std.specs.Prelude.{◌≡◌, Err};
 ghost use Rattle.desk_tables.specs.Calls.{Adds, AddsMade, Asks, Changes};
 ghost use Rattle.desk_tables.specs.RecordAnswers.{AreArticlesInOrder, AreMinimums, AreOffersInOrder, ArePricesInOrder, ArePricesWith, AreRising};
-ghost use Rattle.desk_tables.specs.RecordChanges.{has_record, with_article, with_minimum, with_offer, with_price, with_price_and_minimum, with_record, without_articles};
+ghost use Rattle.desk_tables.specs.RecordChanges.{has_record, with_article, with_minimum, with_new_record, with_offer, with_price, with_price_and_minimum, with_record, without_articles};
 ghost use Rattle.desk_tables.specs.RecordRows.{minimum_row, offer_row, price_row};
 ghost use Rattle.desk_tables.specs.Rows.{AreSeriesInOrder};
 
-use crate::articles::{
-    ARTICLE_ROWS, ArticleRow, DELETE_ARTICLES, PUT_ARTICLE, all_articles, article_row_values,
-};
-use crate::offers::{OFFER_ROWS, OfferRow, PUT_OFFER, all_offers, offer_row_values};
+use crate::articles::{ARTICLE_ROWS, ArticleRow, DELETE_ARTICLES, PUT_ARTICLE, article_row_values};
+use crate::offers::{OFFER_ROWS, OfferRow, PUT_OFFER, offer_row_values};
 use crate::prices::{
-    MINIMUM_ROWS, MinimumRow, PRICE_ROWS, PUT_MINIMUM, PUT_PRICE, PriceRow, all_minimums,
-    all_prices, minimum_row_values, price_row_values,
+    MINIMUM_ROWS, MinimumRow, PRICE_ROWS, PUT_MINIMUM, PUT_PRICE, PriceRow, all_prices,
+    minimum_row_values, price_row_values,
 };
-use crate::records::{HAS_RECORD, PUT_RECORD_IF_NEW};
-use crate::rows::columns::has_row;
+use crate::records::{HAS_RECORD, PUT_RECORD, PUT_RECORD_IF_NEW};
 use crate::rows::written::territory_texts;
-use crate::series::{SERIES_ROWS, SeriesRow, all_series};
+use crate::series::{SERIES_ROWS, SeriesRow};
 use crate::work::Work;
 use onix_message::StoreFault;
 use onix_terms::series_name::SeriesName;
@@ -31,8 +28,16 @@ impl<S: Alter> Work<'_, S> {
         ensures { Asks S.Store (λ rows series. AreSeriesInOrder rows series.items)
             self.old self.new result }
     {
-        let rows = self.rows(SERIES_ROWS, &[])?;
-        self.or_spend(all_series(&rows))
+        self.select(SERIES_ROWS, &[])
+    }
+
+    /// Adds a record. `Unusable` where the series has it, or where no series has that name.
+    pub fn add_record(&mut self, series: &SeriesName, reference: &str) -> Result<(), StoreFault>
+        ensures { Adds S.Store
+            (with_new_record (record { series = series.now; reference = reference.now }))
+            self.old self.new result }
+    {
+        self.run(PUT_RECORD, params![series.as_str(), reference])
     }
 
     /// Sees to it that the series has the record: adds its row, or nothing where it is there.
@@ -42,8 +47,7 @@ impl<S: Alter> Work<'_, S> {
             (with_record (record { series = series.now; reference = reference.now }))
             self.old self.new result }
     {
-        self.run(PUT_RECORD_IF_NEW, params![series.as_str(), reference])?;
-        Ok(())
+        self.run(PUT_RECORD_IF_NEW, params![series.as_str(), reference])
     }
 
     /// Adds a row. `Unusable` where the record has an identifier at that place, or the series has
@@ -51,8 +55,7 @@ impl<S: Alter> Work<'_, S> {
     pub fn put_article(&mut self, row: &ArticleRow) -> Result<(), StoreFault>
         ensures { Adds S.Store (with_article row.now) self.old self.new result }
     {
-        self.run(PUT_ARTICLE, &article_row_values(row))?;
-        Ok(())
+        self.run(PUT_ARTICLE, &article_row_values(row))
     }
 
     // Adds a row whose market has these texts.
@@ -69,8 +72,7 @@ impl<S: Alter> Work<'_, S> {
             }))
             self.old self.new result }
     {
-        self.run(PUT_OFFER, &offer_row_values(row, included, excluded))?;
-        Ok(())
+        self.run(PUT_OFFER, &offer_row_values(row, included, excluded))
     }
 
     /// Adds a row. `Unusable` where the record has an offer at that place, or the series has no
@@ -105,16 +107,14 @@ impl<S: Alter> Work<'_, S> {
             }))
             self.old self.new result }
     {
-        self.run(PUT_PRICE, &price_row_values(row, included, excluded))?;
-        Ok(())
+        self.run(PUT_PRICE, &price_row_values(row, included, excluded))
     }
 
     // Adds a row of `price_minimum`.
     fn put_minimum(&mut self, row: &PriceRow) -> Result<(), StoreFault>
         ensures { Adds S.Store (with_minimum (minimum_row row.now)) self.old self.new result }
     {
-        self.run(PUT_MINIMUM, &minimum_row_values(row))?;
-        Ok(())
+        self.run(PUT_MINIMUM, &minimum_row_values(row))
     }
 
     /// Adds a price, and its minimum where that is above 1. `Unusable` where the offer has a price
@@ -144,8 +144,7 @@ impl<S: Alter> Work<'_, S> {
         ensures { Asks S.Store (λ rows there. there ≡ has_record series.now reference.now rows)
             self.old self.new result }
     {
-        let rows = self.rows(HAS_RECORD, params![series.as_str(), reference])?;
-        Ok(has_row(rows.as_slice()))
+        self.select(HAS_RECORD, params![series.as_str(), reference])
     }
 
     /// Removes all rows of a record.
@@ -157,8 +156,7 @@ impl<S: Alter> Work<'_, S> {
         ensures { Changes S.Store (without_articles series.now reference.now)
             self.old self.new result }
     {
-        self.run(DELETE_ARTICLES, params![series.as_str(), reference])?;
-        Ok(())
+        self.run(DELETE_ARTICLES, params![series.as_str(), reference])
     }
 
     /// All rows of a series, in the order of the bytes of their references, and then of their
@@ -167,8 +165,7 @@ impl<S: Alter> Work<'_, S> {
         ensures { Asks S.Store (λ rows articles. AreArticlesInOrder series.now rows articles.items)
             self.old self.new result }
     {
-        let rows = self.rows(ARTICLE_ROWS, params![series.as_str()])?;
-        self.or_spend(all_articles(&rows))
+        self.select(ARTICLE_ROWS, params![series.as_str()])
     }
 
     /// All rows of a series, in the order of the bytes of their references, and then of their
@@ -177,8 +174,7 @@ impl<S: Alter> Work<'_, S> {
         ensures { Asks S.Store (λ rows offers. AreOffersInOrder series.now rows offers.items)
             self.old self.new result }
     {
-        let rows = self.rows(OFFER_ROWS, params![series.as_str()])?;
-        self.or_spend(all_offers(&rows))
+        self.select(OFFER_ROWS, params![series.as_str()])
     }
 
     // The minimums of a series, in the order of its prices.
@@ -188,8 +184,7 @@ impl<S: Alter> Work<'_, S> {
             × AreRising minimums.items)
             self.old self.new result }
     {
-        let rows = self.rows(MINIMUM_ROWS, params![series.as_str()])?;
-        self.or_spend(all_minimums(&rows))
+        self.select(MINIMUM_ROWS, params![series.as_str()])
     }
 
     // The prices of a series, with those minimums.

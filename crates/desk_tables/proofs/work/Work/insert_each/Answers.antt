@@ -2,7 +2,7 @@ use Rattle.std.proofs.Common.{◌≡◌, ◌*◌, take, Ok, Err, rules, arith, r
 use Rattle.sqlite.specs.Held.{state}
 use Rattle.desk_tables.specs.ManyRows.{many_of, with_rows}
 use Rattle.desk_tables.specs.Transactions.{Adding}
-use Rattle.desk_tables.proofs.Addings.{adding_as, adding_none, adding_then, adds_done, adds_failed}
+use Rattle.desk_tables.proofs.Addings.{adding_none, adding_then, adds_done, adds_failed}
 use Rattle.desk_tables.proofs.ManyRows.{adds_part}
 use Rattle.desk_tables.proofs.work.Work.insert_each.Goals as goal
 
@@ -21,7 +21,7 @@ loop-place-preserved g c = record {
       let mid = state g.S.Store c.loop-place.self.tables.now.connection in
       let new = state g.S.Store c.run.new.self.tables.now.connection in
       adding_then (c.loop-place.invariant.so_far xs are within)
-      (adding_as tt (adds_part c.args.table c.args.eight xs c.loop-place.place c.args.values.now c.many.result c.width.result c.args.to c.many.ensures c.width.ensures are c.loop-place-test.true within c.text-sql.result.now c.text-sql.ensures mid new (Ok c.in_ok-run.field-0) c.in_ok-run.ensures.runs));
+      (adds_part c.args.table c.args.eight xs c.loop-place.place c.args.values.now c.many.result c.width.result c.args.to c.many.ensures c.width.ensures are c.loop-place-test.true within c.text-sql.result.now c.text-sql.ensures mid new (Ok tt) c.in_ok-run.ensures.runs);
 }
 
 pub returns-in_err-run : goal.returns-in_err-run

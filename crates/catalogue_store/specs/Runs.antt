@@ -9,7 +9,6 @@ use Rattle.catalogue_rules.specs.Records.{ByReference}
 use Rattle.catalogue_rules.specs.declared.change.Change.{Change}
 use Rattle.catalogue_rules.specs.declared.change.Change.TheVariants.{Replace}
 use Rattle.onix_records.specs.declared.effects.Effect.{Effect}
-use Rattle.desk_tables.specs.RecordChanges.{with_articles, with_offers, with_prices, with_records}
 use Rattle.desk_tables.specs.Rows.{DeskRows}
 use Rattle.desk_tables.specs.declared.records.RecordRow.{RecordRow}
 use Rattle.catalogue_store.specs.AppliedProducts.{IsCatalogueReadAs, IsProductApplied}
@@ -17,7 +16,6 @@ use Rattle.catalogue_store.specs.EntryRows.{record_row}
 use Rattle.catalogue_store.specs.Holding.{HoldsCatalogue, other_catalogues}
 use Rattle.catalogue_store.specs.ReadRows.{is_there, Finds}
 use Rattle.catalogue_store.specs.Storable.{IsStorableProduct}
-use Rattle.catalogue_store.specs.WrittenRows.{articles_of, offers_of, prices_of, records_of}
 use Rattle.catalogue_store.specs.declared.reading.FoundRecord.{FoundRecord}
 use Rattle.catalogue_store.specs.declared.runs.Step.{Step}
 
@@ -53,16 +51,6 @@ IsNewIn series p rows b = IsTrue b → (m : ByReference) → HoldsCatalogue seri
 abbrev pub AreNewIn : List ℕ → List Product → DeskRows → ℕ → Type 0
 AreNewIn series products rows n = (m : ByReference) → HoldsCatalogue series m rows
     → AreNew m (take 1 products) → AreNew m (take n products)
-
--- ---- written
-
-abbrev pub with_identifiers_of : List ℕ → List Product → DeskRows → DeskRows
-with_identifiers_of series products rows =
-    with_articles (articles_of series products) (with_records (records_of series products) rows)
-
-abbrev pub with_supplies_of : List ℕ → List Product → DeskRows → DeskRows
-with_supplies_of series products rows = with_prices (prices_of series products)
-    (with_offers (offers_of series products) rows)
 
 -- ---- applied
 

@@ -2,17 +2,63 @@
 
 ghost use Rattle.catalogue_store.specs.Achieves.{Does};
 ghost use Rattle.catalogue_store.specs.Calls.{ChangesRows, Writes, Removes, ReplacesSupplies};
-ghost use Rattle.catalogue_store.specs.WrittenRows.{with_identified, with_supplies};
+ghost use Rattle.catalogue_store.specs.WrittenRows.{with_identified, with_offers_and_prices, with_records_and_articles, with_supplies};
 
 use crate::build::{article_rows, offer_rows, price_rows};
+use desk_tables::articles::ArticleRow;
+use desk_tables::offers::OfferRow;
+use desk_tables::prices::PriceRow;
 use desk_tables::records::RecordRow;
 use desk_tables::work::Work;
 use onix_message::StoreFault;
 use onix_message::parts::{ProductIdentifier, ProductSupply};
 use sqlite::Alter;
 use std::alloc::Global;
+use std::slice::from_ref;
 
-// Adds the offers of the record, and their prices.
+// Adds records and identifiers.
+pub(crate) fn put_records_and_articles<S: Alter>(
+    alloc: Global,
+    work: &mut Work<'_, S>,
+    records: &[RecordRow],
+    articles: &[ArticleRow],
+) -> Result<(), StoreFault>
+    ensures { Does S.Store (ChangesRows (with_records_and_articles records.now articles.now))
+        work.old work.new result }
+{
+    work.put_records(alloc, records)?;
+    work.put_articles(alloc, articles)
+}
+
+// Adds offers and prices.
+pub(crate) fn put_offers_and_prices<S: Alter>(
+    alloc: Global,
+    work: &mut Work<'_, S>,
+    offers: &[OfferRow],
+    prices: &[PriceRow],
+) -> Result<(), StoreFault>
+    ensures { Does S.Store (ChangesRows (with_offers_and_prices offers.now prices.now))
+        work.old work.new result }
+{
+    work.put_offers(alloc, offers)?;
+    work.put_prices(alloc, prices)
+}
+
+// Adds the record and its identifiers.
+fn put_identified<S: Alter>(
+    alloc: Global,
+    work: &mut Work<'_, S>,
+    row: &RecordRow,
+    ids: &[ProductIdentifier],
+) -> Result<(), StoreFault>
+    ensures { Does S.Store (ChangesRows (with_identified row.now ids.now))
+        work.old work.new result }
+{
+    let articles = article_rows(alloc, &row.series, &row.reference, ids)?;
+    put_records_and_articles(alloc, work, from_ref(row), articles.as_slice())
+}
+
+// Adds the offers of the record and their prices.
 fn put_supplies<S: Alter>(
     alloc: Global,
     work: &mut Work<'_, S>,
@@ -25,23 +71,7 @@ fn put_supplies<S: Alter>(
 {
     let offers = offer_rows(alloc, &row.series, &row.reference, supplies)?;
     let prices = price_rows(alloc, &row.series, &row.reference, supplies)?;
-    work.put_offers(alloc, offers.as_slice())?;
-    work.put_prices(alloc, prices.as_slice())
-}
-
-// Adds the record and its identifiers.
-fn put_record_and_articles<S: Alter>(
-    alloc: Global,
-    work: &mut Work<'_, S>,
-    row: &RecordRow,
-    ids: &[ProductIdentifier],
-) -> Result<(), StoreFault>
-    ensures { Does S.Store (ChangesRows (with_identified row.now ids.now))
-        work.old work.new result }
-{
-    let articles = article_rows(alloc, &row.series, &row.reference, ids)?;
-    work.add_record(&row.series, row.reference.as_str())?;
-    work.put_articles(alloc, articles.as_slice())
+    put_offers_and_prices(alloc, work, offers.as_slice(), prices.as_slice())
 }
 
 /// Writes the rows of a record with these identifiers and supplies, where it has no rows.
@@ -56,7 +86,7 @@ pub fn write_record<S: Alter>(
 ) -> Result<(), StoreFault>
     ensures { Does S.Store (Writes row.now ids.now supplies.now) work.old work.new result }
 {
-    put_record_and_articles(alloc, work, row, ids)?;
+    put_identified(alloc, work, row, ids)?;
     put_supplies(alloc, work, row, supplies)
 }
 

@@ -7,11 +7,12 @@ ghost use Rattle.catalogue_rules.specs.Plans.{total};
 ghost use Rattle.catalogue_store.specs.Achieves.{Does};
 ghost use Rattle.catalogue_store.specs.Calls.{ChangesRows, KeepsRows};
 ghost use Rattle.catalogue_store.specs.EntryRows.{record_row};
-ghost use Rattle.catalogue_store.specs.Runs.{brings_new, is_replaced, with_identifiers_of, with_supplies_of, AppliesRun, AreNewIn, IsNewIn, IsStep};
-ghost use Rattle.catalogue_store.specs.WrittenRows.{articles_of, offers_of, prices_of, records_of, with_products};
+ghost use Rattle.catalogue_store.specs.Runs.{brings_new, is_replaced, AppliesRun, AreNewIn, IsNewIn, IsStep};
+ghost use Rattle.catalogue_store.specs.WrittenRows.{articles_of, offers_of, prices_of, records_of, with_identifiers_of, with_products, with_supplies_of};
 
 use crate::build::{add_article_rows, add_offer_rows, add_price_rows};
 use crate::reading::{FoundRecord, find_record};
+use crate::records::{put_offers_and_prices, put_records_and_articles};
 use catalogue_rules::change::Change;
 use desk_tables::articles::ArticleRow;
 use desk_tables::offers::OfferRow;
@@ -184,7 +185,7 @@ fn prices_of(
 }
 
 // Adds the records of the products and their identifiers.
-fn put_records_and_articles<S: Alter>(
+fn put_identifiers_of<S: Alter>(
     alloc: Global,
     work: &mut Work<'_, S>,
     series: &SeriesName,
@@ -195,12 +196,11 @@ fn put_records_and_articles<S: Alter>(
 {
     let records = records_of(alloc, series, products)?;
     let articles = articles_of(alloc, series, products)?;
-    work.put_records(alloc, records.as_slice())?;
-    work.put_articles(alloc, articles.as_slice())
+    put_records_and_articles(alloc, work, records.as_slice(), articles.as_slice())
 }
 
 // Adds the offers of the products and their prices.
-fn put_offers_and_prices<S: Alter>(
+fn put_supplies_of<S: Alter>(
     alloc: Global,
     work: &mut Work<'_, S>,
     series: &SeriesName,
@@ -211,8 +211,7 @@ fn put_offers_and_prices<S: Alter>(
 {
     let offers = offers_of(alloc, series, products)?;
     let prices = prices_of(alloc, series, products)?;
-    work.put_offers(alloc, offers.as_slice())?;
-    work.put_prices(alloc, prices.as_slice())
+    put_offers_and_prices(alloc, work, offers.as_slice(), prices.as_slice())
 }
 
 // Adds the records of the products, which have no rows, table by table.
@@ -225,8 +224,8 @@ fn write_products<S: Alter>(
     ensures { Does S.Store (ChangesRows (with_products series.now products.now))
         work.old work.new result }
 {
-    put_records_and_articles(alloc, work, series, products)?;
-    put_offers_and_prices(alloc, work, series, products)
+    put_identifiers_of(alloc, work, series, products)?;
+    put_supplies_of(alloc, work, series, products)
 }
 
 /// Applies the run of new records that begins with the first product, which is one. A fault is one of

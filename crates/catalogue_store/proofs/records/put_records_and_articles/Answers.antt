@@ -3,23 +3,18 @@ use Rattle.sqlite.specs.Held.{state}
 use Rattle.desk_tables.specs.RecordChanges.{with_articles, with_records}
 use Rattle.desk_tables.specs.Rows.{DeskRows}
 use Rattle.catalogue_store.proofs.AchievesLemmas.{achieves_added, achieves_stopped, achieves_then, does, handed_on}
-use Rattle.catalogue_store.specs.WrittenRows.{records_of}
-use Rattle.catalogue_store.proofs.runs.put_records_and_articles.Goals as goal
+use Rattle.catalogue_store.proofs.records.put_records_and_articles.Goals as goal
 
 pub returns : goal.returns
 returns g c =
     let old = state g.S.Store c.args.work.now.tables.now.connection in
     let mid = state g.S.Store c.put_records.new.self.tables.now.connection in
     let new = state g.S.Store c.put_articles.new.self.tables.now.connection in
-    let records = c.as_slice.result.now in
-    let articles = c.as_slice-2.result.now in
-    let First : DeskRows → Unit {0} → DeskRows → Type 0 = λ rows _ after. after ≡ with_records records rows in
-    let Second : DeskRows → Unit {0} → DeskRows → Type 0 = λ rows _ after. after ≡ with_articles articles rows in
+    let First : DeskRows → Unit {0} → DeskRows → Type 0 = λ rows _ after. after ≡ with_records c.args.records.now rows in
+    let Second : DeskRows → Unit {0} → DeskRows → Type 0 = λ rows _ after. after ≡ with_articles c.args.articles.now rows in
     does (search rules)
     (achieves_then First Second _ old mid new tt c.put_articles.result (achieves_added c.in_ok-put_records.ensures.adds) (achieves_added c.put_articles.ensures.adds)
-    (λ rows between after b h m n one two.
-    two ∙ ap (with_articles articles) one ∙ ap (λ l. with_articles articles (with_records l rows)) (c.as_slice.ensures.value ∙ c.in_ok-records.ensures)
-    ∙ ap (λ l. with_articles l (with_records (records_of c.args.series.now c.args.products.now) rows)) (c.as_slice-2.ensures.value ∙ c.in_ok-articles.ensures)))
+    (λ rows between after b h m n one two. two ∙ ap (with_articles c.args.articles.now) one))
 
 pub returns-in_err-put_records : goal.returns-in_err-put_records
 returns-in_err-put_records g c =

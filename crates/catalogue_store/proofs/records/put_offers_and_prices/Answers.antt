@@ -1,25 +1,20 @@
 use Rattle.std.proofs.Common.{◌≡◌, Err, ap, ◌∙◌, rules}
 use Rattle.sqlite.specs.Held.{state}
-use Rattle.desk_tables.specs.RecordChanges.{with_offers, with_prices}
+use Rattle.desk_tables.specs.RecordChanges.{with_prices, with_offers}
 use Rattle.desk_tables.specs.Rows.{DeskRows}
 use Rattle.catalogue_store.proofs.AchievesLemmas.{achieves_added, achieves_stopped, achieves_then, does, handed_on}
-use Rattle.catalogue_store.specs.WrittenRows.{offers_of}
-use Rattle.catalogue_store.proofs.runs.put_offers_and_prices.Goals as goal
+use Rattle.catalogue_store.proofs.records.put_offers_and_prices.Goals as goal
 
 pub returns : goal.returns
 returns g c =
     let old = state g.S.Store c.args.work.now.tables.now.connection in
     let mid = state g.S.Store c.put_offers.new.self.tables.now.connection in
     let new = state g.S.Store c.put_prices.new.self.tables.now.connection in
-    let offers = c.as_slice.result.now in
-    let prices = c.as_slice-2.result.now in
-    let First : DeskRows → Unit {0} → DeskRows → Type 0 = λ rows _ after. after ≡ with_offers offers rows in
-    let Second : DeskRows → Unit {0} → DeskRows → Type 0 = λ rows _ after. after ≡ with_prices prices rows in
+    let First : DeskRows → Unit {0} → DeskRows → Type 0 = λ rows _ after. after ≡ with_offers c.args.offers.now rows in
+    let Second : DeskRows → Unit {0} → DeskRows → Type 0 = λ rows _ after. after ≡ with_prices c.args.prices.now rows in
     does (search rules)
     (achieves_then First Second _ old mid new tt c.put_prices.result (achieves_added c.in_ok-put_offers.ensures.adds) (achieves_added c.put_prices.ensures.adds)
-    (λ rows between after b h m n one two.
-    two ∙ ap (with_prices prices) one ∙ ap (λ l. with_prices prices (with_offers l rows)) (c.as_slice.ensures.value ∙ c.in_ok-offers.ensures)
-    ∙ ap (λ l. with_prices l (with_offers (offers_of c.args.series.now c.args.products.now) rows)) (c.as_slice-2.ensures.value ∙ c.in_ok-prices.ensures)))
+    (λ rows between after b h m n one two. two ∙ ap (with_prices c.args.prices.now) one))
 
 pub returns-in_err-put_offers : goal.returns-in_err-put_offers
 returns-in_err-put_offers g c =

@@ -16,15 +16,15 @@ pub record Word : Type 0 where
   pub short : List ℕ
 
 -- the name of the word in a message of this kind of names
-abbrev pub written : Naming → Word → List ℕ
-written Reference w = w.reference
-written Short w = w.short
+abbrev pub spelled : Naming → Word → List ℕ
+spelled Reference w = w.reference
+spelled Short w = w.short
 
--- the reference name of the first word of a composite that is written so
+-- the reference name of the first word of a composite that is spelled so
 abbrev pub name_among : Naming → List Word → List ℕ → List ℕ → Option (List ℕ)
 name_among naming words composite name =
     option_map (λ w. w.reference)
-    (find (λ w. bytes_eq (written naming w) name && bytes_eq w.composite composite) words)
+    (find (λ w. bytes_eq (spelled naming w) name && bytes_eq w.composite composite) words)
 
 -- A word of a composite, by its reference name, and its short tag behind = where that is not the
 -- name in small letters

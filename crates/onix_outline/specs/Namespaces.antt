@@ -9,15 +9,16 @@ use Rattle.xml_text.specs.Values.{normalized}
 
 -- ---- names
 
-abbrev pub colon : List ℕ → Option ℕ
-colon name = position (λ b. b == 58) name
+module _ (name : List ℕ) where
+  abbrev pub colon : Option ℕ
+  colon = position (λ b. b == 58) name
 
--- what stands before the first colon of a name, and behind it; a name without one has no prefix
-abbrev pub prefix_of : List ℕ → List ℕ
-prefix_of name = unwrap_or (option_map (λ at. take at name) (colon name)) []
+  -- what stands before the first colon of a name, and behind it; a name without one has no prefix
+  abbrev pub prefix_of : List ℕ
+  prefix_of = unwrap_or (option_map (λ at. take at name) colon) []
 
-abbrev pub local_of : List ℕ → List ℕ
-local_of name = unwrap_or (option_map (λ at. drop (suc at) name) (colon name)) name
+  abbrev pub local_of : List ℕ
+  local_of = unwrap_or (option_map (λ at. drop (suc at) name) colon) name
 
 -- ---- declarations
 
@@ -44,15 +45,16 @@ binding_of a =
 abbrev pub bindings_of : List Attribute → List Binding
 bindings_of attributes = filter_map binding_of attributes
 
--- what a prefix stands for by the declarations of one tag
-abbrev pub address_among : List ℕ → List Binding → Option (List ℕ)
-address_among prefix bindings =
-    option_map (λ b. b.address) (find (λ b. bytes_eq b.prefix prefix) bindings)
+module _ (prefix : List ℕ) where
+  -- what a prefix stands for by the declarations of one tag
+  abbrev pub address_among : List Binding → Option (List ℕ)
+  address_among bindings =
+      option_map (λ b. b.address) (find (λ b. bytes_eq b.prefix prefix) bindings)
 
--- what a prefix stands for that nobody declares: `xml` has its address, and others have none
-abbrev pub undeclared : List ℕ → List ℕ
-undeclared prefix =
-    if bytes_eq prefix (codes "xml") then codes "http://www.w3.org/XML/1998/namespace" else []
+  -- what a prefix stands for that nobody declares: `xml` has its address, and others have none
+  abbrev pub undeclared : List ℕ
+  undeclared =
+      if bytes_eq prefix (codes "xml") then codes "http://www.w3.org/XML/1998/namespace" else []
 
 -- ---- the elements around
 

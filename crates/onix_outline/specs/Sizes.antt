@@ -1,5 +1,6 @@
 -- How large a Header or a Product may be.
-use Rattle.std.specs.Prelude.{ℕ, ◌+◌, Bool, nat_le, List, [], ◌∷◌, length, Option, Some, None, unwrap_or}
+use Rattle.std.specs.Prelude.{ℕ, ◌+◌, Bool, nat_le, List, [], ◌∷◌, length, Option, Some, None}
+use Rattle.std.specs.Prelude.{unwrap_or}
 use Rattle.std.specs.Prelude.{if◌then◌else◌}
 use Rattle.xml_text.specs.declared.position.Position.{Position}
 use Rattle.onix_outline.specs.Nodes.{Nodes, no_nodes, node, Tag}

@@ -1,7 +1,7 @@
 //! The names of elements.
 
 ghost use Rattle.std.specs.Prelude.{◌≡◌, option_map};
-ghost use Rattle.onix_outline.specs.Names.{name_among, naming_of_root, root, stranger, written};
+ghost use Rattle.onix_outline.specs.Names.{name_among, naming_of_root, root, spelled, stranger};
 ghost use Rattle.onix_outline.specs.Views.{word_view, word_views};
 
 /// The kinds of names that a message may be written in.
@@ -22,8 +22,8 @@ pub struct Word {
 }
 
 // The name of a word in a kind of names.
-fn written(naming: Naming, word: &Word) -> &'static [u8]
-    ensures { result.now ≡ written naming (word_view word.now) }
+fn spelled(naming: Naming, word: &Word) -> &'static [u8]
+    ensures { result.now ≡ spelled naming (word_view word.now) }
 {
     match naming {
         Naming::Reference => word.reference,
@@ -31,7 +31,7 @@ fn written(naming: Naming, word: &Word) -> &'static [u8]
     }
 }
 
-/// The reference name of the first word of a composite that is written so.
+/// The reference name of the first word of a composite that is spelled so.
 pub(crate) fn name_among(
     naming: Naming,
     words: &[Word],
@@ -43,7 +43,7 @@ pub(crate) fn name_among(
 {
     let mut rest = words;
     while let [first, tail @ ..] = rest {
-        if written(naming, first) == name && first.composite == composite {
+        if spelled(naming, first) == name && first.composite == composite {
             return Some(first.reference);
         }
         rest = tail;

@@ -6,26 +6,27 @@ use Rattle.std.specs.List.{list_all}
 abbrev pub within : ℕ → ℕ → ℕ → Bool
 within least most c = nat_le least c && nat_le c most
 
--- a character that a document may have
-abbrev pub is_char : ℕ → Bool
-is_char c =
-    (c == 9) || (c == 10) || (c == 13) || within 32 55295 c || within 57344 65533 c
-    || within 65536 1114111 c
+module _ (c : ℕ) where
+  -- a character that a document may have
+  abbrev pub is_char : Bool
+  is_char =
+      (c == 9) || (c == 10) || (c == 13) || within 32 55295 c || within 57344 65533 c
+      || within 65536 1114111 c
 
--- a character that a name may begin with
-abbrev pub starts_name_char : ℕ → Bool
-starts_name_char c =
-    (c == 58) || within 65 90 c || (c == 95) || within 97 122 c || within 192 214 c
-    || within 216 246 c || within 248 767 c || within 880 893 c || within 895 8191 c
-    || within 8204 8205 c || within 8304 8591 c || within 11264 12271 c
-    || within 12289 55295 c || within 63744 64975 c
-    || within 65008 65533 c || within 65536 983039 c
+  -- a character that a name may begin with
+  abbrev pub starts_name_char : Bool
+  starts_name_char =
+      (c == 58) || within 65 90 c || (c == 95) || within 97 122 c || within 192 214 c
+      || within 216 246 c || within 248 767 c || within 880 893 c || within 895 8191 c
+      || within 8204 8205 c || within 8304 8591 c || within 11264 12271 c
+      || within 12289 55295 c || within 63744 64975 c
+      || within 65008 65533 c || within 65536 983039 c
 
--- a character that a name may have
-abbrev pub is_name_char : ℕ → Bool
-is_name_char c =
-    starts_name_char c || (c == 45) || (c == 46) || within 48 57 c || (c == 183)
-    || within 768 879 c || within 8255 8256 c
+  -- a character that a name may have
+  abbrev pub is_name_char : Bool
+  is_name_char =
+      starts_name_char || (c == 45) || (c == 46) || within 48 57 c || (c == 183)
+      || within 768 879 c || within 8255 8256 c
 
 -- the characters are those of a name
 abbrev pub are_of_name : List ℕ → Bool

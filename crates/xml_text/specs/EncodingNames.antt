@@ -1,6 +1,6 @@
 -- The encoding that a document says it has.
-use Rattle.std.specs.Prelude.{◌≡◌, ℕ, Bool, ◌||◌, ◌==◌, codes, List, [], ◌∷◌, Option, Some, None, not}
-use Rattle.std.specs.Prelude.{Result, Ok, ⊤, option_map, take, drop, unwrap_or}
+use Rattle.std.specs.Prelude.{◌≡◌, ℕ, Bool, ◌||◌, ◌==◌, codes, List, [], ◌∷◌, Option, Some, None}
+use Rattle.std.specs.Prelude.{Result, Ok, ⊤, not, option_map, take, drop, unwrap_or}
 use Rattle.std.specs.List.{filter}
 use Rattle.std.specs.Option.{option_or}
 use Rattle.std.specs.Result.{result_ok}
@@ -15,50 +15,51 @@ use Rattle.xml_text.specs.Grammar.{begins, declared_at}
 use Rattle.xml_text.specs.Steps.{◌>>=◌, literal}
 use Rattle.xml_text.specs.Tables.{entry}
 
--- a name without its hyphens and low lines, in small letters
-abbrev pub plain_name : List ℕ → List ℕ
-plain_name name = str_to_ascii_lowercase (filter (λ b. not ((b == 45) || (b == 95))) name)
+module _ (name : List ℕ) where
+  -- a name without its hyphens and low lines, in small letters
+  abbrev pub plain_name : List ℕ
+  plain_name = str_to_ascii_lowercase (filter (λ b. not ((b == 45) || (b == 95))) name)
 
-abbrev pub is_alike : List ℕ → List ℕ → Bool
-is_alike name plain = bytes_eq (plain_name name) plain
+  abbrev pub is_alike : List ℕ → Bool
+  is_alike plain = bytes_eq plain_name plain
 
--- The encoding of a name that a declaration gives whose bytes are those of ASCII. In UTF-16 they
--- would not be: what says so there is UTF-8.
-abbrev pub encoding_of : List ℕ → Option Encoding
-encoding_of name =
-    entry (λ key. is_alike name (codes key)) (("utf8", Utf8) ∷ ("utf16", Utf8) ∷ ("usascii", Ascii)
-    ∷ ("ascii", Ascii) ∷ ("iso88591", Latin1) ∷ ("latin1", Latin1) ∷ ("iso885915", Latin9)
-    ∷ ("windows1252", Windows1252) ∷ ("cp1252", Windows1252) ∷ [])
+  -- The encoding of a name that a declaration gives whose bytes are those of ASCII. In UTF-16 they
+  -- would not be: what says so there is UTF-8.
+  abbrev pub encoding_of : Option Encoding
+  encoding_of =
+      entry (λ key. is_alike (codes key)) (("utf8", Utf8) ∷ ("utf16", Utf8) ∷ ("usascii", Ascii)
+      ∷ ("ascii", Ascii) ∷ ("iso88591", Latin1) ∷ ("latin1", Latin1) ∷ ("iso885915", Latin9)
+      ∷ ("windows1252", Windows1252) ∷ ("cp1252", Windows1252) ∷ [])
 
--- the encoding in a declaration at the front
-unfoldable pub encoding_in : List ℕ → Result (List ℕ) Stop
-encoding_in head = do
-  mark ← literal (codes "<?xml") head
-  version ← declared_at (codes "version") mark.1
-  encoding ← declared_at (codes "encoding") version.1
-  Ok encoding.0
+module _ (head : List ℕ) where
+  -- the encoding in a declaration at the front
+  unfoldable pub encoding_in : Result (List ℕ) Stop
+  encoding_in = do
+    mark ← literal (codes "<?xml") head
+    version ← declared_at (codes "version") mark.1
+    encoding ← declared_at (codes "encoding") version.1
+    Ok encoding.0
 
-abbrev pub declared_name : List ℕ → Option (List ℕ)
-declared_name head = result_ok (encoding_in head)
+  abbrev pub declared_name : Option (List ℕ)
+  declared_name = result_ok encoding_in
 
-abbrev pub declared_or_empty : List ℕ → List ℕ
-declared_or_empty head = unwrap_or (declared_name head) []
+  abbrev pub declared_or_empty : List ℕ
+  declared_or_empty = unwrap_or declared_name []
 
--- the encoding that is declared, and where none is, UTF-8
-abbrev pub declared : List ℕ → Option Encoding
-declared head = encoding_of (unwrap_or (declared_name head) (codes "utf8"))
+  -- the encoding that is declared, and where none is, UTF-8
+  abbrev pub declared : Option Encoding
+  declared = encoding_of (unwrap_or declared_name (codes "utf8"))
 
--- the encoding of a byte order mark at the front, and how many bytes the mark has
-abbrev pub marked : List ℕ → Option (Encoding × ℕ)
-marked head =
-    entry (λ mark. begins mark head) ((239 ∷ 187 ∷ 191 ∷ [], (Utf8, 3))
-    ∷ (254 ∷ 255 ∷ [], (Utf16Big, 2)) ∷ (255 ∷ 254 ∷ [], (Utf16Little, 2)) ∷ [])
+  -- the encoding of a byte order mark at the front, and how many bytes the mark has
+  abbrev pub marked : Option (Encoding × ℕ)
+  marked =
+      entry (λ mark. begins mark head) ((239 ∷ 187 ∷ 191 ∷ [], (Utf8, 3))
+      ∷ (254 ∷ 255 ∷ [], (Utf16Big, 2)) ∷ (255 ∷ 254 ∷ [], (Utf16Little, 2)) ∷ [])
 
--- The encoding of a document that begins so, and how many bytes its byte order mark has: the one
--- that the mark tells, else the one of its declaration.
-abbrev pub encoding_at : List ℕ → Option (Encoding × ℕ)
-encoding_at head =
-    option_or (marked head) (option_map (λ encoding. (encoding, 0)) (declared head))
+  -- The encoding of a document that begins so, and how many bytes its byte order mark has: the one
+  -- that the mark tells, else the one of its declaration.
+  abbrev pub encoding_at : Option (Encoding × ℕ)
+  encoding_at = option_or marked (option_map (λ encoding. (encoding, 0)) declared)
 
 -- The text of a document's bytes, where its encoding is known. It is told within the first 1,024
 -- bytes, and the mark is no part of the text.

@@ -33,20 +33,16 @@ abbrev pub are_of_name : List ℕ → Bool
 are_of_name [] = false
 are_of_name (c ∷ cs) = starts_name_char c && list_all is_name_char cs
 
--- a number in decimal digits, behind the digits of n
-abbrev pub decimal : ℕ → List ℕ → ℕ
-decimal n [] = n
-decimal n (b ∷ digits) = decimal (10 * n + (b - 48)) digits
+-- the number of a digit, in hexadecimal too
+abbrev pub digit_value : ℕ → ℕ
+digit_value b = if nat_le b 57 then b - 48 else if nat_le 97 b then b - 87 else b - 55
 
-abbrev pub hex_digit : ℕ → ℕ
-hex_digit b = if nat_le b 57 then b - 48 else if nat_le 97 b then b - 87 else b - 55
-
--- the same in hexadecimal digits
-abbrev pub hexadecimal : ℕ → List ℕ → ℕ
-hexadecimal n [] = n
-hexadecimal n (b ∷ digits) = hexadecimal (16 * n + hex_digit b) digits
+-- a number in digits to a base, behind the digits of n
+abbrev pub in_base : ℕ → ℕ → List ℕ → ℕ
+in_base base n [] = n
+in_base base n (b ∷ digits) = in_base base (base * n + digit_value b) digits
 
 -- the code point that a number says, which is hexadecimal behind an x
 abbrev pub number_code : List ℕ → ℕ
 number_code [] = 0
-number_code (b ∷ digits) = if b == 120 then hexadecimal 0 digits else decimal 0 (b ∷ digits)
+number_code (b ∷ digits) = if b == 120 then in_base 16 0 digits else in_base 10 0 (b ∷ digits)

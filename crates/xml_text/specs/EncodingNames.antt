@@ -43,9 +43,6 @@ module _ (head : List ℕ) where
   abbrev pub declared_name : Option (List ℕ)
   declared_name = result_ok encoding_in
 
-  abbrev pub declared_or_empty : List ℕ
-  declared_or_empty = unwrap_or declared_name []
-
   -- the encoding that is declared, and where none is, UTF-8
   abbrev pub declared : Option Encoding
   declared = encoding_of (unwrap_or declared_name (codes "utf8"))
@@ -80,4 +77,4 @@ OfText P (Some bytes) = (text : List ℕ) × (text_of bytes ≡ Some text) × P 
 -- their encoding is none that is known, and their declaration gives it this name
 abbrev pub IsOfUnknown : List ℕ → List ℕ → Type 0
 IsOfUnknown name bytes =
-    (text_of bytes ≡ None) × (declared_or_empty (take 1024 bytes) ≡ name)
+    (text_of bytes ≡ None) × (declared_name (take 1024 bytes) ≡ Some name)

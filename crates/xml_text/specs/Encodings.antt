@@ -15,15 +15,16 @@ windows_codes =
     ∷ 0 ∷ 8216 ∷ 8217 ∷ 8220 ∷ 8221 ∷ 8226 ∷ 8211 ∷ 8212 ∷ 732 ∷ 8482 ∷ 353 ∷ 8250 ∷ 339 ∷ 0 ∷ 382
     ∷ 376 ∷ []
 
--- the code point of a byte of windows-1252 from 128 on
-abbrev pub windows_code : ℕ → ℕ
-windows_code b = if nat_lt b 160 then slice_index windows_codes (b - 128) else b
+module _ (b : ℕ) where
+  -- the code point of a byte of windows-1252 from 128 on
+  abbrev pub windows_code : ℕ
+  windows_code = if nat_lt b 160 then slice_index windows_codes (b - 128) else b
 
--- the code point of a byte of ISO-8859-15, which has eight others than ISO-8859-1
-abbrev pub latin9_code : ℕ → ℕ
-latin9_code b =
-    unwrap_or (entry (λ c. b == c) ((164, 8364) ∷ (166, 352) ∷ (168, 353) ∷ (180, 381) ∷ (184, 382)
-    ∷ (188, 338) ∷ (189, 339) ∷ (190, 376) ∷ [])) b
+  -- the code point of a byte of ISO-8859-15, which has eight others than ISO-8859-1
+  abbrev pub latin9_code : ℕ
+  latin9_code =
+      unwrap_or (entry (λ c. b == c) ((164, 8364) ∷ (166, 352) ∷ (168, 353) ∷ (180, 381)
+      ∷ (184, 382) ∷ (188, 338) ∷ (189, 339) ∷ (190, 376) ∷ [])) b
 
 -- The code point of a byte. One that the encoding does not have is 0, a character that no document
 -- has.
@@ -49,20 +50,22 @@ units_of encoding [] = []
 units_of encoding (a ∷ []) = 0 ∷ []
 units_of encoding (a ∷ b ∷ bytes) = unit_of encoding a b ∷ units_of encoding bytes
 
--- the first unit of a surrogate pair, and the second
-abbrev pub is_lead : ℕ → Bool
-is_lead u = nat_le 55296 u && nat_lt u 56320
+module _ (u : ℕ) where
+  -- the first unit of a surrogate pair, and the second
+  abbrev pub is_lead : Bool
+  is_lead = nat_le 55296 u && nat_lt u 56320
 
-abbrev pub is_trail : ℕ → Bool
-is_trail u = nat_le 56320 u && nat_lt u 57344
+  abbrev pub is_trail : Bool
+  is_trail = nat_le 56320 u && nat_lt u 57344
 
--- the text of a pair, and of a unit that begins none: without its other half it is U+0000
+  -- the text of a unit that begins no pair: without its other half it is U+0000
+  abbrev pub unit_text : List ℕ
+  unit_text = if is_trail then 0 ∷ [] else encode_utf8 u
+
+-- the text of a pair, or of a first unit without its second
 abbrev pub pair_text : ℕ → ℕ → List ℕ
 pair_text lead u =
     if is_trail u then encode_utf8 (65536 + ((lead - 55296) * 1024 + (u - 56320))) else 0 ∷ []
-
-abbrev pub unit_text : ℕ → List ℕ
-unit_text u = if is_trail u then 0 ∷ [] else encode_utf8 u
 
 -- the text of units
 abbrev pub units_text : List ℕ → List ℕ

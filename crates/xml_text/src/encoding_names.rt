@@ -1,7 +1,7 @@
 //! The encoding that a document says it has.
 
-ghost use Rattle.std.specs.Prelude.{◌≡◌, ◌≤◌, ◌∷◌, [], IfSome, length, option_map};
-ghost use Rattle.xml_text.specs.EncodingNames.{is_alike, encoding_of, encoding_in, declared_name, declared_or_empty, declared, marked, encoding_at};
+ghost use Rattle.std.specs.Prelude.{◌≡◌, ◌≤◌, ◌∷◌, [], IfSome, None, Some, length, option_map};
+ghost use Rattle.xml_text.specs.EncodingNames.{is_alike, encoding_of, encoding_in, declared_name, declared, marked, encoding_at};
 ghost use Rattle.xml_text.specs.Steps.{Gives};
 
 use crate::encodings::Encoding;
@@ -80,11 +80,15 @@ fn declared_name(head: &[u8]) -> Option<&[u8]>
     }
 }
 
-/// The name of an encoding in a declaration at the front, empty where there is none.
-pub(crate) fn declared_or_empty(head: &[u8]) -> &[u8]
-    ensures { result.now ≡ declared_or_empty head.now }
+/// The name of an encoding in a declaration at the front, where it is none that is known.
+pub(crate) fn unknown_name(head: &[u8]) -> &[u8]
+    requires { encoding_at head.now ≡ None }
+    ensures { declared_name head.now ≡ Some result.now }
 {
-    declared_name(head).unwrap_or(b"")
+    match declared_name(head) {
+        None => b"",
+        Some(name) => name,
+    }
 }
 
 // The encoding that the declaration names, and UTF-8 where none does.

@@ -2,7 +2,7 @@
 
 ghost use Rattle.std.specs.Prelude.{◌≡◌, ◌<◌, ◌≤◌, ◌-◌, true, MatchOption};
 ghost use Rattle.std.specs.List.{list_all};
-ghost use Rattle.xml_text.specs.Characters.{decimal, hex_digit, hexadecimal, number_code};
+ghost use Rattle.xml_text.specs.Characters.{digit_value, in_base, number_code};
 ghost use Rattle.xml_text.specs.Grammar.{is_digit, is_hex_digit, is_number};
 
 use crate::classes::{Kind, all_pass, is_filled};
@@ -24,13 +24,13 @@ pub(crate) fn is_number(bytes: &[u8]) -> bool
 // The number of decimal digits, where it is no greater than a code point may be.
 fn decimal(digits: &[u8]) -> Option<u32>
     requires { list_all is_digit digits.now ≡ true }
-    ensures { MatchOption result (GREATEST < decimal 0 digits.now) (λ n. (n ≡ decimal 0 digits.now)
-        × (n ≤ GREATEST)) }
+    ensures { MatchOption result (GREATEST < in_base 10 0 digits.now) (λ n.
+        (n ≡ in_base 10 0 digits.now) × (n ≤ GREATEST)) }
 {
     let mut number = 0u32;
     let mut rest = digits;
     while let [b, tail @ ..] = rest {
-        number = 10 * number + digit(*b);
+        number = 10 * number + digit_value(*b);
         if number > GREATEST {
             return None;
         }
@@ -39,19 +39,10 @@ fn decimal(digits: &[u8]) -> Option<u32>
     Some(number)
 }
 
-// The number of a decimal digit.
-fn digit(b: u8) -> u32
-    requires { is_digit b ≡ true }
-    ensures value { result ≡ b - 48 }
-    ensures bound { result < 10 }
-{
-    u32::from(b - 48)
-}
-
-// The number of a hexadecimal digit.
-fn hex_digit(b: u8) -> u32
+// The number of a digit, in hexadecimal too.
+fn digit_value(b: u8) -> u32
     requires { is_hex_digit b ≡ true }
-    ensures value { result ≡ hex_digit b }
+    ensures value { result ≡ digit_value b }
     ensures bound { result < 16 }
 {
     if b <= 57 {
@@ -66,13 +57,13 @@ fn hex_digit(b: u8) -> u32
 // The number of hexadecimal digits, where it is no greater than a code point may be.
 fn hexadecimal(digits: &[u8]) -> Option<u32>
     requires { list_all is_hex_digit digits.now ≡ true }
-    ensures { MatchOption result (GREATEST < hexadecimal 0 digits.now) (λ n. (n
-        ≡ hexadecimal 0 digits.now) × (n ≤ GREATEST)) }
+    ensures { MatchOption result (GREATEST < in_base 16 0 digits.now) (λ n.
+        (n ≡ in_base 16 0 digits.now) × (n ≤ GREATEST)) }
 {
     let mut number = 0u32;
     let mut rest = digits;
     while let [b, tail @ ..] = rest {
-        number = 16 * number + hex_digit(*b);
+        number = 16 * number + digit_value(*b);
         if number > GREATEST {
             return None;
         }

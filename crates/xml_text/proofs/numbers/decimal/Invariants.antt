@@ -1,12 +1,12 @@
 use Rattle.std.proofs.Common.{◌≡◌, ◌≤◌, true, length}
 use Rattle.std.specs.List.{list_all}
 use Rattle.xml_text.specs.Grammar.{is_digit}
-use Rattle.xml_text.specs.Characters.{decimal}
+use Rattle.xml_text.specs.Characters.{in_base}
 use Rattle.xml_text.proofs.numbers.decimal.Given as goal
 
 abbrev pub invariant-loop-rest : goal.invariant-loop-rest
 invariant-loop-rest l = record {
-  so_far : decimal l.number l.rest ≡ decimal 0 l.digits;
+  so_far : in_base 10 l.number l.rest ≡ in_base 10 0 l.digits;
   digits : list_all is_digit l.rest ≡ true;
   bound : l.number ≤ 1114111;
 }

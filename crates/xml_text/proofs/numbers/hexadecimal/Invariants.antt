@@ -1,12 +1,12 @@
 use Rattle.std.proofs.Common.{◌≡◌, ◌≤◌, true, length}
 use Rattle.std.specs.List.{list_all}
 use Rattle.xml_text.specs.Grammar.{is_hex_digit}
-use Rattle.xml_text.specs.Characters.{hexadecimal}
+use Rattle.xml_text.specs.Characters.{in_base}
 use Rattle.xml_text.proofs.numbers.hexadecimal.Given as goal
 
 abbrev pub invariant-loop-rest : goal.invariant-loop-rest
 invariant-loop-rest l = record {
-  so_far : hexadecimal l.number l.rest ≡ hexadecimal 0 l.digits;
+  so_far : in_base 16 l.number l.rest ≡ in_base 16 0 l.digits;
   digits : list_all is_hex_digit l.rest ≡ true;
   bound : l.number ≤ 1114111;
 }

@@ -21,6 +21,18 @@ pub struct Word {
     pub short: &'static [u8],
 }
 
+/// Words, by their composites: of each of its children the reference name and the short tag.
+#[macro_export]
+macro_rules! words {
+    ($($composite:literal: $($reference:literal = $short:literal),+;)+) => {
+        [$($($crate::Word {
+            composite: $composite,
+            reference: $reference,
+            short: $short,
+        },)+)+]
+    };
+}
+
 // The name of a word in a kind of names.
 fn spelled(naming: Naming, word: &Word) -> &'static [u8]
     ensures { result.now ≡ spelled naming (word_view word.now) }

@@ -1,12 +1,13 @@
 -- The words of a text, one after the other.
-use Rattle.std.proofs.Common.{◌≡◌, ◌≤◌, ℕ, Bool, true, false, List, [], ◌∷◌, Option, Some, None, length, refl, ap, ◌∙◌, arith}
+use Rattle.std.proofs.Common.{◌≡◌, ◌≤◌, ℕ, Bool, true, false, List, [], ◌∷◌, Option, Some, None, length, ◌++◌, append-nil, drop, refl, ap, ◌∙◌, arith}
 use Rattle.std.specs.Prelude.{◌==◌, filter, nat_lt, if◌then◌else◌}
 use Rattle.std.specs.List.{after_first, before_first, position_or_len, slice_split}
 use Rattle.std.proofs.lemmas.Bool.{lt-ltb, ltb-true, ltb-false}
+use Rattle.std.proofs.lemmas.List.Concat.{flat_map-cons}
 use Rattle.std.proofs.lemmas.List.Splits.{slice_split_first, slice_split_none}
 use Rattle.std.proofs.lemmas.List.Sums.{fails_before_first}
-use Rattle.onix_terms.specs.Territory.{words_of}
-use Rattle.onix_mapping.specs.Regions.{first_space, front_to, rest_from}
+use Rattle.onix_terms.specs.Territory.{countries_text, words_of}
+use Rattle.onix_mapping.specs.Regions.{first_space, front_to, rest_from, spaced}
 
 -- a word before others, unless it is empty
 abbrev pub with_word : List ℕ → List (List ℕ) → List (List ℕ)
@@ -42,3 +43,12 @@ words-cut text = go (nat_lt (position_or_len is_blank text) (length text)) refl
         ap (filter (λ word. nat_lt 0 (length word)))
         (slice_split_none is_blank text (λ k d short. fails_before_first is_blank text k d (omega (arith, least))))
         ∙ filled-first text []
+
+spaced-is : (word : List ℕ) (words : List (List ℕ)) → spaced (word ∷ words) ≡ 32 ∷ countries_text (word ∷ words)
+spaced-is word [] = flat_map-cons (λ (w : List ℕ). 32 ∷ w) word [] ∙ ap (λ (t : List ℕ). 32 ∷ t) (append-nil word)
+spaced-is word (next ∷ words) = flat_map-cons (λ (w : List ℕ). 32 ∷ w) word (next ∷ words) ∙ ap (λ (t : List ℕ). 32 ∷ (word ++ t)) (spaced-is next words)
+
+-- words that each stand behind a space are joined by spaces behind the first one
+pub spaced-joined : (words : List (List ℕ)) → drop 1 (spaced words) ≡ countries_text words
+spaced-joined [] = refl
+spaced-joined (word ∷ words) = ap (drop 1) (spaced-is word words)

@@ -1,17 +1,10 @@
 -- Dates without where they lie in memory.
-use Rattle.std.specs.Prelude.{Option, Some, None, Result, Ok, Err, option_map}
+use Rattle.std.specs.Prelude.{Option, Some, None, Result, Ok, Err}
 use Rattle.std.specs.Result.{result_map_both}
-use Rattle.std.specs.Borrow.{Bor}
-use Rattle.onix_outline.specs.declared.line.Line.{Line}
-use Rattle.onix_mapping.specs.Dates.{Date}
 use Rattle.onix_mapping.specs.Notes.{Reason as ReasonKind, reason_view}
 use Rattle.onix_mapping.specs.declared.dates.Dated.{Dated}
 use Rattle.onix_mapping.specs.declared.dates.Days.{Days}
 use Rattle.onix_mapping.specs.declared.notes.Reason.{Reason}
-
--- a line, as a date
-abbrev pub date_view : Bor Line → Date
-date_view l = record { format = option_map (λ f. f.items) l.now.format; text = l.now.text.items }
 
 -- what was read of dates
 abbrev pub days_read : Result Days Reason → Result Days ReasonKind

@@ -1,17 +1,17 @@
 -- The days between which a Price holds, by its PriceDates.
 use Prim.Native.String.{String}
 use Rattle.std.specs.Prelude.{ℕ, ℤ, Bool, true, ◌==◌, ◌&&◌, not, List, [], ◌∷◌, ◌++◌, length, map}
-use Rattle.std.specs.Prelude.{take, drop, Option, Some, None, Result, Ok}
+use Rattle.std.specs.Prelude.{take, drop, find, Option, Some, None, Result, Ok}
 use Rattle.std.specs.Prelude.{Err, if◌then◌else◌, codes, option_map, option_and_then, unwrap_or}
 use Rattle.std.specs.List.{list_any}
 use Rattle.std.specs.Option.{option_map_or, option_or, ok_or}
 use Rattle.std.specs.Result.{result_map_both}
 use Rattle.std.specs.Str.{bytes_eq}
 use Rattle.xml_text.specs.Grammar.{is_filled}
-use Rattle.onix_outline.specs.Nodes.{Nodes, no_nodes, node}
+use Rattle.onix_outline.specs.Nodes.{Nodes}
 use Rattle.onix_terms.specs.Day.{day_of}
 use Rattle.onix_terms.specs.Options.{◌>>=◌}
-use Rattle.onix_mapping.specs.Elements.{each_at, some_at, text_at}
+use Rattle.onix_mapping.specs.Elements.{Element, each_at, some_at, text_at}
 use Rattle.onix_mapping.specs.Notes.{Reason, foreign, is_wrong, wrong}
 use Rattle.onix_mapping.specs.Records.{first_some, parsed_term}
 use Rattle.onix_mapping.specs.declared.dates.Days.{Days}
@@ -96,35 +96,26 @@ two_days text =
 
 -- ---- a PriceDate
 
--- a Date: its attribute `dateformat`, where it has one, and its text
-pub record Date : Type 0 where
-  pub format : Option (List ℕ)
-  pub text : List ℕ
-
--- the Date of a PriceDate: of several the first one that has a text
-abbrev pub date_in : Nodes → Option Date
-date_in no_nodes = None
-date_in (node n tag text below rest) =
-    if bytes_eq n (codes "Date") && is_filled text
-    then Some (record { format = tag.format; text = text })
-    else date_in rest
-
 -- the days of a text of this format
 abbrev pub parsed_days : List ℕ → List ℕ → Dated
 parsed_days format text = ok_or (in_format format text) (wrong Day text)
 
 module _ (nodes : Nodes) where
+  -- the Date of a PriceDate: of several the first one that has a text
+  abbrev pub date_in : Option Element
+  date_in = find (λ e. is_filled e.text) (map (λ c. c.element) (each_at "Date" nodes))
+
   -- the format of a PriceDate: the attribute of its Date, else its DateFormat, else 00
   abbrev pub format_in : List ℕ
   format_in =
-      unwrap_or (option_or (option_and_then (λ d. d.format) (date_in nodes))
+      unwrap_or (option_or (option_and_then (λ d. d.tag.format) date_in)
       (some_at "DateFormat" nodes)) (codes "00")
 
   -- the days of the Date of a role, where its format is one of these
   abbrev pub role_days : List (List ℕ) → (List ℕ → Dated) → List ℕ → Dated
   role_days allowed read role =
       if list_any (bytes_eq format_in) allowed
-      then option_map_or (λ date. read date.text) (date_in nodes) (Err (wrong NoDate role))
+      then option_map_or (λ date. read date.text) date_in (Err (wrong NoDate role))
       else Err (foreign DateFormat format_in)
 
   -- What a PriceDate says: by its role the first day, the last day or both. Another role says

@@ -86,22 +86,23 @@ module _ (preferred : List ℕ) (nodes : Nodes) where
   detail_reason =
       desk_reason (is_some (parsed detail_of detail_fields)) detail_reasons bad.SupplyDetail
 
--- the context of the Prices of a SupplyDetail
-abbrev pub context_in : Opening → Nodes → PriceContext
-context_in o nodes = record {
-  opening = o;
-  is_unpriced = is_some (unpriced_in nodes);
-  minimum = default_minimum nodes;
-}
+module _ (o : Opening) where
+  -- the context of the Prices of a SupplyDetail
+  abbrev pub context_in : Nodes → PriceContext
+  context_in nodes = record {
+    opening = o;
+    is_unpriced = is_some (unpriced_in nodes);
+    minimum = default_minimum nodes;
+  }
 
--- what a Price of a SupplyDetail with these elements comes to
-abbrev pub price_in : Opening → Nodes → Composite → Outcome
-price_in o nodes price = price_outcome (context_in o nodes) price.below
+  -- what a Price of a SupplyDetail with these elements comes to
+  abbrev pub price_in : Nodes → Composite → Outcome
+  price_in nodes price = price_outcome (context_in nodes) price.below
 
--- what a SupplyDetail comes to: its record with those of its Prices, or it is left out
-abbrev pub detail_outcome : Opening → List ℕ → Nodes → Outcome
-detail_outcome o preferred nodes =
-    written_unless (detail_reason preferred nodes)
-    ((codes "SupplyDetail" ∷ detail_fields preferred nodes)
-    ∷ all_records (price_in o nodes) (prices_in nodes))
-    (all_notes (price_in o nodes) (prices_in nodes))
+  -- what a SupplyDetail comes to: its record with those of its Prices, or it is left out
+  abbrev pub detail_outcome : List ℕ → Nodes → Outcome
+  detail_outcome preferred nodes =
+      written_unless (detail_reason preferred nodes)
+      ((codes "SupplyDetail" ∷ detail_fields preferred nodes)
+      ∷ all_records (price_in nodes) (prices_in nodes))
+      (all_notes (price_in nodes) (prices_in nodes))

@@ -45,17 +45,18 @@ abbrev pub given_or : {A : Type 0} → Option A → Result A HeaderRefusal → R
 given_or (Some given) own = Ok given
 given_or None own = own
 
--- the type and the value of the sender: where the Header has a whole identifier, or the caller
--- gives none, the one that is chosen
-abbrev pub sender_of : Choices → List Pair → Result Pair HeaderRefusal
-sender_of c ids =
-    let named = option_map_or if_whole (chosen c.id_type ids) (Err why.NoSender) in
-    if list_any is_whole ids then named else given_or c.sender named
+module _ (c : Choices) where
+  -- the type and the value of the sender: where the Header has a whole identifier, or the caller
+  -- gives none, the one that is chosen
+  abbrev pub sender_of : List Pair → Result Pair HeaderRefusal
+  sender_of ids =
+      let named = option_map_or if_whole (chosen c.id_type ids) (Err why.NoSender) in
+      if list_any is_whole ids then named else given_or c.sender named
 
-abbrev pub sender_in : Choices → Nodes → Result Pair HeaderRefusal
-sender_in c nodes =
-    sender_of c
-    (identifiers_in (codes "SenderIdentifier") (codes "SenderIDType") (below_at "Sender" nodes))
+  abbrev pub sender_in : Nodes → Result Pair HeaderRefusal
+  sender_in nodes =
+      sender_of
+      (identifiers_in (codes "SenderIdentifier") (codes "SenderIDType") (below_at "Sender" nodes))
 
 -- ---- addressee
 

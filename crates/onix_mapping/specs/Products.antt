@@ -27,13 +27,14 @@ is_gtin_type id_type = bytes_eq id_type (codes "03") || bytes_eq id_type (codes 
 abbrev pub is_thirteen : List ℕ → Bool
 is_thirteen text = is_some (isbn13_of text)
 
--- hyphens: U+002D, U+00AD, U+2010 to U+2015, U+2212
-abbrev pub is_hyphen : ℕ → Bool
-is_hyphen c = (c == 45) || ((c == 173) || (within 8208 8213 c || (c == 8722)))
+module _ (c : ℕ) where
+  -- hyphens: U+002D, U+00AD, U+2010 to U+2015, U+2212
+  abbrev pub is_hyphen : Bool
+  is_hyphen = (c == 45) || ((c == 173) || (within 8208 8213 c || (c == 8722)))
 
--- spaces: U+0020, U+00A0, U+2009, U+202F
-abbrev pub is_blank : ℕ → Bool
-is_blank c = (c == 32) || ((c == 160) || ((c == 8201) || (c == 8239)))
+  -- spaces: U+0020, U+00A0, U+2009, U+202F
+  abbrev pub is_blank : Bool
+  is_blank = (c == 32) || ((c == 160) || ((c == 8201) || (c == 8239)))
 
 module _ (value : List ℕ) where
   -- the characters of a value but hyphens and spaces

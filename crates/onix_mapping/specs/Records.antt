@@ -17,14 +17,15 @@ Fields = List (List ℕ)
 abbrev pub Records : Type 0
 Records = List Fields
 
--- what is read of the fields of a record; nothing, where one of them is too long or has a control
--- character
-abbrev pub clean : {A : Type 0} → (Fields → Option A) → Fields → Option A
-clean read fields = if list_all is_clean fields then read fields else None
+module _ {A : Type 0} (read : Fields → Option A) where
+  -- what is read of the fields of a record; nothing, where one of them is too long or has a control
+  -- character
+  abbrev pub clean : Fields → Option A
+  clean fields = if list_all is_clean fields then read fields else None
 
--- what is read of texts as the fields of a record; nothing, where one of them is no UTF-8 either
-abbrev pub parsed : {A : Type 0} → (Fields → Option A) → Fields → Option A
-parsed read texts = if list_all is_utf8 texts then clean read texts else None
+  -- what is read of texts as the fields of a record; nothing, where one of them is no UTF-8 either
+  abbrev pub parsed : Fields → Option A
+  parsed texts = if list_all is_utf8 texts then clean texts else None
 
 -- the value of a text, where it has one
 abbrev pub parsed_term : {A : Type 0} → (List ℕ → Option A) → List ℕ → Option A

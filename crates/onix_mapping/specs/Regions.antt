@@ -7,18 +7,10 @@ use Rattle.std.specs.Char.{is_ascii_digit, is_ascii_uppercase}
 use Rattle.std.specs.List.{flat_map, list_all, list_any}
 use Rattle.std.specs.Str.{bytes_eq}
 use Rattle.xml_text.specs.Grammar.{is_filled}
-use Rattle.onix_terms.specs.Territory.{words_of}
+use Rattle.onix_terms.specs.Territory.{countries_text, words_of}
 
 abbrev pub is_world : List ℕ → Bool
 is_world region = bytes_eq region (codes "WORLD")
-
--- whether WORLD is one of the regions
-abbrev pub names_world : List ℕ → Bool
-names_world text = list_any is_world (words_of text)
-
--- the regions but WORLD, in order
-abbrev pub other_regions : List ℕ → List (List ℕ)
-other_regions text = filter (λ region. not (is_world region)) (words_of text)
 
 abbrev pub is_capital_or_digit : ℕ → Bool
 is_capital_or_digit b = is_ascii_uppercase b || is_ascii_digit b
@@ -31,35 +23,45 @@ is_part_of_country (a ∷ b ∷ c ∷ rest) =
     then list_all is_capital_or_digit rest else false
 is_part_of_country other = false
 
--- the first region that is no part of a country
-abbrev pub region_of_no_country : List ℕ → Option (List ℕ)
-region_of_no_country text = find (λ region. not (is_part_of_country region)) (words_of text)
+module _ (country : List ℕ) where
+  -- the United Kingdom and Greece, as some write them by another code than that of ISO 3166
+  abbrev pub is_other_name : Bool
+  is_other_name = bytes_eq country (codes "UK") || bytes_eq country (codes "EL")
 
--- ---- countries by another code than that of ISO 3166
+  abbrev pub country_code : List ℕ
+  country_code =
+      if bytes_eq country (codes "UK") then codes "GB"
+      else if bytes_eq country (codes "EL") then codes "GR"
+      else country
 
--- the United Kingdom and Greece, as some write them
-abbrev pub is_other_name : List ℕ → Bool
-is_other_name country = bytes_eq country (codes "UK") || bytes_eq country (codes "EL")
+module _ (text : List ℕ) where
+  -- whether WORLD is one of the regions
+  abbrev pub names_world : Bool
+  names_world = list_any is_world (words_of text)
 
--- such names, in order
-abbrev pub other_names : List ℕ → List (List ℕ)
-other_names text = filter is_other_name (words_of text)
+  -- the regions but WORLD, in order
+  abbrev pub other_regions : List (List ℕ)
+  other_regions = filter (λ region. not (is_world region)) (words_of text)
 
-abbrev pub country_code : List ℕ → List ℕ
-country_code country =
-    if bytes_eq country (codes "UK") then codes "GB"
-    else if bytes_eq country (codes "EL") then codes "GR"
-    else country
+  -- the first region that is no part of a country
+  abbrev pub region_of_no_country : Option (List ℕ)
+  region_of_no_country = find (λ region. not (is_part_of_country region)) (words_of text)
+
+  -- the countries by another code, in order
+  abbrev pub other_names : List (List ℕ)
+  other_names = filter is_other_name (words_of text)
+
+  -- countries with the codes of ISO 3166 in place of such names, and else as they stand
+  abbrev pub countries_written : List ℕ
+  countries_written =
+      if list_any is_other_name (words_of text)
+      then countries_text (map country_code (words_of text)) else text
+
+-- ---- what is read of a text
 
 -- each word behind a space
 abbrev pub spaced : List (List ℕ) → List ℕ
 spaced words = flat_map (λ word. 32 ∷ word) words
-
--- countries with the codes in place of such names, and else as they stand
-abbrev pub countries_written : List ℕ → List ℕ
-countries_written text =
-    if list_any is_other_name (words_of text)
-    then drop 1 (spaced (map country_code (words_of text))) else text
 
 -- the codes of countries, each behind a space, where such a name is one of them
 abbrev pub IsRenamed : Option (List ℕ) → List ℕ → Type 0
@@ -67,8 +69,6 @@ IsRenamed None text = list_any is_other_name (words_of text) ≡ false
 IsRenamed (Some written) text =
     (list_any is_other_name (words_of text) ≡ true)
     × (written ≡ spaced (map country_code (words_of text)))
-
--- ---- what is read of a text
 
 -- where a text has its first space
 abbrev pub first_space : List ℕ → Option ℕ

@@ -6,7 +6,8 @@ ghost use Rattle.std.specs.Option.{option_or};
 ghost use Rattle.std.specs.Result.{result_map_both};
 ghost use Rattle.std.specs.Str.{bytes_eq};
 ghost use Rattle.onix_mapping.specs.Depths.{LinesFit};
-ghost use Rattle.onix_mapping.specs.DateViews.{date_view, dated_view, days_read};
+ghost use Rattle.onix_mapping.specs.Elements.{element_view};
+ghost use Rattle.onix_mapping.specs.DateViews.{dated_view, days_read};
 ghost use Rattle.onix_mapping.specs.Dates.{and_days, date_in, parsed_day, days_in, days_of, parsed_days, digits_by, digits_in, format_in, formats, graver, in_day, in_format, in_month, in_year, is_time, or_days, role_days, two_days};
 ghost use Rattle.onix_mapping.specs.Notes.{foreign, reason_view, wrong};
 ghost use Rattle.onix_mapping.specs.Records.{first_some};
@@ -269,7 +270,7 @@ fn two_days<'a>(text: &'a [u8]) -> Result<Days, Reason<'a>>
 // The Date of a PriceDate.
 fn date_in<'a>(depth: usize, lines: &'a [Line]) -> Option<&'a Line>
     ensures { (nodes : Nodes) → line_views lines.now ≡ outline depth nodes
-        → option_map date_view result ≡ date_in nodes }
+        → option_map (λ l. element_view l.now) result ≡ date_in nodes }
 {
     let mut rest = lines;
     while let Some(node) = first_node(depth, rest) {
@@ -284,7 +285,8 @@ fn date_in<'a>(depth: usize, lines: &'a [Line]) -> Option<&'a Line>
 // The format of a PriceDate with this Date.
 fn format_in<'a>(date: Option<&'a Line>, depth: usize, lines: &'a [Line]) -> &'a [u8]
     ensures { (nodes : Nodes) → line_views lines.now ≡ outline depth nodes
-        → option_map date_view date.entry ≡ date_in nodes → result.now ≡ format_in nodes }
+        → option_map (λ l. element_view l.now) date.entry ≡ date_in nodes
+        → result.now ≡ format_in nodes }
 {
     if let Some(line) = date {
         if let Some(format) = &line.format {

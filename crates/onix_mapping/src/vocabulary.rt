@@ -4,325 +4,41 @@ ghost use Rattle.std.specs.Prelude.{◌≡◌};
 ghost use Rattle.onix_mapping.specs.Vocabulary.{desk_vocabulary};
 ghost use Rattle.onix_outline.specs.Views.{word_views};
 
-use onix_outline::Word;
+use onix_outline::{Word, words};
 
-static WORDS: [Word; 63] = [
-    Word {
-        composite: b"ONIXMessage",
-        reference: b"Header",
-        short: b"header",
-    },
-    Word {
-        composite: b"ONIXMessage",
-        reference: b"Product",
-        short: b"product",
-    },
-    Word {
-        composite: b"Header",
-        reference: b"Sender",
-        short: b"sender",
-    },
-    Word {
-        composite: b"Header",
-        reference: b"Addressee",
-        short: b"addressee",
-    },
-    Word {
-        composite: b"Header",
-        reference: b"MessageNumber",
-        short: b"m180",
-    },
-    Word {
-        composite: b"Header",
-        reference: b"MessageRepeat",
-        short: b"m181",
-    },
-    Word {
-        composite: b"Header",
-        reference: b"SentDateTime",
-        short: b"x307",
-    },
-    Word {
-        composite: b"Header",
-        reference: b"DefaultPriceType",
-        short: b"x310",
-    },
-    Word {
-        composite: b"Header",
-        reference: b"DefaultCurrencyCode",
-        short: b"m186",
-    },
-    Word {
-        composite: b"Sender",
-        reference: b"SenderIdentifier",
-        short: b"senderidentifier",
-    },
-    Word {
-        composite: b"SenderIdentifier",
-        reference: b"SenderIDType",
-        short: b"m379",
-    },
-    Word {
-        composite: b"SenderIdentifier",
-        reference: b"IDValue",
-        short: b"b244",
-    },
-    Word {
-        composite: b"Addressee",
-        reference: b"AddresseeIdentifier",
-        short: b"addresseeidentifier",
-    },
-    Word {
-        composite: b"AddresseeIdentifier",
-        reference: b"AddresseeIDType",
-        short: b"m380",
-    },
-    Word {
-        composite: b"AddresseeIdentifier",
-        reference: b"IDValue",
-        short: b"b244",
-    },
-    Word {
-        composite: b"Product",
-        reference: b"RecordReference",
-        short: b"a001",
-    },
-    Word {
-        composite: b"Product",
-        reference: b"NotificationType",
-        short: b"a002",
-    },
-    Word {
-        composite: b"Product",
-        reference: b"ProductIdentifier",
-        short: b"productidentifier",
-    },
-    Word {
-        composite: b"Product",
-        reference: b"ProductSupply",
-        short: b"productsupply",
-    },
-    Word {
-        composite: b"ProductIdentifier",
-        reference: b"ProductIDType",
-        short: b"b221",
-    },
-    Word {
-        composite: b"ProductIdentifier",
-        reference: b"IDValue",
-        short: b"b244",
-    },
-    Word {
-        composite: b"ProductSupply",
-        reference: b"Market",
-        short: b"market",
-    },
-    Word {
-        composite: b"ProductSupply",
-        reference: b"SupplyDetail",
-        short: b"supplydetail",
-    },
-    Word {
-        composite: b"Market",
-        reference: b"Territory",
-        short: b"territory",
-    },
-    Word {
-        composite: b"Territory",
-        reference: b"CountriesIncluded",
-        short: b"x449",
-    },
-    Word {
-        composite: b"Territory",
-        reference: b"RegionsIncluded",
-        short: b"x450",
-    },
-    Word {
-        composite: b"Territory",
-        reference: b"CountriesExcluded",
-        short: b"x451",
-    },
-    Word {
-        composite: b"Territory",
-        reference: b"RegionsExcluded",
-        short: b"x452",
-    },
-    Word {
-        composite: b"SupplyDetail",
-        reference: b"OrderQuantityMinimum",
-        short: b"x532",
-    },
-    Word {
-        composite: b"SupplyDetail",
-        reference: b"Supplier",
-        short: b"supplier",
-    },
-    Word {
-        composite: b"SupplyDetail",
-        reference: b"ProductAvailability",
-        short: b"j396",
-    },
-    Word {
-        composite: b"SupplyDetail",
-        reference: b"UnpricedItemType",
-        short: b"j192",
-    },
-    Word {
-        composite: b"SupplyDetail",
-        reference: b"Price",
-        short: b"price",
-    },
-    Word {
-        composite: b"Supplier",
-        reference: b"SupplierRole",
-        short: b"j292",
-    },
-    Word {
-        composite: b"Supplier",
-        reference: b"SupplierIdentifier",
-        short: b"supplieridentifier",
-    },
-    Word {
-        composite: b"Supplier",
-        reference: b"SupplierName",
-        short: b"j137",
-    },
-    Word {
-        composite: b"SupplierIdentifier",
-        reference: b"SupplierIDType",
-        short: b"j345",
-    },
-    Word {
-        composite: b"SupplierIdentifier",
-        reference: b"IDValue",
-        short: b"b244",
-    },
-    Word {
-        composite: b"Price",
-        reference: b"PriceType",
-        short: b"x462",
-    },
-    Word {
-        composite: b"Price",
-        reference: b"PriceQualifier",
-        short: b"j261",
-    },
-    Word {
-        composite: b"Price",
-        reference: b"PricePer",
-        short: b"j239",
-    },
-    Word {
-        composite: b"Price",
-        reference: b"PriceCondition",
-        short: b"pricecondition",
-    },
-    Word {
-        composite: b"Price",
-        reference: b"PriceConstraint",
-        short: b"priceconstraint",
-    },
-    Word {
-        composite: b"Price",
-        reference: b"MinimumOrderQuantity",
-        short: b"j263",
-    },
-    Word {
-        composite: b"Price",
-        reference: b"PriceCoded",
-        short: b"pricecoded",
-    },
-    Word {
-        composite: b"Price",
-        reference: b"PriceAmount",
-        short: b"j151",
-    },
-    Word {
-        composite: b"Price",
-        reference: b"UnpricedItemType",
-        short: b"j192",
-    },
-    Word {
-        composite: b"Price",
-        reference: b"CurrencyCode",
-        short: b"j152",
-    },
-    Word {
-        composite: b"Price",
-        reference: b"CurrencyZone",
-        short: b"x475",
-    },
-    Word {
-        composite: b"Price",
-        reference: b"EpubLicense",
-        short: b"epublicense",
-    },
-    Word {
-        composite: b"Price",
-        reference: b"PriceTypeCode",
-        short: b"j148",
-    },
-    Word {
-        composite: b"Price",
-        reference: b"PriceEffectiveFrom",
-        short: b"j161",
-    },
-    Word {
-        composite: b"Price",
-        reference: b"PriceEffectiveUntil",
-        short: b"j162",
-    },
-    Word {
-        composite: b"Price",
-        reference: b"CountryCode",
-        short: b"b251",
-    },
-    Word {
-        composite: b"Price",
-        reference: b"Territory",
-        short: b"territory",
-    },
-    Word {
-        composite: b"Price",
-        reference: b"PriceDate",
-        short: b"pricedate",
-    },
-    Word {
-        composite: b"Price",
-        reference: b"Discount",
-        short: b"discount",
-    },
-    Word {
-        composite: b"Price",
-        reference: b"DiscountCoded",
-        short: b"discountcoded",
-    },
-    Word {
-        composite: b"PriceCondition",
-        reference: b"PriceConditionType",
-        short: b"x463",
-    },
-    Word {
-        composite: b"PriceConstraint",
-        reference: b"PriceConstraintType",
-        short: b"x529",
-    },
-    Word {
-        composite: b"PriceDate",
-        reference: b"PriceDateRole",
-        short: b"x476",
-    },
-    Word {
-        composite: b"PriceDate",
-        reference: b"DateFormat",
-        short: b"j260",
-    },
-    Word {
-        composite: b"PriceDate",
-        reference: b"Date",
-        short: b"b306",
-    },
-];
+static WORDS: [Word; 63] = words! {
+    b"ONIXMessage": b"Header" = b"header", b"Product" = b"product";
+    b"Header": b"Sender" = b"sender", b"Addressee" = b"addressee", b"MessageNumber" = b"m180",
+        b"MessageRepeat" = b"m181", b"SentDateTime" = b"x307", b"DefaultPriceType" = b"x310",
+        b"DefaultCurrencyCode" = b"m186";
+    b"Sender": b"SenderIdentifier" = b"senderidentifier";
+    b"SenderIdentifier": b"SenderIDType" = b"m379", b"IDValue" = b"b244";
+    b"Addressee": b"AddresseeIdentifier" = b"addresseeidentifier";
+    b"AddresseeIdentifier": b"AddresseeIDType" = b"m380", b"IDValue" = b"b244";
+    b"Product": b"RecordReference" = b"a001", b"NotificationType" = b"a002",
+        b"ProductIdentifier" = b"productidentifier", b"ProductSupply" = b"productsupply";
+    b"ProductIdentifier": b"ProductIDType" = b"b221", b"IDValue" = b"b244";
+    b"ProductSupply": b"Market" = b"market", b"SupplyDetail" = b"supplydetail";
+    b"Market": b"Territory" = b"territory";
+    b"Territory": b"CountriesIncluded" = b"x449", b"RegionsIncluded" = b"x450",
+        b"CountriesExcluded" = b"x451", b"RegionsExcluded" = b"x452";
+    b"SupplyDetail": b"OrderQuantityMinimum" = b"x532", b"Supplier" = b"supplier",
+        b"ProductAvailability" = b"j396", b"UnpricedItemType" = b"j192", b"Price" = b"price";
+    b"Supplier": b"SupplierRole" = b"j292", b"SupplierIdentifier" = b"supplieridentifier",
+        b"SupplierName" = b"j137";
+    b"SupplierIdentifier": b"SupplierIDType" = b"j345", b"IDValue" = b"b244";
+    b"Price": b"PriceType" = b"x462", b"PriceQualifier" = b"j261", b"PricePer" = b"j239",
+        b"PriceCondition" = b"pricecondition", b"PriceConstraint" = b"priceconstraint",
+        b"MinimumOrderQuantity" = b"j263", b"PriceCoded" = b"pricecoded", b"PriceAmount" = b"j151",
+        b"UnpricedItemType" = b"j192", b"CurrencyCode" = b"j152", b"CurrencyZone" = b"x475",
+        b"EpubLicense" = b"epublicense", b"PriceTypeCode" = b"j148",
+        b"PriceEffectiveFrom" = b"j161", b"PriceEffectiveUntil" = b"j162",
+        b"CountryCode" = b"b251", b"Territory" = b"territory", b"PriceDate" = b"pricedate",
+        b"Discount" = b"discount", b"DiscountCoded" = b"discountcoded";
+    b"PriceCondition": b"PriceConditionType" = b"x463";
+    b"PriceConstraint": b"PriceConstraintType" = b"x529";
+    b"PriceDate": b"PriceDateRole" = b"x476", b"DateFormat" = b"j260", b"Date" = b"b306";
+};
 
 /// The elements that say something to the desk.
 #[tactic(auto, unfolding(crate::specs::Vocabulary::desk_vocabulary))]

@@ -6,7 +6,7 @@ ghost use Rattle.desk_program.specs.ConvertEnds.{ConvertEnds};
 
 use command_line::convert_words::Conversion;
 use named_files::NamedFiles;
-use onix_files::{convert_files, convert_with_titles};
+use onix_files::convert_files;
 use std::io::{Read, Write};
 use std::rt::HostRuntime;
 
@@ -26,10 +26,6 @@ pub(crate) fn run<F: NamedFiles, R: Read, W: Write, E: Write>(
 {
     let run = &conversion.run;
     let names = conversion.files.as_slice();
-    match conversion.titles {
-        None => convert_files(rt, run, names, files, input, output, errors),
-        Some(titles) => {
-            convert_with_titles(rt, run, titles, names, files, input, output, errors)
-        }
-    }
+    let titles = conversion.titles;
+    convert_files(rt, run, titles, names, files, input, output, errors)
 }

@@ -1,5 +1,5 @@
 -- How the titles of FILEs end.
-use Rattle.std.specs.Prelude.{◌≡◌, ◌⊎◌, ℕ, ◌++◌, Bool, true, List, [], ◌∷◌, Option, max}
+use Rattle.std.specs.Prelude.{◌≡◌, ◌⊎◌, ℕ, ◌++◌, Bool, true, List, [], ◌∷◌, Option, Some, None, max}
 use Rattle.std.specs.Prelude.{if◌then◌else◌}
 use Rattle.std.specs.List.{concat}
 use Rattle.xml_text.specs.declared.position.Position.{Position}
@@ -58,3 +58,10 @@ TitledRunEnds a file told before after names written status =
     (λ ends. written (outputs ends)
     × TitlesEnd a.is_told file (converted_names names ends) between after other) one
     × (status ≡ max one other)
+
+module _ (a : Asking) (told : Option (List ℕ)) (before after : Holdings)
+    (names : List (List ℕ)) (written : List ℕ → Type 0) (status : ℕ) where
+  -- how a run over FILEs ends whose titles go into the file of a name, or nowhere
+  abbrev pub EndsWith : Option (List ℕ) → Type 0
+  EndsWith None = RunEnds a told before after names (λ ends. written (outputs ends)) status
+  EndsWith (Some file) = TitledRunEnds a file told before after names written status

@@ -1,14 +1,14 @@
 //! A run over FILEs.
 
-ghost use Rattle.std.specs.Prelude.{◌≡◌, ◌≢◌, ◌⊎◌, ◌<◌, ◌≤◌, ℕ, List, [], Option, IfErr, IfOk, OnOk, codes, is_some, map, max, true, false};
+ghost use Rattle.std.specs.Prelude.{◌≡◌, ◌≢◌, ◌⊎◌, ◌<◌, ◌≤◌, ℕ, List, [], Option, IfErr, IfOk, OnOk, codes, is_some, map, max, option_map, true, false};
 ghost use Rattle.std.specs.Io.KnownBytes.{Appends};
 ghost use Rattle.named_files.specs.Holdings.{MayName, Names};
 ghost use Rattle.named_files.specs.PartFiles.{files_of, place};
 ghost use Rattle.named_files.specs.Texts.{with_file};
 ghost use Rattle.onix_conversion.specs.Views.{options_view};
 ghost use Rattle.onix_files.specs.Ends.{IsEnd, IsTaken, IsUnconverted, asking, file_end, is_converted};
-ghost use Rattle.onix_files.specs.Runs.{AllEnd, RunEnds, outputs, run_asking};
-ghost use Rattle.onix_files.specs.Titles.{TitledRunEnds, TitlesEnd, converted_names};
+ghost use Rattle.onix_files.specs.Runs.{AllEnd, outputs, run_asking};
+ghost use Rattle.onix_files.specs.Titles.{EndsWith, TitlesEnd, converted_names};
 
 use crate::collected::Collected;
 use crate::converted::ConvertedNames;
@@ -485,27 +485,36 @@ fn has_folder<F: NamedFiles, E: Write>(
     }
 }
 
-// Converts each FILE in turn, and writes the summary.
-fn convert_all<'a, F: NamedFiles, R: Read, W: Write, E: Write>(
+/// Converts each FILE in turn, where `-` is standard input and each other one is opened by its
+/// name, and gives the status: 0, or 1 where one was refused or a wrong product left out, or 3
+/// where a file could not be read or written or memory ran out, which outweighs 1. What one ends
+/// in does not keep the others from being converted.
+///
+/// Where titles are asked for, those of the FILEs that were converted then go into a new file of
+/// that path, each FILE opened again by its name. Where that cannot be, the records stand, a line
+/// says why, and the status is 3.
+pub fn convert_files<F: NamedFiles, R: Read, W: Write, E: Write>(
     rt: &HostRuntime,
     run: &Run<'_>,
-    names: &[&'a str],
+    titles: Option<&str>,
+    names: &[&str],
     files: &mut F,
     input: &mut R,
     output: &mut W,
-    converted: &mut ConvertedNames<'a>,
     errors: &mut E,
 ) -> u8
-    requires { map (λ name. name.now) converted.old.names.items ≡ [] }
-    ensures end { AllEnd (run_asking F.is_told run.now) (R.remaining input.old)
+    ensures end { EndsWith (run_asking F.is_told run.now) (R.remaining input.old)
         (F.holds files.old) (F.holds files.new) (map (λ name. name.now) names.now)
-        (λ ends. Appends (W.contents output.old) (W.contents output.new) (outputs ends)
-        × (converted.new.is_whole ≡ true → map (λ name. name.now) converted.new.names.items
-        ≡ converted_names (map (λ name. name.now) names.now) ends)) result }
+        (Appends (W.contents output.old) (W.contents output.new)) result
+        (option_map (λ file. file.now) titles.entry) }
     ensures most { result ≤ 3 }
 {
     let alloc = rt.alloc();
+    if !has_folder(alloc, run, files, errors) {
+        return 3;
+    }
     let mut summary = Summary::new(alloc);
+    let mut converted = ConvertedNames::new(alloc);
     let status = convert_each(
         rt,
         run,
@@ -514,63 +523,15 @@ fn convert_all<'a, F: NamedFiles, R: Read, W: Write, E: Write>(
         input,
         output,
         &mut summary,
-        converted,
+        &mut converted,
         errors,
     );
     write_summary(alloc, &summary, errors);
-    status
-}
-
-/// Converts each FILE in turn, where `-` is standard input and each other one is opened by its
-/// name, and gives the status: 0, or 1 where one was refused or a wrong product left out, or 3
-/// where a file could not be read or written or memory ran out, which outweighs 1. What one ends
-/// in does not keep the others from being converted.
-pub fn convert_files<F: NamedFiles, R: Read, W: Write, E: Write>(
-    rt: &HostRuntime,
-    run: &Run<'_>,
-    names: &[&str],
-    files: &mut F,
-    input: &mut R,
-    output: &mut W,
-    errors: &mut E,
-) -> u8
-    ensures end { RunEnds (run_asking F.is_told run.now) (R.remaining input.old)
-        (F.holds files.old) (F.holds files.new) (map (λ name. name.now) names.now)
-        (λ ends. Appends (W.contents output.old) (W.contents output.new) (outputs ends)) result }
-    ensures most { result ≤ 3 }
-{
-    let alloc = rt.alloc();
-    if !has_folder(alloc, run, files, errors) {
-        return 3;
+    match titles {
+        None => status,
+        Some(titles) => {
+            let titled = write_noted(alloc, titles, &converted, files, errors);
+            greater(status, titled)
+        }
     }
-    let mut converted = ConvertedNames::new(alloc);
-    convert_all(rt, run, names, files, input, output, &mut converted, errors)
-}
-
-/// The same, and then writes the titles of the FILEs that were converted into a new file of the
-/// path `titles`, each FILE opened again by its name. Where that cannot be, the records stand, a
-/// line says why, and the status is 3.
-pub fn convert_with_titles<F: NamedFiles, R: Read, W: Write, E: Write>(
-    rt: &HostRuntime,
-    run: &Run<'_>,
-    titles: &str,
-    names: &[&str],
-    files: &mut F,
-    input: &mut R,
-    output: &mut W,
-    errors: &mut E,
-) -> u8
-    ensures end { TitledRunEnds (run_asking F.is_told run.now) titles.now (R.remaining input.old)
-        (F.holds files.old) (F.holds files.new) (map (λ name. name.now) names.now)
-        (Appends (W.contents output.old) (W.contents output.new)) result }
-    ensures most { result ≤ 3 }
-{
-    let alloc = rt.alloc();
-    if !has_folder(alloc, run, files, errors) {
-        return 3;
-    }
-    let mut converted = ConvertedNames::new(alloc);
-    let status = convert_all(rt, run, names, files, input, output, &mut converted, errors);
-    let titled = write_noted(alloc, titles, &converted, files, errors);
-    greater(status, titled)
 }

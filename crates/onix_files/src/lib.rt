@@ -21,7 +21,7 @@ mod unread;
 mod watched;
 mod words;
 
-pub use converting::{Run, convert_files, convert_with_titles};
+pub use converting::{Run, convert_files};
 pub use ended::Ended;
 pub use fault::write_fault;
 pub use named_files::STANDARD_INPUT;

@@ -1,5 +1,6 @@
-//! A test of `xml_text`, `onix_outline` and `onix_mapping`: each part of the standard input, behind
-//! `== `, is a line with its name and then tests, and what was found of each test is written.
+//! A test of `xml_text`, `onix_outline`, `onix_mapping` and `onix_titles`: each part of the
+//! standard input, behind `== `, is a line with its name and then tests, and what was found of each
+//! test is written.
 #![tactic(auto)]
 
 mod document;
@@ -7,6 +8,7 @@ mod lines;
 mod mapping;
 mod outline;
 mod shown;
+mod titles;
 
 use crate::lines::split;
 use std::io;
@@ -20,15 +22,18 @@ fn tell(rt: HostRuntime, name: &[u8], test: &[u8]) -> io::Result<()> {
         outline::tell(rt, test)
     } else if name == b"mapping".as_slice() {
         mapping::tell(rt, test)
+    } else if name == b"titles".as_slice() {
+        titles::tell(rt, test)
     } else {
         println!(rt; "no such part")
     }
 }
 
-// Runs the tests of a part, which are paragraphs where messages are mapped, and else lines.
+// Runs the tests of a part, which are paragraphs where messages are mapped or their titles are
+// read, and else lines.
 fn tell_part(rt: HostRuntime, part: &[u8]) -> io::Result<()> {
     let (name, tests) = split(part, b"\n");
-    let has_paragraphs = name == b"mapping".as_slice();
+    let has_paragraphs = name == b"mapping".as_slice() || name == b"titles".as_slice();
     let mut rest = tests;
     while !rest.is_empty() {
         let (test, behind) = if has_paragraphs {

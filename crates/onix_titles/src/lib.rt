@@ -9,8 +9,6 @@ mod reading;
 mod rows;
 mod taker;
 mod target;
-#[cfg(test)]
-mod tests;
 mod texts;
 mod vocabulary;
 

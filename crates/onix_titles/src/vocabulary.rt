@@ -4,170 +4,28 @@ ghost use Rattle.std.specs.Prelude.{◌≡◌};
 ghost use Rattle.onix_outline.specs.Views.{word_views};
 ghost use Rattle.onix_titles.specs.Vocabulary.{title_vocabulary};
 
-use onix_outline::Word;
+use onix_outline::{Word, words};
 
-static WORDS: [Word; 32] = [
-    Word {
-        composite: b"ONIXMessage",
-        reference: b"Header",
-        short: b"header",
-    },
-    Word {
-        composite: b"ONIXMessage",
-        reference: b"Product",
-        short: b"product",
-    },
-    Word {
-        composite: b"Header",
-        reference: b"MessageNumber",
-        short: b"m180",
-    },
-    Word {
-        composite: b"Product",
-        reference: b"RecordReference",
-        short: b"a001",
-    },
-    Word {
-        composite: b"Product",
-        reference: b"NotificationType",
-        short: b"a002",
-    },
-    Word {
-        composite: b"Product",
-        reference: b"ProductIdentifier",
-        short: b"productidentifier",
-    },
-    Word {
-        composite: b"Product",
-        reference: b"DescriptiveDetail",
-        short: b"descriptivedetail",
-    },
-    Word {
-        composite: b"Product",
-        reference: b"PublishingDetail",
-        short: b"publishingdetail",
-    },
-    Word {
-        composite: b"ProductIdentifier",
-        reference: b"ProductIDType",
-        short: b"b221",
-    },
-    Word {
-        composite: b"ProductIdentifier",
-        reference: b"IDValue",
-        short: b"b244",
-    },
-    Word {
-        composite: b"DescriptiveDetail",
-        reference: b"ProductForm",
-        short: b"b012",
-    },
-    Word {
-        composite: b"DescriptiveDetail",
-        reference: b"TitleDetail",
-        short: b"titledetail",
-    },
-    Word {
-        composite: b"DescriptiveDetail",
-        reference: b"Contributor",
-        short: b"contributor",
-    },
-    Word {
-        composite: b"TitleDetail",
-        reference: b"TitleType",
-        short: b"b202",
-    },
-    Word {
-        composite: b"TitleDetail",
-        reference: b"TitleElement",
-        short: b"titleelement",
-    },
-    Word {
-        composite: b"TitleElement",
-        reference: b"TitleElementLevel",
-        short: b"x409",
-    },
-    Word {
-        composite: b"TitleElement",
-        reference: b"TitleText",
-        short: b"b203",
-    },
-    Word {
-        composite: b"TitleElement",
-        reference: b"TitlePrefix",
-        short: b"b030",
-    },
-    Word {
-        composite: b"TitleElement",
-        reference: b"TitleWithoutPrefix",
-        short: b"b031",
-    },
-    Word {
-        composite: b"TitleElement",
-        reference: b"Subtitle",
-        short: b"b029",
-    },
-    Word {
-        composite: b"Contributor",
-        reference: b"SequenceNumber",
-        short: b"b034",
-    },
-    Word {
-        composite: b"Contributor",
-        reference: b"ContributorRole",
-        short: b"b035",
-    },
-    Word {
-        composite: b"Contributor",
-        reference: b"PersonName",
-        short: b"b036",
-    },
-    Word {
-        composite: b"Contributor",
-        reference: b"PersonNameInverted",
-        short: b"b037",
-    },
-    Word {
-        composite: b"Contributor",
-        reference: b"CorporateName",
-        short: b"b047",
-    },
-    Word {
-        composite: b"PublishingDetail",
-        reference: b"Imprint",
-        short: b"imprint",
-    },
-    Word {
-        composite: b"PublishingDetail",
-        reference: b"Publisher",
-        short: b"publisher",
-    },
-    Word {
-        composite: b"PublishingDetail",
-        reference: b"PublishingDate",
-        short: b"publishingdate",
-    },
-    Word {
-        composite: b"Imprint",
-        reference: b"ImprintName",
-        short: b"b079",
-    },
-    Word {
-        composite: b"Publisher",
-        reference: b"PublisherName",
-        short: b"b081",
-    },
-    Word {
-        composite: b"PublishingDate",
-        reference: b"PublishingDateRole",
-        short: b"x448",
-    },
-    Word {
-        composite: b"PublishingDate",
-        reference: b"Date",
-        short: b"b306",
-    },
-];
+static WORDS: [Word; 32] = words! {
+    b"ONIXMessage": b"Header" = b"header", b"Product" = b"product";
+    b"Header": b"MessageNumber" = b"m180";
+    b"Product": b"RecordReference" = b"a001", b"NotificationType" = b"a002",
+        b"ProductIdentifier" = b"productidentifier", b"DescriptiveDetail" = b"descriptivedetail",
+        b"PublishingDetail" = b"publishingdetail";
+    b"ProductIdentifier": b"ProductIDType" = b"b221", b"IDValue" = b"b244";
+    b"DescriptiveDetail": b"ProductForm" = b"b012", b"TitleDetail" = b"titledetail",
+        b"Contributor" = b"contributor";
+    b"TitleDetail": b"TitleType" = b"b202", b"TitleElement" = b"titleelement";
+    b"TitleElement": b"TitleElementLevel" = b"x409", b"TitleText" = b"b203",
+        b"TitlePrefix" = b"b030", b"TitleWithoutPrefix" = b"b031", b"Subtitle" = b"b029";
+    b"Contributor": b"SequenceNumber" = b"b034", b"ContributorRole" = b"b035",
+        b"PersonName" = b"b036", b"PersonNameInverted" = b"b037", b"CorporateName" = b"b047";
+    b"PublishingDetail": b"Imprint" = b"imprint", b"Publisher" = b"publisher",
+        b"PublishingDate" = b"publishingdate";
+    b"Imprint": b"ImprintName" = b"b079";
+    b"Publisher": b"PublisherName" = b"b081";
+    b"PublishingDate": b"PublishingDateRole" = b"x448", b"Date" = b"b306";
+};
 
 /// The elements that count.
 #[tactic(auto, unfolding(crate::specs::Vocabulary::title_vocabulary))]

@@ -109,8 +109,8 @@ impl RecordBuffer {
         Ok(())
     }
 
-    /// Adds a copy of a record that csv read. Where memory runs out, the records stay as they were.
-    pub fn push_read(&mut self, from: &StringRecord) -> Result<(), AllocError>
+    // Adds a copy of a record that csv read. Where memory runs out, the records stay as they were.
+    pub(crate) fn push_read(&mut self, from: &StringRecord) -> Result<(), AllocError>
         ensures ok { OnOk result (self.new ≡ self.old ++ fields_of from.now ∷ []) }
         ensures err { OnErr result (self.new ≡ self.old) }
     {

@@ -117,6 +117,15 @@ impl<'a> RecordReader<'a> {
     }
 }
 
+/// Adds a copy of a record that was read. Where memory runs out, the records stay as they were.
+/// It is no call of the buffer, so that a crate that names that type has nothing of `csv` to load.
+pub fn push_read(buffer: &mut RecordBuffer, from: &StringRecord) -> Result<(), AllocError>
+    ensures ok { OnOk result (buffer.new ≡ buffer.old ++ fields_of from.now ∷ []) }
+    ensures err { OnErr result (buffer.new ≡ buffer.old) }
+{
+    buffer.push_read(from)
+}
+
 // Adds the records that a reader has left, or, where it fails, some of them.
 fn append_each(
     alloc: Global,
@@ -133,9 +142,9 @@ fn append_each(
     Ok(())
 }
 
-/// Adds all records that a reader has left. Where memory runs out, the buffer's records stay as
-/// they were, and how many the reader has left is not said.
-pub fn append_records(
+// Adds all records that a reader has left. Where memory runs out, the buffer's records stay as they
+// were, and how many the reader has left is not said.
+fn append_records(
     alloc: Global,
     buffer: &mut RecordBuffer,
     reader: &mut RecordReader<'_>,
@@ -149,6 +158,16 @@ pub fn append_records(
         return Err(AllocError);
     };
     Ok(())
+}
+
+/// Adds the records of a text of any length. Where memory runs out, the buffer's records stay as
+/// they were.
+pub fn append_text(alloc: Global, buffer: &mut RecordBuffer, text: &str) -> Result<(), AllocError>
+    ensures ok { OnOk result (buffer.new ≡ buffer.old ++ records_of text.now) }
+    ensures err { OnErr result (buffer.new ≡ buffer.old) }
+{
+    let mut reader = RecordReader::of_text(alloc, text);
+    append_records(alloc, buffer, &mut reader)
 }
 
 /// The records of a text of at most 4,194,304 bytes.

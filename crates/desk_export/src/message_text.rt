@@ -9,7 +9,7 @@ ghost use Rattle.desk_export.specs.MessageRecords.{framed_by, message_record, me
 
 use csv_records::buffer::RecordBuffer;
 use csv_records::laws::one_text;
-use csv_records::reading::{RecordReader, append_records};
+use csv_records::reading::append_text;
 use csv_records::writing::write_records;
 use itoa::Buffer;
 use onix_records::Agreement;
@@ -77,8 +77,7 @@ fn frame(
         (records_of contents.now)) }
 {
     begin(whole, agreement, number)?;
-    let mut reader = RecordReader::of_text(alloc, contents);
-    append_records(alloc, whole, &mut reader)?;
+    append_text(alloc, whole, contents)?;
     let mut buffer = Buffer::new();
     let count = whole.len();
     whole.push_fields(&["EndMessage", buffer.format(count)])?;

@@ -8,7 +8,7 @@ ghost use Rattle.desk_texts.specs.Closed.{closed};
 
 use csv::StringRecord;
 use csv_records::buffer::RecordBuffer;
-use csv_records::reading::RecordReader;
+use csv_records::reading::{RecordReader, push_read};
 use onix_terms::items::Items;
 use std::alloc::{AllocError, Global};
 
@@ -68,7 +68,7 @@ pub fn read_pieces(
             close_piece(&mut cut, piece)?;
             piece = RecordBuffer::new(alloc);
         }
-        piece.push_read(&next)?;
+        push_read(&mut piece, &next)?;
     }
     close_piece(&mut cut, piece)?;
     Ok(cut)

@@ -14,7 +14,7 @@ use crate::message::{MessageFault, read_message};
 use csv_records::buffer::RecordBuffer;
 use csv_records::fields::FieldBuffer;
 use csv_records::laws::one_text;
-use csv_records::reading::{RecordReader, append_records};
+use csv_records::reading::append_text;
 use csv_records::writing::write_records;
 use itoa::Buffer;
 use onix_records::laws::equal_contents;
@@ -82,8 +82,7 @@ fn frame(alloc: Global, whole: &mut RecordBuffer, text: &str) -> Result<(), Allo
     ensures { whole.old ≡ [] → OnOk result (whole.new ≡ framed (records_of text.now)) }
 {
     whole.push_fields(&["Message", "2", "01", "x", "", "", "", "", "", "", ""])?;
-    let mut reader = RecordReader::of_text(alloc, text);
-    append_records(alloc, whole, &mut reader)?;
+    append_text(alloc, whole, text)?;
     let mut buffer = Buffer::new();
     let count = whole.len();
     whole.push_fields(&["EndMessage", buffer.format(count)])?;

@@ -1,11 +1,9 @@
 //! The words of the command `convert`.
 
-ghost use Rattle.std.specs.Prelude.{◌≡◌, IfErr, IfOk, Some, codes, map, not, option_map};
-ghost use Rattle.std.specs.List.{list_all};
+ghost use Rattle.std.specs.Prelude.{◌≡◌, IfErr, IfOk, Some, codes, map, option_map};
 ghost use Rattle.onix_terms.specs.Code.{code2_of};
 ghost use Rattle.onix_terms.specs.Digits.{digits_of};
 ghost use Rattle.onix_terms.specs.Number.{number_of};
-ghost use Rattle.onix_records.specs.Fields.{is_control};
 ghost use Rattle.onix_mapping.specs.PartyViews.{pair_view};
 ghost use Rattle.onix_conversion.specs.Views.{options_view};
 ghost use Rattle.onix_conversion.specs.declared.options.Allowed.TheVariants.{FewWrong};
@@ -17,13 +15,11 @@ use clap::ArgMatches;
 use onix_conversion::{Allowed, Options};
 use onix_files::{Run, STANDARD_INPUT};
 use onix_mapping::{Choices, Pair};
+use onix_records::fields::is_clean;
 use onix_terms::code::Code2;
 use onix_terms::digits::read_digits;
 use onix_terms::number::Number;
 use std::alloc::{AllocError, Global};
-
-/// The most bytes that an identifier may have.
-const MOST_BYTES: usize = 1_024;
 
 /// The type of identifier that is preferred without `--id-type`: GLN.
 const GLN: &[u8] = b"06";
@@ -165,18 +161,11 @@ fn number_of<'a>(words: &ArgMatches<'a>) -> Result<Option<Number>, BadWords<'a>>
     }
 }
 
-// Whether no byte is a control character.
-fn has_no_control(text: &[u8]) -> bool
-    ensures { result ≡ list_all (λ b. not (is_control b)) text.now }
-{
-    text.iter().all(|b| !(*b < 0x20 || *b == 0x7f))
-}
-
 // Whether a text may be the value of an identifier.
 fn is_value(text: &[u8]) -> bool
     ensures { result ≡ is_value text.now }
 {
-    !text.is_empty() && text.len() <= MOST_BYTES && has_no_control(text)
+    !text.is_empty() && is_clean(text)
 }
 
 // The identifier that a word is.

@@ -1,10 +1,10 @@
 //! Texts of elements as the fields of a record.
 
-ghost use Rattle.std.specs.Prelude.{◌≡◌, ◌==◌, ◌++◌, IfNone, IfSome, IsErrOf, OnOk, is_some, map, not, option_map, true, false};
+ghost use Rattle.std.specs.Prelude.{◌≡◌, ◌==◌, ◌++◌, IfNone, IfSome, IsErrOf, OnOk, is_some, map, option_map, true, false};
 ghost use Rattle.std.specs.List.{list_all};
 ghost use Rattle.std.specs.Option.{option_or};
 ghost use Rattle.std.specs.Str.{is_utf8};
-ghost use Rattle.onix_records.specs.Fields.{is_clean, is_control, value_or_default, unless_empty};
+ghost use Rattle.onix_records.specs.Fields.{value_or_default, unless_empty};
 ghost use Rattle.onix_mapping.specs.Notes.{reason_view};
 ghost use Rattle.onix_mapping.specs.PriceViews.{reason_read};
 ghost use Rattle.onix_mapping.specs.Records.{is_field, parsed_term, unless};
@@ -14,6 +14,7 @@ ghost use Rattle.onix_terms.specs.Quantity.{quantity_of};
 
 use crate::notes::{Reason, ReasonKind, Wrong};
 use csv_records::fields::FieldBuffer;
+use onix_records::fields::is_clean;
 use onix_records::row::RowFault;
 use onix_terms::amount::Amount;
 use onix_terms::code::{Code2, Currency};
@@ -53,24 +54,6 @@ pub(crate) fn parsed_quantity(text: &[u8]) -> Option<Quantity>
     ensures { result ≡ parsed_term quantity_of text.now }
 {
     utf8_text(text)?.parse().ok()
-}
-
-fn is_control_byte(byte: u8) -> bool
-    ensures { result ≡ is_control byte }
-{
-    byte < 32 || byte == 127
-}
-
-fn has_no_control(text: &[u8]) -> bool
-    ensures { result ≡ list_all (λ b. not (is_control b)) text.now }
-{
-    text.iter().all(|byte| !is_control_byte(*byte))
-}
-
-fn is_clean(text: &[u8]) -> bool
-    ensures { result ≡ is_clean text.now }
-{
-    text.len() <= 1024 && has_no_control(text)
 }
 
 /// Whether the desk takes a text as a field that may not be empty.

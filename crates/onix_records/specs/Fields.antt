@@ -12,9 +12,13 @@ use Rattle.onix_terms.specs.declared.territory.Territory.{Territory}
 abbrev pub is_control : ℕ → Bool
 is_control b = nat_lt b 32 || (b == 127)
 
+-- a text without control characters
+abbrev pub has_no_control : List ℕ → Bool
+has_no_control text = list_all (λ b. not (is_control b)) text
+
 -- a field of at most 1,024 bytes and no control character
 abbrev pub is_clean : List ℕ → Bool
-is_clean field = nat_le (length field) 1024 && list_all (λ b. not (is_control b)) field
+is_clean field = nat_le (length field) 1024 && has_no_control field
 
 -- the value of a text, or nothing if the text is empty
 abbrev pub unless_empty : {A : Type 0} → List ℕ → Option A → Option (Option A)

@@ -1,8 +1,8 @@
 //! The fields of a record, and those that several rows have.
 
-ghost use Rattle.std.specs.Prelude.{◌≡◌, ◌++◌, IsErrOf, OnOk, length, map, nat_le, not, true, false};
+ghost use Rattle.std.specs.Prelude.{◌≡◌, ◌++◌, IsErrOf, OnOk, length, map, nat_le, true, false};
 ghost use Rattle.std.specs.List.{list_all};
-ghost use Rattle.onix_records.specs.Fields.{is_clean, is_control, optional_party, party_of, party_fields, territory_fields};
+ghost use Rattle.onix_records.specs.Fields.{has_no_control, is_clean, is_control, optional_party, party_of, party_fields, territory_fields};
 ghost use Rattle.onix_records.specs.Gives.{Gives};
 ghost use Rattle.onix_terms.specs.Options.{nonempty};
 ghost use Rattle.onix_terms.specs.Territory.{territory_of};
@@ -17,6 +17,9 @@ use onix_terms::territory::{TermFault, Territory};
 use onix_terms::text::Text;
 use std::alloc::{AllocError, Global};
 
+/// The most bytes that a field may have.
+const MOST_BYTES: usize = 1_024;
+
 // Whether a byte is a control character.
 fn is_control_byte(byte: u8) -> bool
     ensures { result ≡ is_control byte }
@@ -24,10 +27,11 @@ fn is_control_byte(byte: u8) -> bool
     byte < 32 || byte == 127
 }
 
-// It goes on after a control character, since a loop without an early exit is faster.
+// Whether a text has no control character.
 fn has_no_control(bytes: &[u8]) -> bool
-    ensures { result ≡ list_all (λ b. not (is_control b)) bytes.now }
+    ensures { result ≡ has_no_control bytes.now }
 {
+    // It goes on after a control character, since a loop without an early exit is faster.
     let mut is_plain = true;
     for byte in bytes {
         is_plain = is_plain & !is_control_byte(*byte);
@@ -35,11 +39,18 @@ fn has_no_control(bytes: &[u8]) -> bool
     is_plain
 }
 
+/// Whether a text may be a field: it has at most 1,024 bytes and no control character.
+pub fn is_clean(text: &[u8]) -> bool
+    ensures { result ≡ is_clean text.now }
+{
+    text.len() <= MOST_BYTES && has_no_control(text)
+}
+
 // Whether no field has more than 1,024 bytes.
 fn are_short(fields: &[&str]) -> bool
     ensures { result ≡ list_all (λ f. nat_le (length f.now) 1024) fields.now }
 {
-    fields.iter().all(|field| field.len() <= 1024)
+    fields.iter().all(|field| field.len() <= MOST_BYTES)
 }
 
 /// Puts the fields of a record into a list, in place of what it held. A record is `Wrong` exactly

@@ -1,50 +1,16 @@
 //! The records of answers about the offers of an article.
 
-ghost use Rattle.std.specs.Prelude.{◌≡◌, ◌++◌, ◌∷◌, [], IfOk, OnOk, Some, map};
-ghost use Rattle.std.specs.Option.{option_map_or};
-ghost use Rattle.std.specs.String.{string_bytes};
-ghost use Rattle.onix_terms.specs.Amount.{amount_text};
-ghost use Rattle.onix_terms.specs.Day.{day_text};
+ghost use Rattle.std.specs.Prelude.{◌≡◌, ◌++◌, OnOk, Some, map};
 ghost use Rattle.desk_texts.specs.PriceText.{calendar_records, choice_fields, dated_records, head_fields, listed_fields, price_records, priced_fields, span_fields};
 
 use crate::text_rows::{fill, push_count, push_number};
 use csv_records::buffer::RecordBuffer;
 use csv_records::fields::FieldBuffer;
-use onix_terms::amount::Amount;
-use onix_terms::day::Day;
+use onix_records::fields::{push_amount, push_day};
 use onix_terms::isbn13::Isbn13;
 use price_rules::calendar::Span;
 use series_rules::answers::{ChosenOffer, ListedOffer, OfferCalendar, PricedOffer};
 use std::alloc::{AllocError, Global};
-
-fn amount_digits(alloc: Global, amount: Option<Amount>) -> Result<String, AllocError>
-    ensures { IfOk result (λ t. string_bytes t ≡ option_map_or amount_text amount []) }
-{
-    let mut text = String::new(alloc);
-    if let Some(amount) = amount {
-        amount.write(&mut text)?;
-    }
-    Ok(text)
-}
-
-// Adds an amount, or an empty field.
-fn push_amount(
-    alloc: Global,
-    out: &mut FieldBuffer,
-    amount: Option<Amount>,
-) -> Result<(), AllocError>
-    ensures { OnOk result (out.new ≡ out.old ++ option_map_or amount_text amount [] ∷ []) }
-{
-    out.push(amount_digits(alloc, amount)?.as_str())
-}
-
-fn push_day(alloc: Global, out: &mut FieldBuffer, day: Day) -> Result<(), AllocError>
-    ensures { OnOk result (out.new ≡ out.old ++ day_text day ∷ []) }
-{
-    let mut text = String::new(alloc);
-    day.write(&mut text)?;
-    out.push(text.as_str())
-}
 
 // The record that begins an answer: its name, the article, and how many offers follow.
 fn fill_head(
@@ -130,8 +96,8 @@ fn fill_span(alloc: Global, out: &mut FieldBuffer, span: &Span) -> Result<(), Al
     ensures { OnOk result (out.new ≡ span_fields span.now) }
 {
     fill(out, &["span"])?;
-    push_day(alloc, out, span.first)?;
-    push_day(alloc, out, span.last)?;
+    push_day(alloc, out, Some(span.first))?;
+    push_day(alloc, out, Some(span.last))?;
     push_amount(alloc, out, span.amount)
 }
 

@@ -1,9 +1,12 @@
 //! The fields of a record, and those that several rows have.
 
-ghost use Rattle.std.specs.Prelude.{◌≡◌, ◌++◌, IsErrOf, OnOk, length, map, nat_le, true, false};
+ghost use Rattle.std.specs.Prelude.{◌≡◌, ◌++◌, ◌∷◌, [], IsErrOf, OnOk, length, map, nat_le, true, false};
 ghost use Rattle.std.specs.List.{list_all};
+ghost use Rattle.std.specs.Option.{option_map_or};
 ghost use Rattle.onix_records.specs.Fields.{has_no_control, is_clean, is_control, optional_party, party_of, party_fields, territory_fields};
 ghost use Rattle.onix_records.specs.Gives.{Gives};
+ghost use Rattle.onix_terms.specs.Amount.{amount_text};
+ghost use Rattle.onix_terms.specs.Day.{day_text};
 ghost use Rattle.onix_terms.specs.Options.{nonempty};
 ghost use Rattle.onix_terms.specs.Territory.{territory_of};
 
@@ -11,7 +14,9 @@ use crate::row::RowFault;
 use crate::term::read_term;
 use csv_records::fields::FieldBuffer;
 use csv_records::record::Record;
+use onix_terms::amount::Amount;
 use onix_terms::countries::countries_text;
+use onix_terms::day::Day;
 use onix_terms::party::Party;
 use onix_terms::territory::{TermFault, Territory};
 use onix_terms::text::Text;
@@ -133,6 +138,30 @@ pub(crate) fn push_party(fields: &mut FieldBuffer, party: &Option<Party>) -> Res
             fields.push("")?;
             fields.push("")
         }
+    }
+}
+
+/// Appends the field of an amount, which is empty where there is none.
+pub fn push_amount(
+    alloc: Global,
+    fields: &mut FieldBuffer,
+    amount: Option<Amount>,
+) -> Result<(), AllocError>
+    ensures { OnOk result (fields.new ≡ fields.old ++ option_map_or amount_text amount [] ∷ []) }
+{
+    match amount {
+        Some(amount) => fields.push(amount.text(alloc)?.as_str()),
+        None => fields.push(""),
+    }
+}
+
+/// Appends the field of a day, which is empty where there is none.
+pub fn push_day(alloc: Global, fields: &mut FieldBuffer, day: Option<Day>) -> Result<(), AllocError>
+    ensures { OnOk result (fields.new ≡ fields.old ++ option_map_or day_text day [] ∷ []) }
+{
+    match day {
+        Some(day) => fields.push(day.text(alloc)?.as_str()),
+        None => fields.push(""),
     }
 }
 

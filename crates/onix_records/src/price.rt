@@ -1,20 +1,17 @@
 //! A price: its row, and its record.
 
 ghost use Rattle.std.specs.Prelude.{◌≡◌, ◌++◌, ◌∷◌, [], OnOk, OnErr, map};
-ghost use Rattle.onix_terms.specs.Amount.{amount_text};
 ghost use Rattle.onix_records.specs.Gives.{Gives};
-ghost use Rattle.onix_records.specs.Price.{day_field, minimum_of, price_from, price_of, quantity_or_one, minimum_fields, price_record};
+ghost use Rattle.onix_records.specs.Price.{minimum_of, price_from, price_of, quantity_or_one, minimum_fields, price_record};
 ghost use Rattle.onix_terms.specs.Quantity.{quantity_from};
 
-use crate::fields::{push_territory, read_territory};
+use crate::fields::{push_amount, push_day, push_territory, read_territory};
 use crate::parts::{Header, Price};
 use crate::row::{Form, Opening, RowFault};
 use crate::term::{read_optional, read_or_default, read_term};
 use csv_records::buffer::RecordBuffer;
 use csv_records::fields::FieldBuffer;
 use itoa::Buffer;
-use onix_terms::amount::Amount;
-use onix_terms::day::Day;
 use onix_terms::quantity::Quantity;
 use std::alloc::{AllocError, Global};
 
@@ -124,21 +121,6 @@ pub fn read_price(alloc: Global, opening: &Opening, fields: &[&str]) -> Result<P
     )
 }
 
-fn push_amount(alloc: Global, fields: &mut FieldBuffer, amount: Amount) -> Result<(), AllocError>
-    ensures { OnOk result (fields.new ≡ fields.old ++ amount_text amount ∷ []) }
-{
-    fields.push(amount.text(alloc)?.as_str())
-}
-
-fn push_day(alloc: Global, fields: &mut FieldBuffer, day: Option<Day>) -> Result<(), AllocError>
-    ensures { OnOk result (fields.new ≡ fields.old ++ day_field day ∷ []) }
-{
-    match day {
-        Some(day) => fields.push(day.text(alloc)?.as_str()),
-        None => fields.push(""),
-    }
-}
-
 // The minimum order quantity, where it is above 1.
 fn push_minimum(fields: &mut FieldBuffer, minimum: Quantity) -> Result<(), AllocError>
     ensures { OnOk result (fields.new ≡ fields.old ++ minimum_fields minimum) }
@@ -158,7 +140,7 @@ fn fill_price(alloc: Global, fields: &mut FieldBuffer, price: &Price) -> Result<
     fields.clear();
     fields.push("Price")?;
     fields.push(price.price_type.as_str())?;
-    push_amount(alloc, fields, price.amount)?;
+    push_amount(alloc, fields, Some(price.amount))?;
     fields.push(price.currency.as_str())?;
     push_territory(alloc, fields, &price.territory)?;
     push_day(alloc, fields, price.from)?;

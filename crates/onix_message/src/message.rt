@@ -11,7 +11,7 @@ ghost use Rattle.onix_message.specs.declared.message.MessageFault.TheVariants.{M
 use crate::contents::Contents;
 use csv_records::record::Record;
 use csv_records::records::Records;
-use onix_records::draft::{Draft, Part, StepFault};
+use onix_records::draft::{Draft, Part};
 use onix_records::laws::contents_of_messages;
 use onix_records::opening::read_opening;
 use onix_records::parts::Header;
@@ -87,11 +87,11 @@ fn read_products<'a>(
         }
         match read_next(alloc, opening, &mut draft, &next, fields, i + 1) {
             Ok(()) => {}
-            Err(StepFault::OutOfOrder) => {
+            Err(RowFault::Wrong) => {
                 drop(draft);
                 return Err(MessageFault::Malformed { row: i as u32 + 2 });
             }
-            Err(StepFault::Memory) => {
+            Err(RowFault::Memory) => {
                 drop(draft);
                 return Err(MessageFault::Memory);
             }

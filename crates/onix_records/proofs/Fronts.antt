@@ -13,7 +13,7 @@ use Rattle.onix_records.specs.Row.{message_row, row_of}
 use Rattle.onix_records.specs.declared.draft.Draft.{Draft}
 use Rattle.onix_records.specs.declared.draft.Part.{Part}
 use Rattle.onix_records.specs.declared.draft.Part.TheVariants as part
-use Rattle.onix_records.specs.declared.draft.StepFault.TheVariants as steps
+use Rattle.onix_records.specs.declared.row.RowFault.TheVariants as fault
 use Rattle.onix_records.specs.declared.parts.Header.{Header}
 use Rattle.onix_records.specs.declared.parts.Product.{Product}
 use Rattle.onix_records.specs.declared.row.Opening.{Opening}
@@ -308,7 +308,7 @@ part-of rest i r at less =
     sym (take-append-drop i rest) ∙ ap (λ (t : List Record). take i rest ++ t) (drop_more rest i r less ∙ ap (λ (x : Record). x ∷ drop (i + 1) rest) (sym at))
 
 pub stops-in : (records : List Record) (first : Record) (rest : List Record) (o : Opening) (i : ℕ) (r : Record) (d : Draft) (number : ℕ) → records ≡ first ∷ rest → opening_of first ≡ Some o
-    → r ≡ get_or rest i r → i < length rest → Holds o (take i rest) d → Stops (row_of o r) d (i + 1) steps.OutOfOrder → number ≡ i + 2 → Breaks records number
+    → r ≡ get_or rest i r → i < length rest → Holds o (take i rest) d → Stops (row_of o r) d (i + 1) fault.Wrong → number ≡ i + 2 → Breaks records number
 stops-in records first rest o i r d number split header at less s stop p =
     let l : length (take i rest) ≡ i = length-take-le i rest (omega arith) in
     stops-at records first rest o (take i rest) r (drop (i + 1) rest) (draft_rows d) number split header (part-of rest i r at less) s.front

@@ -6,15 +6,13 @@ use Rattle.onix_records.specs.PartRows.{SuppliesHaveDetails, detail_rows, produc
 use Rattle.onix_records.specs.declared.draft.Draft.{Draft}
 use Rattle.onix_records.specs.declared.draft.Part.{Part}
 use Rattle.onix_records.specs.declared.draft.Part.TheVariants as part
-use Rattle.onix_records.specs.declared.draft.StepFault.{StepFault}
-use Rattle.onix_records.specs.declared.draft.StepFault.TheVariants as fault
 use Rattle.onix_records.specs.declared.parts.Product.{Product}
 use Rattle.onix_records.specs.declared.parts.ProductSupply.{ProductSupply}
 use Rattle.onix_records.specs.declared.parts.SupplyDetail.{SupplyDetail}
 use Rattle.onix_records.specs.declared.row.Row.{Row}
 use Rattle.onix_records.specs.declared.row.Row.TheVariants as row
 use Rattle.onix_records.specs.declared.row.RowFault.{RowFault}
-use Rattle.onix_records.specs.declared.row.RowFault.TheVariants as read
+use Rattle.onix_records.specs.declared.row.RowFault.TheVariants as fault
 
 -- the rows of a supply that stands open, with the detail that stands open in it
 abbrev pub open_rows : ProductSupply → Option SupplyDetail → List Row
@@ -71,18 +69,18 @@ pub record Adds (old : Draft) (r : Row) (new : Draft) : Type 0 where
   pub details : DraftHasDetails new
 
 -- why a row was not added
-abbrev pub Refuses : Draft → Row → StepFault → Type 0
-Refuses old r fault.OutOfOrder = allows old.part r ≡ false
+abbrev pub Refuses : Draft → Row → RowFault → Type 0
+Refuses old r fault.Wrong = allows old.part r ≡ false
 Refuses old r fault.Memory = ⊤
 
 -- closing to a product is refused where no supply may come
-abbrev pub RefusesSupply : Part → StepFault → Type 0
-RefusesSupply o fault.OutOfOrder = (s : ProductSupply) → allows o (row.ProductSupply s) ≡ false
+abbrev pub RefusesSupply : Part → RowFault → Type 0
+RefusesSupply o fault.Wrong = (s : ProductSupply) → allows o (row.ProductSupply s) ≡ false
 RefusesSupply o fault.Memory = ⊤
 
 -- closing all products is refused where neither a product nor the end may come
-abbrev pub RefusesProduct : Part → StepFault → Type 0
-RefusesProduct o fault.OutOfOrder =
+abbrev pub RefusesProduct : Part → RowFault → Type 0
+RefusesProduct o fault.Wrong =
     ((p : Product) → allows o (row.Product p) ≡ false)
     × ((n : ℕ) → allows o (row.EndMessage n) ≡ false)
 RefusesProduct o fault.Memory = ⊤
@@ -93,11 +91,6 @@ AllowsProduct o =
     ((p : Product) → allows o (row.Product p) ≡ true)
     × ((n : ℕ) → allows o (row.EndMessage n) ≡ true)
 
--- a record that is no row may not come next
-abbrev pub step_fault : RowFault → StepFault
-step_fault read.Wrong = fault.OutOfOrder
-step_fault read.Memory = fault.Memory
-
 -- the row that was found was added
 pub record Takes (found : Option Row) (old : Draft) (before : ℕ) (new : Draft) : Type 0 where
   pub added : Row
@@ -106,12 +99,12 @@ pub record Takes (found : Option Row) (old : Draft) (before : ℕ) (new : Draft)
   pub adds : Adds old added new
 
 -- why no row was added
-abbrev pub Stops : Option Row → Draft → ℕ → StepFault → Type 0
-Stops found old before fault.OutOfOrder =
+abbrev pub Stops : Option Row → Draft → ℕ → RowFault → Type 0
+Stops found old before fault.Wrong =
     (r : Row) → found ≡ Some r → is_counted r before ≡ true → allows old.part r ≡ true → ⊥
 Stops found old before fault.Memory = ⊤
 
 -- a row was added where one was found that may come next
-abbrev pub Steps : Result (Unit {0}) StepFault → Option Row → Draft → ℕ → Draft → Type 0
+abbrev pub Steps : Result (Unit {0}) RowFault → Option Row → Draft → ℕ → Draft → Type 0
 Steps (Ok u) found old before new = Takes found old before new
 Steps (Err e) found old before new = Stops found old before e

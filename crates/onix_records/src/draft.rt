@@ -10,6 +10,7 @@ ghost use Rattle.onix_records.specs.declared.draft.Part.TheVariants.{InSupply};
 ghost use Rattle.onix_records.specs.declared.row.Row.TheVariants as row;
 
 use crate::parts::{Price, Product, ProductSupply, SupplyDetail};
+use crate::row::RowFault;
 use onix_terms::items::Items;
 use std::alloc::AllocError;
 use std::mem;
@@ -29,23 +30,6 @@ pub enum Part {
 pub struct Draft {
     pub products: Items<Product>,
     pub part: Part,
-}
-
-/// Why a row was not added.
-#[derive(Drop)]
-pub enum StepFault {
-    OutOfOrder,
-    Memory,
-}
-
-impl From<AllocError> for StepFault {
-    ghost use Rattle.onix_records.specs.declared.draft.StepFault.TheVariants.{Memory};
-
-    ghost from_gives = { λ _ e. e ≡ Memory };
-
-    fn from(_e: AllocError) -> StepFault {
-        StepFault::Memory
-    }
 }
 
 // The supply with the detail that stood open.
@@ -76,7 +60,7 @@ fn close_last(
     product: Product,
     supply: ProductSupply,
     last: Option<SupplyDetail>,
-) -> Result<Product, StepFault>
+) -> Result<Product, RowFault>
     requires { SuppliesHaveDetails product }
     ensures rows { IfOk result
         (λ p. product_rows p ≡ product_rows product ++ open_rows supply last) }
@@ -89,17 +73,17 @@ fn close_last(
     let Some(detail) = last else {
         drop(product);
         drop(supply);
-        return Err(StepFault::OutOfOrder);
+        return Err(RowFault::Wrong);
     };
     let Ok(supply) = close_detail(supply, detail) else {
         drop(product);
-        return Err(StepFault::Memory);
+        return Err(RowFault::Memory);
     };
     Ok(close_supply(product, supply)?)
 }
 
 // The product that stands open, where a supply may come.
-fn close_to_product(part: Part) -> Result<Product, StepFault>
+fn close_to_product(part: Part) -> Result<Product, RowFault>
     requires { PartHasDetails part }
     ensures rows { IfOk result (λ p. product_rows p ≡ part_rows part) }
     ensures details { IfOk result (λ p. SuppliesHaveDetails p) }
@@ -112,7 +96,7 @@ fn close_to_product(part: Part) -> Result<Product, StepFault>
         Part::InSupply(product, supply, last) => close_last(product, supply, last),
         other => {
             drop(other);
-            Err(StepFault::OutOfOrder)
+            Err(RowFault::Wrong)
         }
     }
 }
@@ -129,7 +113,7 @@ fn push_product(products: &mut Items<Product>, product: Product) -> Result<(), A
 }
 
 // All products, where another or the end may come: the one that stands open joins those before it.
-fn close_to_products(products: &mut Items<Product>, part: Part) -> Result<(), StepFault>
+fn close_to_products(products: &mut Items<Product>, part: Part) -> Result<(), RowFault>
     requires before { AllByRecursion SuppliesHaveDetails products.old }
     requires own { PartHasDetails part }
     ensures rows { OnOk result
@@ -150,7 +134,7 @@ fn close_to_products(products: &mut Items<Product>, part: Part) -> Result<(), St
 
 // What stood open is dropped by `drop` here and below: an assignment would drop it part by part,
 // which costs more to prove.
-pub(crate) fn add_product(draft: &mut Draft, product: Product) -> Result<(), StepFault>
+pub(crate) fn add_product(draft: &mut Draft, product: Product) -> Result<(), RowFault>
     requires bare { product.supplies ≡ [] }
     requires details { DraftHasDetails draft.old }
     ensures added { OnOk result (Adds draft.old (row.Product product) draft.new) }
@@ -169,7 +153,7 @@ pub(crate) fn add_product(draft: &mut Draft, product: Product) -> Result<(), Ste
     }
 }
 
-pub(crate) fn add_end(draft: &mut Draft, count: u32) -> Result<(), StepFault>
+pub(crate) fn add_end(draft: &mut Draft, count: u32) -> Result<(), RowFault>
     requires { DraftHasDetails draft.old }
     ensures added { OnOk result (Adds draft.old (row.EndMessage count) draft.new) }
     ensures refused { IfErr result (λ e. Refuses draft.old (row.EndMessage count) e) }
@@ -203,7 +187,7 @@ fn next_supply(
 }
 
 // What stands open stays where it lies, since it is large: only its lists grow.
-pub(crate) fn add_supply(draft: &mut Draft, supply: ProductSupply) -> Result<(), StepFault>
+pub(crate) fn add_supply(draft: &mut Draft, supply: ProductSupply) -> Result<(), RowFault>
     requires bare { supply.details ≡ [] }
     requires details { DraftHasDetails draft.old }
     ensures added { OnOk result (Adds draft.old (row.ProductSupply supply) draft.new) }
@@ -214,7 +198,7 @@ pub(crate) fn add_supply(draft: &mut Draft, supply: ProductSupply) -> Result<(),
             Some(detail) => Ok(next_supply(product, last, detail, supply)?),
             None => {
                 drop(supply);
-                Err(StepFault::OutOfOrder)
+                Err(RowFault::Wrong)
             }
         };
     }
@@ -226,7 +210,7 @@ pub(crate) fn add_supply(draft: &mut Draft, supply: ProductSupply) -> Result<(),
         other => {
             drop(other);
             drop(supply);
-            Err(StepFault::OutOfOrder)
+            Err(RowFault::Wrong)
         }
     }
 }
@@ -250,7 +234,7 @@ fn next_detail(
     }
 }
 
-pub(crate) fn add_detail(draft: &mut Draft, detail: SupplyDetail) -> Result<(), StepFault>
+pub(crate) fn add_detail(draft: &mut Draft, detail: SupplyDetail) -> Result<(), RowFault>
     requires bare { detail.prices ≡ [] }
     requires details { DraftHasDetails draft.old }
     ensures added { OnOk result (Adds draft.old (row.SupplyDetail detail) draft.new) }
@@ -260,12 +244,12 @@ pub(crate) fn add_detail(draft: &mut Draft, detail: SupplyDetail) -> Result<(), 
         Part::InSupply(_, supply, last) => Ok(next_detail(supply, last, detail)?),
         _ => {
             drop(detail);
-            Err(StepFault::OutOfOrder)
+            Err(RowFault::Wrong)
         }
     }
 }
 
-pub(crate) fn add_price(draft: &mut Draft, price: Price) -> Result<(), StepFault>
+pub(crate) fn add_price(draft: &mut Draft, price: Price) -> Result<(), RowFault>
     requires { DraftHasDetails draft.old }
     ensures added { OnOk result (Adds draft.old (row.Price price) draft.new) }
     ensures refused { IfErr result (λ e. Refuses draft.old (row.Price price) e) }
@@ -274,7 +258,7 @@ pub(crate) fn add_price(draft: &mut Draft, price: Price) -> Result<(), StepFault
         Part::InSupply(_, _, Some(detail)) => Ok(detail.prices.push(price)?),
         _ => {
             drop(price);
-            Err(StepFault::OutOfOrder)
+            Err(RowFault::Wrong)
         }
     }
 }

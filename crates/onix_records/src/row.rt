@@ -31,10 +31,10 @@ pub enum Row {
     EndMessage(u32),
 }
 
-/// Why a record is no row.
+/// Why a record is no row, or one that may not stand where it does.
 #[derive(Drop)]
 pub enum RowFault {
-    /// A field is wrong, or there are too few or too many.
+    /// A field is wrong, there are too few or too many, or another row has to come there.
     Wrong,
     /// Memory ran out.
     Memory,

@@ -9,10 +9,10 @@ ghost use Rattle.onix_records.specs.Product.{product_of};
 ghost use Rattle.onix_records.specs.Row.{end_of, named_row, row_of};
 ghost use Rattle.onix_records.specs.Supply.{supply_of};
 ghost use Rattle.onix_records.specs.declared.row.Row.TheVariants as row;
-ghost use Rattle.onix_records.specs.Draft.{DraftHasDetails, Steps, step_fault};
+ghost use Rattle.onix_records.specs.Draft.{DraftHasDetails, Steps};
 
 use crate::detail::read_detail;
-use crate::draft::{Draft, StepFault, add_detail, add_end, add_price, add_product, add_supply};
+use crate::draft::{Draft, add_detail, add_end, add_price, add_product, add_supply};
 use crate::fields::read_fields;
 use crate::price::read_price;
 use crate::product::read_product;
@@ -22,52 +22,34 @@ use csv_records::record::Record;
 use onix_terms::digits::read_digits;
 use std::alloc::Global;
 
-fn step_fault(fault: RowFault) -> StepFault
-    ensures { result ≡ step_fault fault }
-{
-    match fault {
-        RowFault::Wrong => StepFault::OutOfOrder,
-        RowFault::Memory => StepFault::Memory,
-    }
-}
-
-fn add_read_product(alloc: Global, draft: &mut Draft, fields: &[&str]) -> Result<(), StepFault>
+fn add_read_product(alloc: Global, draft: &mut Draft, fields: &[&str]) -> Result<(), RowFault>
     requires { DraftHasDetails draft.old }
     ensures { (before : ℕ)
         → Steps result
         (option_map row.Product
         (product_of (map (λ f. f.now) fields.now))) draft.old before draft.new }
 {
-    match read_product(alloc, fields) {
-        Ok(product) => add_product(draft, product),
-        Err(fault) => Err(step_fault(fault)),
-    }
+    add_product(draft, read_product(alloc, fields)?)
 }
 
-fn add_read_supply(alloc: Global, draft: &mut Draft, fields: &[&str]) -> Result<(), StepFault>
+fn add_read_supply(alloc: Global, draft: &mut Draft, fields: &[&str]) -> Result<(), RowFault>
     requires { DraftHasDetails draft.old }
     ensures { (before : ℕ)
         → Steps result
         (option_map row.ProductSupply
         (supply_of (map (λ f. f.now) fields.now))) draft.old before draft.new }
 {
-    match read_supply(alloc, fields) {
-        Ok(supply) => add_supply(draft, supply),
-        Err(fault) => Err(step_fault(fault)),
-    }
+    add_supply(draft, read_supply(alloc, fields)?)
 }
 
-fn add_read_detail(alloc: Global, draft: &mut Draft, fields: &[&str]) -> Result<(), StepFault>
+fn add_read_detail(alloc: Global, draft: &mut Draft, fields: &[&str]) -> Result<(), RowFault>
     requires { DraftHasDetails draft.old }
     ensures { (before : ℕ)
         → Steps result
         (option_map row.SupplyDetail
         (detail_of (map (λ f. f.now) fields.now))) draft.old before draft.new }
 {
-    match read_detail(alloc, fields) {
-        Ok(detail) => add_detail(draft, detail),
-        Err(fault) => Err(step_fault(fault)),
-    }
+    add_detail(draft, read_detail(alloc, fields)?)
 }
 
 fn add_read_price(
@@ -75,17 +57,14 @@ fn add_read_price(
     opening: &Opening,
     draft: &mut Draft,
     fields: &[&str],
-) -> Result<(), StepFault>
+) -> Result<(), RowFault>
     requires { DraftHasDetails draft.old }
     ensures { (before : ℕ)
         → Steps result
         (option_map row.Price
         (price_of opening.now (map (λ f. f.now) fields.now))) draft.old before draft.new }
 {
-    match read_price(alloc, opening, fields) {
-        Ok(price) => add_price(draft, price),
-        Err(fault) => Err(step_fault(fault)),
-    }
+    add_price(draft, read_price(alloc, opening, fields)?)
 }
 
 fn read_end(fields: &[&str]) -> Result<u32, RowFault>
@@ -98,22 +77,17 @@ fn read_end(fields: &[&str]) -> Result<u32, RowFault>
 }
 
 // An end says how many records come before it.
-fn add_read_end(draft: &mut Draft, fields: &[&str], before: usize) -> Result<(), StepFault>
+fn add_read_end(draft: &mut Draft, fields: &[&str], before: usize) -> Result<(), RowFault>
     requires { DraftHasDetails draft.old }
     ensures { Steps result
         (option_map row.EndMessage
         (end_of (map (λ f. f.now) fields.now))) draft.old before draft.new }
 {
-    match read_end(fields) {
-        Ok(count) => {
-            if count as usize == before {
-                add_end(draft, count)
-            } else {
-                Err(StepFault::OutOfOrder)
-            }
-        }
-        Err(fault) => Err(step_fault(fault)),
+    let count = read_end(fields)?;
+    if count as usize != before {
+        return Err(RowFault::Wrong);
     }
+    add_end(draft, count)
 }
 
 // Adds the row that the fields after a name make, where it may come next.
@@ -124,14 +98,14 @@ fn add_named(
     name: &str,
     fields: &[&str],
     before: usize,
-) -> Result<(), StepFault>
+) -> Result<(), RowFault>
     requires { DraftHasDetails draft.old }
     ensures { Steps result
         (named_row opening.now name.now (map (λ f. f.now) fields.now)) draft.old before draft.new }
 {
     // A message has one header, which is read before this.
     if name == "Message" {
-        return Err(StepFault::OutOfOrder);
+        return Err(RowFault::Wrong);
     }
     if name == "Product" {
         return add_read_product(alloc, draft, fields);
@@ -148,11 +122,11 @@ fn add_named(
     if name == "EndMessage" {
         return add_read_end(draft, fields, before);
     }
-    Err(StepFault::OutOfOrder)
+    Err(RowFault::Wrong)
 }
 
 /// Adds the row that a record is to a draft, where it may come next after so many records.
-/// `OutOfOrder` where it is no row, or one that may not; `Memory` where memory ran out. The draft is
+/// `Wrong` where it is no row, or one that may not; `Memory` where memory ran out. The draft is
 /// good for nothing then. The list takes the record's fields.
 #[tactic(auto, unfolding(crate::specs::Row::row_of))]
 pub fn read_next<'a>(
@@ -162,15 +136,13 @@ pub fn read_next<'a>(
     from: &Record<'a>,
     fields: &mut Vec<&'a str>,
     before: usize,
-) -> Result<(), StepFault>
+) -> Result<(), RowFault>
     requires { DraftHasDetails draft.old }
     ensures { Steps result (row_of opening.now from.now) draft.old before draft.new }
 {
-    if let Err(fault) = read_fields(from, fields) {
-        return Err(step_fault(fault));
-    }
+    read_fields(from, fields)?;
     let [name, rest @ ..] = fields.as_slice() else {
-        return Err(StepFault::OutOfOrder);
+        return Err(RowFault::Wrong);
     };
     add_named(alloc, opening, draft, name, rest, before)
 }

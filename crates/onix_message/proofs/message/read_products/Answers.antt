@@ -16,10 +16,10 @@ pub loop-i-preserved : goal.loop-i-preserved
 loop-i-preserved c =
     goes-on c.args.opening.now c.args.rest.now c.loop-i.i c.record-next.result c.loop-i.draft c.read_next.new.draft (sym (get_or_from_slice_get c.args.rest.now c.loop-i.i c.record-next.result c.record-next.result c.record-next.ensures)) (omega (arith, c.len-i-end.ensures)) c.loop-i.invariant c.if-i-ge19999.false c.in-Ok.ensures
 
-pub returns-in-Err-OutOfOrder-clause-fault : goal.returns-in-Err-OutOfOrder-clause-fault
-returns-in-Err-OutOfOrder-clause-fault c =
+pub returns-in-Err-Wrong-clause-fault : goal.returns-in-Err-Wrong-clause-fault
+returns-in-Err-Wrong-clause-fault c =
     stops-in (c.args.first.now ∷ c.args.rest.now) c.args.first.now c.args.rest.now c.args.opening.now c.loop-i.i c.record-next.result c.loop-i.draft (c.loop-i.i + 2) refl c.requires (sym (get_or_from_slice_get c.args.rest.now c.loop-i.i c.record-next.result c.record-next.result c.record-next.ensures)) (omega (arith, c.len-i-end.ensures)) c.loop-i.invariant
-    (rw c.in-Err-OutOfOrder.field-0-is at c.in-Err-OutOfOrder.ensures) refl
+    (rw c.in-Err-Wrong.field-0-is at c.in-Err-Wrong.ensures) refl
 
 pub close-requires : goal.close-requires
 close-requires c = λ e.

@@ -4,8 +4,8 @@ use Rattle.onix_records.specs.Draft.{AllowsProduct, RefusesProduct, RefusesSuppl
 use Rattle.onix_records.specs.PartRows.{product_rows}
 use Rattle.onix_records.specs.declared.draft.Part.{Part}
 use Rattle.onix_records.specs.declared.draft.Part.TheVariants as part
-use Rattle.onix_records.specs.declared.draft.StepFault.{StepFault}
-use Rattle.onix_records.specs.declared.draft.StepFault.TheVariants as fault
+use Rattle.onix_records.specs.declared.row.RowFault.{RowFault}
+use Rattle.onix_records.specs.declared.row.RowFault.TheVariants as fault
 use Rattle.onix_records.specs.declared.parts.ProductSupply.{ProductSupply}
 use Rattle.onix_records.specs.declared.row.Row.{Row}
 use Rattle.onix_records.specs.declared.row.Row.TheVariants as row
@@ -23,13 +23,13 @@ allows-product (part.InSupply p s (Some d)) h = (λ _. refl, λ _. refl)
 allows-product (part.Ended n) h = cc (h some-supply)
 
 -- where no supply may come, neither may a product nor the end, but at the start
-refuses-product : (o : Part) (e : StepFault) → (o ≡ part.Nothing → ⊥) → RefusesSupply o e → RefusesProduct o e
+refuses-product : (o : Part) (e : RowFault) → (o ≡ part.Nothing → ⊥) → RefusesSupply o e → RefusesProduct o e
 refuses-product o fault.Memory filled h = tt
-refuses-product part.Nothing fault.OutOfOrder filled h = absurd (filled refl)
-refuses-product (part.InProduct p) fault.OutOfOrder filled h = cc (h some-supply)
-refuses-product (part.InSupply p s None) fault.OutOfOrder filled h = (λ _. refl, λ _. refl)
-refuses-product (part.InSupply p s (Some d)) fault.OutOfOrder filled h = cc (h s)
-refuses-product (part.Ended n) fault.OutOfOrder filled h = (λ _. refl, λ _. refl)
+refuses-product part.Nothing fault.Wrong filled h = absurd (filled refl)
+refuses-product (part.InProduct p) fault.Wrong filled h = cc (h some-supply)
+refuses-product (part.InSupply p s None) fault.Wrong filled h = (λ _. refl, λ _. refl)
+refuses-product (part.InSupply p s (Some d)) fault.Wrong filled h = cc (h s)
+refuses-product (part.Ended n) fault.Wrong filled h = (λ _. refl, λ _. refl)
 
 pub returns-in-Err : goal.returns-in-Err
 returns-in-Err c = record {

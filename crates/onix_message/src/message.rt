@@ -11,6 +11,7 @@ ghost use Rattle.onix_message.specs.declared.message.MessageFault.TheVariants.{M
 use crate::contents::Contents;
 use csv_records::record::Record;
 use csv_records::records::Records;
+use onix_records::MOST_RECORDS;
 use onix_records::draft::{Draft, Part};
 use onix_records::laws::contents_of_messages;
 use onix_records::opening::read_opening;
@@ -81,9 +82,11 @@ fn read_products<'a>(
     };
     for i in 0..rest.len() {
         let next = rest.record(i);
-        if i >= 19999 {
+        if i + 1 >= MOST_RECORDS {
             drop(draft);
-            return Err(MessageFault::Malformed { row: 20001 });
+            return Err(MessageFault::Malformed {
+                row: MOST_RECORDS as u32 + 1,
+            });
         }
         match read_next(alloc, opening, &mut draft, &next, fields, i + 1) {
             Ok(()) => {}

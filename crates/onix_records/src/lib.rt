@@ -13,6 +13,9 @@
 //! `effects` what the products of a message did, and `faults` why a store could not answer.
 #![tactic(auto)]
 
+/// The most records that a message has, its first and its last among them.
+pub const MOST_RECORDS: usize = 20_000;
+
 pub mod agreements;
 pub mod detail;
 pub mod draft;

@@ -8,13 +8,13 @@ use Rattle.onix_message.proofs.message.read_products.Goals as goal
 pub loop-i-init : goal.loop-i-init
 loop-i-init c = begins c.args.opening.now c.args.rest.now c.new.result c.new.ensures
 
-pub returns-then-i-ge19999-clause-fault : goal.returns-then-i-ge19999-clause-fault
-returns-then-i-ge19999-clause-fault c =
-    stops-many (c.args.first.now ∷ c.args.rest.now) c.args.first.now c.args.rest.now c.args.opening.now c.loop-i.i c.record-next.result c.loop-i.draft refl c.requires (sym (get_or_from_slice_get c.args.rest.now c.loop-i.i c.record-next.result c.record-next.result c.record-next.ensures)) (omega (arith, c.len-i-end.ensures)) c.loop-i.invariant c.if-i-ge19999.true
+pub returns-then-i-ge-MOST_RECORDS-clause-fault : goal.returns-then-i-ge-MOST_RECORDS-clause-fault
+returns-then-i-ge-MOST_RECORDS-clause-fault c =
+    stops-many (c.args.first.now ∷ c.args.rest.now) c.args.first.now c.args.rest.now c.args.opening.now c.loop-i.i c.record-next.result c.loop-i.draft refl c.requires (sym (get_or_from_slice_get c.args.rest.now c.loop-i.i c.record-next.result c.record-next.result c.record-next.ensures)) (omega (arith, c.len-i-end.ensures)) c.loop-i.invariant (let many = c.if-i-ge-MOST_RECORDS.true in omega (arith, many))
 
 pub loop-i-preserved : goal.loop-i-preserved
 loop-i-preserved c =
-    goes-on c.args.opening.now c.args.rest.now c.loop-i.i c.record-next.result c.loop-i.draft c.read_next.new.draft (sym (get_or_from_slice_get c.args.rest.now c.loop-i.i c.record-next.result c.record-next.result c.record-next.ensures)) (omega (arith, c.len-i-end.ensures)) c.loop-i.invariant c.if-i-ge19999.false c.in-Ok.ensures
+    goes-on c.args.opening.now c.args.rest.now c.loop-i.i c.record-next.result c.loop-i.draft c.read_next.new.draft (sym (get_or_from_slice_get c.args.rest.now c.loop-i.i c.record-next.result c.record-next.result c.record-next.ensures)) (omega (arith, c.len-i-end.ensures)) c.loop-i.invariant (let few = c.if-i-ge-MOST_RECORDS.false in omega (arith, few)) c.in-Ok.ensures
 
 pub returns-in-Err-Wrong-clause-fault : goal.returns-in-Err-Wrong-clause-fault
 returns-in-Err-Wrong-clause-fault c =

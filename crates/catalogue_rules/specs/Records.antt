@@ -6,6 +6,7 @@ use Rattle.std.specs.Ordering.{nat_cmp}
 use Rattle.std.specs.Cmp.Lexicographic.{slice_cmp}
 use Rattle.std.specs.String.{string_bytes}
 use Rattle.onix_records.specs.DetailCount.{detail_count}
+use Rattle.onix_records.specs.Grammar.{most_records}
 use Rattle.catalogue_rules.specs.declared.entry.Entry.{Entry}
 
 -- a finite map from references to what is kept of each record
@@ -35,6 +36,6 @@ records_of m = entries m
 abbrev pub EachHas : {X : Type 0} → (X → Type 0) → FinMap (slice_cmp nat_cmp) X → Type 0
 EachHas P m = (q : List ℕ) → IfSome (get m q) P
 
--- a record has at most 20,000 SupplyDetails
+-- a record has no more SupplyDetails than a message may have records
 abbrev pub HasFewDetails : Entry → Type 0
-HasFewDetails e = detail_count e.supplies ≤ 20000
+HasFewDetails e = detail_count e.supplies ≤ most_records

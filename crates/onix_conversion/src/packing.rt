@@ -13,8 +13,10 @@ use crate::tally::Tally;
 use crate::target::Target;
 use csv_records::buffer::RecordBuffer;
 use csv_records::fields::FieldBuffer;
+use csv_records::reading::LIMIT;
 use csv_records::writing::write_records;
 use itoa::Buffer;
+use onix_records::MOST_RECORDS;
 use onix_records::row::Opening;
 use std::alloc::{AllocError, Global};
 use xml_text::Position;
@@ -53,10 +55,6 @@ pub enum Stage {
     Within(Begun),
 }
 
-const MOST_RECORDS: usize = 20000;
-
-const MOST_BYTES: usize = 4194304;
-
 // The text of the first record of the part behind so many.
 pub(crate) fn first_text(alloc: Global, begun: &Begun, before: u32) -> Result<String, AllocError>
     ensures { IfOk result (λ text. string_bytes text ≡ first_text (begun_view begun.now) before) }
@@ -91,7 +89,7 @@ fn has_room(
     }
     let end = end_text(alloc, count)?;
     let size = size.saturating_add(bytes).saturating_add(end.len());
-    Ok(size <= MOST_BYTES)
+    Ok(size <= LIMIT)
 }
 
 // Adds so many records, of this text, to the part that was begun.

@@ -19,7 +19,8 @@ use std::alloc::{AllocError, Global};
 use std::marker::Model;
 use xml_text::Position;
 
-/// The largest Header or Product that is taken.
+/// The largest Header or Product that is taken. This bound is of what an outline holds of the XML,
+/// by the sizes of its elements, and not of a text of records.
 const MOST_BYTES: usize = 4_194_304;
 
 /// What an element adds to the size of its Header or Product, beside its text and its format.

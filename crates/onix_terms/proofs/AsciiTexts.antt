@@ -3,22 +3,23 @@ use Rattle.std.proofs.Common.{◌≡◌, ℕ, ◌<◌, List, [], ◌∷◌, Bool
 use Rattle.std.specs.Prelude.{◌&&◌, ◌==◌}
 use Rattle.std.specs.List.{list_all}
 use Rattle.std.specs.Str.{IsAscii}
-use Rattle.std.specs.Char.{is_ascii_digit, is_ascii_uppercase}
+use Rattle.std.specs.Char.{is_ascii_uppercase}
 use Rattle.std.proofs.lemmas.Str.Ascii.{IsAscii-nil, IsAscii-cons}
 use Rattle.std.proofs.lemmas.Bool.{and_parts}
 use Rattle.std.proofs.lemmas.Bool.Decides.{nat_tests}
 use Rattle.std.proofs.lemmas.Option.{cond_some}
 use Rattle.onix_terms.specs.Code.{fixed_text}
+use Rattle.onix_terms.specs.SeriesName.{is_name_byte}
 
 -- only ASCII bytes pass
 pub record IsAsciiTest (allowed : ℕ → Bool) : Type 0 where
   pub below : (b : ℕ) → allowed b ≡ true → b < 128
 
-pub digits-ascii : IsAsciiTest is_ascii_digit
-digits-ascii = record { below = λ b e. grind (arith, nat_tests, e) }
-
 pub capitals-ascii : IsAsciiTest is_ascii_uppercase
 capitals-ascii = record { below = λ b e. grind (arith, nat_tests, e) }
+
+pub names-ascii : IsAsciiTest is_name_byte
+names-ascii = record { below = λ b e. grind (arith, nat_tests, e) }
 
 pub ascii-all : (allowed : ℕ → Bool) → IsAsciiTest allowed → (bs : List ℕ) → list_all allowed bs ≡ true → IsAscii bs
 ascii-all allowed test [] all = IsAscii-nil

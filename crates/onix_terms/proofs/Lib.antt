@@ -1,5 +1,4 @@
 pub mod AsciiTexts
-pub mod FixedTexts
 pub mod DigitTexts
 pub mod AmountTexts
 pub mod DayNumbers

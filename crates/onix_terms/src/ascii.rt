@@ -2,8 +2,9 @@
 
 ghost use Rattle.std.specs.Prelude.{◌≡◌};
 ghost use Rattle.std.specs.List.{list_all};
-ghost use Rattle.std.specs.Char.{is_ascii_digit, is_ascii_uppercase};
-ghost use Rattle.std.specs.Str.{IsAscii};
+ghost use Rattle.std.specs.Char.{is_ascii_digit};
+ghost use Rattle.std.specs.Int.{is_in_range};
+ghost use Rattle.std.specs.Str.{IsUtf8};
 
 /// Whether each byte is a digit.
 pub fn are_digits(bytes: &[u8]) -> bool
@@ -12,16 +13,16 @@ pub fn are_digits(bytes: &[u8]) -> bool
     bytes.iter().all(|b| b.is_ascii_digit())
 }
 
-/// Whether each byte is a letter `A` to `Z`.
-pub fn are_capitals(bytes: &[u8]) -> bool
-    ensures { result ≡ list_all is_ascii_uppercase bytes.now }
+/// Whether each byte is one from `first` to `last`.
+pub(crate) fn are_within(first: u8, last: u8, bytes: &[u8]) -> bool
+    ensures { result ≡ list_all (is_in_range first last) bytes.now }
 {
-    bytes.iter().all(|b| b.is_ascii_uppercase())
+    bytes.iter().all(|b| first <= *b && *b <= last)
 }
 
-/// The text of ASCII bytes.
-pub fn text_of(bytes: &[u8]) -> &str
-    requires { IsAscii bytes.now }
+/// The text of bytes that are UTF-8.
+pub(crate) fn text_of(bytes: &[u8]) -> &str
+    requires { IsUtf8 bytes.now }
     ensures { result.now ≡ bytes.now }
 {
     match str::from_utf8(bytes) {

@@ -1,81 +1,64 @@
 //! Codes of fixed length.
 
 ghost use Rattle.std.specs.Prelude.{◌≡◌, Some};
+ghost use Rattle.std.specs.Int.{is_in_range};
 ghost use Rattle.std.specs.Result.{result_ok};
-ghost use Rattle.onix_terms.specs.Code.{code2_of, country_of, currency_of};
+ghost use Rattle.onix_terms.specs.Code.{country_of, fixed_text};
 
 use crate::NotATerm;
-use crate::ascii::{are_capitals, are_digits, text_of};
+use crate::ascii::{are_within, text_of};
 use std::marker::Model;
 use std::str::FromStr;
 
-/// A code of an ONIX code list: two digits.
+/// A code: `N` characters, each from `FIRST` to `LAST`.
 #[derive(Clone, Copy, Debug, PartialEq, Eq, PartialOrd, Ord)]
-pub struct Code2 {
-    bytes: [u8; 2],
+pub struct Code<const FIRST: u8, const LAST: u8, const N: usize> {
+    bytes: [u8; N],
 }
 
-impl Model for Code2 {
-    ghost use Rattle.std.specs.Prelude.{ℕ, List, ◌≡◌, Some};
-    ghost use Rattle.onix_terms.specs.Code.{code2_of};
+impl<const FIRST: u8, const LAST: u8, const N: usize> Model for Code<FIRST, LAST, N> {
+    ghost use Rattle.std.specs.Prelude.{ℕ, List, ◌≡◌, IsUtf8, Some};
+    ghost use Rattle.std.specs.Int.{is_in_range};
+    ghost use Rattle.onix_terms.specs.Code.{fixed_text};
 
     ghost Value = { List ℕ };
 
     ghost view = { λ c. c.bytes };
 
-    ghost invariant = { λ c. code2_of c.bytes ≡ Some c.bytes };
+    ghost invariant = { λ c.
+        (fixed_text (is_in_range FIRST LAST) N c.bytes ≡ Some c.bytes) × IsUtf8 c.bytes };
 
     ghost inverse = { λ c. record { bytes = c } };
 }
 
-impl Code2 {
-    /// The code of a text, or `None` where the text is not two digits.
-    pub fn read(text: &str) -> Option<Code2>
-        ensures { result ≡ code2_of text.now }
+/// A code of an ONIX code list: two digits.
+pub type Code2 = Code<b'0', b'9', 2>;
+
+/// A country: two letters `A` to `Z`.
+pub type Country = Code<b'A', b'Z', 2>;
+
+/// A currency: three letters `A` to `Z`.
+pub type Currency = Code<b'A', b'Z', 3>;
+
+impl<const FIRST: u8, const LAST: u8, const N: usize> Code<FIRST, LAST, N> {
+    /// The code that a text is, or `None` where it is none.
+    pub fn read(text: &str) -> Option<Code<FIRST, LAST, N>>
+        ensures { result ≡ fixed_text (is_in_range FIRST LAST) N text.now }
     {
-        let bytes: [u8; 2] = text.as_bytes().try_into().ok()?;
-        if !are_digits(&bytes) {
+        let bytes: [u8; N] = text.as_bytes().try_into().ok()?;
+        if !are_within(FIRST, LAST, &bytes) {
             return None;
         }
-        Some(Code2 { bytes })
+        Some(Code { bytes })
     }
 
-    /// Its two digits.
+    /// Its text.
     pub fn as_str(&self) -> &str
         ensures text { result.now ≡ self.now }
-        ensures read { code2_of self.now ≡ Some self.now }
+        ensures read { fixed_text (is_in_range FIRST LAST) N self.now ≡ Some self.now }
     {
         text_of(&self.bytes)
     }
-}
-
-impl FromStr for Code2 {
-    type Err = NotATerm;
-
-    ghost from_str_gives = { λ text given. result_ok given ≡ code2_of text };
-
-    fn from_str(text: &str) -> Result<Code2, NotATerm> {
-        Code2::read(text).ok_or(NotATerm)
-    }
-}
-
-/// A country: two letters `A` to `Z`.
-#[derive(Clone, Copy, Debug, PartialEq, Eq, PartialOrd, Ord)]
-pub struct Country {
-    bytes: [u8; 2],
-}
-
-impl Model for Country {
-    ghost use Rattle.std.specs.Prelude.{ℕ, List, ◌≡◌, Some};
-    ghost use Rattle.onix_terms.specs.Code.{country_of};
-
-    ghost Value = { List ℕ };
-
-    ghost view = { λ c. c.bytes };
-
-    ghost invariant = { λ c. country_of c.bytes ≡ Some c.bytes };
-
-    ghost inverse = { λ c. record { bytes = c } };
 }
 
 impl Country {
@@ -83,85 +66,17 @@ impl Country {
         requires { country_of bytes ≡ Some bytes }
         ensures { result ≡ bytes }
     {
-        Country { bytes }
-    }
-
-    /// The code of a text, or `None` where the text is not two letters `A` to `Z`.
-    pub fn read(text: &str) -> Option<Country>
-        ensures { result ≡ country_of text.now }
-    {
-        let bytes: [u8; 2] = text.as_bytes().try_into().ok()?;
-        if !are_capitals(&bytes) {
-            return None;
-        }
-        Some(Country { bytes })
-    }
-
-    /// Its two letters.
-    pub fn as_str(&self) -> &str
-        ensures text { result.now ≡ self.now }
-        ensures read { country_of self.now ≡ Some self.now }
-    {
-        text_of(&self.bytes)
+        Code { bytes }
     }
 }
 
-impl FromStr for Country {
+impl<const FIRST: u8, const LAST: u8, const N: usize> FromStr for Code<FIRST, LAST, N> {
     type Err = NotATerm;
 
-    ghost from_str_gives = { λ text given. result_ok given ≡ country_of text };
+    ghost from_str_gives = { λ text given.
+        result_ok given ≡ fixed_text (is_in_range FIRST LAST) N text };
 
-    fn from_str(text: &str) -> Result<Country, NotATerm> {
-        Country::read(text).ok_or(NotATerm)
-    }
-}
-
-/// A currency: three letters `A` to `Z`.
-#[derive(Clone, Copy, Debug, PartialEq, Eq, PartialOrd, Ord)]
-pub struct Currency {
-    bytes: [u8; 3],
-}
-
-impl Model for Currency {
-    ghost use Rattle.std.specs.Prelude.{ℕ, List, ◌≡◌, Some};
-    ghost use Rattle.onix_terms.specs.Code.{currency_of};
-
-    ghost Value = { List ℕ };
-
-    ghost view = { λ c. c.bytes };
-
-    ghost invariant = { λ c. currency_of c.bytes ≡ Some c.bytes };
-
-    ghost inverse = { λ c. record { bytes = c } };
-}
-
-impl Currency {
-    /// The code of a text, or `None` where the text is not three letters `A` to `Z`.
-    pub fn read(text: &str) -> Option<Currency>
-        ensures { result ≡ currency_of text.now }
-    {
-        let bytes: [u8; 3] = text.as_bytes().try_into().ok()?;
-        if !are_capitals(&bytes) {
-            return None;
-        }
-        Some(Currency { bytes })
-    }
-
-    /// Its three letters.
-    pub fn as_str(&self) -> &str
-        ensures text { result.now ≡ self.now }
-        ensures read { currency_of self.now ≡ Some self.now }
-    {
-        text_of(&self.bytes)
-    }
-}
-
-impl FromStr for Currency {
-    type Err = NotATerm;
-
-    ghost from_str_gives = { λ text given. result_ok given ≡ currency_of text };
-
-    fn from_str(text: &str) -> Result<Currency, NotATerm> {
-        Currency::read(text).ok_or(NotATerm)
+    fn from_str(text: &str) -> Result<Code<FIRST, LAST, N>, NotATerm> {
+        Code::read(text).ok_or(NotATerm)
     }
 }

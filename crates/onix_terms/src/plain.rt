@@ -4,9 +4,8 @@ ghost use Rattle.std.specs.Prelude.{◌≡◌, ◌↔◌, IsTrue, IfOk};
 ghost use Rattle.std.specs.Bool.{Decides};
 
 use crate::amount::Amount;
-use crate::code::{Code2, Country, Currency};
+use crate::code::Code;
 use crate::day::Day;
-use crate::isbn13::Isbn13;
 use crate::items::Items;
 use crate::number::Number;
 use crate::party::Party;
@@ -51,31 +50,7 @@ impl Plain for Text {
     ghost eq_decides = { bytes_decides };
 }
 
-impl Plain for Code2 {
-    ghost use Rattle.std.specs.Cmp.Lexicographic.{bytes_decides};
-
-    ghost clone_is_same = { λ x y e. e };
-
-    ghost eq_decides = { bytes_decides };
-}
-
-impl Plain for Country {
-    ghost use Rattle.std.specs.Cmp.Lexicographic.{bytes_decides};
-
-    ghost clone_is_same = { λ x y e. e };
-
-    ghost eq_decides = { bytes_decides };
-}
-
-impl Plain for Currency {
-    ghost use Rattle.std.specs.Cmp.Lexicographic.{bytes_decides};
-
-    ghost clone_is_same = { λ x y e. e };
-
-    ghost eq_decides = { bytes_decides };
-}
-
-impl Plain for Isbn13 {
+impl<const FIRST: u8, const LAST: u8, const N: usize> Plain for Code<FIRST, LAST, N> {
     ghost use Rattle.std.specs.Cmp.Lexicographic.{bytes_decides};
 
     ghost clone_is_same = { λ x y e. e };

@@ -1,5 +1,0 @@
-use Rattle.onix_terms.proofs.AsciiTexts.{ascii-fixed, digits-ascii}
-use Rattle.onix_terms.proofs.isbn13.Isbn13.as_str.Goals as goal
-
-pub text_of-requires : goal.text_of-requires
-text_of-requires c = ascii-fixed _ digits-ascii 13 _ c.self.invariant

@@ -1,6 +1,6 @@
 -- The ranges of the values that are read.
 use Rattle.std.proofs.Common.{◌≡◌, ℕ, ◌<◌, ◌≤◌, ◌+◌, ◌*◌, ◌^◌, ℤ, List, Bool, true, false, Option, Some, None, refl, sym, subst, arith, length, inl, inr}
-use Rattle.std.specs.Prelude.{◌&&◌, ◌==◌, nat_lt, nat_le, option_map, option_and_then, if◌then◌else◌}
+use Rattle.std.specs.Prelude.{◌&&◌, ◌==◌, nat_lt, nat_le, option_map, if◌then◌else◌}
 use Rattle.std.specs.List.{list_all, position_or_len, before_first, after_first}
 use Rattle.std.specs.Char.{is_ascii_digit}
 use Rattle.std.specs.Str.Parse.{digits_value}
@@ -9,8 +9,7 @@ use Rattle.std.proofs.lemmas.Option.{cond_some}
 use Rattle.std.proofs.lemmas.Str.Parse.{digits_value_short}
 use Rattle.onix_terms.specs.Options.{◌>>=◌}
 use Rattle.onix_terms.specs.Digits.{digits_of}
-use Rattle.onix_terms.specs.Number.{number_from, number_of}
-use Rattle.onix_terms.specs.Quantity.{quantity_from, quantity_of}
+use Rattle.onix_terms.specs.Positive.{positive_from, positive_of}
 use Rattle.onix_terms.specs.Amount.{amount_of, thousandths_of, last_digit_worth, is_point}
 use Rattle.onix_terms.specs.Day.{IsDayNumber, day_at, day_of}
 use Rattle.onix_terms.proofs.DigitTexts.{own}
@@ -52,10 +51,6 @@ pub between : {A B : Type 0} (first : Option A) (second : A → Option B) (found
 between None second found e = cc
 between (Some value) second found e = record { value = value; first_gives = refl; second_gives = e }
 
-and-then : {A B : Type 0} (first : Option A) (second : A → Option B) (found : B) → option_and_then second first ≡ Some found → Between first second found
-and-then None second found e = cc
-and-then (Some value) second found e = record { value = value; first_gives = refl; second_gives = e }
-
 mapped : {A B : Type 0} (first : Option A) (f : A → B) (found : B) → option_map f first ≡ Some found → Between first (λ a. Some (f a)) found
 mapped None f found e = cc
 mapped (Some value) f found e = record { value = value; first_gives = refl; second_gives = e }
@@ -71,15 +66,10 @@ bounded n limit found e =
     let tests = and_parts (nat_lt 0 n) (nat_lt n limit) through.0 in
     subst (λ (v : ℕ). (0 < v) × (v < limit)) through.1 (ltb-true 0 n tests.0, ltb-true n limit tests.1)
 
-pub number-range : (text : List ℕ) (n : ℕ) → number_of text ≡ Some n → (0 < n) × (n < 1_000_000_000)
-number-range text n e =
-    let steps = and-then (digits_of text) number_from n e in
-    bounded steps.value 1_000_000_000 n steps.second_gives
-
-pub quantity-range : (text : List ℕ) (n : ℕ) → quantity_of text ≡ Some n → (0 < n) × (n < 1_000_000)
-quantity-range text n e =
-    let steps = between (digits_of text) quantity_from n (met (nat_le (length text) 6) (digits_of text >>= quantity_from) n e).1 in
-    bounded steps.value 1_000_000 n steps.second_gives
+pub positive-range : (digits below : ℕ) (text : List ℕ) (n : ℕ) → positive_of digits below text ≡ Some n → (0 < n) × (n < below)
+positive-range digits below text n e =
+    let steps = between (digits_of text) (positive_from below) n (met (nat_le (length text) digits) (digits_of text >>= positive_from below) n e).1 in
+    bounded steps.value below n steps.second_gives
 
 -- 1 to 3 digits behind the point are below one
 worth-small : (places n : ℕ) → 0 < places → places ≤ 3 → n < 10 ^ places → n * last_digit_worth places < 1000

@@ -1,6 +1,7 @@
 pub use Rattle.jiff_core.specs.Calendar
 pub mod Options
 pub mod Digits
+pub mod Positive
 pub mod Number
 pub mod Quantity
 pub mod Amount

@@ -1,12 +1,11 @@
 -- Quantities of copies.
-use Rattle.std.specs.Prelude.{ℕ, List, Option, Some, None, ◌&&◌, nat_lt, nat_le, length, if◌then◌else◌}
-use Rattle.onix_terms.specs.Options.{◌>>=◌}
-use Rattle.onix_terms.specs.Digits.{digits_of}
+use Rattle.std.specs.Prelude.{ℕ, List, Option}
+use Rattle.onix_terms.specs.Positive.{positive_from, positive_of}
 
 -- a quantity is one from 1 to 999,999
 abbrev pub quantity_from : ℕ → Option ℕ
-quantity_from n = if nat_lt 0 n && nat_lt n 1_000_000 then Some n else None
+quantity_from n = positive_from 1_000_000 n
 
 -- the quantity that 1 to 6 digits write
 abbrev pub quantity_of : List ℕ → Option ℕ
-quantity_of text = if nat_le (length text) 6 then digits_of text >>= quantity_from else None
+quantity_of text = positive_of 6 1_000_000 text

@@ -29,6 +29,7 @@ pub mod laws;
 pub mod number;
 pub mod party;
 pub mod plain;
+pub mod positive;
 pub mod quantity;
 pub mod series_name;
 pub mod territory;

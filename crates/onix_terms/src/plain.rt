@@ -7,9 +7,8 @@ use crate::amount::Amount;
 use crate::code::Code;
 use crate::day::Day;
 use crate::items::Items;
-use crate::number::Number;
 use crate::party::Party;
-use crate::quantity::Quantity;
+use crate::positive::Positive;
 use crate::series_name::SeriesName;
 use crate::territory::Territory;
 use crate::text::Text;
@@ -58,7 +57,7 @@ impl<const FIRST: u8, const LAST: u8, const N: usize> Plain for Code<FIRST, LAST
     ghost eq_decides = { bytes_decides };
 }
 
-impl Plain for Number {
+impl<const DIGITS: usize, const BELOW: u32> Plain for Positive<DIGITS, BELOW> {
     ghost use Rattle.std.proofs.lemmas.Bool.Decides.{Decides-eqb};
 
     ghost clone_is_same = { λ x y e. e };
@@ -75,14 +74,6 @@ impl Plain for u32 {
 }
 
 impl Plain for Amount {
-    ghost use Rattle.std.proofs.lemmas.Bool.Decides.{Decides-eqb};
-
-    ghost clone_is_same = { λ x y e. e };
-
-    ghost eq_decides = { Decides-eqb };
-}
-
-impl Plain for Quantity {
     ghost use Rattle.std.proofs.lemmas.Bool.Decides.{Decides-eqb};
 
     ghost clone_is_same = { λ x y e. e };

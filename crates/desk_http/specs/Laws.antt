@@ -13,10 +13,12 @@ use Rattle.desk_http.specs.Serves.{AreWanted}
 
 -- JSON that says at once that something is refused
 abbrev pub is_refused : Data → Bool
-is_refused (object (member key (string text) _)) = bytes_eq key (codes "answer") && bytes_eq text (codes "refused")
+is_refused (object (member key (string text) _)) =
+    bytes_eq key (codes "answer") && bytes_eq text (codes "refused")
 is_refused _ = false
 
--- the status of an answer is one of HTTP's errors, 400 or above, exactly where its JSON says that something is refused
+-- the status of an answer is one of HTTP's errors, 400 or above, exactly where its JSON says that
+-- something is refused
 abbrev pub RefusalsAreErrors : Type 0
 RefusalsAreErrors = (a : Answer) → nat_le 400 (status_of a) ≡ is_refused (answer_json a)
 

@@ -9,7 +9,8 @@ use Rattle.desk_http.specs.declared.routes.Route.{Route}
 use Rattle.desk_http.specs.declared.routes.Route.TheVariants as r
 
 -- the rows with a route that was read
-abbrev pub with_read : Result Scan InsertError → Route → RowsOf (RouteOf Route) → RowsOf (RouteOf Route)
+abbrev pub with_read : Result Scan InsertError → Route → RowsOf (RouteOf Route)
+    → RowsOf (RouteOf Route)
 with_read (Ok s) value rows = placed (s.pattern, route_from s value) rows
 with_read (Err e) value rows = rows
 

@@ -36,8 +36,10 @@ shown (comment body) = []
 shown (instruction body) = []
 shown (declaration body) = []
 shown (doctype body) = []
-shown (start name attributes space) = codes "(" ++ (name ++ (first_shown attributes ++ id_shown attributes))
-shown (empty name attributes space) = codes "(" ++ (name ++ (first_shown attributes ++ (id_shown attributes ++ codes ")")))
+shown (start name attributes space) =
+    codes "(" ++ (name ++ (first_shown attributes ++ id_shown attributes))
+shown (empty name attributes space) =
+    codes "(" ++ (name ++ (first_shown attributes ++ (id_shown attributes ++ codes ")")))
 shown (end name space) = codes ")"
 
 -- what is printed once one token more is taken

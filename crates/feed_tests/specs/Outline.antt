@@ -22,11 +22,15 @@ digit n = 48 + n % 10
 -- a place is printed as a number sign, the last digit of its line, a point and the last three of
 -- its column
 abbrev pub place_shown : List ℕ → Position → List ℕ
-place_shown shown p = (((((shown ++ 35 ∷ []) ++ digit p.line ∷ []) ++ 46 ∷ []) ++ digit (p.column / 100) ∷ []) ++ digit (p.column / 10) ∷ []) ++ digit p.column ∷ []
+place_shown shown p =
+    (((((shown ++ 35 ∷ []) ++ digit p.line ∷ []) ++ 46 ∷ []) ++ digit (p.column / 100) ∷ [])
+    ++ digit (p.column / 10) ∷ []) ++ digit p.column ∷ []
 
 -- a line is printed as depth, name, format, an equals sign, its text and its place
 abbrev pub line_shown : List ℕ → Line → List ℕ
-line_shown shown l = place_shown ((format_shown ((shown ++ depth_shown l.depth ∷ []) ++ l.name) l.tag.format ++ 61 ∷ []) ++ l.text) l.tag.place ++ 59 ∷ []
+line_shown shown l =
+    place_shown ((format_shown ((shown ++ depth_shown l.depth ∷ []) ++ l.name) l.tag.format
+    ++ 61 ∷ []) ++ l.text) l.tag.place ++ 59 ∷ []
 
 -- lines, one after the other
 abbrev pub lines_shown : List ℕ → List Line → List ℕ

@@ -1,5 +1,6 @@
 -- A draft: the part of a message that was read so far, and how a row is added.
-use Rattle.std.specs.Prelude.{ℕ, List, [], ◌∷◌, ◌++◌, ◌≡◌, Bool, true, false, ⊤, Option, None, Some, Result, Ok, Err}
+use Rattle.std.specs.Prelude.{ℕ, List, [], ◌∷◌, ◌++◌, ◌≡◌, Bool, true, false, ⊤, Option, None, Some}
+use Rattle.std.specs.Prelude.{Result, Ok, Err}
 use Rattle.std.specs.List.{AllByRecursion, flat_map}
 use Rattle.onix_records.specs.Grammar.{is_counted, may_follow}
 use Rattle.onix_records.specs.PartRows.{SuppliesHaveDetails, detail_rows, product_rows, supply_rows}

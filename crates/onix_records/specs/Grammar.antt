@@ -1,6 +1,7 @@
 -- The grammar of messages: which records are a message, with which header and contents; and which a
 -- message may begin with.
-use Rattle.std.specs.Prelude.{ℕ, List, [], ◌∷◌, ◌++◌, ◌≡◌, ◌≤◌, ◌+◌, ◌⊎◌, ◌==◌, ⊤, Bool, true, false, suc, Some, map, take, length}
+use Rattle.std.specs.Prelude.{ℕ, List, [], ◌∷◌, ◌++◌, ◌≡◌, ◌≤◌, ◌+◌, ◌⊎◌, ◌==◌, ⊤, Bool, true}
+use Rattle.std.specs.Prelude.{false, suc, Some, map, take, length}
 use Rattle.std.specs.List.{AllByRecursion}
 use Rattle.onix_records.specs.PartRows.{SuppliesHaveDetails, rows_after}
 use Rattle.onix_records.specs.Opening.{opening_of}

@@ -1,5 +1,6 @@
 -- What a list of records says as a message, computed; the laws of messages tie it to the grammar.
-use Rattle.std.specs.Prelude.{ℕ, List, [], ◌∷◌, ◌+◌, ◌==◌, ◌&&◌, Bool, true, false, suc, Option, Some, None, if◌then◌else◌, length, nat_lt}
+use Rattle.std.specs.Prelude.{ℕ, List, [], ◌∷◌, ◌+◌, ◌==◌, ◌&&◌, Bool, true, false, suc, Option}
+use Rattle.std.specs.Prelude.{Some, None, if◌then◌else◌, length, nat_lt}
 use Rattle.std.specs.Option.{option_map_or}
 use Rattle.onix_terms.specs.Options.{◌>>=◌}
 use Rattle.onix_records.specs.Grammar.{is_counted, may_follow, most_records}

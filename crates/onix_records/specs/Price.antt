@@ -1,5 +1,6 @@
 -- A price: the row Price, as it is read and as it is written.
-use Rattle.std.specs.Prelude.{ℕ, List, [], ◌∷◌, Option, Some, None, ℤ, ◌++◌, if◌then◌else◌, decimal, nat_lt, codes}
+use Rattle.std.specs.Prelude.{ℕ, List, [], ◌∷◌, Option, Some, None, ℤ, ◌++◌, if◌then◌else◌, decimal}
+use Rattle.std.specs.Prelude.{nat_lt, codes}
 use Rattle.std.specs.Option.{option_map_or}
 use Rattle.onix_terms.specs.Amount.{amount_of, amount_text}
 use Rattle.onix_terms.specs.Code.{code2_of, currency_of}

@@ -30,7 +30,12 @@ impl Plain for Agreement {
     } };
 
     ghost eq_decides = { λ x y. decides-same
-        (λ e. λ i. record { name = e.0 i; sender = e.1.0 i; addressee = e.1.1.0 i; first = e.1.1.1 i })
+        (λ e. λ i. record {
+          name = e.0 i;
+          sender = e.1.0 i;
+          addressee = e.1.1.0 i;
+          first = e.1.1.1 i;
+        })
         (λ e. (
           ap (λ p. p.name) e,
           (ap (λ p. p.sender) e, (ap (λ p. p.addressee) e, ap (λ p. p.first) e)),

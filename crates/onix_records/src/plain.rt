@@ -35,7 +35,8 @@ impl Plain for Supplier {
         (λ e. λ i. record { role = e.0 i; party = e.1.0 i; name = e.1.1 i })
         (λ e. (ap (λ p. p.role) e, (ap (λ p. p.party) e, ap (λ p. p.name) e)))
         (decides-both (bytes_decides x.role y.role)
-        (decides-both (option-decides party.eq_decides-law x.party y.party) (bytes_decides x.name y.name))) };
+        (decides-both (option-decides party.eq_decides-law x.party y.party)
+        (bytes_decides x.name y.name))) };
 }
 
 // A derived clone may return early at each field. In a price and in a detail only what owns memory
@@ -76,13 +77,32 @@ impl Plain for Price {
           from = e.1.1.1.1.1.0 i;
           until = e.1.1.1.1.1.1 i;
         })
-        (λ e. (ap (λ p. p.price_type) e, (ap (λ p. p.amount) e, (ap (λ p. p.currency) e, (ap (λ p. p.territory) e, (ap (λ p. p.minimum) e, (ap (λ p. p.from) e, ap (λ p. p.until) e)))))))
+        (λ e. (
+          ap (λ p. p.price_type) e,
+          (
+            ap (λ p. p.amount) e,
+            (
+              ap (λ p. p.currency) e,
+              (
+                ap (λ p. p.territory) e,
+                (
+                  ap (λ p. p.minimum) e,
+                  (
+                    ap (λ p. p.from) e,
+                    ap (λ p. p.until) e,
+                  ),
+                ),
+              ),
+            ),
+          ),
+        ))
         (decides-both (bytes_decides x.price_type y.price_type)
         (decides-both (Decides-eqb x.amount y.amount)
         (decides-both (bytes_decides x.currency y.currency)
         (decides-both (territory.eq_decides-law x.territory y.territory)
         (decides-both (Decides-eqb x.minimum y.minimum)
-        (decides-both (option-decides Decides-int_eq x.from y.from) (option-decides Decides-int_eq x.until y.until))))))) };
+        (decides-both (option-decides Decides-int_eq x.from y.from)
+        (option-decides Decides-int_eq x.until y.until))))))) };
 }
 
 impl Clone for SupplyDetail {
@@ -116,10 +136,17 @@ impl Plain for SupplyDetail {
           unpriced = e.1.1.0 i;
           prices = e.1.1.1 i;
         })
-        (λ e. (ap (λ p. p.supplier) e, (ap (λ p. p.availability) e, (ap (λ p. p.unpriced) e, ap (λ p. p.prices) e))))
+        (λ e. (
+          ap (λ p. p.supplier) e,
+          (
+            ap (λ p. p.availability) e,
+            (ap (λ p. p.unpriced) e, ap (λ p. p.prices) e),
+          ),
+        ))
         (decides-both (supplier.eq_decides-law x.supplier y.supplier)
         (decides-both (bytes_decides x.availability y.availability)
-        (decides-both (option-decides bytes_decides x.unpriced y.unpriced) (pointwise_decides price.eq_decides-law x.prices y.prices)))) };
+        (decides-both (option-decides bytes_decides x.unpriced y.unpriced)
+        (pointwise_decides price.eq_decides-law x.prices y.prices)))) };
 }
 
 impl Plain for ProductSupply {
@@ -137,7 +164,8 @@ impl Plain for ProductSupply {
     ghost eq_decides = { λ x y. decides-same
         (λ e. λ i. record { market = e.0 i; details = e.1 i })
         (λ e. (ap (λ p. p.market) e, ap (λ p. p.details) e))
-        (decides-both (territory.eq_decides-law x.market y.market) (pointwise_decides detail.eq_decides-law x.details y.details)) };
+        (decides-both (territory.eq_decides-law x.market y.market)
+        (pointwise_decides detail.eq_decides-law x.details y.details)) };
 }
 
 impl Plain for Product {
@@ -161,8 +189,15 @@ impl Plain for Product {
           ids = e.1.1.0 i;
           supplies = e.1.1.1 i;
         })
-        (λ e. (ap (λ p. p.reference) e, (ap (λ p. p.notification) e, (ap (λ p. p.ids) e, ap (λ p. p.supplies) e))))
+        (λ e. (
+          ap (λ p. p.reference) e,
+          (
+            ap (λ p. p.notification) e,
+            (ap (λ p. p.ids) e, ap (λ p. p.supplies) e),
+          ),
+        ))
         (decides-both (bytes_decides x.reference y.reference)
         (decides-both (bytes_decides x.notification y.notification)
-        (decides-both (pointwise_decides identifier.eq_decides-law x.ids y.ids) (pointwise_decides supply.eq_decides-law x.supplies y.supplies)))) };
+        (decides-both (pointwise_decides identifier.eq_decides-law x.ids y.ids)
+        (pointwise_decides supply.eq_decides-law x.supplies y.supplies)))) };
 }

@@ -1,5 +1,6 @@
 -- Days by their numbers: 0 is 1 January 1970.
-use Rattle.std.specs.Prelude.{ℕ, zero, suc, ℤ, pos, neg_ℤ, ◌≤ℤ◌, List, ◌++◌, ◌/◌, ◌%◌, Bool, Option, Some, None, ◌&&◌, ◌==◌, nat_lt, nat_le, length, if◌then◌else◌}
+use Rattle.std.specs.Prelude.{ℕ, zero, suc, ℤ, pos, neg_ℤ, ◌≤ℤ◌, List, ◌++◌, ◌/◌, ◌%◌, Bool, Option}
+use Rattle.std.specs.Prelude.{Some, None, ◌&&◌, ◌==◌, nat_lt, nat_le, length, if◌then◌else◌}
 use Rattle.std.specs.Ordering.{int_eq}
 use Rattle.std.specs.Option.{option_eq}
 use Rattle.jiff_core.specs.Calendar.{days_in_month, days_from_civil}

@@ -1,5 +1,6 @@
 -- Names of series.
-use Rattle.std.specs.Prelude.{ℕ, List, Bool, Option, Some, None, ◌&&◌, ◌||◌, ◌==◌, ◌++◌, ◌-◌, nat_lt, nat_le, length, replicate, if◌then◌else◌}
+use Rattle.std.specs.Prelude.{ℕ, List, Bool, Option, Some, None, ◌&&◌, ◌||◌, ◌==◌, ◌++◌, ◌-◌}
+use Rattle.std.specs.Prelude.{nat_lt, nat_le, length, replicate, if◌then◌else◌}
 use Rattle.std.specs.List.{list_all}
 use Rattle.std.specs.Char.{is_ascii_digit, is_ascii_lowercase}
 

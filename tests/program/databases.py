@@ -143,11 +143,16 @@ SupplyDetail,04,06,4012345000009,North Books,21,
 
 def beside_another_table(room: Room) -> Iterator[Outcome]:
     """A database without a desk's tables counts as empty, and what else it holds stays."""
-    execute(room, "CREATE TABLE book (title TEXT); INSERT INTO book VALUES ('north');")
+    execute(
+        room,
+        "CREATE TABLE book (title TEXT PRIMARY KEY); CREATE TABLE copy (title TEXT REFERENCES book);"
+        "INSERT INTO book VALUES ('north'); INSERT INTO copy VALUES ('north');",
+    )
     came = batch(room, AGREEMENT)
     yield Outcome("beside another table: a batch", came, Ran(0, AGREED))
-    came = numbers(room, VERSION), rows(room, "SELECT * FROM book"), complaints(room)
-    yield Outcome("beside another table: what is kept", came, ([2], [("north",)], []))
+    kept = rows(room, "SELECT * FROM book, copy")
+    came = numbers(room, VERSION), kept, complaints(room)
+    yield Outcome("beside another table: what is kept", came, ([2], [("north", "north")], []))
 
 
 META = "CREATE TABLE meta (item TEXT PRIMARY KEY, amount INTEGER);"
@@ -163,6 +168,12 @@ REFUSED = [
     ),
     ("CREATE TABLE meta (title TEXT);", b"onixdesk: storage: unusable\n"),
     ("CREATE TABLE series (title TEXT);", b"onixdesk: storage: unusable\n"),
+    # What the desk deletes of its own tables would be deleted here too.
+    (
+        "CREATE TABLE shelf (s TEXT, r TEXT, FOREIGN KEY (s, r) REFERENCES record ON DELETE CASCADE);",
+        b"onixdesk: storage: unusable\n",
+    ),
+    ("CREATE TABLE note (name TEXT REFERENCES Series (name));", b"onixdesk: storage: unusable\n"),
 ]
 
 

@@ -8,7 +8,6 @@ pub mod LargeLaws
 pub mod TreeLaws
 pub mod KnownLaws
 pub mod MessageLaws
-pub mod CompositeLaws
 pub mod OutlineLaws
 pub mod NamespaceLaws
 pub mod PrefixLaws

@@ -12,4 +12,5 @@ pub mod Message
 pub mod Faults
 pub mod Composites
 pub mod Outlined
+pub mod NodesCode
 pub mod private

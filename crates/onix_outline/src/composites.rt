@@ -1,95 +1,132 @@
-//! What stands in a composite, by the lines of its outline.
+//! Elements one beside the other, by the lines of their outline.
 
-ghost use Rattle.std.specs.Prelude.{◌≡◌, ℕ, ◌<◌, ◌≤◌, IfSome, length, option_map};
-ghost use Rattle.onix_outline.specs.Composites.{text_in, text_line, deeper, has_stranger, is_line_among, IsFirst};
-ghost use Rattle.onix_outline.specs.Nodes.{Nodes};
-ghost use Rattle.onix_outline.specs.Outline.{outline};
+ghost use Rattle.std.specs.Prelude.{◌≡◌, suc, option_map};
+ghost use Rattle.onix_outline.specs.Composites.{has_stranger, joined, text_in};
+ghost use Rattle.onix_outline.specs.Nodes.{no_nodes};
+ghost use Rattle.onix_outline.specs.Outlined.{nodes_at};
 ghost use Rattle.onix_outline.specs.Views.{line_views};
 
 use crate::line::Line;
 use crate::names::stranger;
+use std::marker::Model;
 
-/// The first element of a composite, what stands in it, and the elements that follow it.
-#[derive(Clone, Copy)]
+/// Elements one beside the other, each with what stands in it. Contracts see their tree.
+#[derive(Drop)]
+pub struct Elements<'a> {
+    depth: usize,
+    lines: &'a [Line],
+}
+
+impl<'a> Model for Elements<'a> {
+    ghost use Rattle.onix_outline.specs.Nodes.{Nodes};
+    ghost use Rattle.onix_outline.specs.NodesCode.{nodes_code};
+    ghost use Rattle.onix_outline.specs.Outlined.{nodes_at};
+    ghost use Rattle.onix_outline.specs.Views.{line_views};
+
+    ghost Value = { Nodes };
+
+    ghost coded = { nodes_code };
+
+    ghost view = { λ e. nodes_at e.depth (line_views e.lines.now) };
+}
+
+/// The first of some elements, what stands in it, and the elements that follow it.
+#[derive(Drop)]
 pub struct Node<'a> {
     pub line: &'a Line,
-    pub below: &'a [Line],
-    pub rest: &'a [Line],
+    pub below: Elements<'a>,
+    pub rest: Elements<'a>,
 }
 
-// How many lines at the front are deeper.
-fn deeper(depth: usize, lines: &[Line]) -> usize
-    ensures count { result ≡ deeper depth (line_views lines.now) }
-    ensures bound { result ≤ length lines.now }
-{
-    let mut count = 0;
-    let mut rest = lines;
-    while let [line, tail @ ..] = rest {
-        if line.depth <= depth {
-            return count;
-        }
-        count += 1;
-        rest = tail;
-    }
-    count
-}
-
-/// The first of the elements that lines of this depth tell.
-pub fn first_node(depth: usize, lines: &[Line]) -> Option<Node<'_>>
-    ensures first { (nodes : Nodes) → line_views lines.now ≡ outline depth nodes
-        → IsFirst result depth nodes }
-    ensures shorter { IfSome result (λ n. length n.rest.now < length lines.now) }
+// What stands in an element of this depth, by the lines behind it.
+fn elements_below(depth: usize, lines: &[Line]) -> Elements<'_>
+    ensures { result ≡ nodes_at (suc depth) (line_views lines.now) }
 {
     match lines {
-        [] => None,
-        [line, tail @ ..] => {
-            let (below, rest) = tail.split_at(deeper(depth, tail));
-            Some(Node { line, below, rest })
-        }
+        [next, ..] if next.depth > depth => Elements {
+            depth: depth + 1,
+            lines,
+        },
+        _ => Elements::none(),
     }
 }
 
-// Whether one of the lines has this name.
-fn is_among(name: &[u8], lines: &[Line]) -> bool
-    ensures { result ≡ is_line_among name.now (line_views lines.now) }
-{
-    let mut rest = lines;
-    while let [line, tail @ ..] = rest {
-        if line.name == name {
-            return true;
+impl<'a> Elements<'a> {
+    /// No elements.
+    pub fn none() -> Elements<'a>
+        ensures { result ≡ no_nodes }
+    {
+        Elements {
+            depth: 0,
+            lines: &[],
         }
-        rest = tail;
     }
-    false
+
+    // The elements of this depth at the front of lines.
+    pub(crate) fn at(depth: usize, lines: &'a [Line]) -> Elements<'a>
+        ensures { result ≡ nodes_at depth (line_views lines.now) }
+    {
+        Elements { depth, lines }
+    }
+
+    /// The same elements.
+    pub fn copy(&self) -> Elements<'a>
+        ensures { result ≡ self.now }
+    {
+        Elements {
+            depth: self.depth,
+            lines: self.lines,
+        }
+    }
+
+    /// The first of the elements.
+    pub fn first(&self) -> Option<Node<'a>>
+        ensures { joined result ≡ self.now }
+    {
+        let depth = self.depth;
+        let mut lines = self.lines;
+        while let [line, behind @ ..] = lines {
+            if line.depth < depth {
+                return None;
+            }
+            if line.depth == depth {
+                return Some(Node {
+                    line,
+                    below: elements_below(depth, behind),
+                    rest: Elements::at(depth, behind),
+                });
+            }
+            lines = behind;
+        }
+        None
+    }
 }
 
-// The text of the first line of this depth and name that has one.
-fn text_line<'a>(depth: usize, name: &[u8], lines: &'a [Line]) -> Option<&'a [u8]>
-    ensures { option_map (λ t. t.now) result ≡ text_line depth name.now (line_views lines.now) }
+/// The text of the first element of this name that has one.
+pub fn text_in<'a>(name: &[u8], elements: &Elements<'a>) -> Option<&'a [u8]>
+    ensures { option_map (λ t. t.now) result ≡ text_in name.now elements.now }
 {
-    let mut rest = lines;
-    while let [line, tail @ ..] = rest {
-        if line.depth == depth && line.name == name && !line.text.is_empty() {
-            return Some(line.text.as_slice());
+    let mut rest = elements.copy();
+    while let Some(node) = rest.first() {
+        if node.line.name == name && !node.line.text.is_empty() {
+            return Some(node.line.text.as_slice());
         }
-        rest = tail;
+        rest = node.rest;
     }
     None
 }
 
-/// The text of the first element of this name that has one.
-pub fn text_in<'a>(depth: usize, name: &[u8], lines: &'a [Line]) -> Option<&'a [u8]>
-    ensures { (nodes : Nodes) → line_views lines.now ≡ outline depth nodes
-        → option_map (λ t. t.now) result ≡ text_in name.now nodes }
-{
-    text_line(depth, name, lines)
-}
-
 /// Whether one of the elements, or of those in them, is a stranger: it is called as one that counts
 /// where it stands, and is in another namespace.
-pub fn has_stranger(lines: &[Line]) -> bool
-    ensures { (depth : ℕ) (nodes : Nodes) → line_views lines.now ≡ outline depth nodes
-        → result ≡ has_stranger nodes }
+pub fn has_stranger(elements: &Elements<'_>) -> bool
+    ensures { result ≡ has_stranger elements.now }
 {
-    is_among(stranger(), lines)
+    let mut rest = elements.copy();
+    while let Some(node) = rest.first() {
+        if node.line.name == stranger() || has_stranger(&node.below) {
+            return true;
+        }
+        rest = node.rest;
+    }
+    false
 }

@@ -17,7 +17,7 @@ pub mod reading;
 mod spaces;
 pub mod told;
 
-pub use composites::{Node, first_node, has_stranger, text_in};
+pub use composites::{Elements, Node, has_stranger, text_in};
 pub use dialect::{Dialect, Wrong};
 pub use laws::outlines_tell;
 pub use line::Line;

@@ -1,11 +1,11 @@
 //! Lines read back as the element that they are the outline of.
 
 ghost use Rattle.std.specs.Prelude.{◌≡◌};
-ghost use Rattle.onix_outline.specs.Composites.{IsFirst};
+ghost use Rattle.onix_outline.specs.Composites.{joined};
 ghost use Rattle.onix_outline.specs.Outlined.{are_below, is_outline, outlined};
 ghost use Rattle.onix_outline.specs.Views.{line_views};
 
-use crate::composites::{Node, first_node};
+use crate::composites::{Elements, Node};
 use crate::line::Line;
 
 // Whether each line is below the outermost one, and at most one deeper than the line before it.
@@ -34,12 +34,12 @@ pub fn is_outline(lines: &[Line]) -> bool
     }
 }
 
-/// The element that lines are the outline of, and the lines of what stands in it.
+/// The element that lines are the outline of, and what stands in it.
 pub fn outlined(lines: &[Line]) -> Option<Node<'_>>
-    ensures { IsFirst result 0 (outlined (line_views lines.now)) }
+    ensures { joined result ≡ outlined (line_views lines.now) }
 {
     if is_outline(lines) {
-        first_node(0, lines)
+        Elements::at(0, lines).first()
     } else {
         None
     }

@@ -1,0 +1,15 @@
+use Rattle.std.proofs.Common.{◌≡◌, ◌≤◌}
+use Rattle.onix_outline.specs.Composites.{count, has_stranger}
+use Rattle.onix_outline.proofs.composites.+has_stranger.Given as goal
+
+abbrev pub decreases-has_stranger : goal.decreases-has_stranger
+decreases-has_stranger l = count l.elements.now
+
+abbrev pub invariant-loop-node : goal.invariant-loop-node
+invariant-loop-node l = record {
+  strangers : has_stranger l.rest ≡ has_stranger l.elements;
+  left : count l.rest ≤ count l.elements;
+}
+
+abbrev pub decreases-loop-node : goal.decreases-loop-node
+decreases-loop-node l = count l.rest

@@ -1,0 +1,9 @@
+use Rattle.std.proofs.Common.{◌≡◌}
+use Rattle.onix_outline.specs.Composites.{count, text_in}
+use Rattle.onix_outline.proofs.composites.text_in.Given as goal
+
+abbrev pub invariant-loop-node : goal.invariant-loop-node
+invariant-loop-node l = text_in l.name l.rest ≡ text_in l.name l.elements
+
+abbrev pub decreases-loop-node : goal.decreases-loop-node
+decreases-loop-node l = count l.rest

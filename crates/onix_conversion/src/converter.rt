@@ -1,15 +1,11 @@
 //! The state of a conversion, which takes the Header and the Products of a message.
 
 ghost use Rattle.std.specs.Prelude.{◌≡◌, ◌∷◌, [], ℕ, IfOk, OnOk};
-ghost use Rattle.onix_mapping.specs.Elements.{Composite as Told, Tells};
 ghost use Rattle.onix_mapping.specs.Header.{heading_in};
 ghost use Rattle.onix_mapping.specs.HeaderViews.{choices_view, heading_view};
 ghost use Rattle.onix_mapping.specs.Notes.{note_views};
 ghost use Rattle.onix_mapping.specs.ProductRecords.{variant, small_variants, smaller_variants};
 ghost use Rattle.onix_mapping.specs.Products.{bare_record, emptied_record};
-ghost use Rattle.onix_outline.specs.Nodes.{Nodes};
-ghost use Rattle.onix_outline.specs.Outline.{outline};
-ghost use Rattle.onix_outline.specs.Views.{line_views};
 ghost use Rattle.onix_conversion.specs.private.Stages.{IsKept, after_element, after_product, at_stage, begun_by, first_begun, first_state, stored, noted, stage_after_header, stage_after_stranger, unbegun, with_variant, with_variants, with_product};
 ghost use Rattle.onix_conversion.specs.Conversion.{Options as Chosen};
 ghost use Rattle.onix_conversion.specs.Views.{options_view};
@@ -27,7 +23,7 @@ use onix_mapping::{
     Choices, Composite, Fate, HeaderFault, Heading, Note, Reason, ReasonKind, Wrong, add_bare,
     add_large, add_product, desk_vocabulary, fill_message, read_heading, text_or_empty,
 };
-use onix_outline::{Line, Taker, Word, has_stranger, outlined};
+use onix_outline::{Elements, Line, Taker, Word, has_stranger, outlined};
 use onix_records::row::RowFault;
 use onix_terms::items::Items;
 use std::alloc::{AllocError, Global};
@@ -56,16 +52,16 @@ fn note_product<T: Target>(
     alloc: Global,
     begun: &mut Begun,
     target: &mut T,
-    product: Composite<'_>,
+    product: &Composite<'_>,
     notes: &[Note<'_>],
 ) -> Result<(), AllocError>
-    ensures { (c : Told) → Tells product.entry 1 c → OnOk result
+    ensures { OnOk result
         (stored (begun_view begun.new) (T.parts target.new) (T.notes target.new)
-        ≡ noted T.keeping c (note_views notes.now)
+        ≡ noted T.keeping product.now (note_views notes.now)
         (stored (begun_view begun.old) (T.parts target.old) (T.notes target.old))) }
 {
     count_product(alloc, &mut begun.tally, product, notes)?;
-    let reference = text_or_empty(1, b"RecordReference", product.below);
+    let reference = text_or_empty(b"RecordReference", &product.below);
     target.product(reference, notes)
 }
 
@@ -76,16 +72,16 @@ fn keep_variant<T: Target>(
     most: u32,
     begun: &mut Begun,
     target: &mut T,
-    product: Composite<'_>,
+    product: &Composite<'_>,
     records: &RecordBuffer,
     notes: &[Note<'_>],
 ) -> Result<bool, AllocError>
-    ensures { (c : Told) → Tells product.entry 1 c → IfOk result (λ is. IsKept is
+    ensures { IfOk result (λ is. IsKept is
         (stored (begun_view begun.old) (T.parts target.old) (T.notes target.old))
         (stored (begun_view begun.new) (T.parts target.new) (T.notes target.new))
         (with_variant T.keeping most
         (stored (begun_view begun.old) (T.parts target.old) (T.notes target.old))
-        c records.now (note_views notes.now))) }
+        product.now records.now (note_views notes.now))) }
 {
     let is_kept = keep(alloc, most, begun, target, product.line.place, records)?;
     if is_kept {
@@ -99,12 +95,12 @@ fn leave_out<T: Target>(
     alloc: Global,
     begun: &mut Begun,
     target: &mut T,
-    product: Composite<'_>,
+    product: &Composite<'_>,
 ) -> Result<(), AllocError>
-    ensures { (c : Told) (most : ℕ) → Tells product.entry 1 c → OnOk result
+    ensures { (most : ℕ) → OnOk result
         (stored (begun_view begun.new) (T.parts target.new) (T.notes target.new)
         ≡ with_variants T.keeping most
-        (stored (begun_view begun.old) (T.parts target.old) (T.notes target.old)) c []) }
+        (stored (begun_view begun.old) (T.parts target.old) (T.notes target.old)) product.now []) }
 {
     let kind = ReasonKind::Wrong(Wrong::TooLarge);
     let line = product.line;
@@ -118,18 +114,18 @@ fn add_smallest<T: Target>(
     most: u32,
     begun: &mut Begun,
     target: &mut T,
-    product: Composite<'_>,
+    product: &Composite<'_>,
     notes: &[Note<'_>],
 ) -> Result<(), AllocError>
-    ensures { (c : Told) → Tells product.entry 1 c → OnOk result
+    ensures { OnOk result
         (stored (begun_view begun.new) (T.parts target.new) (T.notes target.new)
         ≡ with_variants T.keeping most
         (stored (begun_view begun.old) (T.parts target.old) (T.notes target.old))
-        c (variant (bare_record c.below ∷ []) (note_views notes.now) ∷ [])) }
+        product.now (variant (bare_record product.now.below ∷ []) (note_views notes.now) ∷ [])) }
 {
     let mut fields = FieldBuffer::new(alloc);
     let mut records = RecordBuffer::new(alloc);
-    add_bare(alloc, 1, product, &mut fields, &mut records)?;
+    add_bare(alloc, product, &mut fields, &mut records)?;
     let is_kept = keep_variant(alloc, most, begun, target, product, &records, notes)?;
     if is_kept {
         return Ok(());
@@ -143,15 +139,15 @@ fn add_small<T: Target>(
     most: u32,
     begun: &mut Begun,
     target: &mut T,
-    product: Composite<'_>,
+    product: &Composite<'_>,
     records: &RecordBuffer,
     notes: &[Note<'_>],
 ) -> Result<(), AllocError>
-    ensures { (c : Told) → Tells product.entry 1 c → records.now ≡ emptied_record c.below ∷ []
+    ensures { records.now ≡ emptied_record product.now.below ∷ []
         → OnOk result (stored (begun_view begun.new) (T.parts target.new) (T.notes target.new)
         ≡ with_variants T.keeping most
         (stored (begun_view begun.old) (T.parts target.old) (T.notes target.old))
-        c (small_variants (note_views notes.now) c.below)) }
+        product.now (small_variants (note_views notes.now) product.now.below)) }
 {
     let is_kept = keep_variant(alloc, most, begun, target, product, records, notes)?;
     if is_kept {
@@ -166,20 +162,20 @@ fn add_large_product<T: Target>(
     most: u32,
     begun: &mut Begun,
     target: &mut T,
-    product: Composite<'_>,
+    product: &Composite<'_>,
     fate: Fate,
     notes: &[Note<'_>],
 ) -> Result<(), AllocError>
-    ensures { (c : Told) → Tells product.entry 1 c → OnOk result
+    ensures { OnOk result
         (stored (begun_view begun.new) (T.parts target.new) (T.notes target.new)
         ≡ with_variants T.keeping most
         (stored (begun_view begun.old) (T.parts target.old) (T.notes target.old))
-        c (smaller_variants fate (note_views notes.now) c)) }
+        product.now (smaller_variants fate (note_views notes.now) product.now)) }
 {
     let mut fields = FieldBuffer::new(alloc);
     let mut records = RecordBuffer::new(alloc);
     let mut large = Vec::new(alloc);
-    add_large(alloc, 1, product, &mut fields, &mut records, &mut large)?;
+    add_large(alloc, product, &mut fields, &mut records, &mut large)?;
     match fate {
         Fate::Written => add_small(alloc, most, begun, target, product, &records, &large),
         Fate::Emptied => add_small(alloc, most, begun, target, product, &records, notes),
@@ -194,12 +190,12 @@ fn add<T: Target>(
     options: &Options<'_>,
     begun: &mut Begun,
     target: &mut T,
-    product: Composite<'_>,
+    product: &Composite<'_>,
 ) -> Result<(), AllocError>
-    ensures { (c : Told) → Tells product.entry 1 c → OnOk result
+    ensures { OnOk result
         (stored (begun_view begun.new) (T.parts target.new) (T.notes target.new)
         ≡ after_product T.keeping (options_view options.now)
-        (stored (begun_view begun.old) (T.parts target.old) (T.notes target.old)) c) }
+        (stored (begun_view begun.old) (T.parts target.old) (T.notes target.old)) product.now) }
 {
     let mut fields = FieldBuffer::new(alloc);
     let mut records = RecordBuffer::new(alloc);
@@ -208,7 +204,6 @@ fn add<T: Target>(
         alloc,
         &begun.opening,
         options.choices.id_type,
-        1,
         product,
         &mut fields,
         &mut records,
@@ -227,11 +222,10 @@ fn add<T: Target>(
 fn begin_with(
     alloc: Global,
     heading: Heading<'_>,
-    lines: &[Line],
+    elements: &Elements<'_>,
     fields: &mut FieldBuffer,
 ) -> Result<Begun, RowFault>
-    ensures { (nodes : Nodes) → line_views lines.now ≡ outline 1 nodes
-        → IfOk result (λ b. begun_view b ≡ first_begun (heading_view heading.entry) nodes) }
+    ensures { IfOk result (λ b. begun_view b ≡ first_begun (heading_view heading.entry) elements.now) }
 {
     let Heading {
         sender,
@@ -239,7 +233,7 @@ fn begin_with(
         number,
         opening,
     } = heading;
-    fill_message(sender, addressee, number, 1, lines, fields)?;
+    fill_message(sender, addressee, number, elements, fields)?;
     let record = fields.as_record();
     if record.len() != 11 {
         return Err(RowFault::Wrong);
@@ -266,13 +260,12 @@ fn begin_with(
 fn begin<'a>(
     alloc: Global,
     choices: &Choices<'a>,
-    header: Composite<'a>,
+    header: &Composite<'a>,
 ) -> Result<Stage, AllocError>
-    ensures { (c : Told) (o : Chosen) → Tells header.entry 1 c
-        → o.choices ≡ choices_view choices.now
-        → IfOk result (λ s. stage_view s ≡ stage_after_header unbegun o c) }
+    ensures { (o : Chosen) → o.choices ≡ choices_view choices.now
+        → IfOk result (λ s. stage_view s ≡ stage_after_header unbegun o header.now) }
 {
-    if has_stranger(header.below) {
+    if has_stranger(&header.below) {
         let place = header.line.place;
         return Ok(Stage::Refused(Refusal::OtherNamespace(place)));
     }
@@ -283,21 +276,20 @@ fn begin<'a>(
 fn begin_own<'a>(
     alloc: Global,
     choices: &Choices<'a>,
-    header: Composite<'a>,
+    header: &Composite<'a>,
 ) -> Result<Stage, AllocError>
-    ensures { (c : Told) → Tells header.entry 1 c
-        → IfOk result (λ s. stage_view s
-        ≡ begun_by c (heading_in (choices_view choices.now) c.below)) }
+    ensures { IfOk result (λ s. stage_view s
+        ≡ begun_by header.now (heading_in (choices_view choices.now) header.now.below)) }
 {
     let mut fields = FieldBuffer::new(alloc);
-    match read_heading(alloc, choices, 1, header.below, &mut fields) {
-        Ok(heading) => match begin_with(alloc, heading, header.below, &mut fields) {
+    match read_heading(alloc, choices, &header.below, &mut fields) {
+        Ok(heading) => match begin_with(alloc, heading, &header.below, &mut fields) {
             Ok(begun) => Ok(Stage::Within(begun)),
             // A heading has such a record, so it is memory that ran out.
             Err(_) => Err(AllocError),
         },
         Err(HeaderFault::Refused(refusal)) => {
-            let number = text_or_empty(1, b"MessageNumber", header.below);
+            let number = text_or_empty(b"MessageNumber", &header.below);
             let number = Items::from_vec(Vec::from_slice(alloc, number)?);
             Ok(Stage::Refused(Refusal::Header(refusal, number, header.line.place)))
         }
@@ -325,9 +317,9 @@ impl<'a, T: Target + Drop> Converter<'a, T> {
     }
 
     // Takes a Header, which begins the message where it is the first.
-    fn take_header(&mut self, header: Composite<'_>) -> Result<(), AllocError>
-        ensures { (c : Told) → Tells header.entry 1 c → OnOk result (self.new
-            ≡ at_stage self.old (stage_after_header self.old.stage self.old.options c)) }
+    fn take_header(&mut self, header: &Composite<'_>) -> Result<(), AllocError>
+        ensures { OnOk result (self.new
+            ≡ at_stage self.old (stage_after_header self.old.stage self.old.options header.now)) }
     {
         match &self.stage {
             Stage::Unbegun => {
@@ -344,9 +336,8 @@ impl<'a, T: Target + Drop> Converter<'a, T> {
     }
 
     // Takes an element of another namespace, which refuses the message.
-    fn take_stranger(&mut self, element: Composite<'_>)
-        ensures { (c : Told) → Tells element.entry 1 c
-            → self.new ≡ at_stage self.old (stage_after_stranger self.old.stage c) }
+    fn take_stranger(&mut self, element: &Composite<'_>)
+        ensures { self.new ≡ at_stage self.old (stage_after_stranger self.old.stage element.now) }
     {
         let place = element.line.place;
         match &self.stage {
@@ -361,9 +352,8 @@ impl<'a, T: Target + Drop> Converter<'a, T> {
     }
 
     // Takes a Product.
-    fn take_product(&mut self, product: Composite<'_>) -> Result<(), AllocError>
-        ensures { (c : Told) → Tells product.entry 1 c
-            → OnOk result (self.new ≡ with_product T.keeping self.old.stage self.old c) }
+    fn take_product(&mut self, product: &Composite<'_>) -> Result<(), AllocError>
+        ensures { OnOk result (self.new ≡ with_product T.keeping self.old.stage self.old product.now) }
     {
         match &mut self.stage {
             Stage::Unbegun => {
@@ -380,9 +370,8 @@ impl<'a, T: Target + Drop> Converter<'a, T> {
     }
 
     // Takes an element.
-    fn take_element(&mut self, element: Composite<'_>) -> Result<(), AllocError>
-        ensures { (c : Told) → Tells element.entry 1 c
-            → OnOk result (self.new ≡ after_element T.keeping self.old c) }
+    fn take_element(&mut self, element: &Composite<'_>) -> Result<(), AllocError>
+        ensures { OnOk result (self.new ≡ after_element T.keeping self.old element.now) }
     {
         if element.line.name == b"Header".as_slice() {
             self.take_header(element)
@@ -417,7 +406,7 @@ impl<'a, T: Target + Drop> Taker for Converter<'a, T> {
     fn take(&mut self, lines: &[Line]) -> Result<(), AllocError> {
         match outlined(lines) {
             None => Ok(()),
-            Some(node) => self.take_element(Composite {
+            Some(node) => self.take_element(&Composite {
                 line: node.line,
                 below: node.below,
             }),

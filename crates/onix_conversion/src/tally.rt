@@ -1,7 +1,6 @@
 //! How many products there are, and how many of them are wrong.
 
 ghost use Rattle.std.specs.Prelude.{◌≡◌, IfOk, OnOk};
-ghost use Rattle.onix_mapping.specs.Elements.{Composite as Told, Tells};
 ghost use Rattle.onix_mapping.specs.Notes.{note_views};
 ghost use Rattle.onix_mapping.specs.ProductRecords.{has_wrong};
 ghost use Rattle.onix_conversion.specs.Tallies.{no_tally, refused_for, tallied, too_many, with_wrong};
@@ -56,16 +55,15 @@ fn has_wrong(notes: &[Note<'_>]) -> bool
 }
 
 // Counts a wrong product.
-fn count_wrong(alloc: Global, tally: &mut Tally, product: Composite<'_>) -> Result<(), AllocError>
-    ensures { (c : Told) → Tells product.entry 1 c
-        → OnOk result (tally.new ≡ with_wrong tally.old c) }
+fn count_wrong(alloc: Global, tally: &mut Tally, product: &Composite<'_>) -> Result<(), AllocError>
+    ensures { OnOk result (tally.new ≡ with_wrong tally.old product.now) }
 {
     let Some(wrong) = tally.wrong.checked_add(1) else {
         return Err(AllocError);
     };
     tally.wrong = wrong;
     if tally.first.is_none() {
-        let reference = text_or_empty(1, b"RecordReference", product.below);
+        let reference = text_or_empty(b"RecordReference", &product.below);
         tally.first = Some(WrongProduct {
             reference: Items::from_vec(Vec::from_slice(alloc, reference)?),
             place: product.line.place,
@@ -78,11 +76,10 @@ fn count_wrong(alloc: Global, tally: &mut Tally, product: Composite<'_>) -> Resu
 pub(crate) fn count_product(
     alloc: Global,
     tally: &mut Tally,
-    product: Composite<'_>,
+    product: &Composite<'_>,
     notes: &[Note<'_>],
 ) -> Result<(), AllocError>
-    ensures { (c : Told) → Tells product.entry 1 c
-        → OnOk result (tally.new ≡ tallied tally.old c (note_views notes.now)) }
+    ensures { OnOk result (tally.new ≡ tallied tally.old product.now (note_views notes.now)) }
 {
     if has_wrong(notes) {
         count_wrong(alloc, tally, product)?;

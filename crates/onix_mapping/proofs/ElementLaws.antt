@@ -1,14 +1,10 @@
--- What stands in an element is one deeper, and what is made of one element more.
-use Rattle.std.proofs.Common.{◌≡◌, ℕ, suc, ◌+◌, List, ◌∷◌, ◌++◌, Bool, true, false, Option, Some, None, map, refl, sym, ap, ◌∙◌, add-one, append_assoc}
+-- What is made of one element more.
+use Rattle.std.proofs.Common.{◌≡◌, List, ◌∷◌, ◌++◌, Bool, true, false, Option, Some, None, map, refl, sym, ap, ◌∙◌, append_assoc}
 use Rattle.std.specs.Prelude.{◌||◌}
 use Rattle.std.specs.List.{flat_map, list_any}
 use Rattle.std.specs.Option.{option_or}
 use Rattle.onix_mapping.specs.Records.{first_some}
-use Rattle.onix_mapping.specs.declared.elements.Composite.{Composite as Lent}
-use Rattle.onix_mapping.specs.Elements.{Composite, Tells}
-
-pub one-deeper : (found : Lent) (depth : ℕ) (c : Composite) → Tells found (suc depth) c → Tells found (depth + 1) c
-one-deeper found depth c tells = record { element = tells.element; below = rw add-one tells.below }
+use Rattle.onix_mapping.specs.Elements.{Composite}
 
 -- what is made of one more of these elements was added
 pub one-more : {T : Type 0} (made : Composite → List T) (old new all : List T) (c : Composite) (whole others : List Composite) → whole ≡ c ∷ others → new ≡ old ++ made c

@@ -1,15 +1,14 @@
 -- The elements of one name in a composite, each with what stands in it.
 use Prim.Native.String.{String}
-use Rattle.std.specs.Prelude.{◌≡◌, ℕ, suc, List, [], ◌∷◌, Option, Some, None, if◌then◌else◌}
-use Rattle.std.specs.Prelude.{codes, unwrap_or}
-use Rattle.std.specs.Borrow.{Bor}
+use Rattle.std.specs.Prelude.{ℕ, List, [], ◌∷◌, Option, Some, None, if◌then◌else◌}
+use Rattle.std.specs.Prelude.{codes, refl, unwrap_or}
+use Rattle.std.specs.Coded.{Coded, code_by, coded×}
 use Rattle.std.specs.Str.{bytes_eq}
-use Rattle.onix_mapping.specs.declared.elements.Composite.{Composite as Lent}
 use Rattle.onix_outline.specs.declared.line.Line.{Line}
 use Rattle.onix_outline.specs.Composites.{text_in}
 use Rattle.onix_outline.specs.Nodes.{Nodes, Tag, no_nodes, node}
-use Rattle.onix_outline.specs.Outline.{outline}
-use Rattle.onix_outline.specs.Views.{line_views, tag_view}
+use Rattle.onix_outline.specs.NodesCode.{nodes_code, tag_code, text_code}
+use Rattle.onix_outline.specs.Views.{tag_view}
 
 -- an element by itself: its reference name, its tag, which has its place, and its text
 pub record Element : Type 0 where
@@ -65,26 +64,21 @@ module _ (name : String) (nodes : Nodes) where
   abbrev pub below_at : Nodes
   below_at = below_of (first each_at)
 
--- ---- lines
+-- what was read of some elements, and then what stands behind it; nothing, where nothing was read
+abbrev pub with_others : {A : Type 0} → (Nodes → List A) → Option (A × Nodes) → List A
+with_others each None = []
+with_others each (Some x) = x.0 ∷ each x.1
+
+-- ---- without where they lie in memory
 
 -- a line, as the element that it begins
 abbrev pub element_view : Line → Element
 element_view l = record { name = l.name.now; tag = tag_view l; text = l.text.items }
 
--- a line, and the lines below it at this depth, tell an element and what stands in it
-pub record Tells (found : Lent) (depth : ℕ) (c : Composite) : Type 0 where
-  pub element : element_view found.line.now ≡ c.element
-  pub below : line_views found.below.now ≡ outline depth c.below
-
--- what was read is the first element of the name, and the lines behind it tell the others; nothing,
--- where there is none
-abbrev pub IsNextElement : Option (Lent × Bor (List Line)) → List ℕ → ℕ → Nodes → Type 0
-IsNextElement None name depth nodes = composites name nodes ≡ []
-IsNextElement (Some x) name depth nodes =
-    (c : Composite) × (others : Nodes) × (composites name nodes ≡ c ∷ composites name others)
-    × Tells x.0 (suc depth) c × (line_views x.1.now ≡ outline depth others)
-
--- what was read is the first of these elements; nothing, where there is none
-abbrev pub IsFirstElement : Option Lent → ℕ → List Composite → Type 0
-IsFirstElement None depth found = first found ≡ None
-IsFirstElement (Some x) depth found = (c : Composite) × (first found ≡ Some c) × Tells x depth c
+-- an element is told by its name, its tag and its text
+abbrev pub composite_code : Coded Composite
+composite_code =
+    code_by ((List ℕ × (Tag × List ℕ)) × Nodes)
+    (coded× (coded× text_code (coded× tag_code text_code)) nodes_code)
+    (λ c. ((c.element.name, (c.element.tag, c.element.text)), c.below))
+    (λ p. composite p.0.0 p.0.1.0 p.0.1.1 p.1) (λ _. refl)

@@ -1,11 +1,6 @@
 -- What is read of a Header, without where it lies in memory.
-use Rattle.std.specs.Prelude.{◌≡◌, ℕ, List, Option, Some, None, Result, Ok, Err, option_map}
-use Rattle.std.specs.Borrow.{Bor}
+use Rattle.std.specs.Prelude.{◌≡◌, Option, Some, None, Result, Ok, Err, option_map}
 use Rattle.std.specs.Result.{result_map_both}
-use Rattle.onix_outline.specs.declared.line.Line.{Line}
-use Rattle.onix_outline.specs.Nodes.{Nodes}
-use Rattle.onix_outline.specs.Outline.{outline}
-use Rattle.onix_outline.specs.Views.{line_views}
 use Rattle.onix_mapping.specs.Header.{Choices as Chosen, Heading as Said}
 use Rattle.onix_mapping.specs.Parties.{Pair as Told}
 use Rattle.onix_mapping.specs.PartyViews.{pair_view}
@@ -31,13 +26,6 @@ choices_view c = record {
 
 abbrev pub pair_read : Result Pair HeaderRefusal → Result Told HeaderRefusal
 pair_read r = result_map_both pair_view (λ e. e) r
-
--- lines tell what was found, or it was refused
-abbrev pub AreLines : Result (Bor (List Line)) HeaderRefusal → ℕ → Result Nodes HeaderRefusal
-    → Type 0
-AreLines (Ok lines) depth told =
-    (nodes : Nodes) × (told ≡ Ok nodes) × (line_views lines.now ≡ outline depth nodes)
-AreLines (Err e) depth told = told ≡ Err e
 
 abbrev pub heading_view : Heading → Said
 heading_view h =

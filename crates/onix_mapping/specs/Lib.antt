@@ -1,7 +1,5 @@
-pub mod Depths
 pub mod Parties
 pub mod Identifiers
-pub mod Next
 pub mod Elements
 pub mod Notes
 pub mod Regions

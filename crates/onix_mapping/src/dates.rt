@@ -5,7 +5,6 @@ ghost use Rattle.std.specs.List.{list_any};
 ghost use Rattle.std.specs.Option.{option_or};
 ghost use Rattle.std.specs.Result.{result_map_both};
 ghost use Rattle.std.specs.Str.{bytes_eq};
-ghost use Rattle.onix_mapping.specs.Depths.{LinesFit};
 ghost use Rattle.onix_mapping.specs.Elements.{element_view};
 ghost use Rattle.onix_mapping.specs.DateViews.{dated_view, days_read};
 ghost use Rattle.onix_mapping.specs.Dates.{and_days, date_in, parsed_day, days_in, days_of, parsed_days, digits_by, digits_in, format_in, formats, graver, in_day, in_format, in_month, in_year, is_time, or_days, role_days, two_days};
@@ -13,14 +12,11 @@ ghost use Rattle.onix_mapping.specs.Notes.{foreign, reason_view, wrong};
 ghost use Rattle.onix_mapping.specs.Records.{first_some};
 ghost use Rattle.onix_mapping.specs.declared.notes.Foreign.TheVariants.{DateFormat};
 ghost use Rattle.onix_mapping.specs.declared.notes.Wrong.TheVariants as bad;
-ghost use Rattle.onix_outline.specs.Nodes.{Nodes};
-ghost use Rattle.onix_outline.specs.Outline.{outline};
-ghost use Rattle.onix_outline.specs.Views.{line_views};
 
 use crate::elements::{next_composite, text_or_empty};
 use crate::notes::{Foreign, Reason, ReasonKind, Wrong};
 use crate::records::utf8_text;
-use onix_outline::{Line, first_node, text_in};
+use onix_outline::{Elements, Line, text_in};
 use onix_terms::day::Day;
 
 /// The first and the last day on which a Price holds, each where there is one.
@@ -268,12 +264,11 @@ fn two_days<'a>(text: &'a [u8]) -> Result<Days, Reason<'a>>
 }
 
 // The Date of a PriceDate.
-fn date_in<'a>(depth: usize, lines: &'a [Line]) -> Option<&'a Line>
-    ensures { (nodes : Nodes) → line_views lines.now ≡ outline depth nodes
-        → option_map (λ l. element_view l.now) result ≡ date_in nodes }
+fn date_in<'a>(elements: &Elements<'a>) -> Option<&'a Line>
+    ensures { option_map (λ l. element_view l.now) result ≡ date_in elements.now }
 {
-    let mut rest = lines;
-    while let Some(node) = first_node(depth, rest) {
+    let mut rest = elements.copy();
+    while let Some(node) = rest.first() {
         if node.line.name == b"Date".as_slice() && !node.line.text.is_empty() {
             return Some(node.line);
         }
@@ -283,17 +278,16 @@ fn date_in<'a>(depth: usize, lines: &'a [Line]) -> Option<&'a Line>
 }
 
 // The format of a PriceDate with this Date.
-fn format_in<'a>(date: Option<&'a Line>, depth: usize, lines: &'a [Line]) -> &'a [u8]
-    ensures { (nodes : Nodes) → line_views lines.now ≡ outline depth nodes
-        → option_map (λ l. element_view l.now) date.entry ≡ date_in nodes
-        → result.now ≡ format_in nodes }
+fn format_in<'a>(date: Option<&'a Line>, elements: &Elements<'a>) -> &'a [u8]
+    ensures { option_map (λ l. element_view l.now) date.entry ≡ date_in elements.now
+        → result.now ≡ format_in elements.now }
 {
     if let Some(line) = date {
         if let Some(format) = &line.format {
             return format.as_slice();
         }
     }
-    match text_in(depth, b"DateFormat", lines) {
+    match text_in(b"DateFormat", elements) {
         Some(format) => format,
         None => b"00",
     }
@@ -318,13 +312,12 @@ fn other_format<'a>(format: &'a [u8]) -> Reason<'a>
 }
 
 // The days of the Date of a role that has one day.
-fn one_day<'a>(role: &'a [u8], depth: usize, lines: &'a [Line]) -> Result<Days, Reason<'a>>
-    ensures { (nodes : Nodes) → line_views lines.now ≡ outline depth nodes
-        → days_read result
-        ≡ role_days nodes formats (parsed_days (format_in nodes)) role.now }
+fn one_day<'a>(role: &'a [u8], elements: &Elements<'a>) -> Result<Days, Reason<'a>>
+    ensures { days_read result
+        ≡ role_days elements.now formats (parsed_days (format_in elements.now)) role.now }
 {
-    let date = date_in(depth, lines);
-    let format = format_in(date, depth, lines);
+    let date = date_in(elements);
+    let format = format_in(date, elements);
     if !is_format(format) {
         return Err(other_format(format));
     }
@@ -335,12 +328,11 @@ fn one_day<'a>(role: &'a [u8], depth: usize, lines: &'a [Line]) -> Result<Days, 
 }
 
 // The days of the Date of the role that has two.
-fn both_days<'a>(role: &'a [u8], depth: usize, lines: &'a [Line]) -> Result<Days, Reason<'a>>
-    ensures { (nodes : Nodes) → line_views lines.now ≡ outline depth nodes
-        → days_read result ≡ role_days nodes (codes "06" ∷ []) two_days role.now }
+fn both_days<'a>(role: &'a [u8], elements: &Elements<'a>) -> Result<Days, Reason<'a>>
+    ensures { days_read result ≡ role_days elements.now (codes "06" ∷ []) two_days role.now }
 {
-    let date = date_in(depth, lines);
-    let format = format_in(date, depth, lines);
+    let date = date_in(elements);
+    let format = format_in(date, elements);
     if format != b"06".as_slice() {
         return Err(other_format(format));
     }
@@ -351,37 +343,35 @@ fn both_days<'a>(role: &'a [u8], depth: usize, lines: &'a [Line]) -> Result<Days
 }
 
 // What a PriceDate says by its role.
-fn read_role<'a>(depth: usize, lines: &'a [Line]) -> Result<Days, Reason<'a>>
-    ensures { (nodes : Nodes) → line_views lines.now ≡ outline depth nodes
-        → days_read result ≡ days_of nodes }
+fn read_role<'a>(elements: &Elements<'a>) -> Result<Days, Reason<'a>>
+    ensures { days_read result ≡ days_of elements.now }
 {
-    let role = text_or_empty(depth, b"PriceDateRole", lines);
+    let role = text_or_empty(b"PriceDateRole", elements);
     if role == b"14".as_slice() {
-        let days = one_day(role, depth, lines)?;
+        let days = one_day(role, elements)?;
         return Ok(Days {
             first: days.first,
             last: None,
         });
     }
     if role == b"15".as_slice() {
-        let days = one_day(role, depth, lines)?;
+        let days = one_day(role, elements)?;
         return Ok(Days {
             first: None,
             last: days.last,
         });
     }
     if role == b"24".as_slice() {
-        return both_days(role, depth, lines);
+        return both_days(role, elements);
     }
     Ok(NO_DAYS)
 }
 
 // What a PriceDate says.
-fn days_of<'a>(depth: usize, lines: &'a [Line]) -> Dated<'a>
-    ensures { (nodes : Nodes) → line_views lines.now ≡ outline depth nodes
-        → dated_view result ≡ days_of nodes }
+fn days_of<'a>(elements: &Elements<'a>) -> Dated<'a>
+    ensures { dated_view result ≡ days_of elements.now }
 {
-    match read_role(depth, lines) {
+    match read_role(elements) {
         Ok(days) => Dated { days, wrong: None },
         Err(reason) => Dated {
             days: NO_DAYS,
@@ -444,22 +434,20 @@ fn and_days<'a>(one: &Dated<'a>, other: &Dated<'a>) -> Dated<'a>
     }
 }
 
-/// What the PriceDates say that lines of this depth tell: by its role each gives the first day
+/// What the PriceDates among the elements say: by its role each gives the first day
 /// (14), the last day (15) or both (24), and of several the first counts. They leave their Price
 /// out where one of these roles has no Date, has a format that is not its own, or a Date that has
 /// not the form of its format: for the first reason that is foreign, else for the first.
-pub fn days_in<'a>(depth: usize, lines: &'a [Line]) -> Dated<'a>
-    requires { LinesFit 0 depth }
-    ensures { (nodes : Nodes) → line_views lines.now ≡ outline depth nodes
-        → dated_view result ≡ days_in nodes }
+pub fn days_in<'a>(elements: &Elements<'a>) -> Dated<'a>
+    ensures { dated_view result ≡ days_in elements.now }
 {
     let mut dated = Dated {
         days: NO_DAYS,
         wrong: None,
     };
-    let mut rest = lines;
-    while let Some((found, behind)) = next_composite(b"PriceDate", depth, rest) {
-        dated = and_days(&dated, &days_of(depth + 1, found.below));
+    let mut rest = elements.copy();
+    while let Some((found, behind)) = next_composite(b"PriceDate", &rest) {
+        dated = and_days(&dated, &days_of(&found.below));
         rest = behind;
     }
     dated

@@ -18,11 +18,9 @@ ghost use Rattle.onix_records.specs.declared.row.Opening.{Opening as Said};
 ghost use Rattle.onix_terms.specs.Code.{code2_of};
 ghost use Rattle.onix_records.specs.Detail.{detail_of};
 ghost use Rattle.onix_records.specs.Gives.{Gives};
-ghost use Rattle.onix_outline.specs.Nodes.{Nodes};
-ghost use Rattle.onix_outline.specs.Outline.{outline};
 ghost use Rattle.onix_outline.specs.Views.{line_views};
 
-use crate::elements::{first_composite, next_composite, text_or_empty};
+use crate::elements::{elements_in, next_composite, text_or_empty};
 use crate::identifiers::{SUPPLIER, choose_identifier, is_there};
 use crate::notes::{Note, Reason, ReasonKind, Wrong};
 use crate::parties::{NO_PAIR, Pair};
@@ -31,47 +29,31 @@ use crate::records::{former, is_field, may_be_empty, parsed_code, parsed_quantit
 use csv_records::buffer::RecordBuffer;
 use csv_records::fields::FieldBuffer;
 use csv_records::record::Record;
-use onix_outline::{Line, text_in};
+use onix_outline::{Elements, Line, text_in};
 use onix_records::detail::read_detail;
 use onix_records::fields::read_fields;
 use onix_records::parts::SupplyDetail;
 use onix_records::row::{Opening, RowFault};
 use std::alloc::{AllocError, Global};
 
-/// The lines of what stands in the first element of this name, none where there is none.
-pub fn lines_below<'a>(name: &[u8], depth: usize, lines: &'a [Line]) -> &'a [Line]
-    requires { depth < 1000 }
-    ensures { (nodes : Nodes) → line_views lines.now ≡ outline depth nodes
-        → line_views result.now
-        ≡ outline (depth + 1) (below_of (first (composites name.now nodes))) }
-{
-    match first_composite(name, depth, lines) {
-        Some(found) => found.below,
-        None => &[],
-    }
-}
-
 // The UnpricedItemType of a Price without an amount.
-fn unpriced_price<'a>(depth: usize, lines: &'a [Line]) -> Option<&'a [u8]>
-    ensures { (nodes : Nodes) → line_views lines.now ≡ outline depth nodes
-        → text_view result ≡ unpriced_price nodes }
+fn unpriced_price<'a>(elements: &Elements<'a>) -> Option<&'a [u8]>
+    ensures { text_view result ≡ unpriced_price elements.now }
 {
-    if text_in(depth, b"PriceAmount", lines).is_some() {
+    if text_in(b"PriceAmount", elements).is_some() {
         return None;
     }
-    text_in(depth, b"UnpricedItemType", lines)
+    text_in(b"UnpricedItemType", elements)
 }
 
 // The first UnpricedItemType of the Prices that have no amount.
-fn unpriced_prices<'a>(depth: usize, lines: &'a [Line]) -> Option<&'a [u8]>
-    requires { depth < 1000 }
-    ensures { (nodes : Nodes) → line_views lines.now ≡ outline depth nodes
-        → text_view result
-        ≡ first_some (map (λ c. unpriced_price c.below) (composites (codes "Price") nodes)) }
+fn unpriced_prices<'a>(elements: &Elements<'a>) -> Option<&'a [u8]>
+    ensures { text_view result
+        ≡ first_some (map (λ c. unpriced_price c.below) (composites (codes "Price") elements.now)) }
 {
-    let mut rest = lines;
-    while let Some((price, behind)) = next_composite(b"Price", depth, rest) {
-        if let Some(text) = unpriced_price(depth + 1, price.below) {
+    let mut rest = elements.copy();
+    while let Some((price, behind)) = next_composite(b"Price", &rest) {
+        if let Some(text) = unpriced_price(&price.below) {
             return Some(text);
         }
         rest = behind;
@@ -80,45 +62,39 @@ fn unpriced_prices<'a>(depth: usize, lines: &'a [Line]) -> Option<&'a [u8]>
 }
 
 // The UnpricedItemType of a SupplyDetail.
-fn unpriced_in<'a>(depth: usize, lines: &'a [Line]) -> Option<&'a [u8]>
-    requires { depth < 1000 }
-    ensures { (nodes : Nodes) → line_views lines.now ≡ outline depth nodes
-        → text_view result ≡ unpriced_in nodes }
+fn unpriced_in<'a>(elements: &Elements<'a>) -> Option<&'a [u8]>
+    ensures { text_view result ≡ unpriced_in elements.now }
 {
-    match text_in(depth, b"UnpricedItemType", lines) {
+    match text_in(b"UnpricedItemType", elements) {
         Some(text) => Some(text),
-        None => unpriced_prices(depth, lines),
+        None => unpriced_prices(elements),
     }
 }
 
 // The identifier of the supplier that is chosen.
-fn supplier_id<'a>(preferred: &[u8], depth: usize, lines: &'a [Line]) -> Pair<'a>
-    requires { depth < 999 }
-    ensures { (nodes : Nodes) → line_views lines.now ≡ outline depth nodes
-        → pair_view result ≡ supplier_id preferred.now nodes }
+fn supplier_id<'a>(preferred: &[u8], elements: &Elements<'a>) -> Pair<'a>
+    ensures { pair_view result ≡ supplier_id preferred.now elements.now }
 {
-    let supplier = lines_below(b"Supplier", depth, lines);
-    match choose_identifier(SUPPLIER, preferred, depth + 1, supplier) {
+    let supplier = elements_in(b"Supplier", elements);
+    match choose_identifier(SUPPLIER, preferred, &supplier) {
         Some(identifier) => identifier,
         None => NO_PAIR,
     }
 }
 
 // The texts of the fields of a SupplyDetail whose supplier has this identifier.
-fn detail_texts<'a>(supplier: Pair<'a>, depth: usize, lines: &'a [Line]) -> [&'a [u8]; 6]
-    requires { depth < 1000 }
-    ensures { (nodes : Nodes) (preferred : List ℕ) → line_views lines.now ≡ outline depth nodes
-        → pair_view supplier.entry ≡ supplier_id preferred nodes
-        → map (λ t. t.now) result ≡ detail_fields preferred nodes }
+fn detail_texts<'a>(supplier: Pair<'a>, elements: &Elements<'a>) -> [&'a [u8]; 6]
+    ensures { (preferred : List ℕ) → pair_view supplier.entry ≡ supplier_id preferred elements.now
+        → map (λ t. t.now) result ≡ detail_fields preferred elements.now }
 {
-    let below = lines_below(b"Supplier", depth, lines);
+    let below = elements_in(b"Supplier", elements);
     [
-        text_or_empty(depth + 1, b"SupplierRole", below),
+        text_or_empty(b"SupplierRole", &below),
         supplier.id_type,
         supplier.id_value,
-        text_or_empty(depth + 1, b"SupplierName", below),
-        text_or_empty(depth, b"ProductAvailability", lines),
-        unpriced_in(depth, lines).unwrap_or(b""),
+        text_or_empty(b"SupplierName", &below),
+        text_or_empty(b"ProductAvailability", elements),
+        unpriced_in(elements).unwrap_or(b""),
     ]
 }
 
@@ -168,28 +144,24 @@ fn take_texts(alloc: Global, fields: &mut FieldBuffer, texts: &[&[u8]]) -> Resul
 fn write_detail<'a>(
     alloc: Global,
     supplier: Pair<'a>,
-    depth: usize,
-    lines: &'a [Line],
+    elements: &Elements<'a>,
     fields: &mut FieldBuffer,
     records: &mut RecordBuffer,
 ) -> Result<Option<Reason<'a>>, AllocError>
-    requires { depth < 999 }
-    ensures reason { (nodes : Nodes) (preferred : List ℕ)
-        → line_views lines.now ≡ outline depth nodes
-        → pair_view supplier.entry ≡ supplier_id preferred nodes
-        → IfOk result (λ reason. reason_read reason ≡ detail_reason preferred nodes) }
-    ensures record { (nodes : Nodes) (preferred : List ℕ)
-        → line_views lines.now ≡ outline depth nodes
-        → pair_view supplier.entry ≡ supplier_id preferred nodes
+    ensures reason { (preferred : List ℕ)
+        → pair_view supplier.entry ≡ supplier_id preferred elements.now
+        → IfOk result (λ reason. reason_read reason ≡ detail_reason preferred elements.now) }
+    ensures record { (preferred : List ℕ)
+        → pair_view supplier.entry ≡ supplier_id preferred elements.now
         → OnOk result (records.new ≡ records.old ++ outcome_records
-        (written_unless (detail_reason preferred nodes)
-        ((codes "SupplyDetail" ∷ detail_fields preferred nodes) ∷ []) [])) }
+        (written_unless (detail_reason preferred elements.now)
+        ((codes "SupplyDetail" ∷ detail_fields preferred elements.now) ∷ []) [])) }
 {
-    if take_texts(alloc, fields, &detail_texts(supplier, depth, lines))? {
+    if take_texts(alloc, fields, &detail_texts(supplier, elements))? {
         records.push(&fields.as_record())?;
         return Ok(None);
     }
-    Ok(Some(detail_reason(supplier, depth, lines)))
+    Ok(Some(detail_reason(supplier, elements)))
 }
 
 // A text, empty where there is none.
@@ -218,36 +190,33 @@ fn identifier_reason<'a>(supplier: Pair<'a>, name: &[u8]) -> Option<Reason<'a>>
 }
 
 // That the SupplierRole is no code.
-fn role_reason<'a>(depth: usize, lines: &'a [Line]) -> Option<Reason<'a>>
-    requires { depth < 999 }
-    ensures { (nodes : Nodes) → line_views lines.now ≡ outline depth nodes → reason_read result
+fn role_reason<'a>(elements: &Elements<'a>) -> Option<Reason<'a>>
+    ensures { reason_read result
         ≡ invalid (parsed_term code2_of) bad.SupplierRole
-        (text_or_empty (codes "SupplierRole") (supplier_in nodes)) }
+        (text_or_empty (codes "SupplierRole") (supplier_in elements.now)) }
 {
-    let below = lines_below(b"Supplier", depth, lines);
-    let role = text_or_empty(depth + 1, b"SupplierRole", below);
+    let below = elements_in(b"Supplier", elements);
+    let role = text_or_empty(b"SupplierRole", &below);
     unless(parsed_code(role).is_some(), Wrong::SupplierRole, role)
 }
 
 // What is wrong with the identifier of the supplier, or that there is neither one nor a name.
-fn supplier_reason<'a>(supplier: Pair<'a>, depth: usize, lines: &'a [Line]) -> Option<Reason<'a>>
-    requires { depth < 999 }
-    ensures { (nodes : Nodes) → line_views lines.now ≡ outline depth nodes → reason_read result
+fn supplier_reason<'a>(supplier: Pair<'a>, elements: &Elements<'a>) -> Option<Reason<'a>>
+    ensures { reason_read result
         ≡ first_some (identifier_reasons (pair_view supplier.entry)
-        (text_or_empty (codes "SupplierName") (supplier_in nodes))) }
+        (text_or_empty (codes "SupplierName") (supplier_in elements.now))) }
 {
-    let below = lines_below(b"Supplier", depth, lines);
-    identifier_reason(supplier, text_or_empty(depth + 1, b"SupplierName", below))
+    let below = elements_in(b"Supplier", elements);
+    identifier_reason(supplier, text_or_empty(b"SupplierName", &below))
 }
 
 // That the desk would not take the SupplierName.
-fn name_reason<'a>(depth: usize, lines: &'a [Line]) -> Option<Reason<'a>>
-    requires { depth < 999 }
-    ensures { (nodes : Nodes) → line_views lines.now ≡ outline depth nodes → reason_read result
-        ≡ name_reason (text_or_empty (codes "SupplierName") (supplier_in nodes)) }
+fn name_reason<'a>(elements: &Elements<'a>) -> Option<Reason<'a>>
+    ensures { reason_read result
+        ≡ name_reason (text_or_empty (codes "SupplierName") (supplier_in elements.now)) }
 {
-    let below = lines_below(b"Supplier", depth, lines);
-    let name = text_or_empty(depth + 1, b"SupplierName", below);
+    let below = elements_in(b"Supplier", elements);
+    let name = text_or_empty(b"SupplierName", &below);
     if name.is_empty() {
         return None;
     }
@@ -255,49 +224,44 @@ fn name_reason<'a>(depth: usize, lines: &'a [Line]) -> Option<Reason<'a>>
 }
 
 // That the ProductAvailability is no code.
-fn availability_reason<'a>(depth: usize, lines: &'a [Line]) -> Option<Reason<'a>>
-    ensures { (nodes : Nodes) → line_views lines.now ≡ outline depth nodes → reason_read result
+fn availability_reason<'a>(elements: &Elements<'a>) -> Option<Reason<'a>>
+    ensures { reason_read result
         ≡ invalid (parsed_term code2_of) bad.Availability
-        (text_or_empty (codes "ProductAvailability") nodes) }
+        (text_or_empty (codes "ProductAvailability") elements.now) }
 {
-    let text = text_or_empty(depth, b"ProductAvailability", lines);
+    let text = text_or_empty(b"ProductAvailability", elements);
     unless(parsed_code(text).is_some(), Wrong::Availability, text)
 }
 
 // That the UnpricedItemType is no code.
-fn unpriced_reason<'a>(depth: usize, lines: &'a [Line]) -> Option<Reason<'a>>
-    requires { depth < 1000 }
-    ensures { (nodes : Nodes) → line_views lines.now ≡ outline depth nodes → reason_read result
+fn unpriced_reason<'a>(elements: &Elements<'a>) -> Option<Reason<'a>>
+    ensures { reason_read result
         ≡ invalid (optional (parsed_term code2_of)) bad.Unpriced
-        (unwrap_or (unpriced_in nodes) []) }
+        (unwrap_or (unpriced_in elements.now) []) }
 {
-    let text = text_or_none(unpriced_in(depth, lines));
+    let text = text_or_none(unpriced_in(elements));
     unless(may_be_empty(text, parsed_code(text)), Wrong::Unpriced, text)
 }
 
 // The first field of a SupplyDetail that the desk would not take.
-fn field_reason<'a>(supplier: Pair<'a>, depth: usize, lines: &'a [Line]) -> Option<Reason<'a>>
-    requires { depth < 999 }
-    ensures { (nodes : Nodes) (preferred : List ℕ) → line_views lines.now ≡ outline depth nodes
-        → pair_view supplier.entry ≡ supplier_id preferred nodes
-        → reason_read result ≡ first_some (detail_reasons preferred nodes) }
+fn field_reason<'a>(supplier: Pair<'a>, elements: &Elements<'a>) -> Option<Reason<'a>>
+    ensures { (preferred : List ℕ) → pair_view supplier.entry ≡ supplier_id preferred elements.now
+        → reason_read result ≡ first_some (detail_reasons preferred elements.now) }
 {
-    let last = former(unpriced_reason(depth, lines), None);
-    let there = former(availability_reason(depth, lines), last);
-    let named = former(name_reason(depth, lines), there);
-    let identified = former(supplier_reason(supplier, depth, lines), named);
-    former(role_reason(depth, lines), identified)
+    let last = former(unpriced_reason(elements), None);
+    let there = former(availability_reason(elements), last);
+    let named = former(name_reason(elements), there);
+    let identified = former(supplier_reason(supplier, elements), named);
+    former(role_reason(elements), identified)
 }
 
 // Why a SupplyDetail that the desk would not take is left out.
-fn detail_reason<'a>(supplier: Pair<'a>, depth: usize, lines: &'a [Line]) -> Reason<'a>
-    requires { depth < 999 }
-    ensures { (nodes : Nodes) (preferred : List ℕ) → line_views lines.now ≡ outline depth nodes
-        → pair_view supplier.entry ≡ supplier_id preferred nodes
-        → reason_view result
-        ≡ unwrap_or (first_some (detail_reasons preferred nodes)) (wrong bad.SupplyDetail []) }
+fn detail_reason<'a>(supplier: Pair<'a>, elements: &Elements<'a>) -> Reason<'a>
+    ensures { (preferred : List ℕ) → pair_view supplier.entry ≡ supplier_id preferred elements.now
+        → reason_view result ≡ unwrap_or
+        (first_some (detail_reasons preferred elements.now)) (wrong bad.SupplyDetail []) }
 {
-    match field_reason(supplier, depth, lines) {
+    match field_reason(supplier, elements) {
         Some(reason) => reason,
         None => Reason {
             kind: ReasonKind::Wrong(Wrong::SupplyDetail),
@@ -307,11 +271,10 @@ fn detail_reason<'a>(supplier: Pair<'a>, depth: usize, lines: &'a [Line]) -> Rea
 }
 
 // The OrderQuantityMinimum, where it is a quantity.
-fn default_minimum<'a>(depth: usize, lines: &'a [Line]) -> Option<&'a [u8]>
-    ensures { (nodes : Nodes) → line_views lines.now ≡ outline depth nodes
-        → text_view result ≡ default_minimum nodes }
+fn default_minimum<'a>(elements: &Elements<'a>) -> Option<&'a [u8]>
+    ensures { text_view result ≡ default_minimum elements.now }
 {
-    let text = text_in(depth, b"OrderQuantityMinimum", lines)?;
+    let text = text_in(b"OrderQuantityMinimum", elements)?;
     if parsed_quantity(text).is_some() {
         Some(text)
     } else {
@@ -320,15 +283,13 @@ fn default_minimum<'a>(depth: usize, lines: &'a [Line]) -> Option<&'a [u8]>
 }
 
 // The context of the Prices of a SupplyDetail.
-fn context_in<'a, 'b>(opening: &'a Opening, depth: usize, lines: &'b [Line]) -> PriceContext<'a, 'b>
-    requires { depth < 1000 }
-    ensures { (nodes : Nodes) → line_views lines.now ≡ outline depth nodes
-        → context_view result ≡ context_in opening.now nodes }
+fn context_in<'a, 'b>(opening: &'a Opening, elements: &Elements<'b>) -> PriceContext<'a, 'b>
+    ensures { context_view result ≡ context_in opening.now elements.now }
 {
     PriceContext {
         opening,
-        is_unpriced: unpriced_in(depth, lines).is_some(),
-        minimum: default_minimum(depth, lines),
+        is_unpriced: unpriced_in(elements).is_some(),
+        minimum: default_minimum(elements),
     }
 }
 
@@ -336,23 +297,21 @@ fn context_in<'a, 'b>(opening: &'a Opening, depth: usize, lines: &'b [Line]) -> 
 fn add_prices<'a>(
     alloc: Global,
     context: &PriceContext<'_, '_>,
-    depth: usize,
-    lines: &'a [Line],
+    elements: &Elements<'a>,
     fields: &mut FieldBuffer,
     records: &mut RecordBuffer,
     notes: &mut Vec<Note<'a>>,
 ) -> Result<(), AllocError>
-    requires { depth < 999 }
-    ensures records { (nodes : Nodes) (o : Said) → line_views lines.now ≡ outline depth nodes
-        → context_view context.now ≡ context_in o nodes → OnOk result (records.new ≡ records.old
-        ++ all_records (price_in o nodes) (prices_in nodes)) }
-    ensures notes { (nodes : Nodes) (o : Said) → line_views lines.now ≡ outline depth nodes
-        → context_view context.now ≡ context_in o nodes → OnOk result (note_views notes.new.items
-        ≡ note_views notes.old.items ++ all_notes (price_in o nodes) (prices_in nodes)) }
+    ensures records { (o : Said) → context_view context.now ≡ context_in o elements.now
+        → OnOk result (records.new ≡ records.old
+        ++ all_records (price_in o elements.now) (prices_in elements.now)) }
+    ensures notes { (o : Said) → context_view context.now ≡ context_in o elements.now
+        → OnOk result (note_views notes.new.items ≡ note_views notes.old.items
+        ++ all_notes (price_in o elements.now) (prices_in elements.now)) }
 {
-    let mut rest = lines;
-    while let Some((price, behind)) = next_composite(b"Price", depth, rest) {
-        add_price(alloc, context, depth + 1, price, fields, records, notes)?;
+    let mut rest = elements.copy();
+    while let Some((price, behind)) = next_composite(b"Price", &rest) {
+        add_price(alloc, context, &price, fields, records, notes)?;
         rest = behind;
     }
     Ok(())
@@ -366,28 +325,23 @@ pub(crate) fn add_detail<'a>(
     alloc: Global,
     opening: &Opening,
     preferred: &[u8],
-    depth: usize,
-    lines: &'a [Line],
+    elements: &Elements<'a>,
     fields: &mut FieldBuffer,
     records: &mut RecordBuffer,
     notes: &mut Vec<Note<'a>>,
 ) -> Result<Option<Reason<'a>>, AllocError>
-    requires { depth < 999 }
-    ensures reason { (nodes : Nodes) → line_views lines.now ≡ outline depth nodes
-        → IfOk result (λ reason. reason_read reason
-        ≡ outcome_reason (detail_outcome opening.now preferred.now nodes)) }
-    ensures records { (nodes : Nodes) → line_views lines.now ≡ outline depth nodes
-        → OnOk result (records.new ≡ records.old
-        ++ outcome_records (detail_outcome opening.now preferred.now nodes)) }
-    ensures notes { (nodes : Nodes) → line_views lines.now ≡ outline depth nodes
-        → OnOk result (note_views notes.new.items ≡ note_views notes.old.items
-        ++ notes_below (detail_outcome opening.now preferred.now nodes)) }
+    ensures reason { IfOk result (λ reason. reason_read reason
+        ≡ outcome_reason (detail_outcome opening.now preferred.now elements.now)) }
+    ensures records { OnOk result (records.new ≡ records.old
+        ++ outcome_records (detail_outcome opening.now preferred.now elements.now)) }
+    ensures notes { OnOk result (note_views notes.new.items ≡ note_views notes.old.items
+        ++ notes_below (detail_outcome opening.now preferred.now elements.now)) }
 {
-    let supplier = supplier_id(preferred, depth, lines);
-    let left_out = write_detail(alloc, supplier, depth, lines, fields, records)?;
+    let supplier = supplier_id(preferred, elements);
+    let left_out = write_detail(alloc, supplier, elements, fields, records)?;
     if left_out.is_none() {
-        let context = context_in(opening, depth, lines);
-        add_prices(alloc, &context, depth, lines, fields, records, notes)?;
+        let context = context_in(opening, elements);
+        add_prices(alloc, &context, elements, fields, records, notes)?;
     }
     Ok(left_out)
 }

@@ -1,32 +1,37 @@
-//! The elements of one name in a composite.
+//! The elements of one name among others.
 
-ghost use Rattle.std.specs.Prelude.{◌≡◌, ◌+◌, ◌<◌, IfSome, length};
-ghost use Rattle.onix_mapping.specs.Elements.{composites, text_or_empty, IsNextElement, IsFirstElement};
-ghost use Rattle.onix_outline.specs.Nodes.{Nodes};
-ghost use Rattle.onix_outline.specs.Outline.{outline};
-ghost use Rattle.onix_outline.specs.Views.{line_views};
+ghost use Rattle.std.specs.Prelude.{◌≡◌};
+ghost use Rattle.onix_mapping.specs.Elements.{below_of, composites, first, text_or_empty, with_others};
 
-use onix_outline::{Line, first_node, text_in};
+use onix_outline::{Elements, Line, text_in};
+use std::marker::Model;
 
-/// An element, and the lines of what stands in it.
-#[derive(Clone, Copy)]
+/// An element, and what stands in it. Contracts see both without where they lie in memory.
+#[derive(Drop)]
 pub struct Composite<'a> {
     pub line: &'a Line,
-    pub below: &'a [Line],
+    pub below: Elements<'a>,
 }
 
-/// The first element of a name among those that lines of this depth tell, and the lines behind it.
+impl<'a> Model for Composite<'a> {
+    ghost use Rattle.onix_mapping.specs.Elements.{Composite as Told, composite_code, element_view};
+
+    ghost Value = { Told };
+
+    ghost coded = { composite_code };
+
+    ghost view = { λ c. record { element = element_view c.line.now; below = c.below } };
+}
+
+/// The first element of a name, and the elements behind it.
 pub fn next_composite<'a>(
     name: &[u8],
-    depth: usize,
-    lines: &'a [Line],
-) -> Option<(Composite<'a>, &'a [Line])>
-    ensures next { (nodes : Nodes) → line_views lines.now ≡ outline depth nodes
-        → IsNextElement result name.now depth nodes }
-    ensures shorter { IfSome result (λ x. length x.1.now < length lines.now) }
+    elements: &Elements<'a>,
+) -> Option<(Composite<'a>, Elements<'a>)>
+    ensures { with_others (composites name.now) result ≡ composites name.now elements.now }
 {
-    let mut rest = lines;
-    while let Some(node) = first_node(depth, rest) {
+    let mut rest = elements.copy();
+    while let Some(node) = rest.first() {
         if node.line.name == name {
             let found = Composite {
                 line: node.line,
@@ -39,22 +44,29 @@ pub fn next_composite<'a>(
     None
 }
 
-/// The first element of a name among those that lines of this depth tell.
-pub fn first_composite<'a>(name: &[u8], depth: usize, lines: &'a [Line]) -> Option<Composite<'a>>
-    requires { depth < 1000 }
-    ensures { (nodes : Nodes) → line_views lines.now ≡ outline depth nodes
-        → IsFirstElement result (depth + 1) (composites name.now nodes) }
+/// The first element of a name.
+pub fn first_composite<'a>(name: &[u8], elements: &Elements<'a>) -> Option<Composite<'a>>
+    ensures { result ≡ first (composites name.now elements.now) }
 {
-    match next_composite(name, depth, lines) {
+    match next_composite(name, elements) {
         Some((found, _)) => Some(found),
         None => None,
     }
 }
 
-/// The text of the first element of this name that has one, else the empty text.
-pub fn text_or_empty<'a>(depth: usize, name: &[u8], lines: &'a [Line]) -> &'a [u8]
-    ensures { (nodes : Nodes) → line_views lines.now ≡ outline depth nodes
-        → result.now ≡ text_or_empty name.now nodes }
+/// What stands in the first element of a name, nothing where there is none.
+pub fn elements_in<'a>(name: &[u8], elements: &Elements<'a>) -> Elements<'a>
+    ensures { result ≡ below_of (first (composites name.now elements.now)) }
 {
-    text_in(depth, name, lines).unwrap_or(b"")
+    match first_composite(name, elements) {
+        Some(found) => found.below,
+        None => Elements::none(),
+    }
+}
+
+/// The text of the first element of this name that has one, else the empty text.
+pub fn text_or_empty<'a>(name: &[u8], elements: &Elements<'a>) -> &'a [u8]
+    ensures { result.now ≡ text_or_empty name.now elements.now }
+{
+    text_in(name, elements).unwrap_or(b"")
 }

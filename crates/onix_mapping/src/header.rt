@@ -6,26 +6,22 @@ ghost use Rattle.std.specs.Str.{is_utf8};
 ghost use Rattle.std.specs.List.{list_all, list_any};
 ghost use Rattle.onix_mapping.specs.Elements.{composites};
 ghost use Rattle.onix_mapping.specs.Header.{added, addressee_ids, addressee_pair, addressee_in, first_number, heading_in, if_whole, meant, message_fields, number_in, parsed_opening, sender_in, sender_of};
-ghost use Rattle.onix_mapping.specs.HeaderViews.{choices_view, pair_read, AreLines, IsHeading, IsOpening};
+ghost use Rattle.onix_mapping.specs.HeaderViews.{choices_view, pair_read, IsHeading, IsOpening};
 ghost use Rattle.onix_mapping.specs.PartyViews.{pair_view};
 ghost use Rattle.onix_mapping.specs.Identifiers.{identifiers_in};
 ghost use Rattle.onix_mapping.specs.PriceViews.{text_view};
 ghost use Rattle.onix_mapping.specs.Parties.{is_whole, same_pair};
 ghost use Rattle.onix_mapping.specs.Records.{parsed_term};
 ghost use Rattle.onix_terms.specs.Number.{number_of};
-ghost use Rattle.onix_outline.specs.Nodes.{Nodes};
-ghost use Rattle.onix_outline.specs.Outline.{outline};
-ghost use Rattle.onix_outline.specs.Views.{line_views};
 
-use crate::details::lines_below;
-use crate::elements::{next_composite, text_or_empty};
+use crate::elements::{elements_in, next_composite, text_or_empty};
 use crate::identifiers::{ADDRESSEE, Kind, SENDER, choose_identifier, next_identifier};
 use crate::parties::{NO_PAIR, Pair};
 use crate::prices::fill_record;
 use crate::records::utf8_text;
 use csv_records::fields::FieldBuffer;
 use itoa::Buffer;
-use onix_outline::{Line, text_in};
+use onix_outline::{Elements, Line, text_in};
 use onix_records::opening::read_opening;
 use onix_records::row::{Opening, RowFault};
 use onix_terms::number::Number;
@@ -117,13 +113,12 @@ fn if_whole<'a>(identifier: Pair<'a>) -> Result<Pair<'a>, HeaderRefusal>
 }
 
 // Whether one of the identifiers has both a type and a value.
-fn has_whole(kind: Kind, depth: usize, lines: &[Line]) -> bool
-    requires { depth < 1000 }
-    ensures { (nodes : Nodes) → line_views lines.now ≡ outline depth nodes
-        → result ≡ list_any is_whole (identifiers_in kind.name.now kind.type_name.now nodes) }
+fn has_whole(kind: Kind, elements: &Elements<'_>) -> bool
+    ensures { result
+        ≡ list_any is_whole (identifiers_in kind.name.now kind.type_name.now elements.now) }
 {
-    let mut rest = lines;
-    while let Some((found, behind)) = next_identifier(kind, depth, rest) {
+    let mut rest = elements.copy();
+    while let Some((found, behind)) = next_identifier(kind, &rest) {
         if is_whole(found) {
             return true;
         }
@@ -143,37 +138,25 @@ fn named_sender<'a>(found: Option<Pair<'a>>) -> Result<Pair<'a>, HeaderRefusal>
     }
 }
 
-// The type and the value of the sender, by the lines of what stands in Sender.
-fn sender_of<'a>(
-    choices: &Choices<'a>,
-    depth: usize,
-    lines: &'a [Line],
-) -> Result<Pair<'a>, HeaderRefusal>
-    requires { depth < 1000 }
-    ensures { (nodes : Nodes) → line_views lines.now ≡ outline depth nodes
-        → pair_read result ≡ sender_of (choices_view choices.now)
-        (identifiers_in (codes "SenderIdentifier") (codes "SenderIDType") nodes) }
+// The type and the value of the sender, by what stands in Sender.
+fn sender_of<'a>(choices: &Choices<'a>, elements: &Elements<'a>) -> Result<Pair<'a>, HeaderRefusal>
+    ensures { pair_read result ≡ sender_of (choices_view choices.now)
+        (identifiers_in (codes "SenderIdentifier") (codes "SenderIDType") elements.now) }
 {
-    if !has_whole(SENDER, depth, lines) {
+    if !has_whole(SENDER, elements) {
         if let Some(given) = choices.sender {
             return Ok(given);
         }
     }
-    named_sender(choose_identifier(SENDER, choices.id_type, depth, lines))
+    named_sender(choose_identifier(SENDER, choices.id_type, elements))
 }
 
 // The type and the value of the sender.
-fn sender_in<'a>(
-    choices: &Choices<'a>,
-    depth: usize,
-    lines: &'a [Line],
-) -> Result<Pair<'a>, HeaderRefusal>
-    requires { depth < 999 }
-    ensures { (nodes : Nodes) → line_views lines.now ≡ outline depth nodes
-        → pair_read result ≡ sender_in (choices_view choices.now) nodes }
+fn sender_in<'a>(choices: &Choices<'a>, elements: &Elements<'a>) -> Result<Pair<'a>, HeaderRefusal>
+    ensures { pair_read result ≡ sender_in (choices_view choices.now) elements.now }
 {
-    let sender = lines_below(b"Sender", depth, lines);
-    sender_of(choices, depth + 1, sender)
+    let sender = elements_in(b"Sender", elements);
+    sender_of(choices, &sender)
 }
 
 // Whether two identifiers have the same type and value.
@@ -184,13 +167,11 @@ fn same_pair(pair: Pair<'_>, found: Pair<'_>) -> bool
 }
 
 // Whether one of the identifiers has that type and value.
-fn has_pair(pair: Pair<'_>, depth: usize, lines: &[Line]) -> bool
-    requires { depth < 1000 }
-    ensures { (nodes : Nodes) → line_views lines.now ≡ outline depth nodes
-        → result ≡ list_any (same_pair (pair_view pair.entry)) (addressee_ids nodes) }
+fn has_pair(pair: Pair<'_>, elements: &Elements<'_>) -> bool
+    ensures { result ≡ list_any (same_pair (pair_view pair.entry)) (addressee_ids elements.now) }
 {
-    let mut rest = lines;
-    while let Some((found, behind)) = next_identifier(ADDRESSEE, depth, rest) {
+    let mut rest = elements.copy();
+    while let Some((found, behind)) = next_identifier(ADDRESSEE, &rest) {
         if same_pair(pair, found) {
             return true;
         }
@@ -199,16 +180,14 @@ fn has_pair(pair: Pair<'_>, depth: usize, lines: &[Line]) -> bool
     false
 }
 
-// The lines of what stands in the first addressee with such an identifier.
-fn meant<'a>(pair: Pair<'_>, depth: usize, lines: &'a [Line]) -> Result<&'a [Line], HeaderRefusal>
-    requires { depth < 999 }
-    ensures { (nodes : Nodes) → line_views lines.now ≡ outline depth nodes
-        → AreLines result (depth + 1)
-        (meant (pair_view pair.entry) (composites (codes "Addressee") nodes)) }
+// What stands in the first addressee with such an identifier.
+fn meant<'a>(pair: Pair<'_>, elements: &Elements<'a>) -> Result<Elements<'a>, HeaderRefusal>
+    ensures { result
+        ≡ meant (pair_view pair.entry) (composites (codes "Addressee") elements.now) }
 {
-    let mut rest = lines;
-    while let Some((found, behind)) = next_composite(b"Addressee", depth, rest) {
-        if has_pair(pair, depth + 1, found.below) {
+    let mut rest = elements.copy();
+    while let Some((found, behind)) = next_composite(b"Addressee", &rest) {
+        if has_pair(pair, &found.below) {
             return Ok(found.below);
         }
         rest = behind;
@@ -216,24 +195,21 @@ fn meant<'a>(pair: Pair<'_>, depth: usize, lines: &'a [Line]) -> Result<&'a [Lin
     Err(HeaderRefusal::NoSuchAddressee)
 }
 
-// The lines of what stands in the addressee.
-fn addressee_lines<'a>(
+// What stands in the addressee.
+fn addressee_in<'a>(
     pair: Option<Pair<'_>>,
-    depth: usize,
-    lines: &'a [Line],
-) -> Result<&'a [Line], HeaderRefusal>
-    requires { depth < 999 }
-    ensures { (nodes : Nodes) → line_views lines.now ≡ outline depth nodes
-        → AreLines result (depth + 1)
-        (addressee_in (option_map pair_view pair.entry) (composites (codes "Addressee") nodes)) }
+    elements: &Elements<'a>,
+) -> Result<Elements<'a>, HeaderRefusal>
+    ensures { result ≡ addressee_in (option_map pair_view pair.entry)
+        (composites (codes "Addressee") elements.now) }
 {
-    let Some((one, behind)) = next_composite(b"Addressee", depth, lines) else {
-        return Ok(&[]);
+    let Some((one, behind)) = next_composite(b"Addressee", elements) else {
+        return Ok(Elements::none());
     };
-    match next_composite(b"Addressee", depth, behind) {
+    match next_composite(b"Addressee", &behind) {
         None => Ok(one.below),
         Some(_) => match pair {
-            Some(pair) => meant(pair, depth, lines),
+            Some(pair) => meant(pair, elements),
             None => Err(HeaderRefusal::SeveralAddressees),
         },
     }
@@ -242,15 +218,12 @@ fn addressee_lines<'a>(
 // The type and the value of the addressee.
 fn addressee_pair<'a>(
     choices: &Choices<'a>,
-    depth: usize,
-    lines: &'a [Line],
+    elements: &Elements<'a>,
 ) -> Result<Pair<'a>, HeaderRefusal>
-    requires { depth < 999 }
-    ensures { (nodes : Nodes) → line_views lines.now ≡ outline depth nodes
-        → pair_read result ≡ addressee_pair (choices_view choices.now) nodes }
+    ensures { pair_read result ≡ addressee_pair (choices_view choices.now) elements.now }
 {
-    let addressee = addressee_lines(choices.addressee, depth, lines)?;
-    match choose_identifier(ADDRESSEE, choices.id_type, depth + 1, addressee) {
+    let addressee = addressee_in(choices.addressee, elements)?;
+    match choose_identifier(ADDRESSEE, choices.id_type, &addressee) {
         Some(identifier) => if_whole(identifier),
         None => Ok(NO_PAIR),
     }
@@ -292,14 +265,13 @@ fn first_number(parts: u32, number: Number) -> Result<u32, HeaderRefusal>
 }
 
 // The number of the first part.
-fn number_in(choices: &Choices<'_>, depth: usize, lines: &[Line]) -> Result<u32, HeaderRefusal>
-    ensures { (nodes : Nodes) → line_views lines.now ≡ outline depth nodes
-        → result ≡ number_in (choices_view choices.now) nodes }
+fn number_in(choices: &Choices<'_>, elements: &Elements<'_>) -> Result<u32, HeaderRefusal>
+    ensures { result ≡ number_in (choices_view choices.now) elements.now }
 {
     match choices.number {
         Some(number) => first_number(choices.parts, number),
         None => {
-            let text = text_in(depth, b"MessageNumber", lines);
+            let text = text_in(b"MessageNumber", elements);
             first_number(choices.parts, added(choices.offset, text)?)
         }
     }
@@ -310,13 +282,15 @@ fn message_texts<'a>(
     sender: Pair<'a>,
     addressee: Pair<'a>,
     number: &'a [u8],
-    depth: usize,
-    lines: &'a [Line],
+    elements: &'a Elements<'_>,
 ) -> [&'a [u8]; 10]
-    ensures { (nodes : Nodes) → line_views lines.now ≡ outline depth nodes
-        → map (λ t. t.now) result
-        ≡ message_fields (pair_view sender.entry) (pair_view addressee.entry) number.now nodes }
+    ensures { map (λ t. t.now) result ≡ message_fields
+        (pair_view sender.entry) (pair_view addressee.entry) number.now elements.now }
 {
+    let repeat: &'a [u8] = text_or_empty(b"MessageRepeat", elements);
+    let sent: &'a [u8] = text_or_empty(b"SentDateTime", elements);
+    let price_type: &'a [u8] = text_or_empty(b"DefaultPriceType", elements);
+    let currency: &'a [u8] = text_or_empty(b"DefaultCurrencyCode", elements);
     [
         b"2",
         sender.id_type,
@@ -324,10 +298,10 @@ fn message_texts<'a>(
         addressee.id_type,
         addressee.id_value,
         number,
-        text_or_empty(depth, b"MessageRepeat", lines),
-        text_or_empty(depth, b"SentDateTime", lines),
-        text_or_empty(depth, b"DefaultPriceType", lines),
-        text_or_empty(depth, b"DefaultCurrencyCode", lines),
+        repeat,
+        sent,
+        price_type,
+        currency,
     ]
 }
 
@@ -337,26 +311,22 @@ pub fn fill_message(
     sender: Pair<'_>,
     addressee: Pair<'_>,
     number: u32,
-    depth: usize,
-    lines: &[Line],
+    elements: &Elements<'_>,
     fields: &mut FieldBuffer,
 ) -> Result<(), RowFault>
-    ensures record { (nodes : Nodes) → line_views lines.now ≡ outline depth nodes
-        → OnOk result (fields.new ≡ codes "Message"
+    ensures record { OnOk result (fields.new ≡ codes "Message"
         ∷ message_fields (pair_view sender.entry) (pair_view addressee.entry)
-        (decimal number) nodes) }
-    ensures utf8 { (nodes : Nodes) → line_views lines.now ≡ outline depth nodes
-        → OnOk result (list_all is_utf8
+        (decimal number) elements.now) }
+    ensures utf8 { OnOk result (list_all is_utf8
         (message_fields (pair_view sender.entry) (pair_view addressee.entry)
-        (decimal number) nodes) ≡ true) }
-    ensures wrong { (nodes : Nodes) → line_views lines.now ≡ outline depth nodes
-        → IsErrOf result RowFault.Wrong → list_all is_utf8
+        (decimal number) elements.now) ≡ true) }
+    ensures wrong { IsErrOf result RowFault.Wrong → list_all is_utf8
         (message_fields (pair_view sender.entry) (pair_view addressee.entry)
-        (decimal number) nodes) ≡ false }
+        (decimal number) elements.now) ≡ false }
 {
     let mut buffer = Buffer::new();
     let number = buffer.format(number).as_bytes();
-    let texts = message_texts(sender, addressee, number, depth, lines);
+    let texts = message_texts(sender, addressee, number, elements);
     fill_record(fields, "Message", &texts)
 }
 
@@ -379,39 +349,34 @@ fn opening_in(
     sender: Pair<'_>,
     addressee: Pair<'_>,
     number: u32,
-    depth: usize,
-    lines: &[Line],
+    elements: &Elements<'_>,
     fields: &mut FieldBuffer,
 ) -> Result<Opening, HeaderFault>
-    ensures { (nodes : Nodes) → line_views lines.now ≡ outline depth nodes
-        → IsOpening result (parsed_opening
+    ensures { IsOpening result (parsed_opening
         (message_fields (pair_view sender.entry) (pair_view addressee.entry)
-        (decimal number) nodes)) }
+        (decimal number) elements.now)) }
 {
-    match fill_message(sender, addressee, number, depth, lines, fields) {
+    match fill_message(sender, addressee, number, elements, fields) {
         Ok(()) => parse_fields(alloc, fields),
         Err(RowFault::Wrong) => Err(HeaderFault::Refused(HeaderRefusal::Malformed)),
         Err(RowFault::Memory) => Err(HeaderFault::Memory),
     }
 }
 
-/// The heading of a Header, by the lines of what stands in it, or why the message is refused. The
+/// The heading of a Header, by what stands in it, or why the message is refused. The
 /// list takes the fields of the record with which the first part begins.
 pub fn read_heading<'a>(
     alloc: Global,
     choices: &Choices<'a>,
-    depth: usize,
-    lines: &'a [Line],
+    elements: &Elements<'a>,
     fields: &mut FieldBuffer,
 ) -> Result<Heading<'a>, HeaderFault>
-    requires { depth < 999 }
-    ensures { (nodes : Nodes) → line_views lines.now ≡ outline depth nodes
-        → IsHeading result (heading_in (choices_view choices.now) nodes) }
+    ensures { IsHeading result (heading_in (choices_view choices.now) elements.now) }
 {
-    let sender = sender_in(choices, depth, lines)?;
-    let addressee = addressee_pair(choices, depth, lines)?;
-    let number = number_in(choices, depth, lines)?;
-    let opening = opening_in(alloc, sender, addressee, number, depth, lines, fields)?;
+    let sender = sender_in(choices, elements)?;
+    let addressee = addressee_pair(choices, elements)?;
+    let number = number_in(choices, elements)?;
+    let opening = opening_in(alloc, sender, addressee, number, elements, fields)?;
     Ok(Heading {
         sender,
         addressee,

@@ -1,18 +1,15 @@
 //! Identifiers.
 
-ghost use Rattle.std.specs.Prelude.{◌≡◌, ◌<◌, IfSome, find, length, option_map};
+ghost use Rattle.std.specs.Prelude.{◌≡◌, find, option_map};
 ghost use Rattle.std.specs.Str.{bytes_eq};
+ghost use Rattle.onix_mapping.specs.Elements.{with_others};
 ghost use Rattle.onix_mapping.specs.Identifiers.{identifier_in, identifiers_in, chosen};
-ghost use Rattle.onix_mapping.specs.Next.{IsNext};
 ghost use Rattle.onix_mapping.specs.Parties.{is_there};
 ghost use Rattle.onix_mapping.specs.PartyViews.{pair_view};
-ghost use Rattle.onix_outline.specs.Nodes.{Nodes};
-ghost use Rattle.onix_outline.specs.Outline.{outline};
-ghost use Rattle.onix_outline.specs.Views.{line_views};
 
 use crate::elements::text_or_empty;
 use crate::parties::Pair;
-use onix_outline::{Line, first_node};
+use onix_outline::{Elements, Line};
 
 /// The names of an identifier and of its type.
 #[derive(Clone, Copy, Debug)]
@@ -40,13 +37,12 @@ pub(crate) const SUPPLIER: Kind = Kind {
 };
 
 // What stands in an identifier whose type has this name.
-fn identifier_in<'a>(type_name: &[u8], depth: usize, lines: &'a [Line]) -> Pair<'a>
-    ensures { (nodes : Nodes) → line_views lines.now ≡ outline depth nodes
-        → pair_view result ≡ identifier_in type_name.now nodes }
+fn identifier_in<'a>(type_name: &[u8], elements: &Elements<'a>) -> Pair<'a>
+    ensures { pair_view result ≡ identifier_in type_name.now elements.now }
 {
     Pair {
-        id_type: text_or_empty(depth, type_name, lines),
-        id_value: text_or_empty(depth, b"IDValue", lines),
+        id_type: text_or_empty(type_name, elements),
+        id_value: text_or_empty(b"IDValue", elements),
     }
 }
 
@@ -57,21 +53,19 @@ pub(crate) fn is_there(identifier: Pair<'_>) -> bool
     !identifier.id_type.is_empty() || !identifier.id_value.is_empty()
 }
 
-/// The first identifier of lines of this depth, and the lines behind it.
+/// The first identifier, and the elements behind it.
 pub(crate) fn next_identifier<'a>(
     kind: Kind,
-    depth: usize,
-    lines: &'a [Line],
-) -> Option<(Pair<'a>, &'a [Line])>
-    requires { depth < 1000 }
-    ensures next { (nodes : Nodes) → line_views lines.now ≡ outline depth nodes
-        → IsNext result (identifiers_in kind.name.now kind.type_name.now) depth nodes }
-    ensures shorter { IfSome result (λ x. length x.1.now < length lines.now) }
+    elements: &Elements<'a>,
+) -> Option<(Pair<'a>, Elements<'a>)>
+    ensures { let identifiers = identifiers_in kind.name.now kind.type_name.now in
+        with_others identifiers (option_map (λ x. (pair_view x.0, x.1)) result)
+        ≡ identifiers elements.now }
 {
-    let mut rest = lines;
-    while let Some(node) = first_node(depth, rest) {
+    let mut rest = elements.copy();
+    while let Some(node) = rest.first() {
         if node.line.name == kind.name {
-            let found = identifier_in(kind.type_name, depth + 1, node.below);
+            let found = identifier_in(kind.type_name, &node.below);
             if is_there(found) {
                 return Some((found, node.rest));
             }
@@ -82,19 +76,12 @@ pub(crate) fn next_identifier<'a>(
 }
 
 // The first identifier of a type.
-fn first_of_type<'a>(
-    kind: Kind,
-    id_type: &[u8],
-    depth: usize,
-    lines: &'a [Line],
-) -> Option<Pair<'a>>
-    requires { depth < 1000 }
-    ensures { (nodes : Nodes) → line_views lines.now ≡ outline depth nodes
-        → option_map pair_view result ≡ find (λ i. bytes_eq i.id_type id_type.now)
-        (identifiers_in kind.name.now kind.type_name.now nodes) }
+fn first_of_type<'a>(kind: Kind, id_type: &[u8], elements: &Elements<'a>) -> Option<Pair<'a>>
+    ensures { option_map pair_view result ≡ find (λ i. bytes_eq i.id_type id_type.now)
+        (identifiers_in kind.name.now kind.type_name.now elements.now) }
 {
-    let mut rest = lines;
-    while let Some((found, behind)) = next_identifier(kind, depth, rest) {
+    let mut rest = elements.copy();
+    while let Some((found, behind)) = next_identifier(kind, &rest) {
         if found.id_type == id_type {
             return Some(found);
         }
@@ -107,17 +94,14 @@ fn first_of_type<'a>(
 pub(crate) fn choose_identifier<'a>(
     kind: Kind,
     preferred: &[u8],
-    depth: usize,
-    lines: &'a [Line],
+    elements: &Elements<'a>,
 ) -> Option<Pair<'a>>
-    requires { depth < 1000 }
-    ensures { (nodes : Nodes) → line_views lines.now ≡ outline depth nodes
-        → option_map pair_view result
-        ≡ chosen preferred.now (identifiers_in kind.name.now kind.type_name.now nodes) }
+    ensures { option_map pair_view result
+        ≡ chosen preferred.now (identifiers_in kind.name.now kind.type_name.now elements.now) }
 {
-    match first_of_type(kind, preferred, depth, lines) {
+    match first_of_type(kind, preferred, elements) {
         Some(found) => Some(found),
-        None => match next_identifier(kind, depth, lines) {
+        None => match next_identifier(kind, elements) {
             Some((first, _)) => Some(first),
             None => None,
         },

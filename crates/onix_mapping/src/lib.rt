@@ -23,7 +23,7 @@ pub mod unions;
 mod vocabulary;
 
 pub use dates::{Days, days_in};
-pub use elements::{Composite, first_composite, next_composite, text_or_empty};
+pub use elements::{Composite, elements_in, first_composite, next_composite, text_or_empty};
 pub use header::{Choices, HeaderFault, HeaderRefusal, Heading, fill_message, read_heading};
 pub use notes::{Foreign, Note, Reason, ReasonKind, Wrong};
 pub use parties::Pair;

@@ -3,16 +3,13 @@
 ghost use Rattle.std.specs.Prelude.{◌≡◌, ◌++◌, ◌∷◌, ◌<◌, ◌||◌, [], List, None, Some, IfOk, OnOk, codes, false, option_map, option_to_list};
 ghost use Rattle.std.specs.List.{flat_map, list_any};
 ghost use Rattle.std.specs.Option.{option_or};
-ghost use Rattle.onix_mapping.specs.Elements.{Composite as Told, Tells, composites};
+ghost use Rattle.onix_mapping.specs.Elements.{composites};
 ghost use Rattle.onix_mapping.specs.Markets.{IsFilled, IsKept, first_kept, kept_area, kept_fields, kept_outcome, is_foreign_market, market_notes, markets_outcome, no_market, some_outcome, supply_record, territories_of, territory_of};
 ghost use Rattle.onix_mapping.specs.Notes.{Note as Said, foreign, note_views, reason_view};
 ghost use Rattle.onix_mapping.specs.Outcomes.{notes_below, outcome_reason, outcome_records};
 ghost use Rattle.onix_mapping.specs.PriceViews.{reason_read};
 ghost use Rattle.onix_mapping.specs.Territories.{area_view};
 ghost use Rattle.onix_mapping.specs.declared.notes.Foreign.TheVariants.{LongMarkets};
-ghost use Rattle.onix_outline.specs.Nodes.{Nodes};
-ghost use Rattle.onix_outline.specs.Outline.{outline};
-ghost use Rattle.onix_outline.specs.Views.{line_views};
 
 use crate::elements::{Composite, next_composite};
 use crate::notes::{Foreign, Note, Reason, ReasonKind, Wrong, push_note};
@@ -23,7 +20,7 @@ use crate::territories::{
 use crate::unions::union;
 use csv_records::buffer::RecordBuffer;
 use csv_records::fields::FieldBuffer;
-use onix_outline::Line;
+use onix_outline::Elements;
 use onix_records::row::RowFault;
 use onix_terms::items::Items;
 use onix_terms::territory::Territory;
@@ -69,23 +66,21 @@ fn former<'a>(one: Option<Area<'a>>, other: Area<'a>) -> Option<Area<'a>>
 // Takes a Market, and adds the notes on it.
 fn take_market<'a>(
     alloc: Global,
-    market: Composite<'a>,
-    depth: usize,
+    market: &Composite<'a>,
     kept: &mut Kept<'a>,
     notes: &mut Vec<Note<'a>>,
 ) -> Result<(), AllocError>
-    requires { depth < 1000 }
-    ensures territories { (m : Told) → Tells market.entry depth m → OnOk result
-        (kept.new.territories ≡ kept.old.territories ++ option_to_list (territory_of m)) }
-    ensures first { (m : Told) → Tells market.entry depth m → OnOk result
+    ensures territories { OnOk result
+        (kept.new.territories ≡ kept.old.territories ++ option_to_list (territory_of market.now)) }
+    ensures first { OnOk result
         (option_map area_view kept.new.first
-        ≡ option_or (option_map area_view kept.old.first) (kept_area m)) }
-    ensures foreign { (m : Told) → Tells market.entry depth m → OnOk result
-        (kept.new.some_foreign ≡ (kept.old.some_foreign || is_foreign_market m)) }
-    ensures notes { (m : Told) → Tells market.entry depth m → OnOk result
-        (note_views notes.new.items ≡ note_views notes.old.items ++ market_notes m) }
+        ≡ option_or (option_map area_view kept.old.first) (kept_area market.now)) }
+    ensures foreign { OnOk result
+        (kept.new.some_foreign ≡ (kept.old.some_foreign || is_foreign_market market.now)) }
+    ensures notes { OnOk result
+        (note_views notes.new.items ≡ note_views notes.old.items ++ market_notes market.now) }
 {
-    let area = area_in(depth, market.below);
+    let area = area_in(&market.below);
     match read_territory(alloc, &area)? {
         Ok(territory) => {
             kept.territories.push(territory)?;
@@ -102,31 +97,26 @@ fn take_market<'a>(
 // What is found of all Markets, with the notes on them.
 fn take_markets<'a>(
     alloc: Global,
-    depth: usize,
-    lines: &'a [Line],
+    elements: &Elements<'a>,
     notes: &mut Vec<Note<'a>>,
 ) -> Result<Kept<'a>, AllocError>
-    requires { depth < 999 }
-    ensures territories { (nodes : Nodes) → line_views lines.now ≡ outline depth nodes
-        → IfOk result (λ h. h.territories ≡ territories_of (composites (codes "Market") nodes)) }
-    ensures first { (nodes : Nodes) → line_views lines.now ≡ outline depth nodes
-        → IfOk result (λ h. option_map area_view h.first
-        ≡ first_kept (composites (codes "Market") nodes)) }
-    ensures foreign { (nodes : Nodes) → line_views lines.now ≡ outline depth nodes
-        → IfOk result (λ h. h.some_foreign
-        ≡ list_any is_foreign_market (composites (codes "Market") nodes)) }
-    ensures notes { (nodes : Nodes) → line_views lines.now ≡ outline depth nodes
-        → OnOk result (note_views notes.new.items ≡ note_views notes.old.items
-        ++ flat_map market_notes (composites (codes "Market") nodes)) }
+    ensures territories { IfOk result (λ h. h.territories
+        ≡ territories_of (composites (codes "Market") elements.now)) }
+    ensures first { IfOk result (λ h. option_map area_view h.first
+        ≡ first_kept (composites (codes "Market") elements.now)) }
+    ensures foreign { IfOk result (λ h. h.some_foreign
+        ≡ list_any is_foreign_market (composites (codes "Market") elements.now)) }
+    ensures notes { OnOk result (note_views notes.new.items ≡ note_views notes.old.items
+        ++ flat_map market_notes (composites (codes "Market") elements.now)) }
 {
     let mut kept = Kept {
         territories: Items::new(alloc),
         first: None,
         some_foreign: false,
     };
-    let mut rest = lines;
-    while let Some((market, behind)) = next_composite(b"Market", depth, rest) {
-        take_market(alloc, market, depth + 1, &mut kept, notes)?;
+    let mut rest = elements.copy();
+    while let Some((market, behind)) = next_composite(b"Market", &rest) {
+        take_market(alloc, &market, &mut kept, notes)?;
         rest = behind;
     }
     Ok(kept)
@@ -239,52 +229,43 @@ fn add_world(fields: &mut FieldBuffer, records: &mut RecordBuffer) -> Result<(),
 // Adds the record of a ProductSupply that has Markets, or tells why it is left out.
 fn add_some<'a>(
     alloc: Global,
-    depth: usize,
-    lines: &'a [Line],
+    elements: &Elements<'a>,
     fields: &mut FieldBuffer,
     records: &mut RecordBuffer,
     notes: &mut Vec<Note<'a>>,
 ) -> Result<Option<Reason<'a>>, AllocError>
-    requires { depth < 999 }
-    ensures reason { (nodes : Nodes) → line_views lines.now ≡ outline depth nodes
-        → IfOk result (λ reason. reason_read reason
-        ≡ outcome_reason (some_outcome (composites (codes "Market") nodes))) }
-    ensures records { (nodes : Nodes) → line_views lines.now ≡ outline depth nodes
-        → OnOk result (records.new ≡ records.old
-        ++ outcome_records (some_outcome (composites (codes "Market") nodes))) }
-    ensures notes { (nodes : Nodes) → line_views lines.now ≡ outline depth nodes
-        → OnOk result (note_views notes.new.items ≡ note_views notes.old.items
-        ++ flat_map market_notes (composites (codes "Market") nodes)) }
+    ensures reason { IfOk result (λ reason. reason_read reason
+        ≡ outcome_reason (some_outcome (composites (codes "Market") elements.now))) }
+    ensures records { OnOk result (records.new ≡ records.old
+        ++ outcome_records (some_outcome (composites (codes "Market") elements.now))) }
+    ensures notes { OnOk result (note_views notes.new.items ≡ note_views notes.old.items
+        ++ flat_map market_notes (composites (codes "Market") elements.now)) }
 {
-    let kept = take_markets(alloc, depth, lines, notes)?;
+    let kept = take_markets(alloc, elements, notes)?;
     add_kept(alloc, &kept, fields, records)
 }
 
-/// Adds the record of a ProductSupply of all the Markets that lines of this depth tell, with notes
+/// Adds the record of a ProductSupply of all Markets among the elements, with notes
 /// on them, or tells why they leave it out: the notes count only where they do not. The list takes
 /// the fields of the record.
 pub(crate) fn add_markets<'a>(
     alloc: Global,
-    depth: usize,
-    lines: &'a [Line],
+    elements: &Elements<'a>,
     fields: &mut FieldBuffer,
     records: &mut RecordBuffer,
     notes: &mut Vec<Note<'a>>,
 ) -> Result<Option<Reason<'a>>, AllocError>
-    requires { depth < 999 }
-    ensures reason { (nodes : Nodes) → line_views lines.now ≡ outline depth nodes
-        → IfOk result (λ reason. reason_read reason
-        ≡ outcome_reason (markets_outcome (composites (codes "Market") nodes))) }
-    ensures records { (nodes : Nodes) → line_views lines.now ≡ outline depth nodes
-        → OnOk result (records.new
-        ≡ records.old ++ outcome_records (markets_outcome (composites (codes "Market") nodes))) }
-    ensures notes { (nodes : Nodes) → line_views lines.now ≡ outline depth nodes
-        → IfOk result (λ kind. kind ≡ None → note_views notes.new.items ≡ note_views notes.old.items
-        ++ notes_below (markets_outcome (composites (codes "Market") nodes))) }
+    ensures reason { IfOk result (λ reason. reason_read reason
+        ≡ outcome_reason (markets_outcome (composites (codes "Market") elements.now))) }
+    ensures records { OnOk result (records.new ≡ records.old
+        ++ outcome_records (markets_outcome (composites (codes "Market") elements.now))) }
+    ensures notes { IfOk result (λ kind. kind ≡ None
+        → note_views notes.new.items ≡ note_views notes.old.items
+        ++ notes_below (markets_outcome (composites (codes "Market") elements.now))) }
 {
-    if next_composite(b"Market", depth, lines).is_none() {
+    if next_composite(b"Market", elements).is_none() {
         add_world(fields, records)?;
         return Ok(None);
     }
-    add_some(alloc, depth, lines, fields, records, notes)
+    add_some(alloc, elements, fields, records, notes)
 }

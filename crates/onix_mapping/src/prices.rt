@@ -7,7 +7,7 @@ ghost use Rattle.std.specs.Result.{result_err, result_unwrap_or};
 ghost use Rattle.std.specs.Str.{is_utf8};
 ghost use Rattle.onix_mapping.specs.DateViews.{dated_view};
 ghost use Rattle.onix_mapping.specs.Dates.{days, days_in};
-ghost use Rattle.onix_mapping.specs.Elements.{Composite as Told, Tells, composites, first, text_or_empty};
+ghost use Rattle.onix_mapping.specs.Elements.{composites, first, text_or_empty};
 ghost use Rattle.onix_mapping.specs.Notes.{foreign, is_wrong, note_views, wrong};
 ghost use Rattle.onix_mapping.specs.Outcomes.{notes_below, outcome_notes, outcome_records};
 ghost use Rattle.onix_mapping.specs.PriceViews.{reason_read, text_view};
@@ -19,8 +19,6 @@ ghost use Rattle.onix_records.specs.Gives.{Gives};
 ghost use Rattle.onix_records.specs.Price.{day_field, price_of};
 ghost use Rattle.onix_outline.specs.Composites.{text_in};
 ghost use Rattle.onix_outline.specs.Nodes.{Nodes};
-ghost use Rattle.onix_outline.specs.Outline.{outline};
-ghost use Rattle.onix_outline.specs.Views.{line_views};
 
 use crate::dates::{Dated, Days, days_in};
 use crate::discounts::push_discounts;
@@ -34,7 +32,7 @@ use crate::territories::{
 use csv_records::buffer::RecordBuffer;
 use csv_records::fields::FieldBuffer;
 use csv_records::record::Record;
-use onix_outline::{Line, text_in};
+use onix_outline::{Elements, text_in};
 use onix_records::fields::read_fields;
 use onix_records::parts::Price;
 use onix_records::price::read_price;
@@ -60,31 +58,23 @@ fn is_other(code: &[u8]) -> bool
 }
 
 // The text of an element, where it is another than 00.
-fn other_in<'a>(name: &[u8], depth: usize, lines: &'a [Line]) -> Option<&'a [u8]>
-    ensures { (nodes : Nodes) → line_views lines.now ≡ outline depth nodes
-        → text_view result ≡ option_filter is_other (text_in name.now nodes) }
+fn other_in<'a>(name: &[u8], elements: &Elements<'a>) -> Option<&'a [u8]>
+    ensures { text_view result ≡ option_filter is_other (text_in name.now elements.now) }
 {
-    match text_in(depth, name, lines) {
+    match text_in(name, elements) {
         Some(text) => if is_other(text) { Some(text) } else { None },
         None => None,
     }
 }
 
 // The type of the first composite of this name that has another type than 00.
-fn other_type<'a>(
-    name: &[u8],
-    type_name: &[u8],
-    depth: usize,
-    lines: &'a [Line],
-) -> Option<&'a [u8]>
-    requires { depth < 1000 }
-    ensures { (nodes : Nodes) → line_views lines.now ≡ outline depth nodes
-        → text_view result ≡ find is_other
-        (map (λ c. text_or_empty type_name.now c.below) (composites name.now nodes)) }
+fn other_type<'a>(name: &[u8], type_name: &[u8], elements: &Elements<'a>) -> Option<&'a [u8]>
+    ensures { text_view result ≡ find is_other
+        (map (λ c. text_or_empty type_name.now c.below) (composites name.now elements.now)) }
 {
-    let mut rest = lines;
-    while let Some((found, behind)) = next_composite(name, depth, rest) {
-        let code = text_or_empty(depth + 1, type_name, found.below);
+    let mut rest = elements.copy();
+    while let Some((found, behind)) = next_composite(name, &rest) {
+        let code = text_or_empty(type_name, &found.below);
         if is_other(code) {
             return Some(code);
         }
@@ -94,12 +84,10 @@ fn other_type<'a>(
 }
 
 // Whether there is such a composite.
-fn mark_in(name: &[u8], depth: usize, lines: &[Line]) -> Option<&'static [u8]>
-    requires { depth < 1000 }
-    ensures { (nodes : Nodes) → line_views lines.now ≡ outline depth nodes
-        → text_view result ≡ option_map (λ c. []) (first (composites name.now nodes)) }
+fn mark_in(name: &[u8], elements: &Elements<'_>) -> Option<&'static [u8]>
+    ensures { text_view result ≡ option_map (λ c. []) (first (composites name.now elements.now)) }
 {
-    match first_composite(name, depth, lines) {
+    match first_composite(name, elements) {
         Some(_) => Some(b""),
         None => None,
     }
@@ -158,11 +146,10 @@ fn point_in(text: &[u8]) -> Option<usize>
 }
 
 /// The amount of a Price as it is written, without the zeros behind its third decimal.
-pub(crate) fn amount_written<'a>(depth: usize, lines: &'a [Line]) -> &'a [u8]
-    ensures { (nodes : Nodes) → line_views lines.now ≡ outline depth nodes
-        → result.now ≡ amount_written nodes }
+pub(crate) fn amount_written<'a>(elements: &Elements<'a>) -> &'a [u8]
+    ensures { result.now ≡ amount_written elements.now }
 {
-    let text = text_or_empty(depth, b"PriceAmount", lines);
+    let text = text_or_empty(b"PriceAmount", elements);
     cut_zeros(point_in(text), text)
 }
 
@@ -196,28 +183,26 @@ fn no_charge<'a>(amount: &'a [u8]) -> Option<&'a [u8]>
     if is_zero(amount) { Some(amount) } else { None }
 }
 
-fn has_text(name: &[u8], depth: usize, lines: &[Line]) -> bool
-    ensures { (nodes : Nodes) → line_views lines.now ≡ outline depth nodes
-        → result ≡ is_some (text_in name.now nodes) }
+fn has_text(name: &[u8], elements: &Elements<'_>) -> bool
+    ensures { result ≡ is_some (text_in name.now elements.now) }
 {
-    text_in(depth, name, lines).is_some()
+    text_in(name, elements).is_some()
 }
 
 // The first of the elements of ONIX 2.1 that is there.
-fn old_element(depth: usize, lines: &[Line]) -> Option<&'static [u8]>
-    ensures { (nodes : Nodes) → line_views lines.now ≡ outline depth nodes
-        → text_view result ≡ old_element nodes }
+fn old_element(elements: &Elements<'_>) -> Option<&'static [u8]>
+    ensures { text_view result ≡ old_element elements.now }
 {
-    if has_text(b"PriceTypeCode", depth, lines) {
+    if has_text(b"PriceTypeCode", elements) {
         return Some(b"PriceTypeCode");
     }
-    if has_text(b"PriceEffectiveFrom", depth, lines) {
+    if has_text(b"PriceEffectiveFrom", elements) {
         return Some(b"PriceEffectiveFrom");
     }
-    if has_text(b"PriceEffectiveUntil", depth, lines) {
+    if has_text(b"PriceEffectiveUntil", elements) {
         return Some(b"PriceEffectiveUntil");
     }
-    if has_text(b"CountryCode", depth, lines) {
+    if has_text(b"CountryCode", elements) {
         return Some(b"CountryCode");
     }
     None
@@ -299,16 +284,14 @@ fn right_days(dated: &Dated<'_>) -> Days
 fn late_reason<'a>(
     area: &Area<'a>,
     wrong_date: Option<Reason<'a>>,
-    depth: usize,
-    lines: &'a [Line],
+    elements: &Elements<'a>,
 ) -> Option<Reason<'a>>
-    ensures { (nodes : Nodes) → line_views lines.now ≡ outline depth nodes
-        → area_view area.now ≡ area_in nodes
-        → reason_read wrong_date.entry ≡ result_err (days_in nodes)
-        → reason_read result ≡ first_some (late_reasons nodes) }
+    ensures { area_view area.now ≡ area_in elements.now
+        → reason_read wrong_date.entry ≡ result_err (days_in elements.now)
+        → reason_read result ≡ first_some (late_reasons elements.now) }
 {
-    let amount = amount_written(depth, lines);
-    let old = because_old(old_element(depth, lines));
+    let amount = amount_written(elements);
+    let old = because_old(old_element(elements));
     let dated = former(old, former(if_wrong(wrong_date), None));
     let free = because(Foreign::NoCharge, no_charge(amount));
     let charged = former(free, former(if_foreign(wrong_date), dated));
@@ -320,34 +303,28 @@ fn late_reason<'a>(
 fn early_reason<'a>(
     area: &Area<'a>,
     wrong_date: Option<Reason<'a>>,
-    depth: usize,
-    lines: &'a [Line],
+    elements: &Elements<'a>,
 ) -> Option<Reason<'a>>
-    requires { depth < 1000 }
-    ensures { (nodes : Nodes) → line_views lines.now ≡ outline depth nodes
-        → area_view area.now ≡ area_in nodes
-        → reason_read wrong_date.entry ≡ result_err (days_in nodes)
-        → reason_read result ≡ first_some (early_reasons nodes) }
+    ensures { area_view area.now ≡ area_in elements.now
+        → reason_read wrong_date.entry ≡ result_err (days_in elements.now)
+        → reason_read result ≡ first_some (early_reasons elements.now) }
 {
-    let late = late_reason(area, wrong_date, depth, lines);
-    let license = because(Foreign::EpubLicense, mark_in(b"EpubLicense", depth, lines));
-    let zone = because(
-        Foreign::CurrencyZone,
-        text_in(depth, b"CurrencyZone", lines),
-    );
-    let coded = because(Foreign::PriceCoded, mark_in(b"PriceCoded", depth, lines));
+    let late = late_reason(area, wrong_date, elements);
+    let license = because(Foreign::EpubLicense, mark_in(b"EpubLicense", elements));
+    let zone = because(Foreign::CurrencyZone, text_in(b"CurrencyZone", elements));
+    let coded = because(Foreign::PriceCoded, mark_in(b"PriceCoded", elements));
     let constraint = because(
         Foreign::PriceConstraint,
-        other_type(b"PriceConstraint", b"PriceConstraintType", depth, lines),
+        other_type(b"PriceConstraint", b"PriceConstraintType", elements),
     );
     let condition = because(
         Foreign::PriceCondition,
-        other_type(b"PriceCondition", b"PriceConditionType", depth, lines),
+        other_type(b"PriceCondition", b"PriceConditionType", elements),
     );
-    let per = because(Foreign::PricePer, other_in(b"PricePer", depth, lines));
+    let per = because(Foreign::PricePer, other_in(b"PricePer", elements));
     let qualifier = because(
         Foreign::PriceQualifier,
-        other_in(b"PriceQualifier", depth, lines),
+        other_in(b"PriceQualifier", elements),
     );
     let typed = former(
         condition,
@@ -361,14 +338,12 @@ fn early_reason<'a>(
 
 // Whether a Price is nothing: it has no amount and no PriceCoded, and the record of its
 // SupplyDetail an UnpricedItemType.
-fn is_nothing(context: &PriceContext<'_, '_>, depth: usize, lines: &[Line]) -> bool
-    requires { depth < 1000 }
-    ensures { (nodes : Nodes) → line_views lines.now ≡ outline depth nodes
-        → result ≡ is_nothing (context_view context.now) nodes }
+fn is_nothing(context: &PriceContext<'_, '_>, elements: &Elements<'_>) -> bool
+    ensures { result ≡ is_nothing (context_view context.now) elements.now }
 {
     context.is_unpriced
-        && text_in(depth, b"PriceAmount", lines).is_none()
-        && mark_in(b"PriceCoded", depth, lines).is_none()
+        && text_in(b"PriceAmount", elements).is_none()
+        && mark_in(b"PriceCoded", elements).is_none()
 }
 
 // The text of a day, empty where there is none.
@@ -403,22 +378,16 @@ fn owned_texts(alloc: Global, area: &Area<'_>, days: Days) -> Result<Owned, Allo
 }
 
 // The texts of the fields that each Price has.
-fn eight_texts<'b>(
-    owned: &'b Owned,
-    area: &'b Area<'_>,
-    depth: usize,
-    lines: &'b [Line],
-) -> [&'b [u8]; 8]
-    ensures { (nodes : Nodes) (days : Days) → line_views lines.now ≡ outline depth nodes
-        → AreRenamed owned.now.renamed (area_view area.now)
+fn eight_texts<'b>(owned: &'b Owned, area: &'b Area<'_>, elements: &Elements<'b>) -> [&'b [u8]; 8]
+    ensures { (days : Days) → AreRenamed owned.now.renamed (area_view area.now)
         → owned.now.first ≡ day_field days.first → owned.now.last ≡ day_field days.last
-        → map (λ t. t.now) result ≡ eight_fields (area_view area.now) days nodes }
+        → map (λ t. t.now) result ≡ eight_fields (area_view area.now) days elements.now }
 {
     let [included, world, excluded] = area_fields(area, &owned.renamed);
     [
-        text_or_empty(depth, b"PriceType", lines),
-        amount_written(depth, lines),
-        text_or_empty(depth, b"CurrencyCode", lines),
+        text_or_empty(b"PriceType", elements),
+        amount_written(elements),
+        text_or_empty(b"CurrencyCode", elements),
         included,
         world,
         excluded,
@@ -428,11 +397,10 @@ fn eight_texts<'b>(
 }
 
 // The MinimumOrderQuantity of a Price, where it is not of zeros alone.
-pub(crate) fn own_minimum<'a>(depth: usize, lines: &'a [Line]) -> Option<&'a [u8]>
-    ensures { (nodes : Nodes) → line_views lines.now ≡ outline depth nodes
-        → text_view result ≡ own_minimum nodes }
+pub(crate) fn own_minimum<'a>(elements: &Elements<'a>) -> Option<&'a [u8]>
+    ensures { text_view result ≡ own_minimum elements.now }
 {
-    let text = text_in(depth, b"MinimumOrderQuantity", lines)?;
+    let text = text_in(b"MinimumOrderQuantity", elements)?;
     if are_zeros(text) { None } else { Some(text) }
 }
 
@@ -538,28 +506,27 @@ fn take_texts(
     context: &PriceContext<'_, '_>,
     owned: &Owned,
     area: &Area<'_>,
-    depth: usize,
-    lines: &[Line],
+    elements: &Elements<'_>,
     fields: &mut FieldBuffer,
 ) -> Result<bool, AllocError>
-    ensures record { (nodes : Nodes) → line_views lines.now ≡ outline depth nodes
-        → area_view area.now ≡ area_in nodes → AreRenamed owned.now.renamed (area_view area.now)
-        → owned.now.first ≡ day_field (right_days nodes).first
-        → owned.now.last ≡ day_field (right_days nodes).last → IfOk result (λ is. is ≡ true
-        → fields.new ≡ codes "Price" ∷ price_fields (context_view context.now) nodes) }
-    ensures taken { (nodes : Nodes) → line_views lines.now ≡ outline depth nodes
-        → area_view area.now ≡ area_in nodes → AreRenamed owned.now.renamed (area_view area.now)
-        → owned.now.first ≡ day_field (right_days nodes).first
-        → owned.now.last ≡ day_field (right_days nodes).last → IfOk result (λ is. is
+    ensures record { area_view area.now ≡ area_in elements.now
+        → AreRenamed owned.now.renamed (area_view area.now)
+        → owned.now.first ≡ day_field (right_days elements.now).first
+        → owned.now.last ≡ day_field (right_days elements.now).last → IfOk result (λ is. is ≡ true
+        → fields.new ≡ codes "Price" ∷ price_fields (context_view context.now) elements.now) }
+    ensures taken { area_view area.now ≡ area_in elements.now
+        → AreRenamed owned.now.renamed (area_view area.now)
+        → owned.now.first ≡ day_field (right_days elements.now).first
+        → owned.now.last ≡ day_field (right_days elements.now).last → IfOk result (λ is. is
         ≡ is_some (parsed (price_of context.now.opening.now)
-        (price_fields (context_view context.now) nodes))) }
+        (price_fields (context_view context.now) elements.now))) }
 {
-    let minimum = or_text(own_minimum(depth, lines), context.minimum);
+    let minimum = or_text(own_minimum(elements), context.minimum);
     take_price(
         alloc,
         context.opening,
         fields,
-        &eight_texts(owned, area, depth, lines),
+        &eight_texts(owned, area, elements),
         minimum,
     )
 }
@@ -569,30 +536,27 @@ fn take_texts(
 fn write_price<'a>(
     alloc: Global,
     context: &PriceContext<'_, '_>,
-    depth: usize,
-    lines: &'a [Line],
+    elements: &Elements<'a>,
     area: &Area<'a>,
     days: Days,
     fields: &mut FieldBuffer,
     records: &mut RecordBuffer,
 ) -> Result<Option<Reason<'a>>, AllocError>
-    ensures reason { (nodes : Nodes) → line_views lines.now ≡ outline depth nodes
-        → area_view area.now ≡ area_in nodes → days ≡ right_days nodes
+    ensures reason { area_view area.now ≡ area_in elements.now → days ≡ right_days elements.now
         → IfOk result (λ reason. reason_read reason
-        ≡ record_reason (context_view context.now) nodes) }
-    ensures record { (nodes : Nodes) → line_views lines.now ≡ outline depth nodes
-        → area_view area.now ≡ area_in nodes → days ≡ right_days nodes
+        ≡ record_reason (context_view context.now) elements.now) }
+    ensures record { area_view area.now ≡ area_in elements.now → days ≡ right_days elements.now
         → OnOk result (records.new ≡ records.old ++ outcome_records
-        (outcome_of (record_reason (context_view context.now) nodes)
-        (context_view context.now) nodes)) }
+        (outcome_of (record_reason (context_view context.now) elements.now)
+        (context_view context.now) elements.now)) }
 {
     let owned = owned_texts(alloc, area, days)?;
-    let is_taken = take_texts(alloc, context, &owned, area, depth, lines, fields)?;
+    let is_taken = take_texts(alloc, context, &owned, area, elements, fields)?;
     if is_taken {
         records.push(&fields.as_record())?;
         return Ok(None);
     }
-    let field = field_reason(alloc, context.opening, area, &owned.renamed, depth, lines)?;
+    let field = field_reason(alloc, context.opening, area, &owned.renamed, elements)?;
     Ok(Some(or_price(field)))
 }
 
@@ -601,33 +565,29 @@ fn write_price<'a>(
 fn add_known<'a>(
     alloc: Global,
     context: &PriceContext<'_, '_>,
-    depth: usize,
-    lines: &'a [Line],
+    elements: &Elements<'a>,
     area: &Area<'a>,
     days: Days,
     fields: &mut FieldBuffer,
     records: &mut RecordBuffer,
     notes: &mut Vec<Note<'a>>,
 ) -> Result<Option<Reason<'a>>, AllocError>
-    ensures reason { (nodes : Nodes) → line_views lines.now ≡ outline depth nodes
-        → area_view area.now ≡ area_in nodes → days ≡ right_days nodes
+    ensures reason { area_view area.now ≡ area_in elements.now → days ≡ right_days elements.now
         → IfOk result (λ reason. reason_read reason
-        ≡ record_reason (context_view context.now) nodes) }
-    ensures records { (nodes : Nodes) → line_views lines.now ≡ outline depth nodes
-        → area_view area.now ≡ area_in nodes → days ≡ right_days nodes
+        ≡ record_reason (context_view context.now) elements.now) }
+    ensures records { area_view area.now ≡ area_in elements.now → days ≡ right_days elements.now
         → OnOk result (records.new ≡ records.old ++ outcome_records
-        (outcome_of (record_reason (context_view context.now) nodes)
-        (context_view context.now) nodes)) }
-    ensures notes { (nodes : Nodes) → line_views lines.now ≡ outline depth nodes
-        → area_view area.now ≡ area_in nodes → days ≡ right_days nodes
+        (outcome_of (record_reason (context_view context.now) elements.now)
+        (context_view context.now) elements.now)) }
+    ensures notes { area_view area.now ≡ area_in elements.now → days ≡ right_days elements.now
         → OnOk result (note_views notes.new.items ≡ note_views notes.old.items ++ notes_below
-        (outcome_of (record_reason (context_view context.now) nodes)
-        (context_view context.now) nodes)) }
+        (outcome_of (record_reason (context_view context.now) elements.now)
+        (context_view context.now) elements.now)) }
 {
-    let left_out = write_price(alloc, context, depth, lines, area, days, fields, records)?;
+    let left_out = write_price(alloc, context, elements, area, days, fields, records)?;
     if left_out.is_none() {
         push_territory_notes(notes, area)?;
-        push_discounts(notes, depth, lines)?;
+        push_discounts(notes, elements)?;
     }
     Ok(left_out)
 }
@@ -636,33 +596,28 @@ fn add_known<'a>(
 fn add_priced<'a>(
     alloc: Global,
     context: &PriceContext<'_, '_>,
-    depth: usize,
-    lines: &'a [Line],
+    elements: &Elements<'a>,
     fields: &mut FieldBuffer,
     records: &mut RecordBuffer,
     notes: &mut Vec<Note<'a>>,
 ) -> Result<Option<Reason<'a>>, AllocError>
-    requires { depth < 1000 }
-    ensures reason { (nodes : Nodes) → line_views lines.now ≡ outline depth nodes
-        → IfOk result (λ reason. reason_read reason
-        ≡ first_some (price_reasons (context_view context.now) nodes)) }
-    ensures records { (nodes : Nodes) → line_views lines.now ≡ outline depth nodes
-        → OnOk result (records.new ≡ records.old ++ outcome_records (outcome_of
-        (first_some (price_reasons (context_view context.now) nodes))
-        (context_view context.now) nodes)) }
-    ensures notes { (nodes : Nodes) → line_views lines.now ≡ outline depth nodes
-        → OnOk result (note_views notes.new.items ≡ note_views notes.old.items ++ notes_below
-        (outcome_of (first_some (price_reasons (context_view context.now) nodes))
-        (context_view context.now) nodes)) }
+    ensures reason { IfOk result (λ reason. reason_read reason
+        ≡ first_some (price_reasons (context_view context.now) elements.now)) }
+    ensures records { OnOk result (records.new ≡ records.old ++ outcome_records (outcome_of
+        (first_some (price_reasons (context_view context.now) elements.now))
+        (context_view context.now) elements.now)) }
+    ensures notes { OnOk result (note_views notes.new.items ≡ note_views notes.old.items
+        ++ notes_below (outcome_of
+        (first_some (price_reasons (context_view context.now) elements.now))
+        (context_view context.now) elements.now)) }
 {
-    let area = area_in(depth, lines);
-    let dated = days_in(depth, lines);
-    match early_reason(&area, wrong_date(&dated), depth, lines) {
+    let area = area_in(elements);
+    let dated = days_in(elements);
+    match early_reason(&area, wrong_date(&dated), elements) {
         None => add_known(
             alloc,
             context,
-            depth,
-            lines,
+            elements,
             &area,
             right_days(&dated),
             fields,
@@ -678,22 +633,20 @@ fn add_priced<'a>(
 pub(crate) fn add_price<'a>(
     alloc: Global,
     context: &PriceContext<'_, '_>,
-    depth: usize,
-    price: Composite<'a>,
+    price: &Composite<'a>,
     fields: &mut FieldBuffer,
     records: &mut RecordBuffer,
     notes: &mut Vec<Note<'a>>,
 ) -> Result<(), AllocError>
-    requires { depth < 1000 }
-    ensures records { (c : Told) → Tells price.entry depth c → OnOk result (records.new
-        ≡ records.old ++ outcome_records (price_outcome (context_view context.now) c.below)) }
-    ensures notes { (c : Told) → Tells price.entry depth c
-        → OnOk result (note_views notes.new.items ≡ note_views notes.old.items
-        ++ outcome_notes c.element (price_outcome (context_view context.now) c.below)) }
+    ensures records { OnOk result (records.new ≡ records.old
+        ++ outcome_records (price_outcome (context_view context.now) price.now.below)) }
+    ensures notes { OnOk result (note_views notes.new.items ≡ note_views notes.old.items
+        ++ outcome_notes price.now.element
+        (price_outcome (context_view context.now) price.now.below)) }
 {
-    if is_nothing(context, depth, price.below) {
+    if is_nothing(context, &price.below) {
         return Ok(());
     }
-    let left_out = add_priced(alloc, context, depth, price.below, fields, records, notes)?;
+    let left_out = add_priced(alloc, context, &price.below, fields, records, notes)?;
     push_reason(notes, price.line, left_out)
 }

@@ -1,8 +1,7 @@
 //! The records of a Product and of its supplies.
 
 ghost use Rattle.std.specs.Prelude.{◌≡◌, ◌++◌, ◌∷◌, ◌<◌, [], None, IfOk, OnOk};
-ghost use Rattle.onix_mapping.specs.Depths.{LinesFit};
-ghost use Rattle.onix_mapping.specs.Elements.{Composite as Told, Tells, element_view};
+ghost use Rattle.onix_mapping.specs.Elements.{element_view};
 ghost use Rattle.onix_mapping.specs.Notes.{note, note_views};
 ghost use Rattle.onix_mapping.specs.Outcomes.{all_notes, all_records};
 ghost use Rattle.onix_mapping.specs.PriceViews.{reason_read};
@@ -10,9 +9,6 @@ ghost use Rattle.onix_mapping.specs.ProductRecords.{fate_of, ignored_reason, is_
 ghost use Rattle.onix_mapping.specs.Supplies.{supplies_reason, supply_in};
 ghost use Rattle.std.specs.Option.{option_map_or};
 ghost use Rattle.onix_mapping.specs.Products.{bare_record, emptied_record, has_isbn, dropping, notification_in, own_reason, product_record, right_pairs};
-ghost use Rattle.onix_outline.specs.Nodes.{Nodes};
-ghost use Rattle.onix_outline.specs.Outline.{outline};
-ghost use Rattle.onix_outline.specs.Views.{line_views};
 
 use crate::elements::Composite;
 use crate::notes::{Foreign, Note, Reason, ReasonKind, Wrong, push_note, push_reason};
@@ -24,7 +20,7 @@ use crate::records::is_field;
 use crate::supplies::add_supplies;
 use csv_records::buffer::RecordBuffer;
 use csv_records::fields::FieldBuffer;
-use onix_outline::Line;
+use onix_outline::Elements;
 use onix_records::row::Opening;
 use std::alloc::{AllocError, Global};
 
@@ -50,11 +46,10 @@ fn is_followed(notification: &[u8]) -> bool
 }
 
 // That the desk will not find a Product by an ISBN.
-fn isbn_reason(is_found: bool, depth: usize, lines: &[Line]) -> Option<Reason<'static>>
-    ensures { (nodes : Nodes) → line_views lines.now ≡ outline depth nodes
-        → is_found ≡ has_isbn nodes → reason_read result ≡ isbn_reason nodes }
+fn isbn_reason(is_found: bool, elements: &Elements<'_>) -> Option<Reason<'static>>
+    ensures { is_found ≡ has_isbn elements.now → reason_read result ≡ isbn_reason elements.now }
 {
-    if is_deletion(depth, lines) || is_found {
+    if is_deletion(elements) || is_found {
         None
     } else {
         Some(Reason {
@@ -65,11 +60,10 @@ fn isbn_reason(is_found: bool, depth: usize, lines: &[Line]) -> Option<Reason<'s
 }
 
 // That the desk ignores a Product of its NotificationType.
-fn ignored_reason<'a>(depth: usize, lines: &'a [Line]) -> Option<Reason<'a>>
-    ensures { (nodes : Nodes) → line_views lines.now ≡ outline depth nodes
-        → reason_read result ≡ ignored_reason nodes }
+fn ignored_reason<'a>(elements: &Elements<'a>) -> Option<Reason<'a>>
+    ensures { reason_read result ≡ ignored_reason elements.now }
 {
-    let notification = notification_in(depth, lines);
+    let notification = notification_in(elements);
     if is_followed(notification) {
         None
     } else {
@@ -83,51 +77,44 @@ fn ignored_reason<'a>(depth: usize, lines: &'a [Line]) -> Option<Reason<'a>>
 // Adds the notes on a Product that is written.
 fn push_written_notes<'a>(
     is_found: bool,
-    product: Composite<'a>,
-    depth: usize,
+    product: &Composite<'a>,
     notes: &mut Vec<Note<'a>>,
 ) -> Result<(), AllocError>
-    ensures { (c : Told) → Tells product.entry depth c → is_found ≡ has_isbn c.below
+    ensures { is_found ≡ has_isbn product.now.below
         → OnOk result (note_views notes.new.items
-        ≡ note_views notes.old.items ++ written_notes c.below c.element) }
+        ≡ note_views notes.old.items ++ written_notes product.now.below product.now.element) }
 {
-    push_reason(
-        notes,
-        product.line,
-        isbn_reason(is_found, depth, product.below),
-    )?;
-    push_reason(notes, product.line, ignored_reason(depth, product.below))
+    push_reason(notes, product.line, isbn_reason(is_found, &product.below))?;
+    push_reason(notes, product.line, ignored_reason(&product.below))
 }
 
 // Adds the record of a Product that is emptied, with these types and values.
 fn add_emptied(
     pairs: &FieldBuffer,
-    depth: usize,
-    lines: &[Line],
+    elements: &Elements<'_>,
     fields: &mut FieldBuffer,
     records: &mut RecordBuffer,
 ) -> Result<(), AllocError>
-    ensures { (nodes : Nodes) → line_views lines.now ≡ outline depth nodes → OnOk result
+    ensures { OnOk result
         (records.new ≡ records.old
-        ++ product_record (dropping (notification_in nodes)) pairs.now nodes ∷ []) }
+        ++ product_record (dropping (notification_in elements.now)) pairs.now elements.now ∷ []) }
 {
-    let notification = dropping(notification_in(depth, lines));
-    fill_product(notification, pairs, depth, lines, fields)?;
+    let notification = dropping(notification_in(elements));
+    fill_product(notification, pairs, elements, fields)?;
     records.push(&fields.as_record())
 }
 
 // Adds the record of a Product as it stands, with these types and values.
 fn add_own(
     pairs: &FieldBuffer,
-    depth: usize,
-    lines: &[Line],
+    elements: &Elements<'_>,
     fields: &mut FieldBuffer,
     records: &mut RecordBuffer,
 ) -> Result<(), AllocError>
-    ensures { (nodes : Nodes) → line_views lines.now ≡ outline depth nodes → OnOk result
-        (records.new ≡ records.old ++ product_record (notification_in nodes) pairs.now nodes ∷ []) }
+    ensures { OnOk result (records.new ≡ records.old
+        ++ product_record (notification_in elements.now) pairs.now elements.now ∷ []) }
 {
-    fill_product(notification_in(depth, lines), pairs, depth, lines, fields)?;
+    fill_product(notification_in(elements), pairs, elements, fields)?;
     records.push(&fields.as_record())
 }
 
@@ -137,29 +124,22 @@ fn add_below<'a>(
     alloc: Global,
     opening: &Opening,
     preferred: &[u8],
-    depth: usize,
-    lines: &'a [Line],
+    elements: &Elements<'a>,
     fields: &mut FieldBuffer,
     records: &mut RecordBuffer,
     notes: &mut Vec<Note<'a>>,
 ) -> Result<Option<Reason<'a>>, AllocError>
-    requires { depth < 997 }
-    ensures reason { (nodes : Nodes) → line_views lines.now ≡ outline depth nodes
-        → IfOk result (λ reason. reason_read reason
-        ≡ supplies_reason opening.now preferred.now (supplies_in nodes)) }
-    ensures records { (nodes : Nodes) → line_views lines.now ≡ outline depth nodes
-        → OnOk result (records.new ≡ records.old
-        ++ all_records (supply_in opening.now preferred.now) (supplies_in nodes)) }
-    ensures notes { (nodes : Nodes) → line_views lines.now ≡ outline depth nodes
-        → OnOk result (note_views notes.new.items ≡ note_views notes.old.items
-        ++ all_notes (supply_in opening.now preferred.now) (supplies_in nodes)) }
+    ensures reason { IfOk result (λ reason. reason_read reason
+        ≡ supplies_reason opening.now preferred.now (supplies_in elements.now)) }
+    ensures records { OnOk result (records.new ≡ records.old
+        ++ all_records (supply_in opening.now preferred.now) (supplies_in elements.now)) }
+    ensures notes { OnOk result (note_views notes.new.items ≡ note_views notes.old.items
+        ++ all_notes (supply_in opening.now preferred.now) (supplies_in elements.now)) }
 {
-    if is_deletion(depth, lines) {
+    if is_deletion(elements) {
         return Ok(None);
     }
-    add_supplies(
-        alloc, opening, preferred, depth, lines, fields, records, notes,
-    )
+    add_supplies(alloc, opening, preferred, elements, fields, records, notes)
 }
 
 // Adds what comes of a Product with these identifiers, of which no own field empties it.
@@ -167,39 +147,33 @@ fn add_sound<'a>(
     alloc: Global,
     opening: &Opening,
     preferred: &[u8],
-    depth: usize,
-    product: Composite<'a>,
+    product: &Composite<'a>,
     identifiers: &Identifiers,
     fields: &mut FieldBuffer,
     records: &mut RecordBuffer,
     notes: &mut Vec<Note<'a>>,
 ) -> Result<Fate, AllocError>
-    requires { depth < 997 }
-    ensures fate { (c : Told) → Tells product.entry depth c
-        → IfOk result (λ f. f ≡ fate_by
-        (supplies_reason opening.now preferred.now (supplies_in c.below))) }
-    ensures records { (c : Told) → Tells product.entry depth c
-        → identifiers.now.pairs ≡ right_pairs c.below
+    ensures fate { IfOk result (λ f. f ≡ fate_by
+        (supplies_reason opening.now preferred.now (supplies_in product.now.below))) }
+    ensures records { identifiers.now.pairs ≡ right_pairs product.now.below
         → OnOk result (records.new ≡ records.old ++ records_by opening.now preferred.now
-        (supplies_reason opening.now preferred.now (supplies_in c.below)) c.below) }
-    ensures notes { (c : Told) → Tells product.entry depth c
-        → identifiers.now.has_isbn ≡ has_isbn c.below
+        (supplies_reason opening.now preferred.now (supplies_in product.now.below))
+        product.now.below) }
+    ensures notes { identifiers.now.has_isbn ≡ has_isbn product.now.below
         → OnOk result (note_views notes.new.items ≡ note_views notes.old.items
-        ++ notes_behind opening.now preferred.now c) }
+        ++ notes_behind opening.now preferred.now product.now) }
 {
     let count = records.len();
-    let lines = product.below;
-    add_own(&identifiers.pairs, depth, lines, fields, records)?;
-    match add_below(
-        alloc, opening, preferred, depth, lines, fields, records, notes,
-    )? {
+    let elements = &product.below;
+    add_own(&identifiers.pairs, elements, fields, records)?;
+    match add_below(alloc, opening, preferred, elements, fields, records, notes)? {
         None => {
-            push_written_notes(identifiers.has_isbn, product, depth, notes)?;
+            push_written_notes(identifiers.has_isbn, product, notes)?;
             Ok(Fate::Written)
         }
         Some(reason) => {
             records.truncate(count);
-            add_emptied(&identifiers.pairs, depth, lines, fields, records)?;
+            add_emptied(&identifiers.pairs, elements, fields, records)?;
             push_note(notes, product.line, reason)?;
             Ok(Fate::Emptied)
         }
@@ -211,31 +185,26 @@ fn add_standing<'a>(
     alloc: Global,
     opening: &Opening,
     preferred: &[u8],
-    depth: usize,
-    product: Composite<'a>,
+    product: &Composite<'a>,
     identifiers: &Identifiers,
     fields: &mut FieldBuffer,
     records: &mut RecordBuffer,
     notes: &mut Vec<Note<'a>>,
 ) -> Result<Fate, AllocError>
-    requires { depth < 997 }
-    ensures fate { (c : Told) → Tells product.entry depth c
-        → identifiers.now.pairs ≡ right_pairs c.below → IfOk result (λ f. f
-        ≡ fate_by (why_emptied opening.now preferred.now c.below)) }
-    ensures records { (c : Told) → Tells product.entry depth c
-        → identifiers.now.pairs ≡ right_pairs c.below
+    ensures fate { identifiers.now.pairs ≡ right_pairs product.now.below → IfOk result (λ f. f
+        ≡ fate_by (why_emptied opening.now preferred.now product.now.below)) }
+    ensures records { identifiers.now.pairs ≡ right_pairs product.now.below
         → OnOk result (records.new ≡ records.old ++ records_by opening.now preferred.now
-        (why_emptied opening.now preferred.now c.below) c.below) }
-    ensures notes { (c : Told) → Tells product.entry depth c
-        → identifiers.now.pairs ≡ right_pairs c.below
-        → identifiers.now.has_isbn ≡ has_isbn c.below
+        (why_emptied opening.now preferred.now product.now.below) product.now.below) }
+    ensures notes { identifiers.now.pairs ≡ right_pairs product.now.below
+        → identifiers.now.has_isbn ≡ has_isbn product.now.below
         → OnOk result (note_views notes.new.items ≡ note_views notes.old.items
-        ++ option_map_or (λ reason. note c.element reason ∷ []) (own_reason c.below)
-        (notes_behind opening.now preferred.now c)) }
+        ++ option_map_or (λ reason. note product.now.element reason ∷ [])
+        (own_reason product.now.below) (notes_behind opening.now preferred.now product.now)) }
 {
-    match own_reason(&identifiers.pairs, depth, product.below) {
+    match own_reason(&identifiers.pairs, &product.below) {
         Some(reason) => {
-            add_emptied(&identifiers.pairs, depth, product.below, fields, records)?;
+            add_emptied(&identifiers.pairs, &product.below, fields, records)?;
             push_note(notes, product.line, reason)?;
             Ok(Fate::Emptied)
         }
@@ -243,7 +212,6 @@ fn add_standing<'a>(
             alloc,
             opening,
             preferred,
-            depth,
             product,
             identifiers,
             fields,
@@ -261,35 +229,29 @@ pub fn add_product<'a>(
     alloc: Global,
     opening: &Opening,
     preferred: &[u8],
-    depth: usize,
-    product: Composite<'a>,
+    product: &Composite<'a>,
     fields: &mut FieldBuffer,
     records: &mut RecordBuffer,
     notes: &mut Vec<Note<'a>>,
 ) -> Result<Fate, AllocError>
-    requires { LinesFit 3 depth }
-    ensures fate { (c : Told) → Tells product.entry depth c
-        → IfOk result (λ f. f ≡ fate_of opening.now preferred.now c.below) }
-    ensures records { (c : Told) → Tells product.entry depth c
-        → OnOk result (records.new
-        ≡ records.old ++ product_records opening.now preferred.now c.below) }
-    ensures notes { (c : Told) → Tells product.entry depth c
-        → OnOk result (note_views notes.new.items
-        ≡ note_views notes.old.items ++ product_notes opening.now preferred.now c) }
+    ensures fate { IfOk result (λ f. f ≡ fate_of opening.now preferred.now product.now.below) }
+    ensures records { OnOk result (records.new
+        ≡ records.old ++ product_records opening.now preferred.now product.now.below) }
+    ensures notes { OnOk result (note_views notes.new.items
+        ≡ note_views notes.old.items ++ product_notes opening.now preferred.now product.now) }
 {
-    let reference = reference_in(depth, product.below);
+    let reference = reference_in(&product.below);
     if !is_field(reference) {
         let kind = ReasonKind::Wrong(Wrong::RecordReference);
         let text = reference;
         push_note(notes, product.line, Reason { kind, text })?;
         return Ok(Fate::LeftOut);
     }
-    let identifiers = take_identifiers(alloc, depth, product.below, notes)?;
+    let identifiers = take_identifiers(alloc, &product.below, notes)?;
     add_standing(
         alloc,
         opening,
         preferred,
-        depth,
         product,
         &identifiers,
         fields,
@@ -302,21 +264,18 @@ pub fn add_product<'a>(
 /// on it then.
 pub fn add_large<'a>(
     alloc: Global,
-    depth: usize,
-    product: Composite<'a>,
+    product: &Composite<'a>,
     fields: &mut FieldBuffer,
     records: &mut RecordBuffer,
     notes: &mut Vec<Note<'a>>,
 ) -> Result<(), AllocError>
-    requires { LinesFit 1 depth }
-    ensures record { (c : Told) → Tells product.entry depth c
-        → OnOk result (records.new ≡ records.old ++ emptied_record c.below ∷ []) }
-    ensures notes { (c : Told) → Tells product.entry depth c
-        → OnOk result (note_views notes.new.items
-        ≡ note_views notes.old.items ++ too_large_notes c) }
+    ensures record { OnOk result
+        (records.new ≡ records.old ++ emptied_record product.now.below ∷ []) }
+    ensures notes { OnOk result (note_views notes.new.items
+        ≡ note_views notes.old.items ++ too_large_notes product.now) }
 {
-    let identifiers = take_identifiers(alloc, depth, product.below, notes)?;
-    add_emptied(&identifiers.pairs, depth, product.below, fields, records)?;
+    let identifiers = take_identifiers(alloc, &product.below, notes)?;
+    add_emptied(&identifiers.pairs, &product.below, fields, records)?;
     let kind = ReasonKind::Wrong(Wrong::TooLarge);
     push_note(notes, product.line, Reason { kind, text: b"" })
 }
@@ -325,14 +284,12 @@ pub fn add_large<'a>(
 /// its identifiers.
 pub fn add_bare(
     alloc: Global,
-    depth: usize,
-    product: Composite<'_>,
+    product: &Composite<'_>,
     fields: &mut FieldBuffer,
     records: &mut RecordBuffer,
 ) -> Result<(), AllocError>
-    ensures { (c : Told) → Tells product.entry depth c
-        → OnOk result (records.new ≡ records.old ++ bare_record c.below ∷ []) }
+    ensures { OnOk result (records.new ≡ records.old ++ bare_record product.now.below ∷ []) }
 {
     let none = FieldBuffer::new(alloc);
-    add_emptied(&none, depth, product.below, fields, records)
+    add_emptied(&none, &product.below, fields, records)
 }

@@ -4,11 +4,10 @@ ghost use Rattle.std.specs.Prelude.{◌≡◌, ◌++◌, ◌<◌, ◌||◌, ℕ,
 ghost use Rattle.std.specs.Char.{is_ascii_digit};
 ghost use Rattle.std.specs.List.{list_all};
 ghost use Rattle.std.specs.Str.{chars};
-ghost use Rattle.onix_mapping.specs.Elements.{Composite as Told, Tells};
 ghost use Rattle.onix_mapping.specs.Notes.{note_views};
 ghost use Rattle.onix_mapping.specs.PriceViews.{reason_read};
 ghost use Rattle.std.specs.Prelude.{[], not};
-ghost use Rattle.onix_mapping.specs.Products.{MayBe, are_some, digit_byte, dropping, has_isbn, has_strange_identifier, identifier_note, identifier_notes, is_blank, is_deletion, is_gtin_type, is_hyphen, is_isbn, is_strange, is_thirteen, notification_in, or_reference, own_reasons, pair_reason, product_record, reference_in, right_pair, right_pairs, thirteen_of, without_marks, written_value};
+ghost use Rattle.onix_mapping.specs.Products.{MayBe, are_some, digit_byte, dropping, has_isbn, has_strange_identifier, identifier_note, identifier_notes, is_blank, is_deletion, is_gtin_type, is_hyphen, is_isbn, is_strange, is_thirteen, notification_in, or_reference, own_reasons, pair_reason, product_record, reference_in, right_pair, right_pairs, thirteen_of, type_of, value_of, without_marks, written_value};
 ghost use Rattle.onix_mapping.specs.Records.{first_some, option_filter, parsed_term, unless, invalid};
 ghost use Rattle.onix_mapping.specs.declared.notes.Wrong.TheVariants as bad;
 ghost use Rattle.onix_terms.specs.Code.{code2_of};
@@ -16,40 +15,34 @@ ghost use Rattle.std.specs.Prelude.{◌&&◌, codes};
 ghost use Rattle.std.specs.Str.{bytes_eq};
 ghost use Rattle.onix_outline.specs.Composites.{has_stranger};
 ghost use Rattle.onix_outline.specs.Names.{stranger};
-ghost use Rattle.onix_outline.specs.Nodes.{Nodes};
-ghost use Rattle.onix_outline.specs.Outline.{outline};
-ghost use Rattle.onix_outline.specs.Views.{line_views};
 
 use crate::elements::{Composite, next_composite, text_or_empty};
 use crate::notes::{Note, Reason, Wrong, push_note};
 use crate::records::{former, is_field, parsed_code, push_texts, unless, utf8_text};
 use csv_records::fields::FieldBuffer;
-use onix_outline::{Line, first_node, has_stranger};
+use onix_outline::{Elements, Line, has_stranger};
 use onix_terms::ascii::are_digits;
 use std::alloc::{AllocError, Global};
 
 /// The RecordReference, empty where there is none.
-pub(crate) fn reference_in<'a>(depth: usize, lines: &'a [Line]) -> &'a [u8]
-    ensures { (nodes : Nodes) → line_views lines.now ≡ outline depth nodes
-        → result.now ≡ reference_in nodes }
+pub(crate) fn reference_in<'a>(elements: &Elements<'a>) -> &'a [u8]
+    ensures { result.now ≡ reference_in elements.now }
 {
-    text_or_empty(depth, b"RecordReference", lines)
+    text_or_empty(b"RecordReference", elements)
 }
 
 /// The NotificationType, empty where there is none.
-pub(crate) fn notification_in<'a>(depth: usize, lines: &'a [Line]) -> &'a [u8]
-    ensures { (nodes : Nodes) → line_views lines.now ≡ outline depth nodes
-        → result.now ≡ notification_in nodes }
+pub(crate) fn notification_in<'a>(elements: &Elements<'a>) -> &'a [u8]
+    ensures { result.now ≡ notification_in elements.now }
 {
-    text_or_empty(depth, b"NotificationType", lines)
+    text_or_empty(b"NotificationType", elements)
 }
 
 /// Whether a Product is a deletion.
-pub(crate) fn is_deletion(depth: usize, lines: &[Line]) -> bool
-    ensures { (nodes : Nodes) → line_views lines.now ≡ outline depth nodes
-        → result ≡ is_deletion nodes }
+pub(crate) fn is_deletion(elements: &Elements<'_>) -> bool
+    ensures { result ≡ is_deletion elements.now }
 {
-    notification_in(depth, lines) == b"05".as_slice()
+    notification_in(elements) == b"05".as_slice()
 }
 
 fn is_gtin_type(id_type: &[u8]) -> bool
@@ -210,24 +203,35 @@ pub(crate) struct Identifiers {
     pub(crate) has_isbn: bool,
 }
 
+// The type of an identifier, empty where it is absent.
+fn type_of<'a>(identifier: &Composite<'a>) -> &'a [u8]
+    ensures { result.now ≡ type_of identifier.now }
+{
+    text_or_empty(b"ProductIDType", &identifier.below)
+}
+
+// The value of an identifier, empty where it is absent.
+fn value_of<'a>(identifier: &Composite<'a>) -> &'a [u8]
+    ensures { result.now ≡ value_of identifier.now }
+{
+    text_or_empty(b"IDValue", &identifier.below)
+}
+
 // Takes an identifier, and adds a note on it where it is left out.
 fn take_identifier<'a>(
     alloc: Global,
-    identifier: Composite<'a>,
-    depth: usize,
+    identifier: &Composite<'a>,
     taken: &mut Identifiers,
     notes: &mut Vec<Note<'a>>,
 ) -> Result<(), AllocError>
-    ensures pairs { (c : Told) → Tells identifier.entry depth c
-        → OnOk result (taken.new.pairs ≡ taken.old.pairs ++ right_pair c) }
-    ensures isbn { (c : Told) → Tells identifier.entry depth c
-        → OnOk result (taken.new.has_isbn ≡ (taken.old.has_isbn || is_isbn c)) }
-    ensures notes { (c : Told) → Tells identifier.entry depth c
-        → OnOk result (note_views notes.new.items
-        ≡ note_views notes.old.items ++ identifier_note c) }
+    ensures pairs { OnOk result (taken.new.pairs ≡ taken.old.pairs ++ right_pair identifier.now) }
+    ensures isbn { OnOk result
+        (taken.new.has_isbn ≡ (taken.old.has_isbn || is_isbn identifier.now)) }
+    ensures notes { OnOk result (note_views notes.new.items
+        ≡ note_views notes.old.items ++ identifier_note identifier.now) }
 {
-    let id_type = text_or_empty(depth, b"ProductIDType", identifier.below);
-    let value = text_or_empty(depth, b"IDValue", identifier.below);
+    let id_type = type_of(identifier);
+    let value = value_of(identifier);
     let digits = digits_of(alloc, id_type, value)?;
     let written = or_value(&digits, value);
     taken.has_isbn = taken.has_isbn || (is_gtin_type(id_type) && is_thirteen(written));
@@ -240,30 +244,25 @@ fn take_identifier<'a>(
     }
 }
 
-/// Takes the identifiers of a Product by the lines of this depth that stand in it, and adds a note
+/// Takes the identifiers of a Product by the elements in it, and adds a note
 /// on each that the desk would not take.
 pub(crate) fn take_identifiers<'a>(
     alloc: Global,
-    depth: usize,
-    lines: &'a [Line],
+    elements: &Elements<'a>,
     notes: &mut Vec<Note<'a>>,
 ) -> Result<Identifiers, AllocError>
-    requires { depth < 999 }
-    ensures pairs { (nodes : Nodes) → line_views lines.now ≡ outline depth nodes
-        → IfOk result (λ i. i.pairs ≡ right_pairs nodes) }
-    ensures isbn { (nodes : Nodes) → line_views lines.now ≡ outline depth nodes
-        → IfOk result (λ i. i.has_isbn ≡ has_isbn nodes) }
-    ensures notes { (nodes : Nodes) → line_views lines.now ≡ outline depth nodes
-        → OnOk result (note_views notes.new.items
-        ≡ note_views notes.old.items ++ identifier_notes nodes) }
+    ensures pairs { IfOk result (λ i. i.pairs ≡ right_pairs elements.now) }
+    ensures isbn { IfOk result (λ i. i.has_isbn ≡ has_isbn elements.now) }
+    ensures notes { OnOk result (note_views notes.new.items
+        ≡ note_views notes.old.items ++ identifier_notes elements.now) }
 {
     let mut taken = Identifiers {
         pairs: FieldBuffer::new(alloc),
         has_isbn: false,
     };
-    let mut rest = lines;
-    while let Some((identifier, behind)) = next_composite(b"ProductIdentifier", depth, rest) {
-        take_identifier(alloc, identifier, depth + 1, &mut taken, notes)?;
+    let mut rest = elements.copy();
+    while let Some((identifier, behind)) = next_composite(b"ProductIdentifier", &rest) {
+        take_identifier(alloc, &identifier, &mut taken, notes)?;
         rest = behind;
     }
     Ok(taken)
@@ -290,14 +289,12 @@ fn push_or_reference(
 pub(crate) fn fill_product(
     notification: &[u8],
     pairs: &FieldBuffer,
-    depth: usize,
-    lines: &[Line],
+    elements: &Elements<'_>,
     fields: &mut FieldBuffer,
 ) -> Result<(), AllocError>
-    ensures { (nodes : Nodes) → line_views lines.now ≡ outline depth nodes
-        → OnOk result (fields.new ≡ product_record notification.now pairs.now nodes) }
+    ensures { OnOk result (fields.new ≡ product_record notification.now pairs.now elements.now) }
 {
-    let reference = reference_in(depth, lines);
+    let reference = reference_in(elements);
     fields.clear();
     push_utf8(fields, &[b"Product", reference, notification])?;
     push_or_reference(fields, reference, pairs)
@@ -315,13 +312,12 @@ pub(crate) fn dropping<'a>(notification: &'a [u8]) -> &'a [u8]
 }
 
 // Whether an element of a deletion, or one in a ProductIdentifier, is of another namespace.
-fn has_strange_identifier(depth: usize, lines: &[Line]) -> bool
-    ensures { (nodes : Nodes) → line_views lines.now ≡ outline depth nodes
-        → result ≡ has_strange_identifier nodes }
+fn has_strange_identifier(elements: &Elements<'_>) -> bool
+    ensures { result ≡ has_strange_identifier elements.now }
 {
-    let mut rest = lines;
-    while let Some(node) = first_node(depth, rest) {
-        if is_strange_element(node.line, node.below) {
+    let mut rest = elements.copy();
+    while let Some(node) = rest.first() {
+        if is_strange_element(node.line, &node.below) {
             return true;
         }
         rest = node.rest;
@@ -330,10 +326,9 @@ fn has_strange_identifier(depth: usize, lines: &[Line]) -> bool
 }
 
 // Whether an element is of another namespace, or a ProductIdentifier with such a one.
-fn is_strange_element(line: &Line, below: &[Line]) -> bool
-    ensures { (depth : ℕ) (nodes : Nodes) → line_views below.now ≡ outline depth nodes
-        → result ≡ (bytes_eq line.now.name.now stranger
-        || (bytes_eq line.now.name.now (codes "ProductIdentifier") && has_stranger nodes)) }
+fn is_strange_element(line: &Line, below: &Elements<'_>) -> bool
+    ensures { result ≡ (bytes_eq line.now.name.now stranger
+        || (bytes_eq line.now.name.now (codes "ProductIdentifier") && has_stranger below.now)) }
 {
     line.name == b":".as_slice()
         || (line.name == b"ProductIdentifier".as_slice() && has_stranger(below))
@@ -341,55 +336,46 @@ fn is_strange_element(line: &Line, below: &[Line]) -> bool
 
 // Whether an element that is looked at is of another namespace, and called as one that counts
 // there.
-fn is_strange(depth: usize, lines: &[Line]) -> bool
-    ensures { (nodes : Nodes) → line_views lines.now ≡ outline depth nodes
-        → result ≡ is_strange nodes }
+fn is_strange(elements: &Elements<'_>) -> bool
+    ensures { result ≡ is_strange elements.now }
 {
-    if is_deletion(depth, lines) {
-        has_strange_identifier(depth, lines)
+    if is_deletion(elements) {
+        has_strange_identifier(elements)
     } else {
-        has_stranger(lines)
+        has_stranger(elements)
     }
 }
 
 // That the NotificationType is no code.
-fn notification_reason<'a>(depth: usize, lines: &'a [Line]) -> Option<Reason<'a>>
-    ensures { (nodes : Nodes) → line_views lines.now ≡ outline depth nodes
-        → reason_read result
-        ≡ invalid (parsed_term code2_of) bad.NotificationType (notification_in nodes) }
+fn notification_reason<'a>(elements: &Elements<'a>) -> Option<Reason<'a>>
+    ensures { reason_read result
+        ≡ invalid (parsed_term code2_of) bad.NotificationType (notification_in elements.now) }
 {
-    let text = notification_in(depth, lines);
+    let text = notification_in(elements);
     unless(parsed_code(text).is_some(), Wrong::NotificationType, text)
 }
 
 // That no identifier is left.
-fn left_reason(pairs: &FieldBuffer, depth: usize, lines: &[Line]) -> Option<Reason<'static>>
-    ensures { (nodes : Nodes) → line_views lines.now ≡ outline depth nodes
-        → reason_read result
-        ≡ unless (is_deletion nodes || are_some pairs.now) bad.NoIdentifierLeft [] }
+fn left_reason(pairs: &FieldBuffer, elements: &Elements<'_>) -> Option<Reason<'static>>
+    ensures { reason_read result
+        ≡ unless (is_deletion elements.now || are_some pairs.now) bad.NoIdentifierLeft [] }
 {
-    let are_left = is_deletion(depth, lines) || pairs.len() > 0;
+    let are_left = is_deletion(elements) || pairs.len() > 0;
     unless(are_left, Wrong::NoIdentifierLeft, b"")
 }
 
 // That an element is of another namespace.
-fn strange_reason(depth: usize, lines: &[Line]) -> Option<Reason<'static>>
-    ensures { (nodes : Nodes) → line_views lines.now ≡ outline depth nodes
-        → reason_read result ≡ unless (not (is_strange nodes)) bad.OtherNamespace [] }
+fn strange_reason(elements: &Elements<'_>) -> Option<Reason<'static>>
+    ensures { reason_read result ≡ unless (not (is_strange elements.now)) bad.OtherNamespace [] }
 {
-    unless(!is_strange(depth, lines), Wrong::OtherNamespace, b"")
+    unless(!is_strange(elements), Wrong::OtherNamespace, b"")
 }
 
 /// Why a Product with these types and values is emptied, whatever its supplies are.
-pub(crate) fn own_reason<'a>(
-    pairs: &FieldBuffer,
-    depth: usize,
-    lines: &'a [Line],
-) -> Option<Reason<'a>>
-    ensures { (nodes : Nodes) → line_views lines.now ≡ outline depth nodes
-        → reason_read result ≡ first_some (own_reasons pairs.now nodes) }
+pub(crate) fn own_reason<'a>(pairs: &FieldBuffer, elements: &Elements<'a>) -> Option<Reason<'a>>
+    ensures { reason_read result ≡ first_some (own_reasons pairs.now elements.now) }
 {
-    let strange = former(strange_reason(depth, lines), None);
-    let left = former(left_reason(pairs, depth, lines), strange);
-    former(notification_reason(depth, lines), left)
+    let strange = former(strange_reason(elements), None);
+    let left = former(left_reason(pairs, elements), strange);
+    former(notification_reason(elements), left)
 }

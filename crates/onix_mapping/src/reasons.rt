@@ -8,9 +8,6 @@ ghost use Rattle.onix_mapping.specs.Records.{first_some, parsed_term, invalid};
 ghost use Rattle.onix_mapping.specs.Territories.{AreRenamed, area_in, area_view};
 ghost use Rattle.onix_mapping.specs.declared.notes.Wrong.TheVariants as bad;
 ghost use Rattle.onix_records.specs.Fields.{optional, or_default};
-ghost use Rattle.onix_outline.specs.Nodes.{Nodes};
-ghost use Rattle.onix_outline.specs.Outline.{outline};
-ghost use Rattle.onix_outline.specs.Views.{line_views};
 ghost use Rattle.onix_terms.specs.Amount.{amount_of};
 ghost use Rattle.onix_terms.specs.Code.{code2_of, currency_of};
 ghost use Rattle.onix_terms.specs.Quantity.{quantity_of};
@@ -23,7 +20,7 @@ use crate::records::{
     value_or_default,
 };
 use crate::territories::{Area, Renamed, area_reason};
-use onix_outline::Line;
+use onix_outline::Elements;
 use onix_records::row::Opening;
 use onix_terms::code::{Code2, Currency};
 use std::alloc::{AllocError, Global};
@@ -71,24 +68,23 @@ pub(crate) fn field_reason<'a>(
     opening: &Opening,
     area: &Area<'a>,
     renamed: &Renamed,
-    depth: usize,
-    lines: &'a [Line],
+    elements: &Elements<'a>,
 ) -> Result<Option<Reason<'a>>, AllocError>
-    ensures { (nodes : Nodes) → line_views lines.now ≡ outline depth nodes
-        → area_view area.now ≡ area_in nodes → AreRenamed renamed.now (area_in nodes)
+    ensures { area_view area.now ≡ area_in elements.now
+        → AreRenamed renamed.now (area_in elements.now)
         → IfOk result (λ reason. reason_read reason
-        ≡ first_some (field_reasons opening.now nodes)) }
+        ≡ first_some (field_reasons opening.now elements.now)) }
 {
-    let quantity = quantity_reason(own_minimum(depth, lines));
+    let quantity = quantity_reason(own_minimum(elements));
     let territory = former(area_reason(alloc, area, renamed)?, former(quantity, None));
-    let currency = text_or_empty(depth, b"CurrencyCode", lines);
+    let currency = text_or_empty(b"CurrencyCode", elements);
     let coded = former(
         currency_reason(opening.header.default_currency, currency),
         territory,
     );
-    let price_type = text_or_empty(depth, b"PriceType", lines);
+    let price_type = text_or_empty(b"PriceType", elements);
     let typed = former(type_reason(opening.header.default_type, price_type), coded);
-    Ok(former(amount_reason(amount_written(depth, lines)), typed))
+    Ok(former(amount_reason(amount_written(elements)), typed))
 }
 
 /// A reason, or that the desk would not take a Price for another.

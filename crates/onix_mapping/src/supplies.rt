@@ -1,7 +1,7 @@
 //! The supplies of a Product.
 
 ghost use Rattle.std.specs.Prelude.{◌≡◌, ◌++◌, ◌<◌, [], None, IfOk, OnOk, codes};
-ghost use Rattle.onix_mapping.specs.Elements.{Composite as Told, Element, Tells, composites, element_view};
+ghost use Rattle.onix_mapping.specs.Elements.{Element, composites, element_view};
 ghost use Rattle.onix_mapping.specs.Notes.{foreign, note_views, reason_view, wrong};
 ghost use Rattle.onix_mapping.specs.Outcomes.{Outcome, all_notes, all_records, notes_below, outcome_notes, outcome_reason, outcome_records};
 ghost use Rattle.onix_mapping.specs.PriceViews.{reason_read};
@@ -9,9 +9,6 @@ ghost use Rattle.onix_mapping.specs.Records.{option_filter};
 ghost use Rattle.onix_mapping.specs.declared.notes.Foreign.TheVariants as other;
 ghost use Rattle.onix_mapping.specs.declared.notes.Wrong.TheVariants as bad;
 ghost use Rattle.onix_mapping.specs.Supplies.{detail_in, details_in, detailed_outcome, first_lost, is_lost, none_left, supplies_reason, supply_in, supply_outcome};
-ghost use Rattle.onix_outline.specs.Nodes.{Nodes};
-ghost use Rattle.onix_outline.specs.Outline.{outline};
-ghost use Rattle.onix_outline.specs.Views.{line_views};
 
 use crate::details::add_detail;
 use crate::elements::{Composite, next_composite};
@@ -20,7 +17,7 @@ use crate::notes::{Foreign, Note, Reason, ReasonKind, Wrong, push_note, push_rea
 use crate::records::former;
 use csv_records::buffer::RecordBuffer;
 use csv_records::fields::FieldBuffer;
-use onix_outline::Line;
+use onix_outline::{Elements, Line};
 use onix_records::row::Opening;
 use std::alloc::{AllocError, Global};
 
@@ -29,25 +26,21 @@ fn add_one_detail<'a>(
     alloc: Global,
     opening: &Opening,
     preferred: &[u8],
-    depth: usize,
-    detail: Composite<'a>,
+    detail: &Composite<'a>,
     fields: &mut FieldBuffer,
     records: &mut RecordBuffer,
     notes: &mut Vec<Note<'a>>,
 ) -> Result<(), AllocError>
-    requires { depth < 999 }
-    ensures records { (c : Told) → Tells detail.entry depth c → OnOk result (records.new
-        ≡ records.old ++ outcome_records (detail_in opening.now preferred.now c)) }
-    ensures notes { (c : Told) → Tells detail.entry depth c
-        → OnOk result (note_views notes.new.items ≡ note_views notes.old.items
-        ++ outcome_notes c.element (detail_in opening.now preferred.now c)) }
+    ensures records { OnOk result (records.new
+        ≡ records.old ++ outcome_records (detail_in opening.now preferred.now detail.now)) }
+    ensures notes { OnOk result (note_views notes.new.items ≡ note_views notes.old.items
+        ++ outcome_notes detail.now.element (detail_in opening.now preferred.now detail.now)) }
 {
     let left_out = add_detail(
         alloc,
         opening,
         preferred,
-        depth,
-        detail.below,
+        &detail.below,
         fields,
         records,
         notes,
@@ -55,37 +48,24 @@ fn add_one_detail<'a>(
     push_reason(notes, detail.line, left_out)
 }
 
-// Adds what comes of the SupplyDetails that lines of this depth tell.
+// Adds what comes of the SupplyDetails among the elements.
 fn add_details<'a>(
     alloc: Global,
     opening: &Opening,
     preferred: &[u8],
-    depth: usize,
-    lines: &'a [Line],
+    elements: &Elements<'a>,
     fields: &mut FieldBuffer,
     records: &mut RecordBuffer,
     notes: &mut Vec<Note<'a>>,
 ) -> Result<(), AllocError>
-    requires { depth < 998 }
-    ensures records { (nodes : Nodes) → line_views lines.now ≡ outline depth nodes
-        → OnOk result (records.new ≡ records.old
-        ++ all_records (detail_in opening.now preferred.now) (details_in nodes)) }
-    ensures notes { (nodes : Nodes) → line_views lines.now ≡ outline depth nodes
-        → OnOk result (note_views notes.new.items ≡ note_views notes.old.items
-        ++ all_notes (detail_in opening.now preferred.now) (details_in nodes)) }
+    ensures records { OnOk result (records.new ≡ records.old
+        ++ all_records (detail_in opening.now preferred.now) (details_in elements.now)) }
+    ensures notes { OnOk result (note_views notes.new.items ≡ note_views notes.old.items
+        ++ all_notes (detail_in opening.now preferred.now) (details_in elements.now)) }
 {
-    let mut rest = lines;
-    while let Some((detail, behind)) = next_composite(b"SupplyDetail", depth, rest) {
-        add_one_detail(
-            alloc,
-            opening,
-            preferred,
-            depth + 1,
-            detail,
-            fields,
-            records,
-            notes,
-        )?;
+    let mut rest = elements.copy();
+    while let Some((detail, behind)) = next_composite(b"SupplyDetail", &rest) {
+        add_one_detail(alloc, opening, preferred, &detail, fields, records, notes)?;
         rest = behind;
     }
     Ok(())
@@ -115,32 +95,25 @@ fn add_detailed<'a>(
     alloc: Global,
     opening: &Opening,
     preferred: &[u8],
-    depth: usize,
-    lines: &'a [Line],
+    elements: &Elements<'a>,
     fields: &mut FieldBuffer,
     records: &mut RecordBuffer,
     notes: &mut Vec<Note<'a>>,
 ) -> Result<Option<Reason<'a>>, AllocError>
-    requires { depth < 998 }
-    ensures reason { (nodes : Nodes) → line_views lines.now ≡ outline depth nodes
-        → IfOk result (λ reason. reason_read reason
-        ≡ outcome_reason (detailed_outcome opening.now preferred.now nodes)) }
-    ensures records { (nodes : Nodes) → line_views lines.now ≡ outline depth nodes
-        → OnOk result (records.new ≡ records.old
-        ++ outcome_records (detailed_outcome opening.now preferred.now nodes)) }
-    ensures notes { (nodes : Nodes) → line_views lines.now ≡ outline depth nodes
-        → IfOk result (λ kind. kind ≡ None → note_views notes.new.items
+    ensures reason { IfOk result (λ reason. reason_read reason
+        ≡ outcome_reason (detailed_outcome opening.now preferred.now elements.now)) }
+    ensures records { OnOk result (records.new ≡ records.old
+        ++ outcome_records (detailed_outcome opening.now preferred.now elements.now)) }
+    ensures notes { IfOk result (λ kind. kind ≡ None → note_views notes.new.items
         ≡ note_views notes.old.items
-        ++ notes_below (detailed_outcome opening.now preferred.now nodes)) }
+        ++ notes_below (detailed_outcome opening.now preferred.now elements.now)) }
 {
     let count = records.len();
-    if let Some(reason) = add_markets(alloc, depth, lines, fields, records, notes)? {
+    if let Some(reason) = add_markets(alloc, elements, fields, records, notes)? {
         return Ok(Some(reason));
     }
     let with_market = records.len();
-    add_details(
-        alloc, opening, preferred, depth, lines, fields, records, notes,
-    )?;
+    add_details(alloc, opening, preferred, elements, fields, records, notes)?;
     if records.len() == with_market {
         records.truncate(count);
         return Ok(Some(no_detail_left()));
@@ -154,30 +127,23 @@ fn add_supply<'a>(
     alloc: Global,
     opening: &Opening,
     preferred: &[u8],
-    depth: usize,
-    lines: &'a [Line],
+    elements: &Elements<'a>,
     fields: &mut FieldBuffer,
     records: &mut RecordBuffer,
     notes: &mut Vec<Note<'a>>,
 ) -> Result<Option<Reason<'a>>, AllocError>
-    requires { depth < 998 }
-    ensures reason { (nodes : Nodes) → line_views lines.now ≡ outline depth nodes
-        → IfOk result (λ reason. reason_read reason
-        ≡ outcome_reason (supply_outcome opening.now preferred.now nodes)) }
-    ensures records { (nodes : Nodes) → line_views lines.now ≡ outline depth nodes
-        → OnOk result (records.new ≡ records.old
-        ++ outcome_records (supply_outcome opening.now preferred.now nodes)) }
-    ensures notes { (nodes : Nodes) → line_views lines.now ≡ outline depth nodes
-        → IfOk result (λ kind. kind ≡ None → note_views notes.new.items
+    ensures reason { IfOk result (λ reason. reason_read reason
+        ≡ outcome_reason (supply_outcome opening.now preferred.now elements.now)) }
+    ensures records { OnOk result (records.new ≡ records.old
+        ++ outcome_records (supply_outcome opening.now preferred.now elements.now)) }
+    ensures notes { IfOk result (λ kind. kind ≡ None → note_views notes.new.items
         ≡ note_views notes.old.items
-        ++ notes_below (supply_outcome opening.now preferred.now nodes)) }
+        ++ notes_below (supply_outcome opening.now preferred.now elements.now)) }
 {
-    if next_composite(b"SupplyDetail", depth, lines).is_none() {
+    if next_composite(b"SupplyDetail", elements).is_none() {
         return Ok(Some(no_detail()));
     }
-    add_detailed(
-        alloc, opening, preferred, depth, lines, fields, records, notes,
-    )
+    add_detailed(alloc, opening, preferred, elements, fields, records, notes)
 }
 
 // Adds the note on an element that is left out for this reason, else the notes below it.
@@ -205,29 +171,24 @@ fn add_one_supply<'a>(
     alloc: Global,
     opening: &Opening,
     preferred: &[u8],
-    depth: usize,
-    supply: Composite<'a>,
+    supply: &Composite<'a>,
     fields: &mut FieldBuffer,
     records: &mut RecordBuffer,
     notes: &mut Vec<Note<'a>>,
 ) -> Result<Option<Reason<'a>>, AllocError>
-    requires { depth < 998 }
-    ensures reason { (c : Told) → Tells supply.entry depth c
-        → IfOk result (λ reason. reason_read reason
-        ≡ outcome_reason (supply_in opening.now preferred.now c)) }
-    ensures records { (c : Told) → Tells supply.entry depth c → OnOk result (records.new
-        ≡ records.old ++ outcome_records (supply_in opening.now preferred.now c)) }
-    ensures notes { (c : Told) → Tells supply.entry depth c
-        → OnOk result (note_views notes.new.items ≡ note_views notes.old.items
-        ++ outcome_notes c.element (supply_in opening.now preferred.now c)) }
+    ensures reason { IfOk result (λ reason. reason_read reason
+        ≡ outcome_reason (supply_in opening.now preferred.now supply.now)) }
+    ensures records { OnOk result (records.new
+        ≡ records.old ++ outcome_records (supply_in opening.now preferred.now supply.now)) }
+    ensures notes { OnOk result (note_views notes.new.items ≡ note_views notes.old.items
+        ++ outcome_notes supply.now.element (supply_in opening.now preferred.now supply.now)) }
 {
     let mut below: Vec<Note<'a>> = Vec::new(alloc);
     let left_out = add_supply(
         alloc,
         opening,
         preferred,
-        depth,
-        supply.below,
+        &supply.below,
         fields,
         records,
         &mut below,
@@ -250,42 +211,29 @@ fn lost_by<'a>(left_out: Option<Reason<'a>>) -> Option<Reason<'a>>
     }
 }
 
-// Adds what comes of all the ProductSupplys that lines of this depth tell. It gives the reason for
+// Adds what comes of all ProductSupplys among the elements. It gives the reason for
 // which the first that has a SupplyDetail is left out.
 fn add_each<'a>(
     alloc: Global,
     opening: &Opening,
     preferred: &[u8],
-    depth: usize,
-    lines: &'a [Line],
+    elements: &Elements<'a>,
     fields: &mut FieldBuffer,
     records: &mut RecordBuffer,
     notes: &mut Vec<Note<'a>>,
 ) -> Result<Option<Reason<'a>>, AllocError>
-    requires { depth < 997 }
-    ensures lost { (nodes : Nodes) → line_views lines.now ≡ outline depth nodes
-        → IfOk result (λ reason. reason_read reason ≡ first_lost opening.now preferred.now
-        (composites (codes "ProductSupply") nodes)) }
-    ensures records { (nodes : Nodes) → line_views lines.now ≡ outline depth nodes
-        → OnOk result (records.new ≡ records.old ++ all_records
-        (supply_in opening.now preferred.now) (composites (codes "ProductSupply") nodes)) }
-    ensures notes { (nodes : Nodes) → line_views lines.now ≡ outline depth nodes
-        → OnOk result (note_views notes.new.items ≡ note_views notes.old.items ++ all_notes
-        (supply_in opening.now preferred.now) (composites (codes "ProductSupply") nodes)) }
+    ensures lost { IfOk result (λ reason. reason_read reason ≡ first_lost opening.now preferred.now
+        (composites (codes "ProductSupply") elements.now)) }
+    ensures records { OnOk result (records.new ≡ records.old ++ all_records
+        (supply_in opening.now preferred.now) (composites (codes "ProductSupply") elements.now)) }
+    ensures notes { OnOk result (note_views notes.new.items ≡ note_views notes.old.items
+        ++ all_notes (supply_in opening.now preferred.now)
+        (composites (codes "ProductSupply") elements.now)) }
 {
     let mut lost = None;
-    let mut rest = lines;
-    while let Some((supply, behind)) = next_composite(b"ProductSupply", depth, rest) {
-        let left_out = add_one_supply(
-            alloc,
-            opening,
-            preferred,
-            depth + 1,
-            supply,
-            fields,
-            records,
-            notes,
-        )?;
+    let mut rest = elements.copy();
+    while let Some((supply, behind)) = next_composite(b"ProductSupply", &rest) {
+        let left_out = add_one_supply(alloc, opening, preferred, &supply, fields, records, notes)?;
         lost = former(lost, lost_by(left_out));
         rest = behind;
     }
@@ -304,7 +252,7 @@ fn none_left(first: Reason<'_>) -> Reason<'static>
     Reason { kind, text: b"" }
 }
 
-/// Adds the records of all the ProductSupplys that lines of this depth tell, in a message that
+/// Adds the records of all ProductSupplys among the elements, in a message that
 /// begins so, and notes on what is left out of them. It gives a reason where some had a
 /// SupplyDetail and none is left. Of several identifiers of a supplier the first of the preferred
 /// type is written, else the first. The list takes the fields of a record.
@@ -312,27 +260,22 @@ pub(crate) fn add_supplies<'a>(
     alloc: Global,
     opening: &Opening,
     preferred: &[u8],
-    depth: usize,
-    lines: &'a [Line],
+    elements: &Elements<'a>,
     fields: &mut FieldBuffer,
     records: &mut RecordBuffer,
     notes: &mut Vec<Note<'a>>,
 ) -> Result<Option<Reason<'a>>, AllocError>
-    requires { depth < 997 }
-    ensures reason { (nodes : Nodes) → line_views lines.now ≡ outline depth nodes
-        → IfOk result (λ reason. reason_read reason ≡ supplies_reason opening.now preferred.now
-        (composites (codes "ProductSupply") nodes)) }
-    ensures records { (nodes : Nodes) → line_views lines.now ≡ outline depth nodes
-        → OnOk result (records.new ≡ records.old ++ all_records
-        (supply_in opening.now preferred.now) (composites (codes "ProductSupply") nodes)) }
-    ensures notes { (nodes : Nodes) → line_views lines.now ≡ outline depth nodes
-        → OnOk result (note_views notes.new.items ≡ note_views notes.old.items ++ all_notes
-        (supply_in opening.now preferred.now) (composites (codes "ProductSupply") nodes)) }
+    ensures reason { IfOk result (λ reason. reason_read reason
+        ≡ supplies_reason opening.now preferred.now
+        (composites (codes "ProductSupply") elements.now)) }
+    ensures records { OnOk result (records.new ≡ records.old ++ all_records
+        (supply_in opening.now preferred.now) (composites (codes "ProductSupply") elements.now)) }
+    ensures notes { OnOk result (note_views notes.new.items ≡ note_views notes.old.items
+        ++ all_notes (supply_in opening.now preferred.now)
+        (composites (codes "ProductSupply") elements.now)) }
 {
     let count = records.len();
-    let lost = add_each(
-        alloc, opening, preferred, depth, lines, fields, records, notes,
-    )?;
+    let lost = add_each(alloc, opening, preferred, elements, fields, records, notes)?;
     if records.len() != count {
         return Ok(None);
     }

@@ -11,9 +11,6 @@ ghost use Rattle.onix_mapping.specs.declared.notes.Wrong.TheVariants as bad;
 ghost use Rattle.onix_records.specs.Fields.{territory_fields};
 ghost use Rattle.onix_records.specs.Gives.{Gives};
 ghost use Rattle.onix_records.specs.Supply.{supply_of};
-ghost use Rattle.onix_outline.specs.Nodes.{Nodes};
-ghost use Rattle.onix_outline.specs.Outline.{outline};
-ghost use Rattle.onix_outline.specs.Views.{line_views};
 ghost use Rattle.onix_mapping.specs.Regions.{names_world};
 ghost use Rattle.onix_terms.specs.Territory.{countries_of, world_text};
 
@@ -25,7 +22,7 @@ use crate::regions::{
     region_of_no_country, renamed,
 };
 use csv_records::fields::FieldBuffer;
-use onix_outline::Line;
+use onix_outline::{Elements, Line};
 use onix_records::fields::read_fields;
 use onix_records::parts::ProductSupply;
 use onix_records::row::RowFault;
@@ -45,14 +42,12 @@ pub struct Area<'a> {
     pub regions_excluded: &'a [u8],
 }
 
-/// Where a Market or a Price holds, by the lines of this depth that stand in it. Without a
+/// Where a Market or a Price holds, by the elements in it. Without a
 /// Territory it is the world.
-pub fn area_in<'a>(depth: usize, lines: &'a [Line]) -> Area<'a>
-    requires { depth < 1000 }
-    ensures { (nodes : Nodes) → line_views lines.now ≡ outline depth nodes
-        → area_view result ≡ area_in nodes }
+pub fn area_in<'a>(elements: &Elements<'a>) -> Area<'a>
+    ensures { area_view result ≡ area_in elements.now }
 {
-    match first_composite(b"Territory", depth, lines) {
+    match first_composite(b"Territory", elements) {
         None => Area {
             line: None,
             included: b"",
@@ -62,10 +57,10 @@ pub fn area_in<'a>(depth: usize, lines: &'a [Line]) -> Area<'a>
         },
         Some(territory) => Area {
             line: Some(territory.line),
-            included: text_or_empty(depth + 1, b"CountriesIncluded", territory.below),
-            regions_included: text_or_empty(depth + 1, b"RegionsIncluded", territory.below),
-            excluded: text_or_empty(depth + 1, b"CountriesExcluded", territory.below),
-            regions_excluded: text_or_empty(depth + 1, b"RegionsExcluded", territory.below),
+            included: text_or_empty(b"CountriesIncluded", &territory.below),
+            regions_included: text_or_empty(b"RegionsIncluded", &territory.below),
+            excluded: text_or_empty(b"CountriesExcluded", &territory.below),
+            regions_excluded: text_or_empty(b"RegionsExcluded", &territory.below),
         },
     }
 }

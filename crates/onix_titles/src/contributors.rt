@@ -2,18 +2,14 @@
 
 ghost use Rattle.std.specs.Prelude.{◌≡◌, ◌++◌, ◌<◌, ◌≤◌, IfOk, OnOk, codes, length, map, option_map, take};
 ghost use Rattle.std.specs.List.{flat_map, join_by, position_or_len};
-ghost use Rattle.onix_mapping.specs.Elements.{Composite as Told, Tells};
 ghost use Rattle.onix_mapping.specs.Records.{parsed_term};
-ghost use Rattle.onix_outline.specs.Nodes.{Nodes};
-ghost use Rattle.onix_outline.specs.Outline.{outline};
-ghost use Rattle.onix_outline.specs.Views.{line_views};
 ghost use Rattle.onix_terms.specs.Digits.{digits_of};
 ghost use Rattle.onix_titles.specs.ContributorViews.{contributor_view, contributor_views};
 ghost use Rattle.onix_titles.specs.Contributors.{contributor_text, contributors_in, contributors_text, in_order, is_before, name_in, named, number_in, put_in_order};
 
 use onix_mapping::records::utf8_text;
-use onix_mapping::{next_composite, text_or_empty};
-use onix_outline::{Line, text_in};
+use onix_mapping::{Composite, next_composite, text_or_empty};
+use onix_outline::{Elements, text_in};
 use onix_terms::digits::read_digits;
 use std::alloc::{AllocError, Global};
 
@@ -30,17 +26,16 @@ pub struct Contributor<'a> {
 }
 
 // The name of a Contributor.
-fn name_in<'a>(depth: usize, lines: &'a [Line]) -> Option<&'a [u8]>
-    ensures { (nodes : Nodes) → line_views lines.now ≡ outline depth nodes
-        → option_map (λ t. t.now) result ≡ name_in nodes }
+fn name_in<'a>(elements: &Elements<'a>) -> Option<&'a [u8]>
+    ensures { option_map (λ t. t.now) result ≡ name_in elements.now }
 {
-    if let Some(name) = text_in(depth, b"PersonName", lines) {
+    if let Some(name) = text_in(b"PersonName", elements) {
         return Some(name);
     }
-    if let Some(name) = text_in(depth, b"PersonNameInverted", lines) {
+    if let Some(name) = text_in(b"PersonNameInverted", elements) {
         return Some(name);
     }
-    text_in(depth, b"CorporateName", lines)
+    text_in(b"CorporateName", elements)
 }
 
 // The number that a text of one to nine digits says.
@@ -54,15 +49,15 @@ fn number_said(text: &[u8]) -> Option<u32>
 }
 
 // A Contributor that has a name.
-fn named<'a>(depth: usize, lines: &'a [Line]) -> Option<Contributor<'a>>
-    ensures { (c : Told) → line_views lines.now ≡ outline depth c.below
-        → option_map contributor_view result ≡ named c }
+fn named<'a>(contributor: &Composite<'a>) -> Option<Contributor<'a>>
+    ensures { option_map contributor_view result ≡ named contributor.now }
 {
-    match name_in(depth, lines) {
+    let elements = &contributor.below;
+    match name_in(elements) {
         Some(name) => Some(Contributor {
-            number: number_said(text_or_empty(depth, b"SequenceNumber", lines)),
+            number: number_said(text_or_empty(b"SequenceNumber", elements)),
             name,
-            role: text_or_empty(depth, b"ContributorRole", lines),
+            role: text_or_empty(b"ContributorRole", elements),
         }),
         None => None,
     }
@@ -115,18 +110,15 @@ fn put_in_order<'a>(
 // The first three contributors of a product.
 fn first_three<'a>(
     alloc: Global,
-    depth: usize,
-    lines: &'a [Line],
+    elements: &Elements<'a>,
 ) -> Result<Vec<Contributor<'a>>, AllocError>
-    requires { depth < 1000 }
-    ensures { (nodes : Nodes) → line_views lines.now ≡ outline depth nodes
-        → IfOk result (λ cs. contributor_views cs.items
-        ≡ take 3 (in_order (contributors_in nodes))) }
+    ensures { IfOk result (λ cs. contributor_views cs.items
+        ≡ take 3 (in_order (contributors_in elements.now))) }
 {
     let mut ordered = Vec::new(alloc);
-    let mut rest = lines;
-    while let Some((found, behind)) = next_composite(b"Contributor", depth, rest) {
-        if let Some(contributor) = named(depth + 1, found.below) {
+    let mut rest = elements.copy();
+    while let Some((found, behind)) = next_composite(b"Contributor", &rest) {
+        if let Some(contributor) = named(&found) {
             put_in_order(&mut ordered, contributor)?;
         }
         rest = behind;
@@ -178,13 +170,10 @@ fn joined(alloc: Global, contributors: &[Contributor<'_>]) -> Result<Vec<u8>, Al
 /// The text of the first three contributors of a product.
 pub(crate) fn contributors_text(
     alloc: Global,
-    depth: usize,
-    lines: &[Line],
+    elements: &Elements<'_>,
 ) -> Result<Vec<u8>, AllocError>
-    requires { depth < 1000 }
-    ensures { (nodes : Nodes) → line_views lines.now ≡ outline depth nodes
-        → IfOk result (λ text. text.items ≡ contributors_text (contributors_in nodes)) }
+    ensures { IfOk result (λ text. text.items ≡ contributors_text (contributors_in elements.now)) }
 {
-    let contributors = first_three(alloc, depth, lines)?;
+    let contributors = first_three(alloc, elements)?;
     joined(alloc, contributors.as_slice())
 }

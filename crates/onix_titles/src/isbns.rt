@@ -3,33 +3,27 @@
 ghost use Rattle.std.specs.Prelude.{◌≡◌, ◌<◌, IfOk, filter, find, map, option_map};
 ghost use Rattle.std.specs.Str.{bytes_eq};
 ghost use Rattle.onix_mapping.specs.Products.{identifiers_in, is_thirteen, type_of, value_written};
-ghost use Rattle.onix_outline.specs.Nodes.{Nodes};
-ghost use Rattle.onix_outline.specs.Outline.{outline};
-ghost use Rattle.onix_outline.specs.Views.{line_views};
 ghost use Rattle.onix_titles.specs.Rows.{isbn_in};
 
 use onix_mapping::products::thirteen_written;
 use onix_mapping::{next_composite, text_or_empty};
-use onix_outline::Line;
+use onix_outline::Elements;
 use std::alloc::{AllocError, Global};
 
 // Of the identifiers of a type the first one that has thirteen digits, as those.
 fn isbn_of_type(
     alloc: Global,
     id_type: &[u8],
-    depth: usize,
-    lines: &[Line],
+    elements: &Elements<'_>,
 ) -> Result<Option<Vec<u8>>, AllocError>
-    requires { depth < 1000 }
-    ensures { (nodes : Nodes) → line_views lines.now ≡ outline depth nodes
-        → IfOk result (λ found. option_map (λ d. d.items) found
+    ensures { IfOk result (λ found. option_map (λ d. d.items) found
         ≡ find is_thirteen (map value_written
-        (filter (λ i. bytes_eq (type_of i) id_type.now) (identifiers_in nodes)))) }
+        (filter (λ i. bytes_eq (type_of i) id_type.now) (identifiers_in elements.now)))) }
 {
-    let mut rest = lines;
-    while let Some((identifier, behind)) = next_composite(b"ProductIdentifier", depth, rest) {
-        if text_or_empty(depth + 1, b"ProductIDType", identifier.below) == id_type {
-            let value = text_or_empty(depth + 1, b"IDValue", identifier.below);
+    let mut rest = elements.copy();
+    while let Some((identifier, behind)) = next_composite(b"ProductIdentifier", &rest) {
+        if text_or_empty(b"ProductIDType", &identifier.below) == id_type {
+            let value = text_or_empty(b"IDValue", &identifier.below);
             if let Some(isbn) = thirteen_written(alloc, id_type, value)? {
                 return Ok(Some(isbn));
             }
@@ -40,17 +34,11 @@ fn isbn_of_type(
 }
 
 /// The thirteen digits of a product's first ISBN-13, else of its first GTIN-13.
-pub(crate) fn isbn_in(
-    alloc: Global,
-    depth: usize,
-    lines: &[Line],
-) -> Result<Option<Vec<u8>>, AllocError>
-    requires { depth < 1000 }
-    ensures { (nodes : Nodes) → line_views lines.now ≡ outline depth nodes
-        → IfOk result (λ found. option_map (λ d. d.items) found ≡ isbn_in nodes) }
+pub(crate) fn isbn_in(alloc: Global, elements: &Elements<'_>) -> Result<Option<Vec<u8>>, AllocError>
+    ensures { IfOk result (λ found. option_map (λ d. d.items) found ≡ isbn_in elements.now) }
 {
-    match isbn_of_type(alloc, b"15", depth, lines)? {
+    match isbn_of_type(alloc, b"15", elements)? {
         Some(isbn) => Ok(Some(isbn)),
-        None => isbn_of_type(alloc, b"03", depth, lines),
+        None => isbn_of_type(alloc, b"03", elements),
     }
 }

@@ -3,9 +3,6 @@
 ghost use Rattle.std.specs.Prelude.{◌≡◌, ◌∷◌, [], IfOk, OnOk, List, ℕ};
 ghost use Rattle.std.specs.String.{string_bytes};
 ghost use Rattle.csv_records.specs.RecordTexts.{records_text};
-ghost use Rattle.onix_outline.specs.Nodes.{Nodes};
-ghost use Rattle.onix_outline.specs.Outline.{outline};
-ghost use Rattle.onix_outline.specs.Views.{line_views};
 ghost use Rattle.onix_titles.specs.private.States.{at_number, begun, with_product};
 
 use crate::rows::row_in;
@@ -15,7 +12,7 @@ use csv_records::buffer::RecordBuffer;
 use csv_records::fields::FieldBuffer;
 use csv_records::writing::write_records;
 use onix_mapping::text_or_empty;
-use onix_outline::{Line, Taker, Word, outlined};
+use onix_outline::{Elements, Line, Taker, Word, outlined};
 use std::alloc::{AllocError, Global};
 use std::marker::Model;
 
@@ -65,21 +62,19 @@ impl<T: TitleTarget + Drop> TitleTaker<T> {
     }
 
     // Takes a Header.
-    fn take_header(&mut self, lines: &[Line]) -> Result<(), AllocError>
-        ensures { (nodes : Nodes) → line_views lines.now ≡ outline 1 nodes
-            → OnOk result (self.new ≡ at_number self.old nodes) }
+    fn take_header(&mut self, elements: &Elements<'_>) -> Result<(), AllocError>
+        ensures { OnOk result (self.new ≡ at_number self.old elements.now) }
     {
-        let number = text_or_empty(1, b"MessageNumber", lines);
+        let number = text_or_empty(b"MessageNumber", elements);
         self.number = Vec::from_slice(self.alloc, number)?;
         Ok(())
     }
 
     // Takes a Product.
-    fn take_product(&mut self, lines: &[Line]) -> Result<(), AllocError>
-        ensures { (nodes : Nodes) → line_views lines.now ≡ outline 1 nodes
-            → OnOk result (self.new ≡ with_product T.with_row self.old nodes) }
+    fn take_product(&mut self, elements: &Elements<'_>) -> Result<(), AllocError>
+        ensures { OnOk result (self.new ≡ with_product T.with_row self.old elements.now) }
     {
-        match row_in(self.alloc, self.number.as_slice(), lines)? {
+        match row_in(self.alloc, self.number.as_slice(), elements)? {
             None => Ok(()),
             Some(row) => {
                 let text = row_text(self.alloc, &row)?;
@@ -108,9 +103,9 @@ impl<T: TitleTarget + Drop> Taker for TitleTaker<T> {
             None => Ok(()),
             Some(node) => {
                 if node.line.name == b"Header".as_slice() {
-                    self.take_header(node.below)
+                    self.take_header(&node.below)
                 } else if node.line.name == b"Product".as_slice() {
-                    self.take_product(node.below)
+                    self.take_product(&node.below)
                 } else {
                     Ok(())
                 }

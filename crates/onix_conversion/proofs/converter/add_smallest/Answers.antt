@@ -5,10 +5,11 @@ use Rattle.onix_conversion.proofs.KeptLaws.{on-ok, others-tried}
 use Rattle.onix_conversion.proofs.converter.add_smallest.Goals as goal
 
 pub returns : goal.returns
-returns g c t tells =
-    let same : c.add_bare.new.records ≡ bare_record t.below ∷ [] =
-    c.in_ok-add_bare.ensures t tells ∙ ap (λ (rs : List (List (List ℕ))). rs ++ bare_record t.below ∷ []) c.new-records.ensures in
-    let kept = rw same at (c.in_ok-is_kept.ensures t tells) in
+returns g c =
+    let product = c.args.product.now in
+    let same : c.add_bare.new.records ≡ bare_record product.below ∷ [] =
+    c.in_ok-add_bare.ensures ∙ ap (λ (rs : List (List (List ℕ))). rs ++ bare_record product.below ∷ []) c.new-records.ensures in
+    let kept = rw same at c.in_ok-is_kept.ensures in
     on-ok c.leave_out.result
-    (others-tried g.T.Target.keeping c.args.most c.in_ok-is_kept.is_kept _ _ _ t (bare_record t.below ∷ []) (note_views c.args.notes.now) [] c.if-is_kept.false kept)
-    (c.leave_out.ensures t c.args.most tells)
+    (others-tried g.T.Target.keeping c.args.most c.in_ok-is_kept.is_kept _ _ _ product (bare_record product.below ∷ []) (note_views c.args.notes.now) [] c.if-is_kept.false kept)
+    (c.leave_out.ensures c.args.most)

@@ -5,5 +5,5 @@ use Rattle.onix_mapping.specs.Markets.{market_notes}
 use Rattle.onix_mapping.proofs.markets.add_some.Goals as goal
 
 pub returns-clause-reason : goal.returns-clause-reason
-returns-clause-reason c nodes told =
-    rw (c.in_ok-kept.ensures.first nodes told, c.in_ok-kept.ensures.territories nodes told, c.in_ok-kept.ensures.foreign nodes told) at (c.add_kept.ensures.reason (flat_map market_notes (composites (codes "Market") nodes)))
+returns-clause-reason c =
+    rw (c.in_ok-kept.ensures.first, c.in_ok-kept.ensures.territories, c.in_ok-kept.ensures.foreign) at (c.add_kept.ensures.reason (flat_map market_notes (composites (codes "Market") c.args.elements.now)))

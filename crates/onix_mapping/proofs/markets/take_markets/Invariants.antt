@@ -7,18 +7,14 @@ use Rattle.std.specs.Option.{option_or}
 use Rattle.onix_mapping.specs.Markets.{first_kept, is_foreign_market, market_notes, territories_of}
 use Rattle.onix_mapping.specs.Notes.{note_views}
 use Rattle.onix_mapping.specs.Territories.{area_view}
-use Rattle.onix_outline.specs.Nodes.{Nodes}
-use Rattle.onix_outline.specs.Outline.{outline}
-use Rattle.onix_outline.specs.Views.{line_views}
 use Rattle.onix_mapping.proofs.markets.take_markets.Given as goal
 
 abbrev pub invariant-loop-market : goal.invariant-loop-market
-invariant-loop-market l = (nodes : Nodes) → line_views l.lines ≡ outline l.depth nodes → (left : Nodes)
-    × (line_views l.rest ≡ outline l.depth left)
-    × (l.kept.territories ++ territories_of (composites (codes "Market") left) ≡ territories_of (composites (codes "Market") nodes))
-    × (option_or (option_map area_view l.kept.first) (first_kept (composites (codes "Market") left)) ≡ first_kept (composites (codes "Market") nodes))
-    × ((l.kept.some_foreign || list_any is_foreign_market (composites (codes "Market") left)) ≡ list_any is_foreign_market (composites (codes "Market") nodes))
-    × (note_views l.notes.items ++ flat_map market_notes (composites (codes "Market") left) ≡ note_views l.initial.notes.items ++ flat_map market_notes (composites (codes "Market") nodes))
+invariant-loop-market l =
+    (l.kept.territories ++ territories_of (composites (codes "Market") l.rest) ≡ territories_of (composites (codes "Market") l.elements))
+    × (option_or (option_map area_view l.kept.first) (first_kept (composites (codes "Market") l.rest)) ≡ first_kept (composites (codes "Market") l.elements))
+    × ((l.kept.some_foreign || list_any is_foreign_market (composites (codes "Market") l.rest)) ≡ list_any is_foreign_market (composites (codes "Market") l.elements))
+    × (note_views l.notes.items ++ flat_map market_notes (composites (codes "Market") l.rest) ≡ note_views l.initial.notes.items ++ flat_map market_notes (composites (codes "Market") l.elements))
 
 abbrev pub decreases-loop-market : goal.decreases-loop-market
-decreases-loop-market l = length l.rest
+decreases-loop-market l = length (composites (codes "Market") l.rest)

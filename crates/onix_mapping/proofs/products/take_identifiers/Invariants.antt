@@ -2,17 +2,15 @@ use Rattle.std.proofs.Common.{◌≡◌, ◌++◌, length}
 use Rattle.std.specs.Prelude.{◌||◌}
 use Rattle.onix_mapping.specs.Notes.{note_views}
 use Rattle.onix_mapping.specs.Products.{has_isbn, identifier_notes, right_pairs}
-use Rattle.onix_outline.specs.Nodes.{Nodes}
-use Rattle.onix_outline.specs.Outline.{outline}
-use Rattle.onix_outline.specs.Views.{line_views}
+use Rattle.std.specs.Prelude.{codes}
+use Rattle.onix_mapping.specs.Elements.{composites}
 use Rattle.onix_mapping.proofs.products.take_identifiers.Given as goal
 
 abbrev pub invariant-loop-identifier : goal.invariant-loop-identifier
-invariant-loop-identifier l = (nodes : Nodes) → line_views l.lines ≡ outline l.depth nodes → (left : Nodes)
-    × (line_views l.rest ≡ outline l.depth left)
-    × (l.taken.pairs ++ right_pairs left ≡ right_pairs nodes)
-    × ((l.taken.has_isbn || has_isbn left) ≡ has_isbn nodes)
-    × (note_views l.notes.items ++ identifier_notes left ≡ note_views l.initial.notes.items ++ identifier_notes nodes)
+invariant-loop-identifier l =
+    (l.taken.pairs ++ right_pairs l.rest ≡ right_pairs l.elements)
+    × ((l.taken.has_isbn || has_isbn l.rest) ≡ has_isbn l.elements)
+    × (note_views l.notes.items ++ identifier_notes l.rest ≡ note_views l.initial.notes.items ++ identifier_notes l.elements)
 
 abbrev pub decreases-loop-identifier : goal.decreases-loop-identifier
-decreases-loop-identifier l = length l.rest
+decreases-loop-identifier l = length (composites (codes "ProductIdentifier") l.rest)

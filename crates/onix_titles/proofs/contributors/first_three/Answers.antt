@@ -1,4 +1,4 @@
-use Rattle.std.proofs.Common.{◌≡◌, ◌∙◌, Some, add-one, ap, sym, take}
+use Rattle.std.proofs.Common.{◌≡◌, ◌∙◌, Some, ap, sym, take}
 use Rattle.std.specs.Prelude.{codes, fold}
 use Rattle.onix_mapping.specs.Elements.{composites}
 use Rattle.onix_titles.specs.ContributorViews.{contributor_view, contributor_views}
@@ -11,15 +11,11 @@ loop-found-preserved-in_ok-put_in_order c =
     let old = contributor_views c.loop-found.ordered.items in
     let new = contributor_views c.put_in_order.new.ordered.items in
     let one = contributor_view c.in-Some-named.contributor in
-    let put : new ≡ take 3 (put_in_order old one) = c.in_ok-put_in_order.ensures in record {
+    let found = c.in-Some.found in
+    let others = c.in-Some.behind in
+    let put : new ≡ take 3 (put_in_order old one) = c.in_ok-put_in_order.ensures in
+    let is : named found ≡ Some one = sym c.in-Some-named.ensures in
+    let first = named_first found (composites (codes "Contributor") c.loop-found.rest) (composites (codes "Contributor") others) one (sym c.in-Some.ensures) is in record {
       few = three_few old new one put;
-      others = λ nodes told.
-          let (left, told_left, before) = c.loop-found.invariant.others nodes told in
-          let (found, others, parts, tells, told_others) = c.in-Some.ensures.next left told_left in
-          let is : named found ≡ Some one = sym (c.in-Some-named.ensures found (rw add-one tells.below)) in
-          let first = named_first found (composites (codes "Contributor") left) (composites (codes "Contributor") others) one parts is in (
-            others,
-            told_others,
-            three_more old new (take 3 (in_order (contributors_in nodes))) (contributors_in others) one put (ap (λ k. take 3 (fold put_in_order old k)) (sym first) ∙ before),
-          );
+      others = three_more old new (take 3 (in_order (contributors_in c.args.elements.now))) (contributors_in others) one put (ap (λ k. take 3 (fold put_in_order old k)) (sym first) ∙ c.loop-found.invariant.others);
     }

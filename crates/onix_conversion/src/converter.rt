@@ -225,7 +225,8 @@ fn begin_with(
     elements: &Elements<'_>,
     fields: &mut FieldBuffer,
 ) -> Result<Begun, RowFault>
-    ensures { IfOk result (λ b. begun_view b ≡ first_begun (heading_view heading.entry) elements.now) }
+    ensures { IfOk result (λ b. begun_view b
+        ≡ first_begun (heading_view heading.entry) elements.now) }
 {
     let Heading {
         sender,
@@ -353,7 +354,8 @@ impl<'a, T: Target + Drop> Converter<'a, T> {
 
     // Takes a Product.
     fn take_product(&mut self, product: &Composite<'_>) -> Result<(), AllocError>
-        ensures { OnOk result (self.new ≡ with_product T.keeping self.old.stage self.old product.now) }
+        ensures { OnOk result
+            (self.new ≡ with_product T.keeping self.old.stage self.old product.now) }
     {
         match &mut self.stage {
             Stage::Unbegun => {

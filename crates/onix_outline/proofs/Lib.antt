@@ -9,6 +9,7 @@ pub mod TreeLaws
 pub mod KnownLaws
 pub mod MessageLaws
 pub mod OutlineLaws
+pub mod Counts
 pub mod NamespaceLaws
 pub mod PrefixLaws
 pub mod ManyLaws

@@ -1,5 +1,5 @@
 -- What stands in a composite.
-use Rattle.std.specs.Prelude.{ℕ, suc, ◌+◌, Bool, false, ◌&&◌, ◌||◌, List, Option, Some, None}
+use Rattle.std.specs.Prelude.{ℕ, Bool, false, ◌&&◌, ◌||◌, List, Option, Some, None}
 use Rattle.std.specs.Prelude.{if◌then◌else◌}
 use Rattle.std.specs.Str.{bytes_eq}
 use Rattle.xml_text.specs.Grammar.{is_filled}
@@ -19,11 +19,6 @@ abbrev pub has_stranger : Nodes → Bool
 has_stranger no_nodes = false
 has_stranger (node n tag text below rest) =
     bytes_eq n stranger || (has_stranger below || has_stranger rest)
-
--- how many elements there are, with all in them
-abbrev pub count : Nodes → ℕ
-count no_nodes = 0
-count (node n tag text below rest) = suc (count below + count rest)
 
 -- the first of some elements, what stands in it and those that follow it, put together; none, where
 -- there is none

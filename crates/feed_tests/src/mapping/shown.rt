@@ -5,7 +5,7 @@ use csv_records::buffer::RecordBuffer;
 use csv_records::fields::FieldBuffer;
 use csv_records::writing::write_records;
 use onix_mapping::{Composite, HeaderFault, Note, add_product, desk_vocabulary, read_heading};
-use onix_outline::{Line, Taker, Word};
+use onix_outline::{Elements, Line, Taker, Word, outlined};
 use onix_records::row::Opening;
 use std::alloc::{AllocError, Global};
 use std::marker::Model;
@@ -29,11 +29,11 @@ impl Model for Shown {
 fn header_record<'a>(
     alloc: Global,
     paragraph: &'a [u8],
-    lines: &'a [Line],
+    elements: &Elements<'a>,
 ) -> Result<(String, Opening), HeaderFault> {
     let choices = choices_in(paragraph);
     let mut fields = FieldBuffer::new(alloc);
-    let heading = read_heading(alloc, &choices, 1, lines, &mut fields)?;
+    let heading = read_heading(alloc, &choices, elements, &mut fields)?;
     match record_text(alloc, &fields) {
         Ok(text) => Ok((text, heading.opening)),
         Err(_) => Err(HeaderFault::Memory),
@@ -52,7 +52,7 @@ fn product_records<'a>(
     alloc: Global,
     preferred: &[u8],
     opening: &Opening,
-    product: Composite<'a>,
+    product: &Composite<'a>,
     notes: &mut Vec<Note<'a>>,
 ) -> Result<String, AllocError> {
     let mut fields = FieldBuffer::new(alloc);
@@ -61,7 +61,6 @@ fn product_records<'a>(
         alloc,
         opening,
         preferred,
-        1,
         product,
         &mut fields,
         &mut records,
@@ -112,8 +111,8 @@ impl Shown {
     }
 
     // The record of a Header, or why the message is refused.
-    fn take_header(&mut self, lines: &[Line]) -> Result<(), AllocError> {
-        match header_record(self.alloc, &self.paragraph, lines) {
+    fn take_header(&mut self, elements: &Elements<'_>) -> Result<(), AllocError> {
+        match header_record(self.alloc, &self.paragraph, elements) {
             Ok((text, opening)) => {
                 self.opening = Some(opening);
                 self.text.push_str(text.as_str())
@@ -127,7 +126,7 @@ impl Shown {
     }
 
     // The records of a Product and the notes on it.
-    fn take_product(&mut self, line: &Line, below: &[Line]) -> Result<(), AllocError> {
+    fn take_product(&mut self, product: &Composite<'_>) -> Result<(), AllocError> {
         let mut notes = Vec::new(self.alloc);
         let found = match &self.opening {
             None => return self.push_name("no header"),
@@ -135,7 +134,7 @@ impl Shown {
                 self.alloc,
                 choices_in(&self.paragraph).id_type,
                 opening,
-                Composite { line, below },
+                product,
                 &mut notes,
             ),
         };
@@ -156,13 +155,14 @@ impl Taker for Shown {
     }
 
     fn take(&mut self, lines: &[Line]) -> Result<(), AllocError> {
-        let [line, below @ ..] = lines else {
+        let Some(node) = outlined(lines) else {
             return Ok(());
         };
+        let (line, below) = (node.line, node.below);
         if line.name == b"Header".as_slice() {
-            self.take_header(below)
+            self.take_header(&below)
         } else {
-            self.take_product(line, below)
+            self.take_product(&Composite { line, below })
         }
     }
 }

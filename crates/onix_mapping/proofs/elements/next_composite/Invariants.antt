@@ -1,6 +1,6 @@
 use Rattle.std.proofs.Common.{◌≡◌}
 use Rattle.onix_mapping.specs.Elements.{composites}
-use Rattle.onix_outline.specs.Composites.{count}
+use Rattle.onix_outline.proofs.Counts.{count}
 use Rattle.onix_mapping.proofs.elements.next_composite.Given as goal
 
 abbrev pub invariant-loop-node : goal.invariant-loop-node

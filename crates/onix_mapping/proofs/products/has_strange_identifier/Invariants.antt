@@ -1,6 +1,6 @@
 use Rattle.std.proofs.Common.{◌≡◌}
 use Rattle.onix_mapping.specs.Products.{has_strange_identifier}
-use Rattle.onix_outline.specs.Composites.{count}
+use Rattle.onix_outline.proofs.Counts.{count}
 use Rattle.onix_mapping.proofs.products.has_strange_identifier.Given as goal
 
 abbrev pub invariant-loop-node : goal.invariant-loop-node

@@ -1,5 +1,6 @@
 use Rattle.std.proofs.Common.{◌≡◌, ◌≤◌}
-use Rattle.onix_outline.specs.Composites.{count, has_stranger}
+use Rattle.onix_outline.specs.Composites.{has_stranger}
+use Rattle.onix_outline.proofs.Counts.{count}
 use Rattle.onix_outline.proofs.composites.+has_stranger.Given as goal
 
 abbrev pub decreases-has_stranger : goal.decreases-has_stranger

@@ -1,5 +1,6 @@
 use Rattle.std.proofs.Common.{◌≡◌}
-use Rattle.onix_outline.specs.Composites.{count, text_in}
+use Rattle.onix_outline.specs.Composites.{text_in}
+use Rattle.onix_outline.proofs.Counts.{count}
 use Rattle.onix_outline.proofs.composites.text_in.Given as goal
 
 abbrev pub invariant-loop-node : goal.invariant-loop-node

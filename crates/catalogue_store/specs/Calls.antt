@@ -13,10 +13,10 @@ use Rattle.desk_tables.specs.RecordChanges.{has_minimums_of}
 use Rattle.desk_tables.specs.Rows.{DeskRows}
 use Rattle.desk_tables.specs.declared.offers.OfferRow as typed
 use Rattle.desk_tables.specs.declared.records.RecordRow.{RecordRow}
-use Rattle.catalogue_store.specs.AppliedProducts.{IsCatalogueReadAs, IsChanged, IsProductApplied}
+use Rattle.catalogue_store.specs.AppliedProducts.{IsChanged}
 use Rattle.catalogue_store.specs.Holding.{Became, HoldsCatalogue, HoldsEntry, IsApplied}
 use Rattle.catalogue_store.specs.ReadRows.{AreReadAs, HasPricesOf, HoldsSupplies, IsFound, IsReadAs}
-use Rattle.catalogue_store.specs.Storable.{AreStorable, IsStorableProduct}
+use Rattle.catalogue_store.specs.Storable.{AreStorable}
 use Rattle.catalogue_store.specs.declared.reading.FoundRecord.{FoundRecord}
 use Rattle.catalogue_store.specs.declared.reading.FoundRecord.TheVariants.{SameIdentifiers}
 

@@ -1,14 +1,15 @@
 //! Runs of new records, which are written table by table.
 
-ghost use Rattle.std.specs.Prelude.{◌≡◌, ◌+◌, ◌<◌, ◌≤◌, ◌^◌, IfOk, length};
-ghost use Rattle.std.specs.List.{list_any};
+ghost use Rattle.std.specs.Prelude.{◌≡◌, ◌+◌, ◌++◌, ◌<◌, ◌≤◌, ◌^◌, ℕ, IfOk, List, OnOk, length};
+ghost use Rattle.std.specs.List.{flat_map, list_any};
 ghost use Rattle.std.specs.Str.{bytes_eq};
 ghost use Rattle.catalogue_rules.specs.Plans.{total};
 ghost use Rattle.catalogue_store.specs.Achieves.{Does};
 ghost use Rattle.catalogue_store.specs.Calls.{ChangesRows, KeepsRows};
 ghost use Rattle.catalogue_store.specs.EntryRows.{record_row};
 ghost use Rattle.catalogue_store.specs.Runs.{brings_new, is_replaced, AppliesRun, AreNewIn, IsNewIn, IsStep};
-ghost use Rattle.catalogue_store.specs.WrittenRows.{articles_of, offers_of, prices_of, records_of, with_identifiers_of, with_products, with_supplies_of};
+ghost use Rattle.catalogue_store.specs.WrittenRows.{product_articles, product_offers, product_prices, product_records, with_identifiers_of, with_products, with_supplies_of};
+ghost use Rattle.onix_records.specs.declared.parts.Product.{Product};
 
 use crate::build::{add_article_rows, add_offer_rows, add_price_rows};
 use crate::reading::{FoundRecord, find_record};
@@ -122,64 +123,106 @@ fn count_new<S: Alter>(
     Ok(most)
 }
 
-fn records_of(
-    alloc: Global,
-    series: &SeriesName,
-    products: &[Product],
-) -> Result<Vec<RecordRow>, StoreFault>
-    ensures { IfOk result (λ rows. rows.items ≡ records_of series.now products.now) }
-{
-    let mut rows = Vec::new(alloc);
-    for product in products {
+// A row that a product has in a table: a record, an identifier, an offer or a price.
+trait ProductRow: Drop {
+    // The rows of a product of the series.
+    ghost rows_of: { List ℕ → Product → List Self };
+
+    // Adds them. `Memory` where memory runs out, and `Size` where places of rows do.
+    fn add_rows_of(
+        alloc: Global,
+        series: &SeriesName,
+        product: &Product,
+        rows: &mut Vec<Self>,
+    ) -> Result<(), StoreFault>
+        ensures { OnOk result (rows.new.items ≡ rows.old.items ++ rows_of series.now product.now) };
+}
+
+impl ProductRow for RecordRow {
+    ghost rows_of = { product_records };
+
+    fn add_rows_of(
+        alloc: Global,
+        series: &SeriesName,
+        product: &Product,
+        rows: &mut Vec<RecordRow>,
+    ) -> Result<(), StoreFault> {
         let row = record_row(alloc, series, product)?;
         if rows.push(row).is_err() {
             return Err(StoreFault::Memory);
         }
+        Ok(())
     }
-    Ok(rows)
 }
 
-fn articles_of(
+impl ProductRow for ArticleRow {
+    ghost rows_of = { product_articles };
+
+    fn add_rows_of(
+        alloc: Global,
+        series: &SeriesName,
+        product: &Product,
+        rows: &mut Vec<ArticleRow>,
+    ) -> Result<(), StoreFault> {
+        add_article_rows(
+            alloc,
+            series,
+            &product.reference,
+            product.ids.as_slice(),
+            rows,
+        )
+    }
+}
+
+impl ProductRow for OfferRow {
+    ghost rows_of = { product_offers };
+
+    fn add_rows_of(
+        alloc: Global,
+        series: &SeriesName,
+        product: &Product,
+        rows: &mut Vec<OfferRow>,
+    ) -> Result<(), StoreFault> {
+        add_offer_rows(
+            alloc,
+            series,
+            &product.reference,
+            product.supplies.as_slice(),
+            rows,
+        )
+    }
+}
+
+impl ProductRow for PriceRow {
+    ghost rows_of = { product_prices };
+
+    fn add_rows_of(
+        alloc: Global,
+        series: &SeriesName,
+        product: &Product,
+        rows: &mut Vec<PriceRow>,
+    ) -> Result<(), StoreFault> {
+        add_price_rows(
+            alloc,
+            series,
+            &product.reference,
+            product.supplies.as_slice(),
+            rows,
+        )
+    }
+}
+
+// The rows of the products in one table.
+fn rows_of<R: ProductRow>(
     alloc: Global,
     series: &SeriesName,
     products: &[Product],
-) -> Result<Vec<ArticleRow>, StoreFault>
-    ensures { IfOk result (λ rows. rows.items ≡ articles_of series.now products.now) }
+) -> Result<Vec<R>, StoreFault>
+    ensures { IfOk result (λ rows. rows.items ≡ flat_map (R.rows_of series.now) products.now) }
 {
     let mut rows = Vec::new(alloc);
     for product in products {
-        let ids = product.ids.as_slice();
-        add_article_rows(alloc, series, &product.reference, ids, &mut rows)?;
-    }
-    Ok(rows)
-}
-
-fn offers_of(
-    alloc: Global,
-    series: &SeriesName,
-    products: &[Product],
-) -> Result<Vec<OfferRow>, StoreFault>
-    ensures { IfOk result (λ rows. rows.items ≡ offers_of series.now products.now) }
-{
-    let mut rows = Vec::new(alloc);
-    for product in products {
-        let supplies = product.supplies.as_slice();
-        add_offer_rows(alloc, series, &product.reference, supplies, &mut rows)?;
-    }
-    Ok(rows)
-}
-
-fn prices_of(
-    alloc: Global,
-    series: &SeriesName,
-    products: &[Product],
-) -> Result<Vec<PriceRow>, StoreFault>
-    ensures { IfOk result (λ rows. rows.items ≡ prices_of series.now products.now) }
-{
-    let mut rows = Vec::new(alloc);
-    for product in products {
-        let supplies = product.supplies.as_slice();
-        add_price_rows(alloc, series, &product.reference, supplies, &mut rows)?;
+        R::add_rows_of(alloc, series, product, &mut rows)?;
     }
     Ok(rows)
 }
@@ -194,8 +237,8 @@ fn put_identifiers_of<S: Alter>(
     ensures { Does S.Store (ChangesRows (with_identifiers_of series.now products.now))
         work.old work.new result }
 {
-    let records = records_of(alloc, series, products)?;
-    let articles = articles_of(alloc, series, products)?;
+    let records: Vec<RecordRow> = rows_of(alloc, series, products)?;
+    let articles: Vec<ArticleRow> = rows_of(alloc, series, products)?;
     put_records_and_articles(alloc, work, records.as_slice(), articles.as_slice())
 }
 
@@ -209,8 +252,8 @@ fn put_supplies_of<S: Alter>(
     ensures { Does S.Store (ChangesRows (with_supplies_of series.now products.now))
         work.old work.new result }
 {
-    let offers = offers_of(alloc, series, products)?;
-    let prices = prices_of(alloc, series, products)?;
+    let offers: Vec<OfferRow> = rows_of(alloc, series, products)?;
+    let prices: Vec<PriceRow> = rows_of(alloc, series, products)?;
     put_offers_and_prices(alloc, work, offers.as_slice(), prices.as_slice())
 }
 

@@ -1,6 +1,0 @@
-use Rattle.std.proofs.Common.{◌≡◌, take}
-use Rattle.catalogue_store.specs.WrittenRows.{prices_of}
-use Rattle.catalogue_store.proofs.runs.prices_of.Given as goal
-
-abbrev pub invariant-loop-product : goal.invariant-loop-product
-invariant-loop-product l = l.rows.items ≡ prices_of l.series (take l.product-index l.products)

@@ -1,24 +1,9 @@
-use Rattle.std.proofs.Common.{◌≡◌, Err, ap, ◌∙◌, rules}
-use Rattle.sqlite.specs.Held.{state}
-use Rattle.desk_tables.specs.RecordChanges.{with_articles, with_records}
-use Rattle.desk_tables.specs.Rows.{DeskRows}
-use Rattle.catalogue_store.proofs.AchievesLemmas.{achieves_added, achieves_stopped, achieves_then, does, handed_on}
+use Rattle.std.proofs.Common.{rules}
+use Rattle.catalogue_store.proofs.DoesLemmas.{added, changed_then, did_stop}
 use Rattle.catalogue_store.proofs.records.put_records_and_articles.Goals as goal
 
 pub returns : goal.returns
-returns g c =
-    let old = state g.S.Store c.args.work.now.tables.now.connection in
-    let mid = state g.S.Store c.put_records.new.self.tables.now.connection in
-    let new = state g.S.Store c.put_articles.new.self.tables.now.connection in
-    let First : DeskRows → Unit {0} → DeskRows → Type 0 = λ rows _ after. after ≡ with_records c.args.records.now rows in
-    let Second : DeskRows → Unit {0} → DeskRows → Type 0 = λ rows _ after. after ≡ with_articles c.args.articles.now rows in
-    does (search rules)
-    (achieves_then First Second _ old mid new tt c.put_articles.result (achieves_added c.in_ok-put_records.ensures.adds) (achieves_added c.put_articles.ensures.adds)
-    (λ rows between after b h m n one two. two ∙ ap (with_articles c.args.articles.now) one))
+returns g c = changed_then (added c.in_ok-put_records.ensures) (added c.put_articles.ensures)
 
 pub returns-in_err-put_records : goal.returns-in_err-put_records
-returns-in_err-put_records g c =
-    let old = state g.S.Store c.args.work.now.tables.now.connection in
-    let new = state g.S.Store c.put_records.new.self.tables.now.connection in
-    let e = c.in_err-put_records.field-0.0 in
-    handed_on {e = e} (search rules) (search rules) (achieves_stopped {A = Unit {0}} _ _ old new (Err e) e (achieves_added c.in_err-put_records.ensures.adds))
+returns-in_err-put_records g c = did_stop {e = c.in_err-put_records.field-0.0} (search rules) (added c.in_err-put_records.ensures)

@@ -1,12 +1,8 @@
-use Rattle.std.proofs.Common.{◌≡◌, Ok}
-use Rattle.sqlite.specs.Held.{state}
-use Rattle.catalogue_store.specs.Achieves.{Achieves}
+use Rattle.std.proofs.Common.{Ok}
+use Rattle.catalogue_store.specs.Achieves.{Does}
+use Rattle.catalogue_store.specs.Calls.{KeepsRows}
 use Rattle.catalogue_store.specs.Runs.{AreNewIn}
 use Rattle.catalogue_store.proofs.runs.count_new.Given as goal
 
 abbrev pub invariant-loop-i : goal.invariant-loop-i
-invariant-loop-i g l = record {
-  same_reference : l.work.tables.ghost_name ≡ l.fn.work.tables.ghost_name;
-  so_far : Achieves (λ rows (_ : Unit {0}) after. (after ≡ rows) × AreNewIn l.series l.products rows l.i)
-      (state g.S.Store l.fn.work.tables.now.connection) (state g.S.Store l.work.tables.now.connection) (Ok tt);
-}
+invariant-loop-i g l = Does g.S.Store (KeepsRows (λ rows (_ : Unit {0}). AreNewIn l.series l.products rows l.i)) l.fn.work l.work (Ok tt)

@@ -2,7 +2,8 @@
 use Rattle.std.proofs.Common.{◌≡◌, Ok, Err, Result, IfOk, ap, refl, sym, subst, ◌∙◌}
 use Rattle.onix_records.specs.declared.faults.StoreFault.{StoreFault}
 use Rattle.desk_tables.specs.Rows.{DeskRows}
-use Rattle.desk_tables.specs.Calls.{seen, AddsAll, Takes}
+use Rattle.desk_tables.specs.Calls.{seen, Adds, AddsAll, Takes}
+use Rattle.desk_tables.specs.Transactions.{NoAnswer}
 use Rattle.desk_tables.specs.declared.work.Work.{Work}
 use Rattle.sqlite_trees.specs.declared.store.Store.{Ghosts}
 use Rattle.catalogue_store.specs.Achieves.{Does}
@@ -17,6 +18,15 @@ pub called : {S A : Type 0} {store : Ghosts S} {Answer : DeskRows → A → Type
     → Does store (λ rows a after. Answer rows a × (after ≡ change rows)) old new result
 called {S} {A} {store} {Answer} {change} {old} {new} {result} takes =
     does takes.same_reference (achieves_call Answer change (seen store old) (seen store new) old.spent new.spent result takes.works)
+
+-- one that adds a row
+pub put : {S A : Type 0} {store : Ghosts S} {change : DeskRows → DeskRows} {old new : Work S}
+    {result : Result A StoreFault} → Adds store change old new result
+    → Does store (ChangesRows change) old new result
+put {S} {A} {store} {change} {old} {new} {result} adds =
+    does adds.same_reference
+    (achieves_also _ (ChangesRows change) (seen store old) (seen store new) result
+    (achieves_call NoAnswer change (seen store old) (seen store new) old.spent new.spent result adds.works) (λ rows after a h n one. one.1))
 
 -- one that adds rows, perhaps none
 pub added : {S A : Type 0} {store : Ghosts S} {change : DeskRows → DeskRows} {old new : Work S}

@@ -23,10 +23,9 @@ use Rattle.desk_tables.proofs.ManyRows.{mapped_behind}
 use Rattle.catalogue_store.specs.AppliedProducts.{IsProductApplied}
 use Rattle.catalogue_store.specs.EntryRows.{article_rows, has_minimum, offer_rows_of, price_rows_of, record_row}
 use Rattle.catalogue_store.specs.Holding.{Became, HoldsCatalogue, HoldsEntry, other_catalogues}
-use Rattle.catalogue_store.specs.ReadRows.{is_there, Finds}
+use Rattle.catalogue_store.specs.ReadRows.{TellsRecord}
 use Rattle.catalogue_store.specs.Runs.{brings_new, is_replace, is_replaced, AreApplied, AreNew, IsNew}
 use Rattle.catalogue_store.specs.Storable.{IsStorableProduct}
-use Rattle.catalogue_store.specs.declared.reading.FoundRecord.{FoundRecord}
 use Rattle.catalogue_store.specs.WrittenRows.{articles_of, offers_of, prices_of, records_of, with_identified, with_products, with_supplies}
 use Rattle.catalogue_store.proofs.BecameLemmas.{record_written}
 use Rattle.catalogue_store.proofs.HoldingLemmas.{catalogue_became, catalogues_kept}
@@ -83,11 +82,11 @@ both_are true true e = absurd (cc)
 both_are false b e = absurd (cc)
 
 -- it was found to be one
-pub found_new : (s : List ℕ) (m : ByReference) (p : Product) (row : RecordRow) (found : FoundRecord) (rows : DeskRows) → row ≡ record_row s p.reference → Finds row p.ids rows found → brings_new p found ≡ true → HoldsCatalogue s m rows → IsNew m p
-found_new s m p row found rows is finds new held =
-    let parts = both_are (is_replaced p) (is_there found) new in
-    let own = subst (λ (x : RecordRow). Finds x p.ids rows found) is finds (fin.get m p.reference) (held p.reference) in
-    record { replaces = parts.0; absent = absent_is (fin.get m p.reference) (own.there ∙ parts.1) }
+pub found_new : (s : List ℕ) (m : ByReference) (p : Product) (row : RecordRow) (there : Bool) (rows : DeskRows) → row ≡ record_row s p.reference → TellsRecord row rows there → brings_new p there ≡ true → HoldsCatalogue s m rows → IsNew m p
+found_new s m p row there rows is tells new held =
+    let parts = both_are (is_replaced p) there new in
+    let own = subst (λ (x : RecordRow). TellsRecord x rows there) is tells (fin.get m p.reference) (held p.reference) in
+    record { replaces = parts.0; absent = absent_is (fin.get m p.reference) (own ∙ parts.1) }
 
 -- the first of the products is one
 pub first_new : (m : ByReference) (p : Product) (ps : List Product) → 0 < length ps → p ≡ get_or ps 0 p → IsNew m p → AreNew m (take 1 ps)

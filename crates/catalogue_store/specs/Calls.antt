@@ -15,10 +15,9 @@ use Rattle.desk_tables.specs.declared.offers.OfferRow as typed
 use Rattle.desk_tables.specs.declared.records.RecordRow.{RecordRow}
 use Rattle.catalogue_store.specs.AppliedProducts.{IsChanged}
 use Rattle.catalogue_store.specs.Holding.{Became, HoldsCatalogue, HoldsEntry, IsApplied}
-use Rattle.catalogue_store.specs.ReadRows.{AreReadAs, HasPricesOf, HoldsSupplies, IsFound, IsReadAs}
+use Rattle.catalogue_store.specs.ReadRows.{AreReadAs, Finds, HasPricesOf, HoldsSupplies, IsReadAs}
 use Rattle.catalogue_store.specs.Storable.{AreStorable}
 use Rattle.catalogue_store.specs.declared.reading.FoundRecord.{FoundRecord}
-use Rattle.catalogue_store.specs.declared.reading.FoundRecord.TheVariants.{SameIdentifiers}
 
 -- the rows stay, and the answer is true of them
 abbrev pub KeepsRows : {A : Type 0} → (DeskRows → A → Type 0) → DeskRows → A → DeskRows → Type 0
@@ -50,6 +49,10 @@ IsEntryOf row rows entry = (e : Entry) → HoldsEntry row.series row.reference (
 abbrev pub HoldsSuppliesAs : Bool → RecordRow → List ProductSupply → DeskRows → Bool → Type 0
 HoldsSuppliesAs with_minimums row supplies rows b = IsReadAs with_minimums row rows
     → HoldsSupplies row supplies rows b
+
+-- what is found of the record of a product, where its prices are read so
+abbrev pub FindsAs : Bool → RecordRow → Product → DeskRows → FoundRecord → Type 0
+FindsAs with_minimums row p rows found = IsReadAs with_minimums row rows → Finds row p rows found
 
 -- the catalogue of the series
 abbrev pub IsCatalogueOf : List ℕ → DeskRows → ByReference → Type 0
@@ -83,31 +86,9 @@ ReplacesSupplies row supplies rows _ after =
     (e : Entry) → HoldsEntry row.series row.reference (Some e) rows → AreStorable supplies
     → Became row.series row.reference (Some (record e { supplies = supplies })) rows after
 
--- the same, where its prices are read so
-abbrev pub ReplacesSuppliesAs : {A : Type 0} → Bool → RecordRow → List ProductSupply → DeskRows → A
-    → DeskRows → Type 0
-ReplacesSuppliesAs with_minimums row supplies rows a after = IsReadAs with_minimums row rows
-    → ReplacesSupplies row supplies rows a after
-
--- a record that is there with these identifiers has these supplies, where its prices are read so
-abbrev pub ReplacesRecordAs : {A : Type 0} → Bool → RecordRow → List ProductIdentifier
-    → List ProductSupply → DeskRows → A → DeskRows → Type 0
-ReplacesRecordAs with_minimums row ids supplies rows _ after =
-    IsReadAs with_minimums row rows → (e : Entry)
-    → HoldsEntry row.series row.reference (Some e) rows
-    → IsFound row ids (Some e) SameIdentifiers → ids ≢ [] → AreStorable supplies
-    → Became row.series row.reference (Some (record { ids = ids; supplies = supplies })) rows after
-
 -- ---- applied
 
--- the record, of which that was found, becomes what the product asks for, where its prices are read
--- so
-abbrev pub CarriesOutAs : {A : Type 0} → Bool → Change → RecordRow → Product → FoundRecord
-    → DeskRows → A → DeskRows → Type 0
-CarriesOutAs with_minimums change row p found rows _ after = IsReadAs with_minimums row rows
-    → IsChanged change row p found rows after
-
--- the same, where no prices are read
+-- the record, of which that was found, becomes what the product asks for
 abbrev pub CarriesOut : {A : Type 0} → Change → RecordRow → Product → FoundRecord → DeskRows → A
     → DeskRows → Type 0
 CarriesOut change row p found rows _ after = IsChanged change row p found rows after

@@ -14,7 +14,7 @@ use Rattle.desk_tables.specs.declared.records.RecordRow.{RecordRow}
 use Rattle.catalogue_store.specs.AppliedProducts.{IsCatalogueReadAs, IsProductApplied}
 use Rattle.catalogue_store.specs.EntryRows.{record_row}
 use Rattle.catalogue_store.specs.Holding.{HoldsCatalogue, other_catalogues}
-use Rattle.catalogue_store.specs.ReadRows.{is_there, Finds}
+use Rattle.catalogue_store.specs.ReadRows.{Finds}
 use Rattle.catalogue_store.specs.Storable.{IsStorableProduct}
 use Rattle.catalogue_store.specs.declared.reading.FoundRecord.{FoundRecord}
 use Rattle.catalogue_store.specs.declared.runs.Step.{Step}
@@ -29,9 +29,9 @@ is_replace _ = false
 abbrev pub is_replaced : Product → Bool
 is_replaced p = is_replace (change_of p.notification)
 
--- the product brings the whole record, and none was found
-abbrev pub brings_new : Product → FoundRecord → Bool
-brings_new p found = is_replaced p && not (is_there found)
+-- the product brings the whole record, and none is there
+abbrev pub brings_new : Product → Bool → Bool
+brings_new p there = is_replaced p && not there
 
 -- the product brings a record that the catalogue does not have
 pub record IsNew (m : ByReference) (p : Product) : Type 0 where
@@ -75,13 +75,13 @@ AppliesRun series products before rows step after =
     → All IsStorableProduct products
     → AreApplied series m (take step.count products) before rows step.effect after
 
--- the product, of whose record that was found, where prices are read so
-abbrev pub AppliesFound : Bool → RecordRow → Product → FoundRecord → Effect → DeskRows → Effect
-    → DeskRows → Type 0
-AppliesFound with_minimums row p found before rows counts after =
+-- the product, of whose record that was found
+abbrev pub AppliesFound : RecordRow → Product → FoundRecord → Effect → DeskRows → Effect → DeskRows
+    → Type 0
+AppliesFound row p found before rows counts after =
     (series : List ℕ) (m : ByReference) → row ≡ record_row series p.reference
-    → HoldsCatalogue series m rows → IsCatalogueReadAs with_minimums m → IsStorableProduct p
-    → Finds row p.ids rows found
+    → HoldsCatalogue series m rows → IsStorableProduct p
+    → Finds row p rows found
     → IsProductApplied series m p before rows counts after
 
 -- the first of the products, as many as the step has, where prices are read so

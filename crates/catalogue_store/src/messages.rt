@@ -5,14 +5,14 @@ ghost use Rattle.catalogue_rules.specs.Effects.{counted};
 ghost use Rattle.catalogue_rules.specs.Plans.{total};
 ghost use Rattle.catalogue_rules.specs.declared.change.Change.TheVariants as asked;
 ghost use Rattle.catalogue_store.specs.Achieves.{Does};
-ghost use Rattle.catalogue_store.specs.Calls.{KeepsRows, Rewrites, ReplacesSuppliesAs, ReplacesRecordAs, CarriesOutAs, CarriesOut, AppliesMessage};
+ghost use Rattle.catalogue_store.specs.Calls.{KeepsRows, Rewrites, CarriesOut, AppliesMessage};
 ghost use Rattle.catalogue_store.specs.Runs.{AppliesFound, AppliesSome, IsStep};
 ghost use Rattle.catalogue_store.specs.Minimums.{products_have_minimums};
 ghost use Rattle.catalogue_store.specs.declared.reading.FoundRecord.{FoundRecord};
 ghost use Rattle.desk_tables.specs.RecordAnswers.{has_minimums};
 
 use crate::minimums::products_have_minimums;
-use crate::reading::{FoundRecord, find_record, has_supplies};
+use crate::reading::{FoundRecord, find_record};
 use crate::records::{remove_record, replace_supplies, write_record};
 use crate::runs::{Step, apply_run, brings_new, record_row};
 use catalogue_rules::change::{Change, counted};
@@ -40,87 +40,55 @@ fn rewrite_record<S: Alter>(
     write_record(alloc, work, row, ids, supplies)
 }
 
-// Gives a record with these identifiers these supplies, and writes only where it has others.
-fn keep_record<S: Alter>(
-    alloc: Global,
-    work: &mut Work<'_, S>,
-    row: &RecordRow,
-    ids: &[ProductIdentifier],
-    supplies: &[ProductSupply],
-    with_minimums: bool,
-) -> Result<(), StoreFault>
-    ensures { Does S.Store (ReplacesRecordAs with_minimums row.now ids.now supplies.now)
-        work.old work.new result }
-{
-    let same = has_supplies(alloc, work, row, supplies, with_minimums)?;
-    if same {
-        return Ok(());
-    }
-    rewrite_record(alloc, work, row, ids, supplies)
-}
-
-// Gives a record that is there these supplies, and writes only where it has others.
-fn keep_supplies<S: Alter>(
-    alloc: Global,
-    work: &mut Work<'_, S>,
-    row: &RecordRow,
-    supplies: &[ProductSupply],
-    with_minimums: bool,
-) -> Result<(), StoreFault>
-    ensures { Does S.Store (ReplacesSuppliesAs with_minimums row.now supplies.now)
-        work.old work.new result }
-{
-    let same = has_supplies(alloc, work, row, supplies, with_minimums)?;
-    if same {
-        return Ok(());
-    }
-    replace_supplies(alloc, work, row, supplies)
-}
-
-// Carries out 01, 02 or 03.
+// Carries out 01, 02 or 03. A record that has it all is not written.
 fn replace<S: Alter>(
     alloc: Global,
     work: &mut Work<'_, S>,
     row: &RecordRow,
     product: &Product,
     found: FoundRecord,
-    with_minimums: bool,
 ) -> Result<(), StoreFault>
-    ensures { Does S.Store (CarriesOutAs with_minimums asked.Replace row.now product.now found)
+    ensures { Does S.Store (CarriesOut asked.Replace row.now product.now found)
         work.old work.new result }
 {
+    let is_same = found.is_same();
+    if is_same {
+        return Ok(());
+    }
     let ids = product.ids.as_slice();
     let supplies = product.supplies.as_slice();
-    match found {
-        FoundRecord::Absent => write_record(alloc, work, row, ids, supplies),
-        FoundRecord::OtherIdentifiers => rewrite_record(alloc, work, row, ids, supplies),
-        FoundRecord::SameIdentifiers => {
-            keep_record(alloc, work, row, ids, supplies, with_minimums)
-        }
+    let is_there = found.is_there();
+    if is_there {
+        return rewrite_record(alloc, work, row, ids, supplies);
     }
+    write_record(alloc, work, row, ids, supplies)
 }
 
-// Carries out 04: a known record gets the supplies of the product, where it has some.
+// Carries out 04: a known record gets the supplies of the product, where it has some and the record
+// has others.
 fn update<S: Alter>(
     alloc: Global,
     work: &mut Work<'_, S>,
     row: &RecordRow,
     product: &Product,
     found: FoundRecord,
-    with_minimums: bool,
 ) -> Result<(), StoreFault>
-    ensures { Does S.Store (CarriesOutAs with_minimums asked.Update row.now product.now found)
+    ensures { Does S.Store (CarriesOut asked.Update row.now product.now found)
         work.old work.new result }
 {
     let is_empty = product.supplies.is_empty();
     if is_empty {
         return Ok(());
     }
-    let is_there = found.is_there();
-    if is_there {
-        return keep_supplies(alloc, work, row, product.supplies.as_slice(), with_minimums);
+    match found {
+        FoundRecord::Absent => Ok(()),
+        FoundRecord::Present { same_supplies, .. } => {
+            if same_supplies {
+                return Ok(());
+            }
+            replace_supplies(alloc, work, row, product.supplies.as_slice())
+        }
     }
-    Ok(())
 }
 
 // Carries out 05.
@@ -148,14 +116,13 @@ fn change_record<S: Alter>(
     product: &Product,
     change: Change,
     found: FoundRecord,
-    with_minimums: bool,
 ) -> Result<(), StoreFault>
-    ensures { Does S.Store (CarriesOutAs with_minimums change row.now product.now found)
+    ensures { Does S.Store (CarriesOut change row.now product.now found)
         work.old work.new result }
 {
     match change {
-        Change::Replace => replace(alloc, work, row, product, found, with_minimums),
-        Change::Update => update(alloc, work, row, product, found, with_minimums),
+        Change::Replace => replace(alloc, work, row, product, found),
+        Change::Update => update(alloc, work, row, product, found),
         Change::Delete => delete(work, row, product, found),
         Change::Ignore => Ok(()),
     }
@@ -169,15 +136,14 @@ fn apply_product<S: Alter>(
     product: &Product,
     found: FoundRecord,
     effect: Effect,
-    with_minimums: bool,
 ) -> Result<Effect, StoreFault>
     requires { total effect + 1 < 2 ^ 32 }
     ensures one { IfOk result (λ e. total e ≡ total effect + 1) }
-    ensures does { Does S.Store (AppliesFound with_minimums row.now product.now found effect)
+    ensures does { Does S.Store (AppliesFound row.now product.now found effect)
         work.old work.new result }
 {
     let change = Change::of(product.notification);
-    change_record(alloc, work, row, product, change, found, with_minimums)?;
+    change_record(alloc, work, row, product, change, found)?;
     Ok(counted(effect, change, found.is_there()))
 }
 
@@ -199,12 +165,12 @@ fn apply_some<S: Alter>(
 {
     let product = &products[0];
     let row = record_row(alloc, series, product)?;
-    let found = find_record(alloc, work, &row, product.ids.as_slice())?;
-    let is_new = brings_new(product, found);
+    let found = find_record(alloc, work, &row, product, with_minimums)?;
+    let is_new = brings_new(product, found.is_there());
     if is_new {
         return apply_run(alloc, work, series, products, effect);
     }
-    let effect = apply_product(alloc, work, &row, product, found, effect, with_minimums)?;
+    let effect = apply_product(alloc, work, &row, product, found, effect)?;
     Ok(Step { count: 1, effect })
 }
 

@@ -1,21 +1,21 @@
 //! The rows of one record, read and compared.
 
-ghost use Rattle.std.specs.Prelude.{◌≡◌, false, IfOk, if◌then◌else◌};
+ghost use Rattle.std.specs.Prelude.{◌≡◌, ◌&&◌, IfOk};
 ghost use Rattle.catalogue_rules.specs.Records.{HasFewDetails};
 ghost use Rattle.catalogue_store.specs.Achieves.{Does};
-ghost use Rattle.catalogue_store.specs.Calls.{KeepsRows, HasPricesAs, HavePricesAs, IsEntryOf, HoldsSuppliesAs};
-ghost use Rattle.catalogue_store.specs.ReadRows.{is_there, Finds};
-ghost use Rattle.catalogue_store.specs.declared.reading.FoundRecord.{FoundRecord};
+ghost use Rattle.catalogue_store.specs.Calls.{KeepsRows, FindsAs, HasPricesAs, HavePricesAs, IsEntryOf, HoldsSuppliesAs};
+ghost use Rattle.catalogue_store.specs.ReadRows.{has_same_identifiers, has_same_supplies, is_there, TellsIdentifiers, TellsRecord};
 
 use crate::assemble::entry_of;
 use crate::build::{article_rows, offer_rows};
 use crate::same::{same_articles, same_detail_prices, same_offers};
+use catalogue_rules::change::Change;
 use catalogue_rules::entry::Entry;
 use desk_tables::offers::OfferRow;
 use desk_tables::records::RecordRow;
 use desk_tables::work::Work;
 use onix_message::StoreFault;
-use onix_message::parts::{Price, ProductIdentifier, ProductSupply};
+use onix_message::parts::{Price, Product, ProductIdentifier, ProductSupply};
 use onix_terms::items::Items;
 use sqlite::Alter;
 use std::alloc::Global;
@@ -77,65 +77,116 @@ pub fn read_record<S: Alter>(
     )
 }
 
-/// What is there of a record, and whether its identifiers are some.
+/// What is there of the record of a product.
 #[derive(Clone, Copy)]
 pub enum FoundRecord {
     /// It is not there.
     Absent,
-    /// It is there, with other identifiers.
-    OtherIdentifiers,
-    /// It is there, with these identifiers.
-    SameIdentifiers,
+    /// It is there.
+    Present {
+        /// Its identifiers are those of the product.
+        same_identifiers: bool,
+        /// Its supplies are those of the product. It is `false` too where that does not matter.
+        same_supplies: bool,
+    },
 }
 
 impl FoundRecord {
-    // A record that is there, with these identifiers or with others.
-    fn with(is_same: bool) -> FoundRecord
-        ensures { result
-            ≡ (if is_same then FoundRecord.SameIdentifiers else FoundRecord.OtherIdentifiers) }
-    {
-        if is_same {
-            FoundRecord::SameIdentifiers
-        } else {
-            FoundRecord::OtherIdentifiers
-        }
-    }
-
     /// Whether the record is there.
     pub fn is_there(self) -> bool
         ensures { result ≡ is_there self }
     {
         match self {
             FoundRecord::Absent => false,
-            FoundRecord::OtherIdentifiers | FoundRecord::SameIdentifiers => true,
+            FoundRecord::Present { .. } => true,
+        }
+    }
+
+    /// Whether the record has the identifiers and the supplies of the product.
+    pub fn is_same(self) -> bool
+        ensures { result ≡ (has_same_identifiers self && has_same_supplies self) }
+    {
+        match self {
+            FoundRecord::Absent => false,
+            FoundRecord::Present {
+                same_identifiers,
+                same_supplies,
+            } => same_identifiers && same_supplies,
         }
     }
 }
 
-/// What is there of a record, against these identifiers.
-/// A record has an identifier, so the rows of its identifiers tell that it is there. A fault is one of
-/// the store, or out of memory; `Unusable` where a row cannot be read back.
-pub fn find_record<S: Alter>(
+// Whether it matters for a record that is there that its supplies are those of the product.
+fn asks_for_supplies(product: &Product, same_identifiers: bool) -> bool {
+    match Change::of(product.notification) {
+        Change::Replace => same_identifiers,
+        Change::Update => !product.supplies.is_empty(),
+        Change::Delete | Change::Ignore => false,
+    }
+}
+
+// Whether a record is there. A record has an identifier, so the rows of its identifiers tell it.
+pub(crate) fn has_record<S: Alter>(
+    work: &mut Work<'_, S>,
+    row: &RecordRow,
+) -> Result<bool, StoreFault>
+    ensures { Does S.Store (KeepsRows (TellsRecord row.now)) work.old work.new result }
+{
+    let articles = work.record_articles(row)?;
+    Ok(!articles.as_slice().is_empty())
+}
+
+// Whether the identifiers of a record are these, or `None` where it is not there.
+fn has_identifiers<S: Alter>(
     alloc: Global,
     work: &mut Work<'_, S>,
     row: &RecordRow,
     ids: &[ProductIdentifier],
-) -> Result<FoundRecord, StoreFault>
-    ensures { Does S.Store (KeepsRows (Finds row.now ids.now)) work.old work.new result }
+) -> Result<Option<bool>, StoreFault>
+    ensures { Does S.Store (KeepsRows (TellsIdentifiers row.now ids.now)) work.old work.new result }
 {
     let articles = work.record_articles(row)?;
-    let is_new = articles.as_slice().is_empty();
-    if is_new {
-        return Ok(FoundRecord::Absent);
+    let is_absent = articles.as_slice().is_empty();
+    if is_absent {
+        return Ok(None);
     }
     let wanted = article_rows(alloc, &row.series, &row.reference, ids)?;
-    Ok(FoundRecord::with(same_articles(articles.as_slice(), wanted.as_slice())))
+    Ok(Some(same_articles(articles.as_slice(), wanted.as_slice())))
 }
 
-/// Whether the supplies of a record are these. Without `with_minimums` the rows of minimums are not
+/// What is there of the record of a product. Without `with_minimums` the rows of minimums are not
 /// asked for: none of its prices may have one then. A fault is one of the store, or out of memory;
 /// `Unusable` where a row cannot be read back.
-pub fn has_supplies<S: Alter>(
+pub fn find_record<S: Alter>(
+    alloc: Global,
+    work: &mut Work<'_, S>,
+    row: &RecordRow,
+    product: &Product,
+    with_minimums: bool,
+) -> Result<FoundRecord, StoreFault>
+    ensures { Does S.Store (KeepsRows (FindsAs with_minimums row.now product.now))
+        work.old work.new result }
+{
+    let told = has_identifiers(alloc, work, row, product.ids.as_slice())?;
+    let Some(same_identifiers) = told else {
+        return Ok(FoundRecord::Absent);
+    };
+    let asks = asks_for_supplies(product, same_identifiers);
+    if !asks {
+        return Ok(FoundRecord::Present {
+            same_identifiers,
+            same_supplies: false,
+        });
+    }
+    let same_supplies = has_supplies(alloc, work, row, product.supplies.as_slice(), with_minimums)?;
+    Ok(FoundRecord::Present {
+        same_identifiers,
+        same_supplies,
+    })
+}
+
+// Whether the supplies of a record are these, where its prices are read so.
+fn has_supplies<S: Alter>(
     alloc: Global,
     work: &mut Work<'_, S>,
     row: &RecordRow,

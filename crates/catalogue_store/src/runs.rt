@@ -12,7 +12,7 @@ ghost use Rattle.catalogue_store.specs.WrittenRows.{product_articles, product_of
 ghost use Rattle.onix_records.specs.declared.parts.Product.{Product};
 
 use crate::build::{add_article_rows, add_offer_rows, add_price_rows};
-use crate::reading::{FoundRecord, find_record};
+use crate::reading::has_record;
 use crate::records::{put_offers_and_prices, put_records_and_articles};
 use catalogue_rules::change::Change;
 use desk_tables::articles::ArticleRow;
@@ -66,11 +66,11 @@ fn is_replaced(product: &Product) -> bool
     }
 }
 
-/// Whether the product brings a whole record, where that was found at its reference.
-pub fn brings_new(product: &Product, found: FoundRecord) -> bool
-    ensures { result ≡ brings_new product.now found }
+/// Whether the product brings a whole record that is not there.
+pub fn brings_new(product: &Product, is_there: bool) -> bool
+    ensures { result ≡ brings_new product.now is_there }
 {
-    is_replaced(product) && !found.is_there()
+    is_replaced(product) && !is_there
 }
 
 // Whether one of the products has the reference.
@@ -92,8 +92,8 @@ fn is_new<S: Alter>(
     ensures { Does S.Store (KeepsRows (IsNewIn series.now product.now)) work.old work.new result }
 {
     let row = record_row(alloc, series, product)?;
-    let found = find_record(alloc, work, &row, product.ids.as_slice())?;
-    Ok(brings_new(product, found))
+    let is_there = has_record(work, &row)?;
+    Ok(brings_new(product, is_there))
 }
 
 // How many of the products, the first of which is one, are new records of other references each.

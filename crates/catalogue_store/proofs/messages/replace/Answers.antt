@@ -1,25 +1,21 @@
-use Rattle.std.proofs.Common.{Some, ap, subst}
-use Rattle.catalogue_store.proofs.DoesLemmas.{did_also}
-use Rattle.catalogue_store.specs.ReadRows.{IsFound, is_there}
-use Rattle.catalogue_store.proofs.ProductLemmas.{replaced_known, replaced_unknown}
+use Rattle.std.proofs.Common.{sym, ◌∙◌}
+use Rattle.catalogue_store.proofs.DoesLemmas.{did_also, did_nothing}
+use Rattle.catalogue_store.specs.ReadRows.{has_same_identifiers, has_same_supplies}
+use Rattle.catalogue_store.proofs.ProductLemmas.{both_true, replaced_known, replaced_same, replaced_unknown}
 use Rattle.catalogue_store.proofs.messages.replace.Goals as goal
 
-pub returns-in-SameIdentifiers : goal.returns-in-SameIdentifiers
-returns-in-SameIdentifiers g c =
-    let row = c.args.row.now in
-    let ids = c.as_slice-ids.result.now in
-    let supplies = c.as_slice-supplies.result.now in
-    did_also c.keep_record.ensures
-    (λ rows after a one. λ reads. replaced_known row c.args.product.now ids supplies c.args.found rows after c.as_slice-ids.ensures c.as_slice-supplies.ensures (ap is_there c.in-SameIdentifiers.is)
-    (λ e held finds some storable. one reads e held (subst (IsFound row ids (Some e)) c.in-SameIdentifiers.is finds) some storable))
+pub returns-then-is_same : goal.returns-then-is_same
+returns-then-is_same g c =
+    let found = c.args.found in
+    let same = both_true (has_same_identifiers found) (has_same_supplies found) (sym c.is_same-is_same.ensures ∙ c.if-is_same.true) in
+    did_nothing (λ rows. replaced_same c.args.row.now c.args.product.now found rows same.0 same.1)
 
-pub returns-in-Absent : goal.returns-in-Absent
-returns-in-Absent g c =
-    did_also c.write_record.ensures
-    (λ rows after a one. λ reads. replaced_unknown c.args.row.now c.args.product.now c.as_slice-ids.result.now c.as_slice-supplies.result.now c.args.found rows after c.as_slice-ids.ensures c.as_slice-supplies.ensures (ap is_there c.in-Absent.is) one)
-
-pub returns-in-OtherIdentifiers : goal.returns-in-OtherIdentifiers
-returns-in-OtherIdentifiers g c =
+pub returns-then-is_there : goal.returns-then-is_there
+returns-then-is_there g c =
     did_also c.rewrite_record.ensures
-    (λ rows after a one. λ reads. replaced_known c.args.row.now c.args.product.now c.as_slice-ids.result.now c.as_slice-supplies.result.now c.args.found rows after c.as_slice-ids.ensures c.as_slice-supplies.ensures (ap is_there c.in-OtherIdentifiers.is)
-    (λ e held finds some storable. one some storable))
+    (λ rows after a one. replaced_known c.args.row.now c.args.product.now c.as_slice-ids.result.now c.as_slice-supplies.result.now c.args.found rows after c.as_slice-ids.ensures c.as_slice-supplies.ensures (sym c.is_there-is_there.ensures ∙ c.if-is_there.true) one)
+
+pub returns : goal.returns
+returns g c =
+    did_also c.write_record.ensures
+    (λ rows after a one. replaced_unknown c.args.row.now c.args.product.now c.as_slice-ids.result.now c.as_slice-supplies.result.now c.args.found rows after c.as_slice-ids.ensures c.as_slice-supplies.ensures (sym c.is_there-is_there.ensures ∙ c.if-is_there.false) one)

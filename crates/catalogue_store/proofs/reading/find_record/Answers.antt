@@ -1,34 +1,49 @@
-use Rattle.std.proofs.Common.{◌≡◌, ◌==◌, ℕ, true, false, List, [], ◌∷◌, length, arith, refl, sym, ◌∙◌}
-use Rattle.std.proofs.lemmas.Bool.Decides.{nat_tests}
-use Rattle.catalogue_store.proofs.DoesLemmas.{called, did_as}
-use Rattle.catalogue_store.proofs.ReadLemmas.{record_has, record_lacks}
+use Rattle.std.proofs.Common.{◌≡◌, Bool, false, List, ap, subst, ◌∙◌, rules}
+use Rattle.std.specs.Option.{is_some}
+use Rattle.onix_records.specs.declared.parts.ProductIdentifier.{ProductIdentifier}
+use Rattle.onix_records.specs.declared.parts.ProductSupply.{ProductSupply}
+use Rattle.desk_tables.specs.Rows.{DeskRows}
+use Rattle.catalogue_store.proofs.DoesLemmas.{did_as, did_fail, did_then}
+use Rattle.catalogue_store.proofs.ReadLemmas.{record_found}
+use Rattle.catalogue_store.specs.Calls.{HoldsSuppliesAs}
+use Rattle.catalogue_store.specs.EntryRows.{supplies_of}
+use Rattle.catalogue_store.specs.ReadRows.{HasSupplyRows, TellsIdentifiers}
 use Rattle.catalogue_store.proofs.reading.find_record.Goals as goal
 
-is_zero : (n : ℕ) → (n == 0) ≡ true → n ≡ 0
-is_zero n e = grind (arith, nat_tests)
+pub returns-in_default : goal.returns-in_default
+returns-in_default g c =
+    did_as c.in_ok-told.ensures
+    (λ rows after one. (one.0, λ reads. λ o held. record { there = (one.1 o held).0 ∙ ap is_some c.in_default.is; same_identifiers = λ e. absurd cc; same_supplies = λ e. absurd cc }))
 
-none_of : {A : Type 0} (xs : List A) → (length xs == 0) ≡ true → xs ≡ []
-none_of [] e = refl
-none_of (x ∷ xs) e = let zero = is_zero (length (x ∷ xs)) e in absurd (omega arith)
-
-some_of : {A : Type 0} (xs : List A) → (length xs == 0) ≡ false → xs ≡ [] → ⊥
-some_of [] e none = cc
-some_of (x ∷ xs) e none = cc
-
-pub returns-then-is_new : goal.returns-then-is_new
-returns-then-is_new g c =
-    let none = sym c.as_slice.ensures.value ∙ none_of c.as_slice.result.now (sym c.is_empty-is_new.ensures ∙ c.if-is_new.true) in
-    did_as (called c.in_ok-articles.ensures)
-    (λ rows after a. (a.1, record_lacks c.args.row.now c.args.ids.now rows c.in_ok-articles.articles.items a.0 none))
+pub returns-then-not-asks : goal.returns-then-not-asks
+returns-then-not-asks g c =
+    let row = c.args.row.now in
+    let told = c.in_ok-told.told in
+    did_as c.in_ok-told.ensures
+    (λ rows after one. (
+      one.0,
+      λ reads. record_found row c.args.product.now rows told c.in-Some.same_identifiers false (subst (λ (i : List ProductIdentifier). TellsIdentifiers row i rows told) c.as_slice.ensures one.1) c.in-Some.is (λ e. absurd cc),
+    ))
 
 pub returns : goal.returns
 returns g c =
-    let articles = c.in_ok-articles.articles.items in
-    let some = λ (none : articles ≡ []). some_of c.as_slice.result.now (sym c.is_empty-is_new.ensures ∙ c.if-is_new.false) (c.as_slice.ensures.value ∙ none) in
-    did_as (called c.in_ok-articles.ensures)
-    (λ rows after a. (
-      a.1,
-      record_has c.args.row.now c.args.ids.now rows articles c.in_ok-wanted.wanted.items c.same_articles.result c.with.result a.0 some c.in_ok-wanted.ensures
-          (λ told. sym c.as_slice-2.ensures.value ∙ c.same_articles.ensures.0 told ∙ c.as_slice-3.ensures.value)
-          c.with.ensures,
+    let row = c.args.row.now in
+    let p = c.args.product.now in
+    let told = c.in_ok-told.told in
+    let supplies = c.as_slice-2.result.now in
+    let Both : DeskRows → Bool → DeskRows → Type 0 = λ rows b after. (after ≡ rows) × TellsIdentifiers row p.ids rows told × HoldsSuppliesAs c.args.with_minimums row supplies rows b in
+    did_as {First = Both}
+    (did_then c.in_ok-told.ensures c.in_ok-same_supplies.ensures
+    (λ rows between after b one two. (
+      two.0 ∙ one.0,
+      subst (λ (i : List ProductIdentifier). TellsIdentifiers row i rows told) c.as_slice.ensures one.1,
+      subst (λ (d : DeskRows). HoldsSuppliesAs c.args.with_minimums row supplies d b) one.0 two.1,
+    )))
+    (λ rows after one. (
+      one.0,
+      λ reads. record_found row p rows told c.in-Some.same_identifiers c.in_ok-same_supplies.same_supplies one.1 c.in-Some.is
+          (λ yes o held. subst (λ (l : List ProductSupply). HasSupplyRows row l (supplies_of o)) c.as_slice-2.ensures (one.2 reads o held yes)),
     ))
+
+pub returns-in_err-same_supplies : goal.returns-in_err-same_supplies
+returns-in_err-same_supplies g c = did_fail (search rules) c.in_ok-told.ensures c.in_err-same_supplies.ensures

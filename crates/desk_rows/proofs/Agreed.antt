@@ -259,8 +259,3 @@ agrees_new rows now a put none free L stands =
       subst (λ d. StandsFor d (Agree a ∷ L)) (sym put) (agreed_stands rows L a stands no_name no_between),
       ap (agree_answer_by a None) (sym no_between) ∙ ap (λ o. agree_answer_by a o (between (agreements_of L) a.sender a.addressee)) (sym no_name),
     )
-
--- ---- after both questions
-
-pub agrees_taken_at : (rows between now : DeskRows) (a : Agreement) (row : SeriesRow) → between ≡ rows → now ≡ between → None ≡ series_at a.name rows → Some row ≡ series_between a.sender a.addressee between → Answers (Agree a) (λ L. agree_answer L a) rows (SeriesTaken row.agreement.name) now
-agrees_taken_at rows between now a row first second none there = agrees_taken rows now a row (second ∙ first) none (there ∙ ap (series_between a.sender a.addressee) first)

@@ -1,34 +1,30 @@
 -- What the tables list: the agreements in the order of their names, and the text at a number.
-use Rattle.std.proofs.Common.{◌≡◌, ◌<◌, ◌≤◌, ◌+◌, ◌⊎◌, inl, inr, ℕ, Bool, true, false, List, [], ◌∷◌, Option, Some, None, refl, sym, ap, ◌∙◌, subst, cond, map, arith}
+use Rattle.std.proofs.Common.{◌≡◌, ◌<◌, ◌≤◌, ◌⊎◌, inl, inr, ℕ, Bool, true, false, List, [], ◌∷◌, Option, Some, None, refl, sym, ap, ◌∙◌, subst, cond, map, arith}
 use Rattle.std.specs.Prelude.{T, ◌&&◌, bytes_eq, find, option_map}
 use Rattle.std.specs.Cmp.Lexicographic.{slice_cmp}
 use Rattle.std.specs.FinMap as fin
 use Rattle.std.specs.FinMap.{entries, entries-from_sorted, from_sorted, get-from_sorted, is_sorted}
 use Rattle.std.specs.FinMap.Entries.{below_all}
-use Rattle.std.specs.List.{AllByRecursion, Contains}
+use Rattle.std.specs.List.{AllByRecursion}
 use Rattle.std.specs.List.Sorted.{IsPermutation, IsStrictlySortedBy}
 use Rattle.std.specs.Ordering.{is_eq, is_lt, nat_cmp}
-use Rattle.std.specs.declared.cmp.Ordering.{Ordering}
 use Rattle.std.specs.declared.cmp.Ordering.TheVariants.{Less}
 use Rattle.std.proofs.lemmas.Bool.{cases_lt}
 use Rattle.std.proofs.lemmas.List.Sorted.{Contains-permutation, IsPermutation-sym}
 use Rattle.std.proofs.lemmas.Slice.Eq.{bytes_eq-Decides}
-use Rattle.desk_tables.specs.Rows.{AreSeriesInOrder, DeskRows, is_named, series_at}
+use Rattle.desk_tables.specs.Rows.{AreSeriesInOrder, DeskRows, is_named}
 use Rattle.desk_tables.specs.declared.series.SeriesRow.{SeriesRow}
 use Rattle.onix_records.specs.declared.agreements.Agreement.{Agreement}
 use Rattle.series_rules.proofs.Elements.{In, contains_in, in_contained}
 use Rattle.series_rules.proofs.GapLemmas.{none_below_first}
 use Rattle.series_rules.proofs.OfferLemmas.{equal_maps, get-by_name, same_test}
 use Rattle.series_rules.specs.Agreements.{agreements_of, named}
-use Rattle.series_rules.specs.Firsts.{first_at}
 use Rattle.series_rules.specs.Offers.{by_name}
-use Rattle.series_rules.specs.Series.{front_of}
 use Rattle.series_rules.specs.declared.requests.Request.{Request}
 use Rattle.desk_rows.specs.Desks.{OnlyAnswers}
 use Rattle.desk_rows.specs.Listing.{NamesRise}
 use Rattle.desk_listing.specs.Listing.{agreements_by_name, text_after}
-use Rattle.desk_rows.specs.Stands.{HasNothing, SeriesStands, StandsFor, stored_text}
-use Rattle.desk_rows.specs.Texts.{standing_text}
+use Rattle.desk_rows.specs.Stands.{StandsFor, stored_text}
 use Rattle.desk_rows.specs.declared.answers_at.Stored.{Stored}
 use Rattle.desk_rows.proofs.Agreed.{none_under}
 use Rattle.desk_rows.proofs.Fronts.{stands_front, stored_is}

@@ -1,12 +1,24 @@
 -- A request from the beginning of its transaction to its end.
-use Rattle.std.proofs.Common.{◌≡◌, Bool, true, false, List, ◌∷◌, Ok, Err, Result, IfErr, IfOk, IsTrue, ◌⊎◌, inl, inr, sym, ap, ◌∙◌, subst, arith}
+use Rattle.std.proofs.Common.{◌≡◌, ℕ, Bool, true, false, List, ◌∷◌, Some, Ok, Err, Result, IfErr, IfOk, IsTrue, ◌⊎◌, inl, inr, sym, ap, ◌∙◌, subst, arith}
 use Rattle.sqlite.specs.Effect.{Database}
 use Rattle.sqlite.specs.State.{State, HasCleanDisk, KeepsCommit, Survives}
 use Rattle.sqlite_trees.specs.Tree.{Trees}
-use Rattle.catalogue_store.specs.Achieves.{Achieves}
+use Rattle.sqlite_trees.specs.declared.store.Store.{Ghosts}
+use Rattle.catalogue_store.specs.Achieves.{Achieves, Does}
+use Rattle.catalogue_store.proofs.DoesLemmas.{did_also}
+use Rattle.desk_tables.specs.Calls.{seen, state_of, Undoes}
 use Rattle.desk_tables.specs.Rows.{DeskRows, Holds}
 use Rattle.desk_tables.specs.Transactions.{BeginsWork, EndsWork, IsUndone, LeavesOnly, NoTrees}
+use Rattle.desk_tables.specs.declared.tables.Tables.{Tables}
+use Rattle.desk_tables.specs.declared.work.Work.{Work}
+use Rattle.onix_records.specs.Message.{message_of}
 use Rattle.onix_records.specs.declared.faults.StoreFault.{StoreFault}
+use Rattle.onix_records.specs.declared.parts.Header.{Header}
+use Rattle.onix_records.specs.declared.parts.Product.{Product}
+use Rattle.series_rules.specs.Answers.{delivery_answer}
+use Rattle.series_rules.specs.declared.answers.DeliveryAnswer.{DeliveryAnswer}
+use Rattle.series_rules.specs.declared.requests.Request.TheVariants.{Deliver}
+use Rattle.desk_rows.specs.Answering.{AnswersMessage}
 use Rattle.series_rules.specs.declared.requests.Request.{Request}
 use Rattle.series_rules.specs.Changes.{changes, is_question}
 use Rattle.series_rules.specs.Views.{Asks, IsFaultOf, Stays, Tells}
@@ -154,15 +166,26 @@ module _ {A W : Type 0} (w : W) (r : Request) (plain : is_question r ≡ false) 
       clean2 : HasCleanDisk s3 → HasCleanDisk s2
       clean2 clean = omega (arith, ends.survives.clean)
 
--- a request whose transaction was ended
-pub asked : {A W : Type 0} (w : W) (r : Request) → is_question r ≡ false → (answer : List Request → A) (s0 s1 s2 s3 : State) (spent : Bool) (given result : Result A StoreFault) → BeginsWork {A = W} {E = StoreFault} s0 s1 (Ok w)
+ended : {A W : Type 0} (w : W) (r : Request) → is_question r ≡ false → (answer : List Request → A) (s0 s1 s2 s3 : State) (spent : Bool) (given result : Result A StoreFault) → BeginsWork {A = W} {E = StoreFault} s0 s1 (Ok w)
     → Achieves (Answers r answer) s1 s2 given → Finishes s2 s3 spent given result → Asks r answer (seen_in s0) (seen_in s3) result
-asked {A} w r plain answer s0 s1 s2 s3 spent (Err e) result begins done (is, undoes) =
+ended {A} w r plain answer s0 s1 s2 s3 spent (Err e) result begins done (is, undoes) =
     subst (λ (x : Result A StoreFault). Asks r answer (seen_in s0) (seen_in s3) x) (sym is) (asked_failed w r answer (Answers r answer) s0 s1 s2 s3 e begins done undoes.undone undoes.survives)
-asked {A} w r plain answer s0 s1 s2 s3 spent (Ok a) result begins done (inl (is, ends)) =
+ended {A} w r plain answer s0 s1 s2 s3 spent (Ok a) result begins done (inl (is, ends)) =
     subst (λ (x : Result A StoreFault). Asks r answer (seen_in s0) (seen_in s3) x) (sym is) (asked_done w r plain answer s0 s1 s2 s3 a spent begins done tt ends.ends ends.durable)
-asked {A} w r plain answer s0 s1 s2 s3 spent (Ok a) result begins done (inr (e, is, ends)) =
+ended {A} w r plain answer s0 s1 s2 s3 spent (Ok a) result begins done (inr (e, is, ends)) =
     subst (λ (x : Result A StoreFault). Asks r answer (seen_in s0) (seen_in s3) x) (sym is) (asked_refused w r plain answer s0 s1 s2 s3 a spent begins done e ends.ends)
+
+-- a request whose transaction was ended
+pub asked : {S A W : Type 0} {store : Ghosts S} {r : Request} {answer : List Request → A} {before after : Work S} {w : W} {given result : Result A StoreFault} (old end new : Tables S) → end ≡ new → is_question r ≡ false → BeginsWork {A = W} {E = StoreFault} (state_of store old) (seen store before) (Ok w)
+    → Does store (Answers r answer) before after given → Finishes (seen store after) (state_of store end) after.spent given result → Asks r answer (seen_in (state_of store old)) (seen_in (state_of store new)) result
+asked {store = store} {r = r} {answer = answer} {before = before} {after = after} {w = w} {given = given} {result = result} old end new same plain begins done finishes =
+    subst (λ t. Asks r answer (seen_in (state_of store old)) (seen_in (state_of store t)) result) same
+    (ended w r plain answer (state_of store old) (seen store before) (seen store after) (state_of store end) after.spent given result begins done.achieves finishes)
+
+-- a message with a number is answered whatever its records
+pub message_asked : {S : Type 0} {store : Ghosts S} {header : Header} {number : ℕ} {contents : List Product} {old new : Work S} {result : Result DeliveryAnswer StoreFault} (records : List (List (List ℕ))) → message_of records ≡ Some (header, contents) → header.number ≡ Some number
+    → Does store (AnswersMessage header number contents) old new result → Does store (Answers (Deliver records) (λ L. delivery_answer L records)) old new result
+message_asked records read number done = did_also done (λ rows now answer one. one records read number)
 
 -- ---- answered without a transaction
 
@@ -181,7 +204,7 @@ asked_alone r answer s a is nothing stands = record {
 
 -- ---- questions
 
-pub questioned : {A W : Type 0} (w : W) (answer : List Request → A) (s0 s1 s2 s3 : State) (result : Result A StoreFault) → BeginsWork {A = W} {E = StoreFault} s0 s1 (Ok w) → Achieves (OnlyAnswers answer) s1 s2 result → (HasCleanDisk s3 → IsUndone s2 s3) → Survives s2 s3 NoTrees
+questioned : {A W : Type 0} (w : W) (answer : List Request → A) (s0 s1 s2 s3 : State) (result : Result A StoreFault) → BeginsWork {A = W} {E = StoreFault} s0 s1 (Ok w) → Achieves (OnlyAnswers answer) s1 s2 result → (HasCleanDisk s3 → IsUndone s2 s3) → Survives s2 s3 NoTrees
     → Tells answer (seen_in s0) (seen_in s3) result
 questioned {A} w answer s0 s1 s2 s3 result begins done undone survives = record {
   premise = λ clean. clean0 (clean1 (clean2 clean));
@@ -208,3 +231,10 @@ questioned {A} w answer s0 s1 s2 s3 result begins done undone survives = record 
     told : (L : List Request) (rows : DeskRows) → StandsFor rows L → (r : Result A StoreFault) → IfOk r (λ a. (after : DeskRows) × Holds s2.now after × OnlyAnswers answer rows a after) → IfOk r (λ a. a ≡ answer L)
     told L rows stands (Ok a) h = h.2.1 L stands
     told L rows stands (Err e) h = tt
+
+-- a question whose transaction was let go
+pub told : {S A W : Type 0} {store : Ghosts S} {answer : List Request → A} {before after : Work S} {w : W} {result : Result A StoreFault} (old let_go new : Tables S) → let_go ≡ new → BeginsWork {A = W} {E = StoreFault} (state_of store old) (seen store before) (Ok w)
+    → Does store (OnlyAnswers answer) before after result → Undoes (seen store after) (state_of store let_go) → Tells answer (seen_in (state_of store old)) (seen_in (state_of store new)) result
+told {store = store} {answer = answer} {before = before} {after = after} {w = w} {result = result} old let_go new same begins done undone =
+    subst (λ t. Tells answer (seen_in (state_of store old)) (seen_in (state_of store t)) result) same
+    (questioned w answer (state_of store old) (seen store before) (seen store after) (state_of store let_go) result begins done.achieves undone.undone undone.survives)

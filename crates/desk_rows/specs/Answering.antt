@@ -5,14 +5,18 @@ use Rattle.desk_tables.specs.Rows.{DeskRows, applied_at, series_at}
 use Rattle.onix_records.specs.declared.agreements.Agreement.{Agreement}
 use Rattle.onix_records.specs.declared.effects.Effect.{Effect}
 use Rattle.onix_records.specs.ContentsText.{contents_text}
+use Rattle.onix_records.specs.Message.{message_of}
+use Rattle.onix_records.specs.declared.parts.Header.{Header}
 use Rattle.onix_records.specs.declared.parts.Product.{Product}
-use Rattle.series_rules.specs.Answers.{answer_against, waived_by}
+use Rattle.series_rules.specs.Answers.{answer_against, delivery_answer, waived_by}
 use Rattle.series_rules.specs.Firsts.{first_at}
 use Rattle.series_rules.specs.Series.{front_of}
 use Rattle.series_rules.specs.declared.answers.DeliveryAnswer.{DeliveryAnswer}
 use Rattle.series_rules.specs.declared.answers.WaiveAnswer.{WaiveAnswer}
 use Rattle.series_rules.specs.declared.requests.Request.{Request}
+use Rattle.series_rules.specs.declared.requests.Request.TheVariants.{Deliver}
 use Rattle.series_rules.specs.declared.requests.Standing.TheVariants.{Message, Waived}
+use Rattle.desk_rows.specs.Desks.{Answers}
 use Rattle.desk_rows.specs.Stands.{IsFor, StandsFor, stored_text}
 use Rattle.desk_rows.specs.declared.answers_at.Stored.{Stored}
 
@@ -56,6 +60,14 @@ DeliversAt name next n c rows answer now =
     → name ≡ a.name
     → series_at a.name rows ≡ Some (record { agreement = a; next = next })
     → IsDelivered L r a n c answer now
+
+-- so a message with a number is, whatever its series
+abbrev pub AnswersMessage : Header → ℕ → List Product → DeskRows → DeliveryAnswer → DeskRows
+    → Type 0
+AnswersMessage header number c rows answer now =
+    (records : List (List (List ℕ))) → message_of records ≡ Some (header, c)
+    → header.number ≡ Some number
+    → Answers (Deliver records) (λ L. delivery_answer L records) rows answer now
 
 -- a waiver of a number of the series is answered as the definitions say, and stands where nothing
 -- stood

@@ -1,11 +1,10 @@
 //! What an agreement, a message or a waiver does inside its transaction.
 
-ghost use Rattle.std.specs.Prelude.{◌≡◌, List, Some, ℕ, if◌then◌else◌};
-ghost use Rattle.catalogue_store.specs.Achieves.{Achieves, Does};
+ghost use Rattle.std.specs.Prelude.{◌≡◌, if◌then◌else◌};
+ghost use Rattle.catalogue_store.specs.Achieves.{Does};
+ghost use Rattle.desk_rows.specs.Answering.{AnswersMessage};
 ghost use Rattle.desk_rows.specs.Desks.{Answers};
-ghost use Rattle.desk_tables.specs.Calls.{seen};
-ghost use Rattle.onix_records.specs.Message.{message_of};
-ghost use Rattle.series_rules.specs.Answers.{agree_answer, delivery_answer, same_agreement, waive_answer};
+ghost use Rattle.series_rules.specs.Answers.{agree_answer, same_agreement, waive_answer};
 ghost use Rattle.series_rules.specs.declared.requests.Request.{Request};
 
 use crate::answers_at::{deliver_at, waive_at};
@@ -64,11 +63,7 @@ pub fn deliver_in<S: Alter>(
     number: Number,
     contents: Contents,
 ) -> Result<DeliveryAnswer, StoreFault>
-    ensures same_reference { work.new.tables.ghost_name ≡ work.old.tables.ghost_name }
-    ensures achieves { (records : List (List (List ℕ)))
-        → message_of records ≡ Some (header.now, contents) → header.now.number ≡ Some number
-        → Achieves (Answers (Request.Deliver records) (λ L. delivery_answer L records))
-        (seen S.Store work.old) (seen S.Store work.new) result }
+    ensures { Does S.Store (AnswersMessage header.now number contents) work.old work.new result }
 {
     let found = work.series_by_parties(&header.sender, header.addressee.as_ref())?;
     let Some(row) = &found else {

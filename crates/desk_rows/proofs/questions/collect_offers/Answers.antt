@@ -1,31 +1,12 @@
-use Rattle.std.proofs.Common.{◌≡◌, List, ap, fold, rules, subst, ◌∙◌}
-use Rattle.sqlite.specs.Held.{state}
-use Rattle.catalogue_store.proofs.AchievesLemmas.{achieves_also, achieves_call}
-use Rattle.desk_tables.specs.ArticleAnswers.{AreOffersOfArticle}
-use Rattle.desk_tables.specs.Rows.{DeskRows, unchanged}
-use Rattle.price_rules.specs.declared.offer.Offer.{Offer}
-use Rattle.series_rules.specs.Offers.{offers_after}
-use Rattle.series_rules.specs.Views.{Tells}
-use Rattle.series_rules.specs.declared.requests.Request.{Request}
-use Rattle.desk_rows.specs.Desks.{OnlyAnswers}
-use Rattle.desk_rows.specs.Seen.{seen_in}
+use Rattle.std.proofs.Common.{ap, fold, rules, ◌∙◌}
+use Rattle.catalogue_store.proofs.DoesLemmas.{called, did_also}
 use Rattle.desk_rows.proofs.QuestionRows.{article_offers}
-use Rattle.desk_rows.proofs.Transactions.{questioned}
+use Rattle.desk_rows.proofs.Transactions.{told}
 use Rattle.desk_rows.proofs.questions.collect_offers.Goals as goal
 
 pub returns : goal.returns
 returns g c =
-    let s0 = state g.S.Store c.args.tables.now.connection in
-    let s1 = state g.S.Store c.in_ok-work.work.tables.now.connection in
-    let s2 = state g.S.Store c.collect_offers.new.self.tables.now.connection in
-    let s3 = state g.S.Store c.drop-work.new.self.0.connection in
-    let isbn = c.args.isbn.now in
     let collected = fold g.C.OfferCollector.collected c.args.collector in
-    let answer : List Request → _ = λ L. collected (offers_after L isbn) in
-    let Answered : DeskRows → _ → Type 0 = λ rows now. (offers : List Offer) × AreOffersOfArticle isbn rows offers × (now ≡ collected offers) in
-    let same : c.drop-work.new.self.0 ≡ c.tables-2-1.given.0 = search rules in
-    let told = achieves_also (λ rows got now. Answered rows got × (now ≡ rows)) (OnlyAnswers answer) s1 s2 c.collect_offers.result
-    (achieves_call Answered unchanged s1 s2 c.in_ok-work.work.spent c.collect_offers.new.self.spent c.collect_offers.result c.collect_offers.ensures.works)
-    (λ rows now got h m one. (one.1, λ L stands. one.0.2 ∙ ap collected ((article_offers isbn rows now one.0.0 one.1 one.0.1).1 L stands))) in
-    subst (λ t. Tells answer (seen_in s0) (seen_in (state g.S.Store t.connection)) c.collect_offers.result) same
-    (questioned c.in_ok-work.work answer s0 s1 s2 s3 c.collect_offers.result c.in_ok-work.ensures.begun told c.drop-work.ensures.undone c.drop-work.ensures.survives)
+    told c.args.tables.now c.drop-work.new.self.0 c.tables-2-1.given.0 (search rules) c.in_ok-work.ensures.begun
+    (did_also (called c.collect_offers.ensures)
+    (λ rows now got one. (one.1, λ L stands. one.0.2 ∙ ap collected ((article_offers c.args.isbn.now rows now one.0.0 one.1 one.0.1).1 L stands)))) c.drop-work.ensures

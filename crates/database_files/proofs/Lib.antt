@@ -1,1 +1,2 @@
 mod PathLemmas
+pub mod SettledLemmas

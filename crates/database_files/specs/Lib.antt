@@ -1,3 +1,4 @@
 pub mod Databases
 pub mod Found
 pub mod Leftovers
+pub mod MigrationEnd

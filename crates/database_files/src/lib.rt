@@ -1,8 +1,10 @@
 //! The files of a database by its name: `database` looks at one, and `databases` opens it, by its
-//! path (`paths`); `files` is what a command leaves of them.
+//! path (`paths`); `files` is what a command leaves of them. `migration` brings one of an earlier
+//! version to the one that is kept now.
 #![tactic(auto)]
 
 pub mod database;
 pub mod databases;
 pub mod files;
+pub mod migration;
 pub mod paths;

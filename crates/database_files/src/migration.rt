@@ -1,13 +1,13 @@
-//! The command `migrate`: a database file of version 1 is brought to version 2.
+//! A database file of version 1 brought to version 2, as the command `migrate` does.
 
 ghost use Rattle.std.specs.Prelude.{◌≡◌, ◌≤◌, IsTrue};
 ghost use Rattle.std.specs.Io.KnownBytes.{Appends};
 ghost use Rattle.sqlite_wal.specs.Recovery.{Image};
 ghost use Rattle.database_files.specs.Databases.{AreSettled};
-ghost use Rattle.desk_program.specs.MigrationEnd.{MigrateEnds, migration_line};
+ghost use Rattle.database_files.specs.MigrationEnd.{MigrateEnds, migration_line};
 
+use crate::files::{FilesLeft, fault_of};
 use csv_records::streams::{WriteFault, write_whole};
-use database_files::files::{FilesLeft, fault_of};
 use desk_store::{MigrateAnswer, migrate_files_with};
 use program_lines::fault::{Fault, report};
 use sqlite::{Files, Options};
@@ -28,7 +28,7 @@ fn line(answer: MigrateAnswer) -> &'static str
 /// Brings the desk in two files, the database and its log, to version 2, and writes `migrated`, or
 /// `schema 2` where it is of that version and stays as it is. Gives 0, or 3 after a fault, which is
 /// reported; and what is left of the files.
-pub fn run<O, U, D: Disk + Drop, W: Write, E: Write>(
+pub fn migrate<O, U, D: Disk + Drop, W: Write, E: Write>(
     alloc: Global,
     files: Files<D>,
     options: Options,

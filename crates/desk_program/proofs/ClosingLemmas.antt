@@ -7,8 +7,6 @@ use Rattle.sqlite.specs.Effect.{Database, IsDatabase}
 use Rattle.sqlite.specs.Files.{HoldsDatabase, IsClosed, file_state, image_of}
 use Rattle.sqlite.specs.Held.{Held}
 use Rattle.sqlite.specs.State.{HasCleanDisk, State}
-use Rattle.sqlite.specs.declared.file.Leftover.{Leftover}
-use Rattle.sqlite.specs.declared.file.Leftover.TheVariants as leftover
 use Rattle.sqlite_disk.specs.declared.Disk.{Ghosts}
 use Rattle.sqlite_disk.specs.declared.Files.{Files}
 use Rattle.sqlite_store.specs.declared.store.FileStore.{FileStore}
@@ -18,7 +16,6 @@ use Rattle.sqlite_wal.specs.Reads.{AreClean}
 use Rattle.sqlite_wal.specs.Recovery.{Image}
 use Rattle.desk_tables.proofs.MissingIndex.{lacks_again}
 use Rattle.desk_tables.proofs.OneSchema.{no_meta_again}
-use Rattle.desk_tables.specs.Rows.{DeskRows}
 use Rattle.desk_tables.specs.Schema.{is_meta}
 use Rattle.named_files.specs.Holdings.{Holdings}
 use Rattle.price_rules.specs.declared.precedence.Rule.{Rule}
@@ -27,15 +24,14 @@ use Rattle.series_rules.specs.Views.{LeavesOnly, View}
 use Rattle.series_rules.specs.declared.requests.Request.{Request}
 use Rattle.desk_rows.proofs.ComesTo.{come_rows, rows_come, stored}
 use Rattle.desk_rows.specs.Desks.{AreRowsOf, KeepsRequests}
-use Rattle.desk_versions.specs.Openings.{AreFilesOf, AreFoundAs, HoldRowsOf, KeepsFiles, TakesFound}
+use Rattle.desk_versions.specs.Openings.{AreFilesOf, AreFoundAs, HoldRowsOf, TakesFound}
 use Rattle.desk_rows.specs.Seen.{in_tables, seen_in}
 use Rattle.desk_program.proofs.EndLemmas.{ComesOf, ComesTo, leads_between, same_refl, task_as}
 use Rattle.desk_program.specs.Closings.{Closes, RunsAndCloses}
-use Rattle.database_files.specs.Databases.{AreSettled}
 use Rattle.desk_program.specs.FileEnds.{FileEnds}
 use Rattle.desk_program.specs.FileViews.{HoldMeta, seen_files, seen_image, seen_store}
 use Rattle.database_files.specs.Leftovers.{HasNoFiles}
-use Rattle.desk_program.specs.MigrationEnd.{MigrateEnds}
+use Rattle.database_files.specs.MigrationEnd.{MigrateEnds}
 use Rattle.desk_commands.specs.TaskEnds.{TaskEnds}
 use Rattle.command_line.specs.declared.invocation.Task.{Task}
 use Rattle.database_files.specs.declared.files.FilesLeft.{FilesLeft}
@@ -123,13 +119,6 @@ closed_ended g rules image was written (NotOpened none) task holds told status b
 closed_ended g rules image was written (Untouched databases) task holds told status begins (own, c, closes, ended) = absurd closes
 
 -- ---- not opened
-
--- what is left of files that could not be opened, by what they held
-pub spares_settled : {D : Type 0} (g : Ghosts D) (made : Database → DeskRows → Database → Type 0) (image : Image) (files : Files D) (left : Leftover D g) → AreSettled g image files
-    → KeepsFiles {g = g} (λ were. were ≡ files) made (image_of g files) left → KeepsFiles {g = g} (AreSettled g image) made image left
-spares_settled g made image files (leftover.Files now) settled (were, is, leaves) = (were, subst (AreSettled g image) (sym is) settled, leaves)
-spares_settled g made image files (leftover.Unopened now) settled (were, is, leaves) = (were, subst (AreSettled g image) (sym is) settled, leaves)
-spares_settled g made image files (leftover.Store it) settled kept = subst (λ i. KeepsFiles {g = g} (AreSettled g image) made i (leftover.Store it)) settled.0 kept
 
 -- there are no files
 pub file_unopened : {O U D : Type 0} (g : Ghosts D) (image : Image) (rules : List Rule) (written : List ℕ → Type 0) (task : Task) (holds : Holdings) (told : Option (List ℕ)) (status : ℕ) (left : FilesLeft O U D g)

@@ -12,7 +12,7 @@ use Rattle.desk_program.specs.FileViews.{seen_image}
 use Rattle.desk_program.specs.OverFiles.{EndsOverFiles}
 use Rattle.database_files.specs.Leftovers.{IsUntouched}
 use Rattle.desk_program.specs.ListingEnds.{FileListingEnds, SparesFiles}
-use Rattle.desk_program.specs.MigrationEnd.{MigrateEnds}
+use Rattle.database_files.specs.MigrationEnd.{MigrateEnds}
 use Rattle.program_lines.specs.Printing.{PrintEnds}
 use Rattle.rules_file.specs.RulesFile.{CheckEnds, RulesFit, status_of}
 use Rattle.desk_commands.specs.Sending.{SendEnds}

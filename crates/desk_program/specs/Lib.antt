@@ -1,4 +1,3 @@
-pub mod MigrationEnd
 pub mod FileViews
 pub mod OverFiles
 pub mod ConvertEnds

@@ -13,7 +13,7 @@ ghost use Rattle.desk_export.specs.PartTexts.{AreInFolder, MayBeInFolder};
 ghost use Rattle.database_files.specs.Databases.{AreSettled};
 ghost use Rattle.desk_program.specs.ListingEnds.{FileListingEnds, IsListed, ListingEnds, ListsAndCloses, SparesFiles};
 
-use crate::program::report_unclosed;
+use crate::closing::close_desk;
 use command_line::invocation::{Database, Listing};
 use csv_records::streams::WriteFault;
 use database_files::databases::{Databases, open_database};
@@ -175,13 +175,7 @@ fn list_and_close<O, U, D: Disk + Drop, F: NamedFiles, W: Write, E: Write>(
         (⟦<DeskStore<FileStore<D>> as Desk>⟧.seen desk) result.0 result.1 }
 {
     let status = run(alloc, &mut desk, listing, files, output, errors);
-    match desk.close_files() {
-        Ok(closed) => (status, FilesLeft::Closed(closed)),
-        Err((fault, store)) => {
-            let status = report_unclosed(status, &Fault::from(fault), errors);
-            (status, FilesLeft::Unclosed(store))
-        }
-    }
+    close_desk(status, desk, errors)
 }
 
 // Lists what the desk in two files holds that were opened.

@@ -6,12 +6,14 @@ ghost use Rattle.sqlite_wal.specs.Recovery.{Image};
 ghost use Rattle.desk_program.specs.Closings.{RunsAndCloses};
 ghost use Rattle.database_files.specs.Databases.{AreSettled};
 ghost use Rattle.desk_program.specs.FileEnds.{ActionEnds, FileEnds, InvocationEnds, NewDeskEnds, ReadsRules, RunEnds};
-ghost use Rattle.desk_program.specs.MigrationEnd.{MigrateEnds};
+ghost use Rattle.database_files.specs.MigrationEnd.{MigrateEnds};
 
-use crate::{converting, help, listing, migrate};
+use crate::closing::close_desk;
+use crate::{converting, help, listing};
 use command_line::invocation::{self, Action, Database, Invocation, Reading, Task};
 use database_files::databases::{Databases, open_database};
 use database_files::files::{FilesLeft, fault_of};
+use database_files::migration::migrate;
 use desk_clients::open_desks::OpenDesks;
 use desk_clients::port::Bound;
 use desk_commands::sending;
@@ -53,17 +55,6 @@ fn run_in_memory<F: NamedFiles, R: Read, W: Write, E: Write>(
     status
 }
 
-/// Writes the line of files that could not be closed, unless the command ended by a fault, which has
-/// its line.
-pub(crate) fn report_unclosed<E: Write>(status: u8, fault: &Fault, errors: &mut E) -> u8
-    ensures { result ≡ 3 }
-{
-    if status == 3 {
-        return 3;
-    }
-    report(fault, errors)
-}
-
 // Runs a command over a desk in two files, and closes them.
 fn run_and_close<O, U, D: Disk + Drop, F: NamedFiles, R: Read, W: Write, E: Write>(
     rt: &HostRuntime,
@@ -86,13 +77,7 @@ fn run_and_close<O, U, D: Disk + Drop, F: NamedFiles, R: Read, W: Write, E: Writ
     let status = run_task(
         rt, &mut desk, precedence, bound, task, files, input, output, errors,
     );
-    match desk.close_files() {
-        Ok(files) => (status, FilesLeft::Closed(files)),
-        Err((fault, store)) => {
-            let status = report_unclosed(status, &Fault::from(fault), errors);
-            (status, FilesLeft::Unclosed(store))
-        }
-    }
+    close_desk(status, desk, errors)
 }
 
 // Runs a command over the desk in two files that were opened.
@@ -167,7 +152,7 @@ fn migrate_file<O: Databases, W: Write, E: Write>(
         (Appends (W.contents output.old) (W.contents output.new)) result.0 result.1 }
 {
     match open_database(rt, db, databases, errors) {
-        Ok((files, options)) => migrate::run(rt.alloc(), files, options, output, errors),
+        Ok((files, options)) => migrate(rt.alloc(), files, options, output, errors),
         Err((fault, none)) => (report(&fault, errors), none),
     }
 }

@@ -7,10 +7,10 @@ use Rattle.sqlite_disk.specs.declared.Files.{Files}
 use Rattle.sqlite_wal.specs.Recovery.{Image}
 use Rattle.desk_versions.specs.Migrations.{MakesSecond}
 use Rattle.desk_versions.specs.declared.migration.MigrateAnswer.{MigrateAnswer}
-use Rattle.desk_program.proofs.ClosingLemmas.{spares_settled}
+use Rattle.database_files.proofs.SettledLemmas.{spares_settled}
 use Rattle.database_files.specs.Databases.{AreSettled}
-use Rattle.desk_program.specs.MigrationEnd.{IsMigrationDone, migration_line}
-use Rattle.desk_program.proofs.migrate.run.Goals as goal
+use Rattle.database_files.specs.MigrationEnd.{IsMigrationDone, migration_line}
+use Rattle.database_files.proofs.migration.migrate.Goals as goal
 
 -- it was done over what the files held
 done : {D : Type 0} (g : Ghosts D) (image : Image) (files now : Files D) (answer : MigrateAnswer) → AreSettled g image files → IsMigrationDone g (image_of g files) answer now → IsMigrationDone g image answer now

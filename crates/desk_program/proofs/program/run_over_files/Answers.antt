@@ -4,7 +4,8 @@ use Rattle.std.specs.Io.KnownBytes.{Appends}
 use Rattle.sqlite.specs.Files.{file_state}
 use Rattle.desk_versions.specs.Openings.{MakesIndex}
 use Rattle.desk_rows.specs.Seen.{seen_in}
-use Rattle.desk_program.proofs.ClosingLemmas.{closed_ended, opened_comes, spares_settled}
+use Rattle.desk_program.proofs.ClosingLemmas.{closed_ended, opened_comes}
+use Rattle.database_files.proofs.SettledLemmas.{spares_settled}
 use Rattle.desk_program.proofs.EndLemmas.{ComesTo}
 use Rattle.desk_program.specs.FileViews.{seen_image}
 use Rattle.desk_program.proofs.program.run_over_files.Goals as goal

@@ -1,3 +1,4 @@
 pub mod OrderLaws
 pub mod IsbnLaws
+pub mod RowLaws
 pub mod StateLaws

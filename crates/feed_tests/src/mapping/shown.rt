@@ -26,10 +26,10 @@ impl Model for Shown {
 }
 
 // The record of a Header and what it says, or why the message is refused.
-fn header_record<'a>(
+fn header_record(
     alloc: Global,
-    paragraph: &'a [u8],
-    elements: &Elements<'a>,
+    paragraph: &[u8],
+    elements: &Elements<'_>,
 ) -> Result<(String, Opening), HeaderFault> {
     let choices = choices_in(paragraph);
     let mut fields = FieldBuffer::new(alloc);

@@ -4,7 +4,7 @@ use Rattle.desk_program.proofs.ClosingLemmas.{migrate_unopened}
 use Rattle.desk_program.proofs.program.migrate_file.Goals as goal
 
 pub returns-in-Ok-clause-end : goal.returns-in-Ok-clause-end
-returns-in-Ok-clause-end g c = c.run.ensures.end (g.O.Databases.held c.args.databases c.args.db.now.name.now) c.in-Ok.ensures.settled
+returns-in-Ok-clause-end g c = c.migrate.ensures.end (g.O.Databases.held c.args.databases c.args.db.now.name.now) c.in-Ok.ensures.settled
 
 pub returns-in-Err-clause-end : goal.returns-in-Err-clause-end
 returns-in-Err-clause-end g c =

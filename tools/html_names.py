@@ -1,4 +1,4 @@
-"""The named characters of HTML, as crates/xml_text/src/html_names.rt has them, from Python's table: tools/html-names
+"""The named characters of HTML, as crates/feed_xml/src/html_names.rt has them, from Python's table: tools/html-names
 writes that file."""
 
 import unicodedata
@@ -7,7 +7,7 @@ from html.entities import html5, name2codepoint
 
 from tools.root import ROOT
 
-LISTS = ROOT / "crates/xml_text/src/html_names.rt"
+LISTS = ROOT / "crates/feed_xml/src/html_names.rt"
 
 # XML has names with their semicolon alone.
 NAMES = {name.removesuffix(";"): characters for name, characters in html5.items() if name.endswith(";")}

@@ -5,7 +5,7 @@ over files with the rows of their tables, and to a migration.
     tests/refused-memory [-k TEXT] [PROGRAM]
     bench/refused_memory [-k TEXT] [PROGRAM]
 
-PROGRAM is that of the tests of the libraries, crates/library_tests/out/library_tests_tests where none is
+PROGRAM is that of the tests of the libraries, crates/desk_tests/out/desk_tests_tests where none is
 named, and is then refused where a source has changed since it was built. The second tries what takes too long for
 the gate. With -k only the tests are tried that have the text in their names. The last line is
 `memory: N requests refused, M runs failed`. Status 0; 1 where a run failed; 2 where there is no such program.

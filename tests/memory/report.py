@@ -10,7 +10,7 @@ from tools.root import ROOT
 # How many of the runs of a sweep that failed are shown.
 SHOWN = 5
 
-PROGRAM = ROOT / "crates/library_tests/out/library_tests_tests"
+PROGRAM = ROOT / "crates/desk_tests/out/desk_tests_tests"
 
 
 def is_stale(program: Path) -> bool:

@@ -123,7 +123,7 @@ VERSION = r'^const VERSION: &str = "([0-9]+\.[0-9]+\.[0-9]+)";$'
 
 def version(room: Room) -> Iterator[Outcome]:
     """It stands in the program's source alone, from which the package and the manual pages have it."""
-    source = ROOT.joinpath("crates/command_line/src/commands.rt").read_text(encoding="utf-8")
+    source = ROOT.joinpath("crates/program_words/src/commands.rt").read_text(encoding="utf-8")
     number = sought(VERSION, source)
     yield Outcome("the version of the program", room.run("--version").output, f"onixdesk {number}\n".encode())
     package = [*ROOT.joinpath("packaging").glob("*.1"), *ROOT.glob("packaging/debian/*"), *ROOT.glob("bin/*")]

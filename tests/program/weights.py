@@ -11,7 +11,7 @@ from tools.root import ROOT
 PARTS = [
     ("/kit/bin/rattle check --crate-name price_rules src/lib.rt", "/a/crates/price_rules", ("proofs", "price_rules")),
     ("rattle check --crate-name feed_tests src/main.rt", "/a/crates/feed_tests", ("tests", "feed_tests")),
-    ("rattle build --crate-name library_tests --test", "/a/crates/library_tests", ("tests", "library_tests")),
+    ("rattle build --crate-name desk_tests --test", "/a/crates/desk_tests", ("tests", "desk_tests")),
     ("rattle check --crate-name desk_store", "/tmp/rt-edit-x1", ("edits", "desk_store")),
     ("rattle build --crate-name onixdesk --crate-checked x", "/a/crates/onixdesk", ("compiling", "onixdesk")),
     ("/kit/bin/rattle-link -o x", "/tmp", ("others", "linking")),

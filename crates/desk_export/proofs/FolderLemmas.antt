@@ -1,7 +1,7 @@
 -- Files of a folder that get their names, or may.
 use Rattle.std.proofs.Common.{List, Result, Ok, Err, inl}
 use Rattle.std.specs.Prelude.{OnErr, OnOk}
-use Rattle.named_files.specs.Holdings.{Holdings, MayName, NamedText, Names}
+use Rattle.program_files.specs.Holdings.{Holdings, MayName, NamedText, Names}
 
 -- nothing was done
 pub none_named : (files : List NamedText) (holds : Holdings) → MayName files holds holds

@@ -6,7 +6,7 @@ use Rattle.std.proofs.lemmas.Bool.Decides.{nat_tests}
 use Rattle.std.proofs.lemmas.Grind.{flat_map-append}
 use Rattle.std.proofs.lemmas.List.{map-append}
 use Rattle.csv_records.specs.RecordTexts.{limit}
-use Rattle.named_files.specs.Holdings.{told_text}
+use Rattle.program_files.specs.Holdings.{told_text}
 use Rattle.series_rules.specs.declared.requests.Request.{Request}
 use Rattle.desk_export.proofs.AppendedTexts.{batch_texts}
 use Rattle.desk_export.specs.Exporting.{TakesAll, texts_of}

@@ -2,8 +2,8 @@
 use Rattle.std.specs.Prelude.{◌≡◌, ◌≤◌, ◌⊎◌, ◌++◌, ◌∷◌, [], ℕ, List, length, map}
 use Rattle.std.specs.List.{AllByRecursion, flat_map}
 use Rattle.csv_records.specs.RecordTexts.{limit}
-use Rattle.named_files.specs.Holdings.{Holdings, MayName, Names}
-use Rattle.named_files.specs.PartFiles.{files_of, numbered}
+use Rattle.program_files.specs.Holdings.{Holdings, MayName, Names}
+use Rattle.program_files.specs.PartFiles.{files_of, numbered}
 use Rattle.series_rules.specs.declared.requests.Request.{Request}
 use Rattle.desk_export.specs.RequestTexts.{batch_text}
 

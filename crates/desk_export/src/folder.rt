@@ -1,8 +1,8 @@
 //! The export of a desk into a folder, as files of parts that a batch takes one after the other.
 
 ghost use Rattle.std.specs.Prelude.{◌≡◌, ◌++◌, ◌∷◌, [], ℕ, List, OnErr, OnOk, map, true};
-ghost use Rattle.named_files.specs.Holdings.{MayName, Names};
-ghost use Rattle.named_files.specs.PartFiles.{files_of, numbered};
+ghost use Rattle.program_files.specs.Holdings.{MayName, Names};
+ghost use Rattle.program_files.specs.PartFiles.{files_of, numbered};
 ghost use Rattle.desk_export.specs.Asking.{IsAsked};
 ghost use Rattle.desk_export.specs.Exports.{export_of};
 ghost use Rattle.series_rules.specs.declared.requests.Request.{Request};
@@ -12,7 +12,7 @@ use crate::export::ExportFault;
 use crate::list_text::{Listed, list_desk};
 use crate::part_texts::PartTexts;
 use desk_listing::listing::ListedDesk;
-use named_files::{FileFault, MadeFiles, NamedFiles};
+use program_files::{FileFault, MadeFiles, NamedFiles};
 use std::alloc::Global;
 
 // Makes the file of the last part.

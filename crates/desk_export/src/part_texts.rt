@@ -6,7 +6,7 @@ ghost use Rattle.desk_export.specs.PartTexts.{MayTurn, filling};
 
 use crate::taking::TakesTexts;
 use csv_records::reading::LIMIT;
-use named_files::{FileFault, MadeFiles, NamedFiles, PartFiles};
+use program_files::{FileFault, MadeFiles, NamedFiles, PartFiles};
 use std::alloc::Global;
 
 // The NAME under which the parts of an export are hidden until all are made.

@@ -3,7 +3,7 @@ use Rattle.std.proofs.Common.{◌≡◌, ◌+◌, ◌≤◌, ℕ, Bool, true, fa
 use Rattle.catalogue_rules.specs.Records.{ByReference}
 use Rattle.onix_records.specs.declared.agreements.Agreement.{Agreement}
 use Rattle.onix_records.specs.declared.effects.Effect.{Effect}
-use Rattle.catalogue_store.specs.Holding.{HoldsCatalogue, IsApplied}
+use Rattle.desk_catalogue.specs.Holding.{HoldsCatalogue, IsApplied}
 use Rattle.desk_tables.specs.Rows.{DeskRows, held_at, series_at, with_held, without_held}
 use Rattle.onix_records.specs.declared.parts.Product.{Product}
 use Rattle.series_rules.specs.Firsts.{first_at}

@@ -5,7 +5,7 @@ use Rattle.std.specs.FinMap as fin
 use Rattle.std.proofs.lemmas.Bool.{cases_eq}
 use Rattle.std.proofs.lemmas.Bool.Decides.{nat_tests}
 use Rattle.catalogue_rules.specs.Records.{ByReference}
-use Rattle.catalogue_store.specs.Holding.{HoldsCatalogue}
+use Rattle.desk_catalogue.specs.Holding.{HoldsCatalogue}
 use Rattle.desk_tables.specs.Rows.{DeskRows, held_at, without_held}
 use Rattle.onix_records.specs.declared.effects.Effect.{Effect}
 use Rattle.onix_records.specs.declared.agreements.Agreement.{Agreement}

@@ -3,8 +3,8 @@ use Rattle.std.proofs.Common.{◌≡◌, ℕ, List, Some, None, refl, sym, ap, �
 use Rattle.std.specs.Prelude.{Option, option_map, unwrap_or}
 use Rattle.std.specs.FinMap as fin
 use Rattle.catalogue_rules.specs.Records.{ByReference}
-use Rattle.catalogue_store.specs.Holding.{HoldsCatalogue}
-use Rattle.catalogue_store.proofs.OfferLemmas.{held_article_offers_by_value}
+use Rattle.desk_catalogue.specs.Holding.{HoldsCatalogue}
+use Rattle.desk_catalogue.proofs.OfferLemmas.{held_article_offers_by_value}
 use Rattle.desk_tables.specs.ArticleAnswers.{AreOffersOfArticle}
 use Rattle.desk_tables.specs.Rows.{DeskRows, series_at}
 use Rattle.desk_tables.specs.declared.series.SeriesRow.{SeriesRow}

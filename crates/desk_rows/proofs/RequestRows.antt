@@ -6,7 +6,7 @@ use Rattle.std.proofs.lemmas.Bool.{cases_eq, cases_lt}
 use Rattle.std.proofs.lemmas.Bool.Decides.{nat_tests}
 use Rattle.std.proofs.lemmas.Slice.Eq.{bytes_eq-Decides}
 use Rattle.catalogue_rules.specs.Records.{ByReference}
-use Rattle.catalogue_store.specs.Holding.{HoldsCatalogue}
+use Rattle.desk_catalogue.specs.Holding.{HoldsCatalogue}
 use Rattle.desk_tables.specs.Rows.{DeskRows, series_at, held_at, with_held}
 use Rattle.onix_records.specs.declared.effects.Effect.{Effect}
 use Rattle.desk_tables.specs.declared.series.SeriesRow.{SeriesRow}

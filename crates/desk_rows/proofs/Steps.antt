@@ -3,7 +3,7 @@ use Rattle.std.proofs.Common.{◌≡◌, ◌+◌, ◌<◌, ◌++◌, ℕ, List, 
 use Rattle.std.specs.Prelude.{option_map, find}
 use Rattle.std.specs.FinMap as fin
 use Rattle.std.proofs.lemmas.Bool.{cases_eq}
-use Rattle.catalogue_store.specs.Holding.{HoldsCatalogue, other_catalogues}
+use Rattle.desk_catalogue.specs.Holding.{HoldsCatalogue, other_catalogues}
 use Rattle.desk_tables.specs.Rows.{DeskRows, HeldRow, applied_part, series_at, held_at, applied_at, is_named, is_held, is_applied, with_applied, with_next}
 use Rattle.onix_records.specs.declared.effects.Effect.{Effect}
 use Rattle.onix_records.specs.declared.agreements.Agreement.{Agreement}

@@ -4,8 +4,8 @@ use Rattle.sqlite.specs.Effect.{Database}
 use Rattle.sqlite.specs.State.{State, HasCleanDisk, KeepsCommit, Survives}
 use Rattle.sqlite_trees.specs.Tree.{Trees}
 use Rattle.sqlite_trees.specs.declared.store.Store.{Ghosts}
-use Rattle.catalogue_store.specs.Achieves.{Achieves, Does}
-use Rattle.catalogue_store.proofs.DoesLemmas.{did_also}
+use Rattle.desk_catalogue.specs.Achieves.{Achieves, Does}
+use Rattle.desk_catalogue.proofs.DoesLemmas.{did_also}
 use Rattle.desk_tables.specs.Calls.{seen, state_of, Undoes}
 use Rattle.desk_tables.specs.Rows.{DeskRows, Holds}
 use Rattle.desk_tables.specs.Transactions.{BeginsWork, EndsWork, IsUndone, LeavesOnly, NoTrees}

@@ -1,7 +1,7 @@
 -- What the statements of a request come to.
 use Rattle.std.specs.Prelude.{◌≡◌, ◌+◌, ℕ, Bool, true, false, List, ◌∷◌, Option, Some, None}
 use Rattle.catalogue_rules.specs.Records.{ByReference}
-use Rattle.catalogue_store.specs.Holding.{HoldsCatalogue}
+use Rattle.desk_catalogue.specs.Holding.{HoldsCatalogue}
 use Rattle.desk_tables.specs.Rows.{DeskRows, series_at, with_applied, with_next}
 use Rattle.onix_records.specs.declared.effects.Effect.{Effect}
 use Rattle.onix_records.specs.declared.agreements.Agreement.{Agreement}

@@ -3,7 +3,7 @@ use Rattle.std.specs.Prelude.{◌≡◌, ◌<◌, ◌≤◌, ◌+◌, ℕ, List,
 use Rattle.std.specs.Option.{option_or}
 use Rattle.std.specs.FinMap as fin
 use Rattle.catalogue_rules.specs.Records.{ByReference}
-use Rattle.catalogue_store.specs.Holding.{HoldsCatalogue, other_catalogues}
+use Rattle.desk_catalogue.specs.Holding.{HoldsCatalogue, other_catalogues}
 use Rattle.desk_tables.specs.Rows.{DeskRows, applied_at, held_at, series_at, series_between}
 use Rattle.onix_records.specs.declared.effects.Effect.{Effect}
 use Rattle.desk_tables.specs.declared.series.SeriesRow.{SeriesRow}

@@ -1,7 +1,7 @@
 //! What comes at a number of a series.
 
 ghost use Rattle.std.specs.Prelude.{◌≡◌};
-ghost use Rattle.catalogue_store.specs.Achieves.{Does};
+ghost use Rattle.desk_catalogue.specs.Achieves.{Does};
 ghost use Rattle.desk_rows.specs.Answering.{AnswersAgain, DeliversAt, IsStored, WaivesAt};
 
 use crate::applying::{applied_or_held, put_new};

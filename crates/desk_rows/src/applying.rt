@@ -1,12 +1,12 @@
 //! What is applied once the number before it is.
 
 ghost use Rattle.std.specs.Prelude.{◌≡◌};
-ghost use Rattle.catalogue_store.specs.Achieves.{Does};
+ghost use Rattle.desk_catalogue.specs.Achieves.{Does};
 ghost use Rattle.desk_rows.specs.Changes.{Applies, AppliesAt, AppliesText, Drains, DrainsOne, PutsNew, applied_or_held};
 
 use crate::laws::one_standing_text;
 use crate::standings::read_standing;
-use catalogue_store::messages::apply_message;
+use desk_catalogue::messages::apply_message;
 use desk_tables::work::Work;
 use onix_message::{Effect, StoreFault};
 use onix_terms::number::Number;

@@ -1,7 +1,7 @@
 //! What an agreement, a message or a waiver does inside its transaction.
 
 ghost use Rattle.std.specs.Prelude.{◌≡◌, if◌then◌else◌};
-ghost use Rattle.catalogue_store.specs.Achieves.{Does};
+ghost use Rattle.desk_catalogue.specs.Achieves.{Does};
 ghost use Rattle.desk_rows.specs.Answering.{AnswersMessage};
 ghost use Rattle.desk_rows.specs.Desks.{Answers};
 ghost use Rattle.series_rules.specs.Answers.{agree_answer, same_agreement, waive_answer};

@@ -1,6 +1,6 @@
 //! Requests and questions over the rows of a desk's tables, inside one transaction each.
 //!
-//! It stands on `desk_tables` for the statements, on `catalogue_store` for the catalogues and on
+//! It stands on `desk_tables` for the statements, on `desk_catalogue` for the catalogues and on
 //! `series_rules` for the answers.
 //!
 //! What the tables hold for a list of requests: `specs/Texts` says what they keep of what stands at a

@@ -2,7 +2,7 @@
 
 ghost use Rattle.std.specs.Prelude.{IfOk, IsTrue, fold};
 ghost use Rattle.sqlite.specs.Held.{state};
-ghost use Rattle.catalogue_store.specs.Achieves.{Does};
+ghost use Rattle.desk_catalogue.specs.Achieves.{Does};
 ghost use Rattle.desk_rows.specs.Desks.{OnlyAnswers, Reports};
 ghost use Rattle.desk_rows.specs.Seen.{seen_in};
 ghost use Rattle.series_rules.specs.Answers.{catalogue_answer, gaps_answer};
@@ -11,7 +11,7 @@ ghost use Rattle.series_rules.specs.Offers.{offers_after};
 ghost use Rattle.series_rules.specs.Views.{Tells};
 
 use catalogue_rules::catalogue::Catalogue;
-use catalogue_store::catalogues::read_catalogue;
+use desk_catalogue::catalogues::read_catalogue;
 use desk_tables::series::SeriesRow;
 use desk_tables::tables::Tables;
 use desk_tables::work::Work;

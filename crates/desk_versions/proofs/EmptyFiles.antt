@@ -21,7 +21,7 @@ use Rattle.sqlite_wal.proofs.AppendLemmas.{some_value}
 use Rattle.sqlite_wal.proofs.CreateLemmas.{begun_is_not_blank}
 use Rattle.sqlite_wal.specs.Recovery.{Image}
 use Rattle.catalogue_rules.specs.declared.entry.Entry.{Entry}
-use Rattle.catalogue_store.specs.Holding.{HoldsCatalogue, HoldsEntry}
+use Rattle.desk_catalogue.specs.Holding.{HoldsCatalogue, HoldsEntry}
 use Rattle.desk_tables.proofs.OneSchema.{emptied_again}
 use Rattle.desk_tables.specs.Rows.{first_rows}
 use Rattle.desk_tables.specs.Schema.{schema_0}

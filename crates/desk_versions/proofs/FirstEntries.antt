@@ -9,8 +9,8 @@ use Rattle.onix_records.specs.declared.parts.ProductSupply.{ProductSupply}
 use Rattle.onix_records.specs.declared.parts.SupplyDetail.{SupplyDetail}
 use Rattle.onix_records.specs.declared.row.Row.TheVariants as row
 use Rattle.catalogue_rules.specs.Records.{ByReference, EachHas}
-use Rattle.catalogue_store.proofs.MinimumLemmas.{none_after}
-use Rattle.catalogue_store.specs.Minimums.{HasNoMinimums, details_have_minimums, prices_have_minimums, products_have_minimums, supplies_have_minimums}
+use Rattle.desk_catalogue.proofs.MinimumLemmas.{none_after}
+use Rattle.desk_catalogue.specs.Minimums.{HasNoMinimums, details_have_minimums, prices_have_minimums, products_have_minimums, supplies_have_minimums}
 use Rattle.series_rules.specs.Series.{after_all, after_standing}
 use Rattle.series_rules.specs.declared.requests.Standing.{Standing}
 use Rattle.series_rules.specs.declared.requests.Standing.TheVariants.{Message, Waived}

@@ -11,8 +11,8 @@ use Rattle.onix_records.specs.declared.agreements.Agreement.{Agreement}
 use Rattle.onix_records.specs.declared.parts.Header.{Header}
 use Rattle.onix_records.specs.declared.parts.Product.{Product}
 use Rattle.catalogue_rules.specs.Records.{EachHas}
-use Rattle.catalogue_store.proofs.MinimumLemmas.{none_at_start, records_without_minimums}
-use Rattle.catalogue_store.specs.Minimums.{HasNoMinimums}
+use Rattle.desk_catalogue.proofs.MinimumLemmas.{none_at_start, records_without_minimums}
+use Rattle.desk_catalogue.specs.Minimums.{HasNoMinimums}
 use Rattle.desk_tables.specs.RecordChanges.{has_minimums_of, is_minimum_of}
 use Rattle.desk_tables.specs.declared.prices.MinimumRow.{MinimumRow}
 use Rattle.desk_tables.specs.Rows.{DeskRows, version_set, with_version}

@@ -4,7 +4,7 @@ use Rattle.std.specs.Prelude.{◌≡◌, ℕ, List, [], ⊤}
 use Rattle.std.specs.FinMap as fin
 use Rattle.std.specs.List.{AllByRecursion}
 use Rattle.catalogue_rules.specs.Records.{EachHas}
-use Rattle.catalogue_store.specs.Minimums.{HasNoMinimums}
+use Rattle.desk_catalogue.specs.Minimums.{HasNoMinimums}
 use Rattle.desk_tables.specs.Rows.{DeskRows, with_version}
 use Rattle.onix_records.specs.declared.agreements.Agreement.{Agreement}
 use Rattle.onix_records.specs.Grammar.{IsMessage}

@@ -1,7 +1,7 @@
 -- What is shown grows by each token.
 use Rattle.std.proofs.Common.{◌≡◌, ℕ, List, [], ◌∷◌, ◌++◌, map, fold, Option, Some, None, false, Result, Ok, Err, sym, ap, ◌∙◌, append_assoc, append-nil}
 use Rattle.std.specs.Prelude.{codes, is_some, unwrap_or, OnOk}
-use Rattle.xml_text.specs.Grammar.{raw}
+use Rattle.feed_xml.specs.Grammar.{raw}
 use Rattle.feed_tests.specs.Document.{after, or_mark}
 
 pub unknown_shown : (o : Option (List ℕ)) (old new : List ℕ) → new ≡ old ++ unwrap_or o [] → is_some o ≡ false → new ++ codes "?" ≡ old ++ or_mark o

@@ -1,10 +1,10 @@
 -- What is shown of a document: its text, and round brackets with a name for each element, behind
 -- which stand the name of its first attribute and the value of the attribute id.
 use Rattle.std.specs.Prelude.{ℕ, List, [], ◌∷◌, ◌++◌, codes, Option, Some, None}
-use Rattle.xml_text.specs.Grammar.{Attribute, Token, raw, reference, cdata, comment, instruction}
-use Rattle.xml_text.specs.Grammar.{declaration, doctype, start, empty, end}
-use Rattle.xml_text.specs.Distinct.{value_of}
-use Rattle.xml_text.specs.References.{reference_text}
+use Rattle.feed_xml.specs.Grammar.{Attribute, Token, raw, reference, cdata, comment, instruction}
+use Rattle.feed_xml.specs.Grammar.{declaration, doctype, start, empty, end}
+use Rattle.feed_xml.specs.Distinct.{value_of}
+use Rattle.feed_xml.specs.References.{reference_text}
 
 abbrev pub or_mark : Option (List ℕ) → List ℕ
 or_mark (Some text) = text

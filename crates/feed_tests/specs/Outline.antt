@@ -3,8 +3,8 @@
 -- and a semicolon; behind them all a bar.
 use Rattle.std.specs.Prelude.{ℕ, ◌+◌, ◌/◌, ◌%◌, nat_lt, List, [], ◌∷◌, ◌++◌, Option, Some, None}
 use Rattle.std.specs.Prelude.{fold, if◌then◌else◌}
-use Rattle.onix_outline.specs.Outline.{Line}
-use Rattle.xml_text.specs.declared.position.Position.{Position}
+use Rattle.feed_outline.specs.Outline.{Line}
+use Rattle.feed_xml.specs.declared.position.Position.{Position}
 
 -- the digit of a depth, and a plus sign from 10 on
 abbrev pub depth_shown : ℕ → ℕ

@@ -1,13 +1,13 @@
-//! A test of `xml_text`: what a line is as a document, in the encoding that it says it has.
+//! A test of `feed_xml`: what a line is as a document, in the encoding that it says it has.
 
 ghost use Rattle.std.specs.Prelude.{◌≡◌, ◌++◌, OnOk, fold, codes};
-ghost use Rattle.xml_text.specs.View.{piece_view, token_view};
+ghost use Rattle.feed_xml.specs.View.{piece_view, token_view};
 ghost use Rattle.feed_tests.specs.Document.{after, shown, first_shown, id_shown, reference_shown};
 
 use crate::shown::Shown;
+use feed_xml::{Attributes, Fault, Piece, Sink, Token, push_reference, read_document};
 use std::alloc::AllocError;
 use std::io;
-use xml_text::{Attributes, Fault, Piece, Sink, Token, push_reference, read_document};
 
 fn verdict(outcome: &Result<(), Fault>) -> &'static str {
     match outcome {

@@ -1,4 +1,4 @@
-//! A test of `xml_text`, `onix_outline`, `onix_mapping` and `onix_titles`: each part of the
+//! A test of `feed_xml`, `feed_outline`, `feed_mapping` and `feed_titles`: each part of the
 //! standard input, behind `== `, is a line with its name and then tests, and what was found of each
 //! test is written.
 #![tactic(auto)]

@@ -1,4 +1,4 @@
-//! A test of `onix_mapping`: what is made of a paragraph that is read as a message, as records and
+//! A test of `feed_mapping`: what is made of a paragraph that is read as a message, as records and
 //! notes.
 
 mod choosing;
@@ -6,7 +6,7 @@ mod shown;
 
 use crate::mapping::choosing::message_in;
 use crate::mapping::shown::Shown;
-use onix_outline::read_message;
+use feed_outline::read_message;
 use std::io;
 
 /// Reads a message, and writes what is made of it.

@@ -1,16 +1,16 @@
-//! A test of `onix_outline`: what a line is as a message.
+//! A test of `feed_outline`: what a line is as a message.
 
 ghost use Rattle.std.specs.Prelude.{◌≡◌, OnOk, option_map};
 ghost use Rattle.feed_tests.specs.Outline.{depth_shown, digit, format_shown, place_shown, line_shown, lines_shown};
-ghost use Rattle.onix_outline.specs.Views.{line_view, line_views};
+ghost use Rattle.feed_outline.specs.Views.{line_view, line_views};
 
 use crate::lines::with_feeds;
 use crate::shown::Shown;
-use onix_mapping::desk_vocabulary;
-use onix_outline::{Fault, Line, Stopped, Taker, Word, Wrong, read_message};
+use feed_mapping::desk_vocabulary;
+use feed_outline::{Fault, Line, Stopped, Taker, Word, Wrong, read_message};
+use feed_xml::Position;
 use std::alloc::AllocError;
 use std::io;
-use xml_text::Position;
 
 fn verdict(fault: &Fault) -> &'static str {
     match fault {
@@ -105,7 +105,7 @@ fn depth_shown(depth: usize) -> u8
 
 impl Taker for Shown {
     ghost use Rattle.feed_tests.specs.Outline.{after};
-    ghost use Rattle.onix_mapping.specs.Vocabulary.{desk_vocabulary};
+    ghost use Rattle.feed_mapping.specs.Vocabulary.{desk_vocabulary};
 
     ghost vocabulary = { desk_vocabulary };
 

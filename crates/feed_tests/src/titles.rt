@@ -1,8 +1,8 @@
-//! A test of `onix_titles`: the rows of a paragraph that is read as a message.
+//! A test of `feed_titles`: the rows of a paragraph that is read as a message.
 
 use crate::shown::Shown;
+use feed_titles::{TitleTarget, read_titles};
 use onix_terms::items::Items;
-use onix_titles::{TitleTarget, read_titles};
 use std::alloc::AllocError;
 use std::io;
 

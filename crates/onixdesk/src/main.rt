@@ -1,16 +1,16 @@
-//! The program `onixdesk`: the intake of a bookshop's buying desk on the command line. `desk_program`
+//! The program `onixdesk`: the intake of a bookshop's buying desk on the command line. `program_run`
 //! does what its words ask for, here over the machine's files, streams and sockets. What each
 //! request is answered is proved in `series_rules`.
 #![tactic(auto)]
 
 ghost use Rattle.std.specs.Prelude.{◌≤◌, IfOk};
 
-use database_files::paths::Paths;
-use desk_clients::sockets::Sockets;
-use desk_program::help::print_wrong;
-use desk_program::program::run;
-use named_files::HostFiles;
+use program_clients::sockets::Sockets;
+use program_databases::paths::Paths;
+use program_files::HostFiles;
 use program_lines::fault::{Fault, report};
+use program_run::help::print_wrong;
+use program_run::program::run;
 use sqlite::Wary;
 use std::alloc::AllocError;
 use std::io::ErrorKind;

@@ -1,7 +1,7 @@
 //! What the lines of a paragraph before its message choose, and the message.
 
 use crate::lines::split;
-use onix_mapping::{Choices, Pair};
+use feed_mapping::{Choices, Pair};
 use onix_terms::number::Number;
 
 // What stands behind the letter of the first line before the message that begins with it.

@@ -4,8 +4,8 @@ use crate::mapping::choosing::choices_in;
 use csv_records::buffer::RecordBuffer;
 use csv_records::fields::FieldBuffer;
 use csv_records::writing::write_records;
-use onix_mapping::{Composite, HeaderFault, Note, add_product, desk_vocabulary, read_heading};
-use onix_outline::{Elements, Line, Taker, Word, outlined};
+use feed_mapping::{Composite, HeaderFault, Note, add_product, desk_vocabulary, read_heading};
+use feed_outline::{Elements, Line, Taker, Word, outlined};
 use onix_records::row::Opening;
 use std::alloc::{AllocError, Global};
 use std::marker::Model;
@@ -144,7 +144,7 @@ impl Shown {
 }
 
 impl Taker for Shown {
-    ghost use Rattle.onix_mapping.specs.Vocabulary.{desk_vocabulary};
+    ghost use Rattle.feed_mapping.specs.Vocabulary.{desk_vocabulary};
 
     ghost vocabulary = { desk_vocabulary };
 

@@ -1,5 +1,5 @@
 use Rattle.std.proofs.Common.{List, sym, subst, ◌∙◌}
-use Rattle.catalogue_store.proofs.DoesLemmas.{did_as, did_then}
+use Rattle.desk_catalogue.proofs.DoesLemmas.{did_as, did_then}
 use Rattle.onix_records.specs.declared.parts.Product.{Product}
 use Rattle.desk_rows.specs.Answering.{IsStored}
 use Rattle.desk_rows.proofs.Answered.{delivers_again, delivers_new}

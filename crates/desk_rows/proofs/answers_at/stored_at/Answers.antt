@@ -1,5 +1,5 @@
 use Rattle.std.proofs.Common.{◌≡◌, ℕ, List, Option, None, Some, sym, refl, ◌∙◌, ap, rules}
-use Rattle.catalogue_store.proofs.DoesLemmas.{called, did_as, did_fail, did_then}
+use Rattle.desk_catalogue.proofs.DoesLemmas.{called, did_as, did_fail, did_then}
 use Rattle.desk_tables.specs.Rows.{DeskRows, applied_at, held_at}
 use Rattle.onix_records.specs.declared.effects.Effect.{Effect}
 use Rattle.desk_rows.proofs.Answered.{stored_applied, stored_held}

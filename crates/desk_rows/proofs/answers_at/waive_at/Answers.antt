@@ -1,6 +1,6 @@
 use Rattle.std.proofs.Common.{◌≡◌, ℕ, List, Some, codes, sym, subst, ap, ◌∙◌, true, false, refl, rules}
 use Rattle.std.specs.Prelude.{bytes_eq}
-use Rattle.catalogue_store.proofs.DoesLemmas.{did_as, did_fail, did_then}
+use Rattle.desk_catalogue.proofs.DoesLemmas.{did_as, did_fail, did_then}
 use Rattle.desk_tables.specs.Rows.{DeskRows}
 use Rattle.series_rules.specs.declared.answers.DeliveryAnswer.{DeliveryAnswer}
 use Rattle.series_rules.specs.declared.answers.WaiveAnswer.TheVariants as waiver

@@ -1,5 +1,5 @@
 use Rattle.std.proofs.Common.{◌≡◌, ◌+◌, ℕ, List, ap, ◌∙◌, rules}
-use Rattle.catalogue_store.proofs.DoesLemmas.{called, did_as, did_both, did_fail, did_then, put}
+use Rattle.desk_catalogue.proofs.DoesLemmas.{called, did_as, did_both, did_fail, did_then, put}
 use Rattle.desk_tables.specs.Rows.{DeskRows, with_applied, with_next}
 use Rattle.desk_rows.specs.Changes.{Applies, AppliesAt}
 use Rattle.onix_records.specs.declared.effects.Effect.{Effect}

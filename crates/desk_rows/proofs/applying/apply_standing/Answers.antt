@@ -1,5 +1,5 @@
 use Rattle.std.proofs.Common.{List}
-use Rattle.catalogue_store.proofs.DoesLemmas.{did_also}
+use Rattle.desk_catalogue.proofs.DoesLemmas.{did_also}
 use Rattle.onix_records.specs.declared.parts.Product.{Product}
 use Rattle.desk_rows.proofs.Applied.{message_applied}
 use Rattle.desk_rows.proofs.applying.apply_standing.Goals as goal

@@ -1,4 +1,4 @@
-use Rattle.catalogue_store.proofs.DoesLemmas.{did_as}
+use Rattle.desk_catalogue.proofs.DoesLemmas.{did_as}
 use Rattle.desk_rows.proofs.applying.apply_text.Goals as goal
 
 pub returns : goal.returns

@@ -1,5 +1,5 @@
 use Rattle.std.proofs.Common.{◌≡◌, ◌+◌, Bool, true, false, arith, refl, subst, rules, sym, ◌∙◌}
-use Rattle.catalogue_store.proofs.DoesLemmas.{did_as, did_fail, did_nothing, did_stop, did_then}
+use Rattle.desk_catalogue.proofs.DoesLemmas.{did_as, did_fail, did_nothing, did_stop, did_then}
 use Rattle.desk_tables.specs.Rows.{DeskRows}
 use Rattle.desk_rows.specs.Changes.{Drains}
 use Rattle.desk_rows.proofs.Applied.{DrainsTo, drained_all, drained_more, drained_up, step_at}

@@ -1,5 +1,5 @@
 use Rattle.std.proofs.Common.{Ok}
-use Rattle.catalogue_store.specs.Achieves.{Does}
+use Rattle.desk_catalogue.specs.Achieves.{Does}
 use Rattle.desk_tables.specs.Rows.{DeskRows}
 use Rattle.desk_rows.proofs.Applied.{DrainsTo}
 use Rattle.desk_rows.proofs.applying.drain.Given as goal

@@ -1,5 +1,5 @@
 use Rattle.std.proofs.Common.{ℕ, List, sym, ◌∙◌, true, subst, rules}
-use Rattle.catalogue_store.proofs.DoesLemmas.{called, did_as, did_fail, did_then}
+use Rattle.desk_catalogue.proofs.DoesLemmas.{called, did_as, did_fail, did_then}
 use Rattle.desk_tables.specs.Rows.{DeskRows}
 use Rattle.desk_rows.specs.Changes.{AppliesText, DrainsOne}
 use Rattle.desk_rows.proofs.Applied.{moved_one, moved_none}

@@ -1,5 +1,5 @@
 use Rattle.std.proofs.Common.{◌≡◌, sym, ◌∙◌, rules}
-use Rattle.catalogue_store.proofs.DoesLemmas.{did_as, did_fail, did_then, put}
+use Rattle.desk_catalogue.proofs.DoesLemmas.{did_as, did_fail, did_then, put}
 use Rattle.desk_tables.specs.Rows.{DeskRows}
 use Rattle.desk_rows.specs.Changes.{PutsNew}
 use Rattle.desk_rows.proofs.Applied.{put_above, put_next_at}

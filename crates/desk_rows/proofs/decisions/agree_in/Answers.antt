@@ -1,5 +1,5 @@
 use Rattle.std.proofs.Common.{◌≡◌, Option, None, sym, ap, ◌∙◌, rules}
-use Rattle.catalogue_store.proofs.DoesLemmas.{called, did_as, did_both, did_fail, did_then, put}
+use Rattle.desk_catalogue.proofs.DoesLemmas.{called, did_as, did_both, did_fail, did_then, put}
 use Rattle.desk_tables.specs.Rows.{DeskRows, series_at, series_between, with_series}
 use Rattle.desk_tables.specs.declared.series.SeriesRow.{SeriesRow}
 use Rattle.onix_records.specs.declared.agreements.Agreement.{Agreement}

@@ -1,5 +1,5 @@
 use Rattle.std.proofs.Common.{◌<◌, ◌≤◌, List, sym, ◌∙◌, arith}
-use Rattle.catalogue_store.proofs.DoesLemmas.{called, did_as, did_then}
+use Rattle.desk_catalogue.proofs.DoesLemmas.{called, did_as, did_then}
 use Rattle.onix_records.specs.declared.parts.Header.{Header}
 use Rattle.onix_records.specs.declared.parts.Product.{Product}
 use Rattle.desk_rows.proofs.Found.{delivers_before, delivers_found, delivers_unknown}

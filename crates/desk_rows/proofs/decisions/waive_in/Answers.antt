@@ -1,5 +1,5 @@
 use Rattle.std.proofs.Common.{◌<◌, ◌≤◌, sym, ◌∙◌, arith}
-use Rattle.catalogue_store.proofs.DoesLemmas.{called, did_as, did_then}
+use Rattle.desk_catalogue.proofs.DoesLemmas.{called, did_as, did_then}
 use Rattle.desk_rows.proofs.Found.{waives_before, waives_named, waives_unknown}
 use Rattle.desk_rows.proofs.decisions.waive_in.Goals as goal
 

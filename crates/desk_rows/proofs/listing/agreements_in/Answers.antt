@@ -1,5 +1,5 @@
 use Rattle.std.proofs.Common.{rules}
-use Rattle.catalogue_store.proofs.DoesLemmas.{called, did_as, did_stop}
+use Rattle.desk_catalogue.proofs.DoesLemmas.{called, did_as, did_stop}
 use Rattle.desk_rows.proofs.ListedRows.{lists_agreements}
 use Rattle.desk_rows.proofs.listing.agreements_in.Goals as goal
 

@@ -1,6 +1,6 @@
 use Rattle.std.proofs.Common.{None, Some, sym, ap}
 use Rattle.std.specs.Prelude.{option_map}
-use Rattle.catalogue_store.proofs.DoesLemmas.{did_as}
+use Rattle.desk_catalogue.proofs.DoesLemmas.{did_as}
 use Rattle.desk_rows.specs.declared.answers_at.Stored.{Stored}
 use Rattle.desk_rows.proofs.ListedRows.{tells_text}
 use Rattle.desk_rows.proofs.listing.text_in.Goals as goal

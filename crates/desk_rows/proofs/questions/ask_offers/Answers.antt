@@ -1,5 +1,5 @@
 use Rattle.std.proofs.Common.{rules}
-use Rattle.catalogue_store.proofs.DoesLemmas.{called, did_also}
+use Rattle.desk_catalogue.proofs.DoesLemmas.{called, did_also}
 use Rattle.desk_rows.proofs.QuestionRows.{article_offers}
 use Rattle.desk_rows.proofs.Transactions.{told}
 use Rattle.desk_rows.proofs.questions.ask_offers.Goals as goal

@@ -1,6 +1,6 @@
 use Rattle.std.proofs.Common.{Some, sym, ◌∙◌, rules}
 use Rattle.catalogue_rules.specs.Records.{ByReference}
-use Rattle.catalogue_store.proofs.DoesLemmas.{called, did_as, did_fail, did_then}
+use Rattle.desk_catalogue.proofs.DoesLemmas.{called, did_as, did_fail, did_then}
 use Rattle.desk_tables.specs.Rows.{DeskRows}
 use Rattle.series_rules.specs.Answers.{catalogue_answer}
 use Rattle.desk_rows.specs.Desks.{OnlyAnswers}

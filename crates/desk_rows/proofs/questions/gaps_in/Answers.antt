@@ -1,5 +1,5 @@
 use Rattle.std.proofs.Common.{◌≡◌, ℕ, List, Option, Vec, refl, rules, sym, ◌∙◌, subst}
-use Rattle.catalogue_store.proofs.DoesLemmas.{called, did_as, did_both, did_fail, did_stop, did_then}
+use Rattle.desk_catalogue.proofs.DoesLemmas.{called, did_as, did_both, did_fail, did_stop, did_then}
 use Rattle.desk_tables.specs.Rows.{AreHeldNumbers, DeskRows, series_at}
 use Rattle.desk_tables.specs.declared.series.SeriesRow.{SeriesRow}
 use Rattle.series_rules.specs.Gaps.{AreRisingFrom}

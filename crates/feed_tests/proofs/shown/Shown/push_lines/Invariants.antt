@@ -1,6 +1,6 @@
 use Rattle.std.proofs.Common.{◌≡◌, length}
 use Rattle.feed_tests.specs.Outline.{lines_shown}
-use Rattle.onix_outline.specs.Views.{line_views}
+use Rattle.feed_outline.specs.Views.{line_views}
 use Rattle.feed_tests.proofs.shown.Shown.push_lines.Given as goal
 
 abbrev pub invariant-loop-rest : goal.invariant-loop-rest

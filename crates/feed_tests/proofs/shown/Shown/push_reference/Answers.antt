@@ -1,5 +1,5 @@
 use Rattle.std.proofs.Common.{◌++◌, ◌∙◌, sym, ap, List, ℕ}
-use Rattle.xml_text.specs.References.{reference_text}
+use Rattle.feed_xml.specs.References.{reference_text}
 use Rattle.feed_tests.specs.Document.{reference_shown}
 use Rattle.feed_tests.proofs.DocumentLaws.{unknown_shown, then_ok}
 use Rattle.feed_tests.proofs.shown.Shown.push_reference.Goals as goal

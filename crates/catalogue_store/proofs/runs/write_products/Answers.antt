@@ -1,5 +1,0 @@
-use Rattle.catalogue_store.proofs.DoesLemmas.{changed_then}
-use Rattle.catalogue_store.proofs.runs.write_products.Goals as goal
-
-pub returns : goal.returns
-returns g c = changed_then c.in_ok-put_identifiers_of.ensures c.put_supplies_of.ensures

@@ -1,5 +1,0 @@
-use Rattle.command_line.proofs.commands.deliver.Goals as goal
-
-pub returns : goal.returns
-returns c =
-    c.with_word.ensures _ _ c.bare_command-deliver.ensures c.messages.ensures

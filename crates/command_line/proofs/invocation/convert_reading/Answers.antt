@@ -1,5 +1,0 @@
-use Rattle.std.proofs.Common.{refl}
-use Rattle.command_line.proofs.invocation.convert_reading.Goals as goal
-
-pub returns-in-Ok : goal.returns-in-Ok
-returns-in-Ok c = λ top none. ((refl, c.in-Ok.ensures.ok, none), refl)

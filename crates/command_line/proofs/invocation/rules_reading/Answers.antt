@@ -1,5 +1,0 @@
-use Rattle.std.proofs.Common.{refl, sym}
-use Rattle.command_line.proofs.invocation.rules_reading.Goals as goal
-
-pub returns-in-Some : goal.returns-in-Some
-returns-in-Some c = λ top none. ((refl, sym c.in-Some.ensures, none), refl)

@@ -1,5 +1,0 @@
-use Rattle.desk_program.proofs.RulesLemmas.{reads_named}
-use Rattle.desk_program.proofs.program.rules_of.Goals as goal
-
-pub returns-in-Some : goal.returns-in-Some
-returns-in-Some g = reads_named _ _ g.in-Some.is g.open_table.result g.open_table.ensures

@@ -1,0 +1,268 @@
+-- What the program keeps of a message while it reads it.
+use Rattle.std.specs.Prelude.{◌≡◌, ℕ, zero, suc, ◌+◌, ◌-◌, Bool, true, false, ◌&&◌, List, [], ◌∷◌}
+use Rattle.std.specs.Prelude.{◌++◌, Option, Some, None, Result, Ok, Err, if◌then◌else◌, codes}
+use Rattle.std.specs.Prelude.{decimal, nat_le, nat_lt, length, take, drop, fold, option_map}
+use Rattle.std.specs.Option.{unwrap_or}
+use Rattle.std.specs.Str.{bytes_eq}
+use Rattle.feed_xml.specs.declared.position.Position.{Position}
+use Rattle.csv_records.specs.RecordTexts.{limit, records_text}
+use Rattle.feed_outline.specs.Composites.{has_stranger}
+use Rattle.feed_outline.specs.Names.{stranger}
+use Rattle.feed_outline.specs.Nodes.{Nodes, no_nodes, node}
+use Rattle.onix_records.specs.Grammar.{most_records}
+use Rattle.onix_records.specs.declared.row.Opening.{Opening}
+use Rattle.feed_mapping.specs.Elements.{Composite, composite}
+use Rattle.feed_mapping.specs.Header.{Heading, heading_in, message_fields}
+use Rattle.feed_mapping.specs.Notes.{Note, note, wrong}
+use Rattle.feed_mapping.specs.ProductRecords.{Variant, variants}
+use Rattle.feed_mapping.specs.Products.{reference_in}
+use Rattle.feed_mapping.specs.declared.header.HeaderRefusal.{HeaderRefusal}
+use Rattle.feed_mapping.specs.declared.notes.Wrong.TheVariants.{TooLarge}
+use Rattle.feed_conversion.specs.Conversion.{Options, header_refused}
+use Rattle.feed_conversion.specs.Keeping.{Keeping}
+use Rattle.feed_conversion.specs.Messages.{end_record}
+use Rattle.feed_conversion.specs.Packing.{beyond_at, product_notes}
+use Rattle.feed_conversion.specs.Tallies.{no_tally, place_of, refused_for, tallied}
+use Rattle.feed_conversion.specs.declared.refusal.Refusal.{Refusal}
+use Rattle.feed_conversion.specs.declared.refusal.Refusal.TheVariants as why
+use Rattle.feed_conversion.specs.declared.tally.Tally.{Tally}
+
+-- the parts of a message: the fields of their first records before and behind the number, the
+-- number of the first part, what its record says, how many parts are full, how many records the
+-- next one has so far, their text, and the place of the first product for which there is no part
+pub record Begun : Type 0 where
+  pub front : List (List ℕ)
+  pub back : List (List ℕ)
+  pub number : ℕ
+  pub opening : Opening
+  pub full : ℕ
+  pub count : ℕ
+  pub text : List ℕ
+  pub beyond : Option Position
+  pub tally : Tally
+
+-- what the target has made of the parts and of the notes that it has taken, and how many products
+-- are wrong
+pub record Taken (P N : Type 0) : Type 0 where
+  pub parts : P
+  pub notes : N
+  pub wrong : ℕ
+
+abbrev pub taken : {P N : Type 0} → P → N → ℕ → Taken P N
+taken parts notes wrong = record { parts = parts; notes = notes; wrong = wrong }
+
+-- the parts of a message, with what the target has made of those that it has taken
+pub record Stored (P N : Type 0) : Type 0 where
+  pub begun : Begun
+  pub parts : P
+  pub notes : N
+
+abbrev pub stored : {P N : Type 0} → Begun → P → N → Stored P N
+stored begun parts notes = record { begun = begun; parts = parts; notes = notes }
+
+-- where a message is: before its Header, refused, or in its parts
+pub data Stage : Type 0 where
+  unbegun : Stage
+  refused : Refusal → Stage
+  within : Begun → Stage
+
+-- a message that is being converted, with what the target has made of what it has taken
+pub record State (P N : Type 0) : Type 0 where
+  pub options : Options
+  pub parts : P
+  pub notes : N
+  pub stage : Stage
+
+-- before the Header
+abbrev pub first_state : {P N : Type 0} → Options → P → N → State P N
+first_state o parts notes = record { options = o; parts = parts; notes = notes; stage = unbegun }
+
+-- ---- parts
+
+-- the first record of the part behind so many
+abbrev pub numbered : Begun → ℕ → List (List ℕ)
+numbered b before = b.front ++ (decimal (b.number + before) ∷ b.back)
+
+-- the text of the record that ends a message, behind so many
+abbrev pub end_text : ℕ → List ℕ
+end_text before = records_text (end_record before ∷ [])
+
+-- the text with which the part behind so many begins
+abbrev pub first_text : Begun → ℕ → List ℕ
+first_text b before = records_text (numbered b before ∷ [])
+
+-- a part of so many records and bytes has room for so many more
+unfoldable pub has_room : ℕ → ℕ → ℕ → ℕ → Bool
+has_room count size more bytes =
+    nat_le (count + more + 1) most_records
+    && nat_le (size + bytes + length (end_text (count + more))) limit
+
+-- with so many more records, of this text, in the part that was begun
+abbrev pub grown : Begun → ℕ → List ℕ → Begun
+grown b more text = record b { count = b.count + more; text = b.text ++ text }
+
+-- with so many records, of this text, of a product at this place in the next part
+abbrev pub in_next_part : ℕ → Begun → Position → ℕ → List ℕ → Begun
+in_next_part most b place more text = record {
+  front = b.front;
+  back = b.back;
+  number = b.number;
+  opening = b.opening;
+  full = b.full + 1;
+  count = 1 + more;
+  text = first_text b (b.full + 1) ++ text;
+  beyond = beyond_at most (b.full + 1) b.beyond place;
+  tally = b.tally;
+}
+
+-- with a text as the part behind so many, where there are more parts
+abbrev pub with_part : {P N : Type 0} → Keeping P N → ℕ → ℕ → List ℕ → P → P
+with_part k most full text parts = if nat_lt full most then k.with_part parts text else parts
+
+-- the parts, with the one that was begun
+abbrev pub with_begun : {P N : Type 0} → Keeping P N → ℕ → Stored P N → P
+with_begun k most h = with_part k most h.begun.full (h.begun.text ++ end_text h.begun.count) h.parts
+
+-- with a product of so many records, of this text, in the part that was begun, in the next one, or
+-- in none
+unfoldable pub kept : {P N : Type 0} → Keeping P N → ℕ → Stored P N → Position → ℕ → List ℕ
+    → Option (Stored P N)
+kept k most h place more text =
+    if has_room h.begun.count (length h.begun.text) more (length text)
+    then Some (stored (grown h.begun more text) h.parts h.notes)
+    else if has_room 1 (length (first_text h.begun (h.begun.full + 1))) more (length text)
+    then Some (stored (in_next_part most h.begun place more text) (with_begun k most h) h.notes)
+    else None
+
+-- a call kept a product, or changed nothing
+abbrev pub IsKept : {P N : Type 0} → Bool → Stored P N → Stored P N → Option (Stored P N) → Type 0
+IsKept true old new told = told ≡ Some new
+IsKept false old new told = (told ≡ None) × (new ≡ old)
+
+-- ---- products
+
+-- with one more product, which has these notes
+abbrev pub noted : {P N : Type 0} → Keeping P N → Composite → List Note → Stored P N → Stored P N
+noted k c notes h =
+    stored (record h.begun { tally = tallied h.begun.tally c notes }) h.parts
+    (fold k.with_note h.notes (product_notes (reference_in c.below) notes))
+
+-- a variant of a product, in the part that was begun, in the next one, or in none
+abbrev pub with_variant : {P N : Type 0} → Keeping P N → ℕ → Stored P N → Composite
+    → List (List (List ℕ)) → List Note → Option (Stored P N)
+with_variant k most h c records notes =
+    option_map (noted k c notes)
+    (kept k most h (place_of c) (length records) (records_text records))
+
+abbrev pub with_variants : {P N : Type 0} → Keeping P N → ℕ → Stored P N → Composite → List Variant
+    → Stored P N
+with_variants k most h c [] = noted k c (note c.element (wrong TooLarge []) ∷ []) h
+with_variants k most h c (v ∷ more) =
+    unwrap_or (with_variant k most h c v.records v.notes) (with_variants k most h c more)
+
+unfoldable pub after_product : {P N : Type 0} → Keeping P N → Options → Stored P N → Composite
+    → Stored P N
+after_product k o h c =
+    with_variants k o.choices.parts h c (variants h.begun.opening o.choices.id_type c)
+
+-- ---- elements
+
+-- the fields of the record with which the first part begins
+abbrev pub first_fields : Heading → Nodes → List (List ℕ)
+first_fields h header =
+    codes "Message" ∷ message_fields h.sender h.addressee (decimal h.number) header
+
+-- the parts of a message of this heading, before the first product
+abbrev pub first_begun : Heading → Nodes → Begun
+first_begun h header = record {
+  front = take 6 (first_fields h header);
+  back = drop 7 (first_fields h header);
+  number = h.number;
+  opening = h.opening;
+  full = 0;
+  count = 1;
+  text = records_text (first_fields h header ∷ []);
+  beyond = None;
+  tally = no_tally;
+}
+
+abbrev pub begun_by : Composite → Result Heading HeaderRefusal → Stage
+begun_by header (Err refusal) = refused (header_refused header refusal)
+begun_by header (Ok h) = within (first_begun h header.below)
+
+-- the first Header begins the message, and a second one refuses it
+abbrev pub stage_after_header : Stage → Options → Composite → Stage
+stage_after_header unbegun o c =
+    if has_stranger c.below then refused (why.OtherNamespace (place_of c))
+    else begun_by c (heading_in o.choices c.below)
+stage_after_header (refused refusal) o c = refused refusal
+stage_after_header (within b) o c = refused (why.SecondHeader (place_of c))
+
+-- an element of another namespace refuses it
+abbrev pub stage_after_stranger : Stage → Composite → Stage
+stage_after_stranger (refused refusal) c = refused refusal
+stage_after_stranger other c = refused (why.OtherNamespace (place_of c))
+
+abbrev pub at_stage : {P N : Type 0} → State P N → Stage → State P N
+at_stage s stage = record s { stage = stage }
+
+abbrev pub with_stored : {P N : Type 0} → State P N → Stored P N → State P N
+with_stored s h =
+    record { options = s.options; parts = h.parts; notes = h.notes; stage = within h.begun }
+
+abbrev pub with_product : {P N : Type 0} → Keeping P N → Stage → State P N → Composite → State P N
+with_product k unbegun s c = at_stage s (refused (why.NoHeader (Some (place_of c))))
+with_product k (refused refusal) s c = s
+with_product k (within b) s c =
+    with_stored s (after_product k s.options (stored b s.parts s.notes) c)
+
+abbrev pub after_element : {P N : Type 0} → Keeping P N → State P N → Composite → State P N
+after_element k s c =
+    if bytes_eq c.element.name (codes "Header")
+    then at_stage s (stage_after_header s.stage s.options c)
+    else if bytes_eq c.element.name (codes "Product") then with_product k s.stage s c
+    else if bytes_eq c.element.name stranger then at_stage s (stage_after_stranger s.stage c)
+    else s
+
+-- after the element that lines tell
+abbrev pub after_nodes : {P N : Type 0} → Keeping P N → State P N → Nodes → State P N
+after_nodes k s no_nodes = s
+after_nodes k s (node name tag text below rest) = after_element k s (composite name tag text below)
+
+-- ---- the end
+
+-- so many messages without products, the first of which is the part behind so many
+abbrev pub empty_parts : Begun → ℕ → ℕ → List (List ℕ)
+empty_parts b before zero = []
+empty_parts b before (suc more) =
+    (first_text b before ++ end_text 1) ∷ empty_parts b (suc before) more
+
+-- the parts at the end: with the one that was begun, and those that are left over
+abbrev pub all_parts : {P N : Type 0} → Keeping P N → ℕ → Stored P N → P
+all_parts k most h =
+    fold k.with_part (with_begun k most h)
+    (empty_parts h.begun (h.begun.full + 1) (most - (h.begun.full + 1)))
+
+-- what the target has made of all at the end
+abbrev pub ended_at : {P N : Type 0} → Keeping P N → ℕ → Stored P N → Option Position
+    → Result (Taken P N) Refusal
+ended_at k most h (Some place) = Err (why.Parts (h.begun.full + 1) place)
+ended_at k most h None = Ok (taken (all_parts k most h) h.notes h.begun.tally.wrong)
+
+abbrev pub ended_by : {P N : Type 0} → Keeping P N → ℕ → Stored P N → Option Refusal
+    → Result (Taken P N) Refusal
+ended_by k most h (Some refusal) = Err refusal
+ended_by k most h None = ended_at k most h h.begun.beyond
+
+abbrev pub ended : {P N : Type 0} → Keeping P N → Options → Stored P N → Result (Taken P N) Refusal
+ended k o h = ended_by k o.choices.parts h (refused_for o.wrong h.begun.tally)
+
+abbrev pub finished_at : {P N : Type 0} → Keeping P N → Stage → State P N
+    → Result (Taken P N) Refusal
+finished_at k unbegun s = Err (why.NoHeader None)
+finished_at k (refused refusal) s = Err refusal
+finished_at k (within b) s = ended k s.options (stored b s.parts s.notes)
+
+-- what has come of a message at its end
+abbrev pub finished : {P N : Type 0} → Keeping P N → State P N → Result (Taken P N) Refusal
+finished k s = finished_at k s.stage s

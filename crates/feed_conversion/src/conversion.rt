@@ -1,0 +1,178 @@
+//! The conversion of a feed.
+
+ghost use Rattle.std.specs.Prelude.{◌≡◌, ◌+◌, ◌-◌, IfErr, IfOk, Ok, OnOk, fold};
+ghost use Rattle.feed_conversion.specs.Outcomes.{ExplainsFault, Yields};
+ghost use Rattle.feed_conversion.specs.private.Endings.{Ends, IsUnread};
+ghost use Rattle.feed_conversion.specs.Packing.{Converted};
+ghost use Rattle.feed_conversion.specs.private.Stages.{all_parts, empty_parts, ended, ended_at, finished, stored};
+ghost use Rattle.feed_conversion.specs.Views.{options_view};
+ghost use Rattle.feed_conversion.specs.private.StageViews.{begun_view};
+
+use crate::converter::Converter;
+use crate::options::Options;
+use crate::packing::{Begun, Stage, first_text, hand_on};
+use crate::refusal::{Fault, Refusal};
+use crate::tally::refused_for;
+use crate::target::Target;
+use feed_outline::{Stopped, outlines_tell, read_message};
+use std::alloc::{AllocError, Global};
+use std::io::Read;
+
+/// What has come of a feed: the target, and how many of its products are wrong, or why nothing came
+/// of it.
+#[derive(Drop)]
+pub struct Outcome<T> {
+    pub target: T,
+    pub ended: Result<u32, Fault>,
+}
+
+// Hands on the parts behind so many, which are messages without products.
+fn hand_empty<T: Target>(
+    alloc: Global,
+    most: u32,
+    begun: &Begun,
+    before: u32,
+    target: &mut T,
+) -> Result<(), AllocError>
+    ensures parts { OnOk result (T.parts target.new ≡ fold T.keeping.with_part
+        (T.parts target.old) (empty_parts (begun_view begun.now) before (most - before))) }
+    ensures notes { OnOk result (T.notes target.new ≡ T.notes target.old) }
+{
+    let mut before = before;
+    while before < most {
+        let mut text = first_text(alloc, begun, before)?.into_bytes();
+        hand_on(alloc, most, before, 1, &mut text, target)?;
+        before += 1;
+    }
+    Ok(())
+}
+
+// Hands on the part that was begun, and those that are left over.
+fn hand_rest<T: Target>(
+    alloc: Global,
+    most: u32,
+    begun: &mut Begun,
+    target: &mut T,
+) -> Result<(), AllocError>
+    ensures parts { OnOk result (T.parts target.new
+        ≡ all_parts T.keeping most
+        (stored (begun_view begun.old) (T.parts target.old) (T.notes target.old))) }
+    ensures notes { OnOk result (T.notes target.new ≡ T.notes target.old) }
+{
+    let Some(next) = begun.full.checked_add(1) else {
+        return Err(AllocError);
+    };
+    hand_on(
+        alloc,
+        most,
+        begun.full,
+        begun.count,
+        &mut begun.text,
+        target,
+    )?;
+    hand_empty(alloc, most, begun, next, target)
+}
+
+// Ends a message that was begun, of which not too many products are wrong.
+fn end_parts<T: Target>(
+    alloc: Global,
+    most: u32,
+    begun: Begun,
+    target: &mut T,
+) -> Result<u32, Fault>
+    ensures { Ends result (T.parts target.new) (T.notes target.new) (ended_at T.keeping most
+        (stored (begun_view begun) (T.parts target.old) (T.notes target.old)) begun.beyond) }
+{
+    let mut begun = begun;
+    let wrong = begun.tally.wrong;
+    if let Some(place) = begun.beyond {
+        return match begun.full.checked_add(1) {
+            Some(needed) => Err(Fault::Refused(Refusal::Parts(needed, place))),
+            None => Err(Fault::Memory),
+        };
+    }
+    match hand_rest(alloc, most, &mut begun, target) {
+        Ok(()) => Ok(wrong),
+        Err(_) => Err(Fault::Memory),
+    }
+}
+
+// Ends a message that was begun.
+fn end<T: Target>(
+    alloc: Global,
+    options: &Options<'_>,
+    begun: Begun,
+    target: &mut T,
+) -> Result<u32, Fault>
+    ensures { Ends result (T.parts target.new) (T.notes target.new)
+        (ended T.keeping (options_view options.now)
+        (stored (begun_view begun) (T.parts target.old) (T.notes target.old))) }
+{
+    match refused_for(alloc, options.wrong, &begun.tally) {
+        Ok(None) => end_parts(alloc, options.choices.parts, begun, target),
+        Ok(Some(refusal)) => Err(Fault::Refused(refusal)),
+        Err(_) => Err(Fault::Memory),
+    }
+}
+
+// Ends a message.
+fn finish<T: Target + Drop>(converter: Converter<'_, T>) -> Outcome<T>
+    ensures { Ends result.ended (T.parts result.target) (T.notes result.target)
+        (finished T.keeping converter.entry) }
+{
+    let Converter {
+        alloc,
+        options,
+        mut target,
+        stage,
+    } = converter;
+    let ended = match stage {
+        Stage::Unbegun => Err(Fault::Refused(Refusal::NoHeader(None))),
+        Stage::Refused(refusal) => Err(Fault::Refused(refusal)),
+        Stage::Within(begun) => end(alloc, options, begun, &mut target),
+    };
+    Outcome { target, ended }
+}
+
+// What has come of a feed that was not read.
+fn unread<'a, T: Target + Drop>(stopped: Stopped<Converter<'a, T>>) -> Outcome<T>
+    ensures { IsUnread result.ended stopped.entry.fault stopped.entry.place }
+{
+    let Stopped {
+        fault,
+        place,
+        taker,
+        told,
+    } = stopped;
+    let target = taker.into_target();
+    let ended = match fault {
+        feed_outline::Fault::Document(feed_xml::Fault::Memory) => Err(Fault::Memory),
+        fault => Err(Fault::Unread(fault, place, told)),
+    };
+    Outcome { target, ended }
+}
+
+/// Reads a feed, and hands to the target the texts of the messages that come of it, and the notes
+/// on what is left out. With an error the target may have taken some of them. What is refused is
+/// read to its end all the same, so that a fault of its form goes before.
+pub fn convert<'a, R: Read, T: Target + Drop>(
+    alloc: Global,
+    reader: &mut R,
+    options: &'a Options<'a>,
+    target: T,
+) -> Outcome<T>
+    ensures converted { IfOk result.ended (λ wrong. (made : Converted)
+        × Yields (R.remaining reader.old) (options_view options.now) (Ok made)
+        × (wrong ≡ made.wrong)
+        × (T.parts result.target ≡ fold T.keeping.with_part (T.parts target) made.parts)
+        × (T.notes result.target ≡ fold T.keeping.with_note (T.notes target) made.notes)) }
+    ensures fault { IfErr result.ended
+        (λ e. ExplainsFault (R.remaining reader.old) (options_view options.now) e) }
+{
+    outlines_tell();
+    let converter = Converter::new(alloc, options, target);
+    match read_message(alloc, reader, converter) {
+        Ok(converter) => finish(converter),
+        Err(stopped) => unread(stopped),
+    }
+}

@@ -1,0 +1,417 @@
+//! The state of a conversion, which takes the Header and the Products of a message.
+
+ghost use Rattle.std.specs.Prelude.{◌≡◌, ◌∷◌, [], ℕ, IfOk, OnOk};
+ghost use Rattle.feed_mapping.specs.Header.{heading_in};
+ghost use Rattle.feed_mapping.specs.HeaderViews.{choices_view, heading_view};
+ghost use Rattle.feed_mapping.specs.Notes.{note_views};
+ghost use Rattle.feed_mapping.specs.ProductRecords.{variant, small_variants, smaller_variants};
+ghost use Rattle.feed_mapping.specs.Products.{bare_record, emptied_record};
+ghost use Rattle.feed_conversion.specs.private.Stages.{IsKept, after_element, after_product, at_stage, begun_by, first_begun, first_state, stored, noted, stage_after_header, stage_after_stranger, unbegun, with_variant, with_variants, with_product};
+ghost use Rattle.feed_conversion.specs.Conversion.{Options as Chosen};
+ghost use Rattle.feed_conversion.specs.Views.{options_view};
+ghost use Rattle.feed_conversion.specs.private.StageViews.{begun_view, stage_view};
+
+use crate::messages::record_text;
+use crate::options::Options;
+use crate::packing::{Begun, Stage, keep};
+use crate::refusal::Refusal;
+use crate::tally::{Tally, count_product};
+use crate::target::Target;
+use csv_records::buffer::RecordBuffer;
+use csv_records::fields::FieldBuffer;
+use feed_mapping::{
+    Choices, Composite, Fate, HeaderFault, Heading, Note, Reason, ReasonKind, Wrong, add_bare,
+    add_large, add_product, desk_vocabulary, fill_message, read_heading, text_or_empty,
+};
+use feed_outline::{Elements, Line, Taker, Word, has_stranger, outlined};
+use onix_records::row::RowFault;
+use onix_terms::items::Items;
+use std::alloc::{AllocError, Global};
+use std::marker::Model;
+
+/// What converts a message: it takes its Header and its Products, and hands on parts and notes.
+#[derive(Drop)]
+pub struct Converter<'a, T: Target> {
+    pub(crate) alloc: Global,
+    pub(crate) options: &'a Options<'a>,
+    pub(crate) target: T,
+    pub(crate) stage: Stage,
+}
+
+impl<'a, T: Target> Model for Converter<'a, T> {
+    ghost use Rattle.feed_conversion.specs.private.Stages.{State};
+    ghost use Rattle.feed_conversion.specs.private.StageViews.{state};
+
+    ghost Value = { State T.Parts T.Notes };
+
+    ghost view = { λ c. state c.options.now (T.parts c.target) (T.notes c.target) c.stage };
+}
+
+// Counts a product with these notes, and hands them on.
+fn note_product<T: Target>(
+    alloc: Global,
+    begun: &mut Begun,
+    target: &mut T,
+    product: &Composite<'_>,
+    notes: &[Note<'_>],
+) -> Result<(), AllocError>
+    ensures { OnOk result
+        (stored (begun_view begun.new) (T.parts target.new) (T.notes target.new)
+        ≡ noted T.keeping product.now (note_views notes.now)
+        (stored (begun_view begun.old) (T.parts target.old) (T.notes target.old))) }
+{
+    count_product(alloc, &mut begun.tally, product, notes)?;
+    let reference = text_or_empty(b"RecordReference", &product.below);
+    target.product(reference, notes)
+}
+
+// Puts the records of a form of a product into a part, and hands on the notes on it. It is false
+// where they are too large for any.
+fn keep_variant<T: Target>(
+    alloc: Global,
+    most: u32,
+    begun: &mut Begun,
+    target: &mut T,
+    product: &Composite<'_>,
+    records: &RecordBuffer,
+    notes: &[Note<'_>],
+) -> Result<bool, AllocError>
+    ensures { IfOk result (λ is. IsKept is
+        (stored (begun_view begun.old) (T.parts target.old) (T.notes target.old))
+        (stored (begun_view begun.new) (T.parts target.new) (T.notes target.new))
+        (with_variant T.keeping most
+        (stored (begun_view begun.old) (T.parts target.old) (T.notes target.old))
+        product.now records.now (note_views notes.now))) }
+{
+    let is_kept = keep(alloc, most, begun, target, product.line.place, records)?;
+    if is_kept {
+        note_product(alloc, begun, target, product, notes)?;
+    }
+    Ok(is_kept)
+}
+
+// Leaves out a product that is too large in each form.
+fn leave_out<T: Target>(
+    alloc: Global,
+    begun: &mut Begun,
+    target: &mut T,
+    product: &Composite<'_>,
+) -> Result<(), AllocError>
+    ensures { (most : ℕ) → OnOk result
+        (stored (begun_view begun.new) (T.parts target.new) (T.notes target.new)
+        ≡ with_variants T.keeping most
+        (stored (begun_view begun.old) (T.parts target.old) (T.notes target.old)) product.now []) }
+{
+    let kind = ReasonKind::Wrong(Wrong::TooLarge);
+    let line = product.line;
+    let reason = Reason { kind, text: b"" };
+    note_product(alloc, begun, target, product, &[Note { line, reason }])
+}
+
+// Takes the smallest form of a product, with its reference in place of its identifiers.
+fn add_smallest<T: Target>(
+    alloc: Global,
+    most: u32,
+    begun: &mut Begun,
+    target: &mut T,
+    product: &Composite<'_>,
+    notes: &[Note<'_>],
+) -> Result<(), AllocError>
+    ensures { OnOk result
+        (stored (begun_view begun.new) (T.parts target.new) (T.notes target.new)
+        ≡ with_variants T.keeping most
+        (stored (begun_view begun.old) (T.parts target.old) (T.notes target.old))
+        product.now (variant (bare_record product.now.below ∷ []) (note_views notes.now) ∷ [])) }
+{
+    let mut fields = FieldBuffer::new(alloc);
+    let mut records = RecordBuffer::new(alloc);
+    add_bare(alloc, product, &mut fields, &mut records)?;
+    let is_kept = keep_variant(alloc, most, begun, target, product, &records, notes)?;
+    if is_kept {
+        return Ok(());
+    }
+    leave_out(alloc, begun, target, product)
+}
+
+// Takes a product without supplies, with these notes.
+fn add_small<T: Target>(
+    alloc: Global,
+    most: u32,
+    begun: &mut Begun,
+    target: &mut T,
+    product: &Composite<'_>,
+    records: &RecordBuffer,
+    notes: &[Note<'_>],
+) -> Result<(), AllocError>
+    ensures { records.now ≡ emptied_record product.now.below ∷ []
+        → OnOk result (stored (begun_view begun.new) (T.parts target.new) (T.notes target.new)
+        ≡ with_variants T.keeping most
+        (stored (begun_view begun.old) (T.parts target.old) (T.notes target.old))
+        product.now (small_variants (note_views notes.now) product.now.below)) }
+{
+    let is_kept = keep_variant(alloc, most, begun, target, product, records, notes)?;
+    if is_kept {
+        return Ok(());
+    }
+    add_smallest(alloc, most, begun, target, product, notes)
+}
+
+// Takes a product that is too large as it is.
+fn add_large_product<T: Target>(
+    alloc: Global,
+    most: u32,
+    begun: &mut Begun,
+    target: &mut T,
+    product: &Composite<'_>,
+    fate: Fate,
+    notes: &[Note<'_>],
+) -> Result<(), AllocError>
+    ensures { OnOk result
+        (stored (begun_view begun.new) (T.parts target.new) (T.notes target.new)
+        ≡ with_variants T.keeping most
+        (stored (begun_view begun.old) (T.parts target.old) (T.notes target.old))
+        product.now (smaller_variants fate (note_views notes.now) product.now)) }
+{
+    let mut fields = FieldBuffer::new(alloc);
+    let mut records = RecordBuffer::new(alloc);
+    let mut large = Vec::new(alloc);
+    add_large(alloc, product, &mut fields, &mut records, &mut large)?;
+    match fate {
+        Fate::Written => add_small(alloc, most, begun, target, product, &records, &large),
+        Fate::Emptied => add_small(alloc, most, begun, target, product, &records, notes),
+        Fate::LeftOut => leave_out(alloc, begun, target, product),
+    }
+}
+
+// Takes a product of a message that was begun.
+#[tactic(auto, unfolding(crate::specs::private::Stages::after_product))]
+fn add<T: Target>(
+    alloc: Global,
+    options: &Options<'_>,
+    begun: &mut Begun,
+    target: &mut T,
+    product: &Composite<'_>,
+) -> Result<(), AllocError>
+    ensures { OnOk result
+        (stored (begun_view begun.new) (T.parts target.new) (T.notes target.new)
+        ≡ after_product T.keeping (options_view options.now)
+        (stored (begun_view begun.old) (T.parts target.old) (T.notes target.old)) product.now) }
+{
+    let mut fields = FieldBuffer::new(alloc);
+    let mut records = RecordBuffer::new(alloc);
+    let mut notes = Vec::new(alloc);
+    let fate = add_product(
+        alloc,
+        &begun.opening,
+        options.choices.id_type,
+        product,
+        &mut fields,
+        &mut records,
+        &mut notes,
+    )?;
+    let most = options.choices.parts;
+    let is_kept = keep_variant(alloc, most, begun, target, product, &records, &notes)?;
+    if is_kept {
+        return Ok(());
+    }
+    add_large_product(alloc, most, begun, target, product, fate, &notes)
+}
+
+// The parts of a message with this heading, before the first product. The list takes the fields of
+// the record with which the first one begins.
+fn begin_with(
+    alloc: Global,
+    heading: Heading<'_>,
+    elements: &Elements<'_>,
+    fields: &mut FieldBuffer,
+) -> Result<Begun, RowFault>
+    ensures { IfOk result (λ b. begun_view b
+        ≡ first_begun (heading_view heading.entry) elements.now) }
+{
+    let Heading {
+        sender,
+        addressee,
+        number,
+        opening,
+    } = heading;
+    fill_message(sender, addressee, number, elements, fields)?;
+    let record = fields.as_record();
+    if record.len() != 11 {
+        return Err(RowFault::Wrong);
+    }
+    let mut front = FieldBuffer::new(alloc);
+    front.push_record(&record.part(0, 6))?;
+    let mut back = FieldBuffer::new(alloc);
+    back.push_record(&record.part(7, 11))?;
+    let text = record_text(alloc, fields)?.into_bytes();
+    Ok(Begun {
+        front,
+        back,
+        number,
+        opening,
+        full: 0,
+        count: 1,
+        text,
+        beyond: None,
+        tally: Tally::new(),
+    })
+}
+
+// Where a message is after its Header.
+fn begin<'a>(
+    alloc: Global,
+    choices: &Choices<'a>,
+    header: &Composite<'a>,
+) -> Result<Stage, AllocError>
+    ensures { (o : Chosen) → o.choices ≡ choices_view choices.now
+        → IfOk result (λ s. stage_view s ≡ stage_after_header unbegun o header.now) }
+{
+    if has_stranger(&header.below) {
+        let place = header.line.place;
+        return Ok(Stage::Refused(Refusal::OtherNamespace(place)));
+    }
+    begin_own(alloc, choices, header)
+}
+
+// Where a message is after its Header, in which no element is of another namespace.
+fn begin_own<'a>(
+    alloc: Global,
+    choices: &Choices<'a>,
+    header: &Composite<'a>,
+) -> Result<Stage, AllocError>
+    ensures { IfOk result (λ s. stage_view s
+        ≡ begun_by header.now (heading_in (choices_view choices.now) header.now.below)) }
+{
+    let mut fields = FieldBuffer::new(alloc);
+    match read_heading(alloc, choices, &header.below, &mut fields) {
+        Ok(heading) => match begin_with(alloc, heading, &header.below, &mut fields) {
+            Ok(begun) => Ok(Stage::Within(begun)),
+            // A heading has such a record, so it is memory that ran out.
+            Err(_) => Err(AllocError),
+        },
+        Err(HeaderFault::Refused(refusal)) => {
+            let number = text_or_empty(b"MessageNumber", &header.below);
+            let number = Items::from_vec(Vec::from_slice(alloc, number)?);
+            Ok(Stage::Refused(Refusal::Header(refusal, number, header.line.place)))
+        }
+        Err(HeaderFault::Memory) => Err(AllocError),
+    }
+}
+
+impl<'a, T: Target + Drop> Converter<'a, T> {
+    /// Before the Header.
+    pub(crate) fn new(alloc: Global, options: &'a Options<'a>, target: T) -> Converter<'a, T>
+        ensures { result
+            ≡ first_state (options_view options.now) (T.parts target) (T.notes target) }
+    {
+        Converter {
+            alloc,
+            options,
+            target,
+            stage: Stage::Unbegun,
+        }
+    }
+
+    /// The target.
+    pub(crate) fn into_target(self) -> T {
+        self.target
+    }
+
+    // Takes a Header, which begins the message where it is the first.
+    fn take_header(&mut self, header: &Composite<'_>) -> Result<(), AllocError>
+        ensures { OnOk result (self.new
+            ≡ at_stage self.old (stage_after_header self.old.stage self.old.options header.now)) }
+    {
+        match &self.stage {
+            Stage::Unbegun => {
+                self.stage = begin(self.alloc, &self.options.choices, header)?;
+                Ok(())
+            }
+            Stage::Refused(_) => Ok(()),
+            Stage::Within(_) => {
+                let place = header.line.place;
+                self.stage = Stage::Refused(Refusal::SecondHeader(place));
+                Ok(())
+            }
+        }
+    }
+
+    // Takes an element of another namespace, which refuses the message.
+    fn take_stranger(&mut self, element: &Composite<'_>)
+        ensures { self.new ≡ at_stage self.old (stage_after_stranger self.old.stage element.now) }
+    {
+        let place = element.line.place;
+        match &self.stage {
+            Stage::Refused(_) => {}
+            Stage::Unbegun => {
+                self.stage = Stage::Refused(Refusal::OtherNamespace(place));
+            }
+            Stage::Within(_) => {
+                self.stage = Stage::Refused(Refusal::OtherNamespace(place));
+            }
+        }
+    }
+
+    // Takes a Product.
+    fn take_product(&mut self, product: &Composite<'_>) -> Result<(), AllocError>
+        ensures { OnOk result
+            (self.new ≡ with_product T.keeping self.old.stage self.old product.now) }
+    {
+        match &mut self.stage {
+            Stage::Unbegun => {
+                let place = Some(product.line.place);
+                self.stage = Stage::Refused(Refusal::NoHeader(place));
+                Ok(())
+            }
+            Stage::Refused(_) => Ok(()),
+            Stage::Within(begun) => {
+                let target = &mut self.target;
+                add(self.alloc, self.options, begun, target, product)
+            }
+        }
+    }
+
+    // Takes an element.
+    fn take_element(&mut self, element: &Composite<'_>) -> Result<(), AllocError>
+        ensures { OnOk result (self.new ≡ after_element T.keeping self.old element.now) }
+    {
+        if element.line.name == b"Header".as_slice() {
+            self.take_header(element)
+        } else if element.line.name == b"Product".as_slice() {
+            self.take_product(element)
+        } else if element.line.name == b":".as_slice() {
+            self.take_stranger(element);
+            Ok(())
+        } else {
+            Ok(())
+        }
+    }
+}
+
+impl<'a, T: Target + Drop> Taker for Converter<'a, T> {
+    ghost use Rattle.feed_mapping.specs.Vocabulary.{desk_vocabulary};
+    ghost use Rattle.feed_outline.specs.Outlined.{outlined};
+    ghost use Rattle.feed_outline.specs.Views.{word_views};
+    ghost use Rattle.feed_conversion.specs.private.Stages.{after_nodes};
+
+    ghost vocabulary = { desk_vocabulary };
+
+    ghost after = { λ s lines. after_nodes T.keeping s (outlined lines) };
+
+    fn vocabulary() -> &'static [Word]
+        ensures { word_views result.now ≡ desk_vocabulary }
+    {
+        desk_vocabulary()
+    }
+
+    // Lines that are the outline of no element change nothing.
+    fn take(&mut self, lines: &[Line]) -> Result<(), AllocError> {
+        match outlined(lines) {
+            None => Ok(()),
+            Some(node) => self.take_element(&Composite {
+                line: node.line,
+                below: node.below,
+            }),
+        }
+    }
+}

@@ -1,0 +1,25 @@
+//! What the definitions of the conversion come to. Each law is the contract of a function that does
+//! nothing.
+
+ghost use Rattle.std.specs.Prelude.{◌≡◌, Ok};
+ghost use Rattle.feed_outline.specs.Nodes.{Nodes};
+ghost use Rattle.feed_conversion.specs.Conversion.{Options, conversion};
+ghost use Rattle.feed_conversion.specs.Packing.{Converted};
+ghost use Rattle.feed_conversion.specs.Parts.{AreParts};
+
+use csv_records::laws::one_text;
+use feed_mapping::laws::{parts_say_the_same, records_are_products};
+
+/// The products of a message, each once and in order, stand in its parts, one part after the other
+/// and each in the first of its variants that is not too large, as many as there is room for, with
+/// the notes of that variant. The desk takes each part with just its products: its text is UTF-8
+/// and at most 4,194,304 bytes, and the records that are read of it are a message, of at most 20,000
+/// records, whose header has the part's number.
+pub fn products_stand_in_parts()
+    ensures { (o : Options) (nodes : Nodes) (made : Converted) → conversion o nodes ≡ Ok made
+        → AreParts o nodes made }
+{
+    one_text();
+    parts_say_the_same();
+    records_are_products();
+}

@@ -1,0 +1,142 @@
+-- How one FILE ends.
+use Rattle.std.proofs.Common.{◌≡◌, ◌<◌, ◌⊎◌, ◌++◌, ◌∙◌, ℕ, zero, suc, arith, List, [], Option, Some, None, Bool, true, false, Ok, Err, Result, inl, inr, refl, sym, ap, subst}
+use Rattle.std.specs.Prelude.{IfErr, IfOk}
+use Rattle.std.specs.List.{concat, fold}
+use Rattle.program_files.specs.Holdings.{Holdings, MayName, NamedText, Names}
+use Rattle.program_files.specs.Names.{is_packed, name_of}
+use Rattle.program_files.specs.PartFiles.{files_of, place}
+use Rattle.program_files.specs.Texts.{IsWritten, with_file, with_text}
+use Rattle.feed_conversion.specs.Conversion.{Options}
+use Rattle.feed_conversion.specs.Outcomes.{ExplainsFault, Yields}
+use Rattle.feed_conversion.specs.Packing.{Converted}
+use Rattle.feed_conversion.specs.declared.refusal.Fault.{Fault}
+use Rattle.feed_files.specs.Ends.{AreTold, Asking, IsEnd, IsTaken, IsUnconverted, asking, file_end, is_converted}
+use Rattle.feed_files.specs.declared.ended.Ended.{Ended}
+use Rattle.feed_files.specs.declared.ended.Ended.TheVariants as ended
+use Rattle.feed_files.proofs.KeptLemmas.{all_told, files_told}
+
+-- a FILE that was converted, so many of whose products are wrong
+pub converted_taken : {T : Type 0} (with_part : T → List ℕ → T) (o : Options) (bytes : Option (List ℕ)) (before after : T) (wrong : ℕ) (e : Ended) (made : Converted)
+    → Yields bytes o (Ok made) → after ≡ fold with_part before made.parts → wrong ≡ made.wrong → (wrong ≡ 0 → e ≡ ended.Done) → (0 < wrong → e ≡ ended.LeftOut)
+    → IsTaken with_part o bytes before after e
+converted_taken with_part o bytes before after zero e made says kept is done left = subst (IsTaken with_part o bytes before after) (sym (done refl)) (made, says, sym is, kept)
+converted_taken with_part o bytes before after (suc n) e made says kept is done left =
+    let some : 0 < suc n = omega arith in
+    subst (IsTaken with_part o bytes before after) (sym (left some)) (made, says, subst (λ k. 0 < k) is some, kept)
+
+-- a FILE that was not converted
+pub stopped_taken : {T : Type 0} (with_part : T → List ℕ → T) (o : Options) (bytes : Option (List ℕ)) (before after : T) (e : Ended) (f : Fault)
+    → IsUnconverted f e → ExplainsFault bytes o f → IsTaken with_part o bytes before after e
+stopped_taken with_part o bytes before after e f (inl is) explains = subst (IsTaken with_part o bytes before after) (sym is) tt
+stopped_taken with_part o bytes before after e f (inr refused) explains = subst (IsTaken with_part o bytes before after) (sym refused.0) (f, refused.1, explains)
+
+-- a FILE that was read so
+pub read_taken : {T : Type 0} (with_part : T → List ℕ → T) (o : Options) (bytes : Option (List ℕ)) (before after : T) (r : Result ℕ Fault) (e : Ended)
+    → IfOk r (λ wrong. (made : Converted) × Yields bytes o (Ok made) × (wrong ≡ made.wrong) × (after ≡ fold with_part before made.parts)
+    × (◌≡◌ {A = Unit {0}} tt (fold (λ kept n. kept) tt made.notes)))
+    → IfErr r (λ f. ExplainsFault bytes o f)
+    → IfOk r (λ wrong. wrong ≡ 0 → e ≡ ended.Done) → IfOk r (λ wrong. 0 < wrong → e ≡ ended.LeftOut) → IfErr r (λ f. IsUnconverted f e)
+    → IsTaken with_part o bytes before after e
+read_taken with_part o bytes before after (Ok wrong) e converted explains done left stopped =
+    converted_taken with_part o bytes before after wrong e converted.0 converted.1 converted.3 converted.2 done left
+read_taken with_part o bytes before after (Err f) e converted explains done left stopped = stopped_taken with_part o bytes before after e f stopped explains
+
+-- what was written of all texts
+written_all : {E : Type 0} (told : Bool) (parts : List (List ℕ)) (texts : Option (List ℕ)) (r : Result (Unit {0}) E) (written : List ℕ)
+    → texts ≡ fold (with_text told) (Some []) parts → IsWritten texts r written → AreTold told parts → IsWritten (Some (concat parts)) r written
+written_all told parts texts r written kept is are = subst (λ t. IsWritten t r written) (kept ∙ all_told told parts are) is
+
+-- a FILE whose messages were written to standard output
+pub out_done : {E : Type 0} (o : Options) (told : Bool) (name : List ℕ) (bytes texts : Option (List ℕ)) (holds : Holdings) (e : Ended) (r : Result (Unit {0}) E) (u : Unit {0})
+    (written : List ℕ) → is_converted e ≡ true → r ≡ Ok u → IsTaken (with_text told) o bytes (Some []) texts e → IsWritten texts r written
+    → IsEnd (asking o None told) name bytes (file_end e written holds holds)
+out_done {E} o told name bytes texts holds e r u written is ok taken all = go e is taken (subst (λ x. IsWritten texts x written) ok all)
+  where
+    go : (e : Ended) → is_converted e ≡ true → IsTaken (with_text told) o bytes (Some []) texts e → IsWritten {E = E} texts (Ok u) written
+        → IsEnd (asking o None told) name bytes (file_end e written holds holds)
+    go ended.Done is taken all = (taken.0, taken.1, taken.2, (refl, λ are. written_all told taken.0.parts texts (Ok u) written taken.3 all are))
+    go ended.LeftOut is taken all = (taken.0, taken.1, taken.2, (refl, λ are. written_all told taken.0.parts texts (Ok u) written taken.3 all are))
+    go ended.Refused is taken all = absurd cc
+    go ended.Packed is taken all = absurd taken
+    go ended.Fault is taken all = absurd cc
+
+-- a FILE whose messages could not be written there
+pub out_failed : {E : Type 0} (o : Options) (told : Bool) (name : List ℕ) (bytes texts : Option (List ℕ)) (holds : Holdings) (e after : Ended) (r : Result (Unit {0}) E) (f : E)
+    (written : List ℕ) → is_converted e ≡ true → r ≡ Err f → after ≡ ended.Fault → IsTaken (with_text told) o bytes (Some []) texts e → IsWritten texts r written
+    → IsEnd (asking o None told) name bytes (file_end after written holds holds)
+out_failed {E} o told name bytes texts holds e after r f written is err fault taken front =
+    subst (λ x. IsEnd (asking o None told) name bytes (file_end x written holds holds)) (sym fault) (go e is taken (subst (λ x. IsWritten texts x written) err front))
+  where
+    go : (e : Ended) → is_converted e ≡ true → IsTaken (with_text told) o bytes (Some []) texts e → IsWritten texts (Err f) written
+        → IsEnd (asking o None told) name bytes (file_end ended.Fault written holds holds)
+    go ended.Done is taken front = inr (taken.0, taken.1, (refl, λ are. written_all told taken.0.parts texts (Err f) written taken.3 front are))
+    go ended.LeftOut is taken front = inr (taken.0, taken.1, (refl, λ are. written_all told taken.0.parts texts (Err f) written taken.3 front are))
+    go ended.Refused is taken front = absurd cc
+    go ended.Packed is taken front = absurd taken
+    go ended.Fault is taken front = absurd cc
+
+-- a FILE that was not converted leaves nothing
+pub stopped_end : {T : Type 0} (with_part : T → List ℕ → T) (a : Asking) (name : List ℕ) (bytes : Option (List ℕ)) (before after : T) (holds : Holdings) (e : Ended)
+    → is_converted e ≡ false → IsTaken with_part a.options bytes before after e → IsEnd a name bytes (file_end e [] holds holds)
+stopped_end with_part a name bytes before after holds ended.Done is taken = absurd cc
+stopped_end with_part a name bytes before after holds ended.LeftOut is taken = absurd cc
+stopped_end with_part a name bytes before after holds ended.Refused is taken = ((refl, refl), taken)
+stopped_end with_part a name bytes before after holds ended.Packed is taken = absurd taken
+stopped_end with_part a name bytes before after holds ended.Fault is taken = inl (refl, refl)
+
+-- a FILE that was not looked into
+pub packed_end : (a : Asking) (name : List ℕ) (bytes : Option (List ℕ)) (holds : Holdings) (e : Ended) → is_packed name ≡ true
+    → (e ≡ ended.Packed) ⊎ (e ≡ ended.Fault) → IsEnd a name bytes (file_end e [] holds holds)
+packed_end a name bytes holds e packed (inl is) = subst (λ x. IsEnd a name bytes (file_end x [] holds holds)) (sym is) ((refl, refl), packed)
+packed_end a name bytes holds e packed (inr is) = subst (λ x. IsEnd a name bytes (file_end x [] holds holds)) (sym is) (inl (refl, refl))
+
+-- a FILE that could not be opened
+pub fault_end : (a : Asking) (name : List ℕ) (bytes : Option (List ℕ)) (holds : Holdings) (e : Ended) → e ≡ ended.Fault → IsEnd a name bytes (file_end e [] holds holds)
+fault_end a name bytes holds e is = subst (λ x. IsEnd a name bytes (file_end x [] holds holds)) (sym is) (inl (refl, refl))
+
+abbrev parts_at : Options → List ℕ → List ℕ → List (List ℕ) → List NamedText
+parts_at o folder name parts = files_of (place folder (name_of name) o.choices.parts) parts
+
+abbrev FolderEnd : Options → List ℕ → Bool → List ℕ → Option (List ℕ) → Holdings → Holdings → Ended → Type 0
+FolderEnd o folder told name bytes before after e = IsEnd (asking o (Some folder) told) name bytes (file_end e [] before after)
+
+same_parts : (told : Bool) (texts parts : List (List ℕ)) → texts ≡ fold (with_file told) [] parts → told ≡ true → texts ≡ parts
+same_parts told texts parts kept is = kept ∙ files_told told parts is
+
+-- its files have their names
+names_parts : (o : Options) (folder : List ℕ) (told : Bool) (name : List ℕ) (texts parts : List (List ℕ)) (before after : Holdings)
+    → texts ≡ fold (with_file told) [] parts → (told ≡ true → Names (parts_at o folder name texts) before after)
+    → told ≡ true → Names (parts_at o folder name parts) before after
+names_parts o folder told name texts parts before after kept names is =
+    subst (λ t. Names (parts_at o folder name t) before after) (same_parts told texts parts kept is) (names is)
+
+may_name_parts : (o : Options) (folder : List ℕ) (told : Bool) (name : List ℕ) (texts parts : List (List ℕ)) (before after : Holdings)
+    → texts ≡ fold (with_file told) [] parts → (told ≡ true → MayName (parts_at o folder name texts) before after)
+    → told ≡ true → MayName (parts_at o folder name parts) before after
+may_name_parts o folder told name texts parts before after kept may is =
+    subst (λ t. MayName (parts_at o folder name t) before after) (same_parts told texts parts kept is) (may is)
+
+-- a FILE whose messages went into a folder, or could not
+pub folder_end : (o : Options) (folder : List ℕ) (told : Bool) (name : List ℕ) (bytes : Option (List ℕ)) (texts : List (List ℕ)) (was e : Ended) (before after : Holdings)
+    → IsTaken (with_file told) o bytes [] texts was
+    → (is_converted was ≡ false → (e ≡ was) × (after ≡ before))
+    → (is_converted was ≡ true → (e ≡ ended.Fault) ⊎ ((e ≡ was) × (told ≡ true → Names (files_of (place folder (name_of name) o.choices.parts) texts) before after)))
+    → (told ≡ true → is_converted was ≡ true → MayName (files_of (place folder (name_of name) o.choices.parts) texts) before after)
+    → IsEnd (asking o (Some folder) told) name bytes (file_end e [] before after)
+folder_end o folder told name bytes texts ended.Done e before after taken left done may = elim (done refl) [
+  | inl is ↦ subst (FolderEnd o folder told name bytes before after) (sym is)
+      (inr (taken.0, taken.1, (refl, may_name_parts o folder told name texts taken.0.parts before after taken.3 (λ is. may is refl))))
+  | inr is ↦ subst (FolderEnd o folder told name bytes before after) (sym is.0)
+      (taken.0, taken.1, taken.2, (refl, names_parts o folder told name texts taken.0.parts before after taken.3 is.1))
+]
+folder_end o folder told name bytes texts ended.LeftOut e before after taken left done may = elim (done refl) [
+  | inl is ↦ subst (FolderEnd o folder told name bytes before after) (sym is)
+      (inr (taken.0, taken.1, (refl, may_name_parts o folder told name texts taken.0.parts before after taken.3 (λ is. may is refl))))
+  | inr is ↦ subst (FolderEnd o folder told name bytes before after) (sym is.0)
+      (taken.0, taken.1, taken.2, (refl, names_parts o folder told name texts taken.0.parts before after taken.3 is.1))
+]
+folder_end o folder told name bytes texts ended.Refused e before after taken left done may =
+    subst (FolderEnd o folder told name bytes before after) (sym (left refl).0) ((refl, (left refl).1), taken)
+folder_end o folder told name bytes texts ended.Packed e before after taken left done may = absurd taken
+folder_end o folder told name bytes texts ended.Fault e before after taken left done may =
+    subst (FolderEnd o folder told name bytes before after) (sym (left refl).0) (inl (refl, (left refl).1))

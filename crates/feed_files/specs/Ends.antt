@@ -1,0 +1,143 @@
+-- How one FILE ends.
+use Rattle.std.specs.Prelude.{◌≡◌, ◌<◌, ◌≤◌, ◌⊎◌, ℕ, ◌++◌, Bool, true, false, List, [], Option}
+use Rattle.std.specs.Prelude.{Some, None, ⊤, length}
+use Rattle.std.specs.Prelude.{Ok}
+use Rattle.std.specs.List.{concat, fold}
+use Rattle.feed_xml.specs.declared.fault.Fault.TheVariants as document
+use Rattle.csv_records.specs.RecordTexts.{limit}
+use Rattle.program_files.specs.Holdings.{Holdings, MayName, NamedText, Names}
+use Rattle.program_files.specs.Names.{is_packed, name_of}
+use Rattle.program_files.specs.PartFiles.{files_of, place}
+use Rattle.feed_outline.specs.declared.reading.Fault.TheVariants as unread
+use Rattle.feed_conversion.specs.Conversion.{Options}
+use Rattle.feed_conversion.specs.Outcomes.{ExplainsFault, Yields}
+use Rattle.feed_conversion.specs.Packing.{Converted}
+use Rattle.feed_conversion.specs.declared.refusal.Fault.{Fault}
+use Rattle.feed_conversion.specs.declared.refusal.Fault.TheVariants as fault
+use Rattle.feed_files.specs.declared.ended.Ended.{Ended}
+use Rattle.feed_files.specs.declared.ended.Ended.TheVariants as ended
+
+-- the status of a FILE that ended so
+abbrev pub status_of : Ended → ℕ
+status_of ended.Done = 0
+status_of ended.LeftOut = 1
+status_of ended.Refused = 1
+status_of ended.Packed = 1
+status_of ended.Fault = 3
+
+-- a FILE that ended so was converted
+abbrev pub is_converted : Ended → Bool
+is_converted ended.Done = true
+is_converted ended.LeftOut = true
+is_converted other = false
+
+-- the fault is of what the bytes say: no read failed, memory did not run out, and nothing but the
+-- bytes was refused
+abbrev pub IsRefusal : Fault → Type 0
+IsRefusal (fault.Unread (unread.Document document.Read) place told) = ⊥
+IsRefusal (fault.Unread (unread.Document document.Memory) place told) = ⊥
+IsRefusal (fault.Unread (unread.Document document.Refused) place told) = ⊥
+IsRefusal fault.Memory = ⊥
+IsRefusal other = ⊤
+
+-- a FILE that was not converted ended so
+abbrev pub IsUnconverted : Fault → Ended → Type 0
+IsUnconverted f e = (e ≡ ended.Fault) ⊎ ((e ≡ ended.Refused) × IsRefusal f)
+
+-- what a store that had some texts has of a FILE of these bytes whose reading ended so: with those
+-- of its messages, where it was converted. With part: what it makes of one text more
+abbrev pub IsTaken : {T : Type 0} → (T → List ℕ → T) → Options → Option (List ℕ) → T → T → Ended
+    → Type 0
+IsTaken with_part o bytes before after ended.Done =
+    (made : Converted) × Yields bytes o (Ok made) × (made.wrong ≡ 0)
+    × (after ≡ fold with_part before made.parts)
+IsTaken with_part o bytes before after ended.LeftOut =
+    (made : Converted) × Yields bytes o (Ok made) × (0 < made.wrong)
+    × (after ≡ fold with_part before made.parts)
+IsTaken with_part o bytes before after ended.Refused =
+    (f : Fault) × IsRefusal f × ExplainsFault bytes o f
+IsTaken with_part o bytes before after ended.Packed = ⊥
+IsTaken with_part o bytes before after ended.Fault = ⊤
+
+-- how a run is asked to convert, and whether it is told what files hold
+pub record Asking : Type 0 where
+  pub options : Options
+  pub folder : Option (List ℕ)
+  pub is_told : Bool
+
+abbrev pub asking : Options → Option (List ℕ) → Bool → Asking
+asking options folder is_told = record {
+  options = options;
+  folder = folder;
+  is_told = is_told;
+}
+
+-- what became of a FILE: how it ended, what was written of it to standard output, and what names
+-- held before and after
+pub record FileEnd : Type 0 where
+  pub ended : Ended
+  pub output : List ℕ
+  pub before : Holdings
+  pub after : Holdings
+
+abbrev pub file_end : Ended → List ℕ → Holdings → Holdings → FileEnd
+file_end ended output before after = record {
+  ended = ended;
+  output = output;
+  before = before;
+  after = after;
+}
+
+-- nothing was written of it, and no name holds anything else
+abbrev pub LeavesNothing : FileEnd → Type 0
+LeavesNothing e = (e.output ≡ []) × (e.after ≡ e.before)
+
+-- the texts of parts are told: those that a file keeps too, or they are no longer than the largest
+-- message, which is in memory
+abbrev pub AreTold : Bool → List (List ℕ) → Type 0
+AreTold is_told parts = (is_told ≡ true) ⊎ (length (concat parts) ≤ limit)
+
+module _ (a : Asking) (name : List ℕ) where
+  -- the files of the parts of a FILE of this name in a folder
+  abbrev pub part_files : List ℕ → List (List ℕ) → List NamedText
+  part_files folder parts = files_of (place folder (name_of name) a.options.choices.parts) parts
+
+  -- The parts of a FILE of this name were written: into a folder, so that each file holds its
+  -- part's text, of what was there nothing is lost, and nothing else is new; or to standard output,
+  -- one after the other.
+  abbrev pub WritesTo : Option (List ℕ) → List (List ℕ) → FileEnd → Type 0
+  WritesTo (Some folder) parts e =
+      (e.output ≡ []) × (a.is_told ≡ true → Names (part_files folder parts) e.before e.after)
+  WritesTo None parts e =
+      (e.after ≡ e.before) × (AreTold a.is_told parts → e.output ≡ concat parts)
+
+  -- a first part of them was: into a folder some of the files may be there, to standard output a
+  -- front
+  abbrev pub MayWriteTo : Option (List ℕ) → List (List ℕ) → FileEnd → Type 0
+  MayWriteTo (Some folder) parts e =
+      (e.output ≡ []) × (a.is_told ≡ true → MayName (part_files folder parts) e.before e.after)
+  MayWriteTo None parts e =
+      (e.after ≡ e.before)
+      × (AreTold a.is_told parts → (rest : List ℕ) × (e.output ++ rest ≡ concat parts))
+
+-- how a FILE of this name and of these bytes, where they are told, ends so
+abbrev pub EndsAs : Ended → Asking → List ℕ → Option (List ℕ) → FileEnd → Type 0
+EndsAs ended.Done a name bytes e =
+    (made : Converted) × Yields bytes a.options (Ok made) × (made.wrong ≡ 0)
+    × WritesTo a name a.folder made.parts e
+EndsAs ended.LeftOut a name bytes e =
+    (made : Converted) × Yields bytes a.options (Ok made) × (0 < made.wrong)
+    × WritesTo a name a.folder made.parts e
+EndsAs ended.Refused a name bytes e =
+    LeavesNothing e × ((f : Fault) × IsRefusal f × ExplainsFault bytes a.options f)
+EndsAs ended.Packed a name bytes e = LeavesNothing e × (is_packed name ≡ true)
+EndsAs ended.Fault a name bytes e =
+    LeavesNothing e
+    ⊎ ((made : Converted) × Yields bytes a.options (Ok made)
+    × MayWriteTo a name a.folder made.parts e)
+
+-- How a FILE of this name and of these bytes, where they are told, ends: its messages are written,
+-- where it was converted, with or without wrong products; nothing is, where it was refused for what
+-- its bytes say, or since it is packed by its name; after a fault at most a part of them is.
+abbrev pub IsEnd : Asking → List ℕ → Option (List ℕ) → FileEnd → Type 0
+IsEnd a name bytes e = EndsAs e.ended a name bytes e

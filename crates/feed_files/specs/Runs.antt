@@ -1,0 +1,47 @@
+-- How a run over FILEs ends.
+use Rattle.std.specs.Prelude.{◌≡◌, ◌≢◌, ◌⊎◌, ℕ, Bool, true, List, [], ◌∷◌, Option, codes, is_some}
+use Rattle.std.specs.Prelude.{map, max, option_map}
+use Rattle.std.specs.List.{concat, fold}
+use Rattle.program_files.specs.Holdings.{Holdings}
+use Rattle.feed_conversion.specs.Views.{options_view}
+use Rattle.feed_files.specs.Ends.{Asking, FileEnd, IsEnd, asking, status_of}
+use Rattle.feed_files.specs.declared.converting.Run.{Run}
+
+-- how a run is asked to convert
+abbrev pub run_asking : Bool → Run → Asking
+run_asking is_told run =
+    asking (options_view run.options) (option_map (λ name. name.now) run.folder) is_told
+
+module _ (ends : List FileEnd) where
+  -- the status of a run: the greatest of those of its FILEs
+  abbrev pub status_of_all : ℕ
+  status_of_all = fold (λ status e. max status (status_of e.ended)) 0 ends
+
+  abbrev pub outputs : List ℕ
+  outputs = concat (map (λ e. e.output) ends)
+
+-- How the FILEs of these names end, in order. `-` is standard input, which tells its bytes or
+-- not; of each other FILE the bytes are what its name holds, where that is told. Before, after:
+-- what names hold
+abbrev pub AreEnds : Asking → Option (List ℕ) → Holdings → Holdings → List (List ℕ) → List FileEnd
+    → Type 0
+AreEnds a told before after [] [] = after ≡ before
+AreEnds a told before after (name ∷ names) (e ∷ ends) =
+    (bytes left : Option (List ℕ)) × (name ≡ codes "-" → bytes ≡ told)
+    × (name ≢ codes "-" → (left ≡ told) × (bytes ≡ before name))
+    × (e.before ≡ before) × IsEnd a name bytes e × AreEnds a left e.after after names ends
+AreEnds a told before after names ends = ⊥
+
+module _ (a : Asking) (told : Option (List ℕ)) (before after : Holdings)
+    (names : List (List ℕ)) (such : List FileEnd → Type 0) (status : ℕ) where
+  -- FILEs of these names end with this status, such that this holds of how they do
+  abbrev pub AllEnd : Type 0
+  AllEnd =
+      (ends : List FileEnd) × AreEnds a told before after names ends × such ends
+      × (status ≡ status_of_all ends)
+
+  -- How a run ends with this status: as its FILEs end; or, with 3, before the first, where the
+  -- folder is none.
+  abbrev pub RunEnds : Type 0
+  RunEnds =
+      AllEnd ⊎ ((is_some a.folder ≡ true) × (status ≡ 3) × such [] × (after ≡ before))

@@ -1,0 +1,47 @@
+//! What is made of a FILE while it is read.
+
+ghost use Rattle.std.specs.Prelude.{◌≡◌};
+
+use crate::notes::Notes;
+use crate::store::Store;
+use feed_conversion::Target;
+use feed_mapping::Note;
+use program_files::FileFault;
+use std::alloc::AllocError;
+
+/// The parts of a message, and the notes on what is left out of it. Where the parts cannot be kept,
+/// the fault.
+#[derive(Drop)]
+pub struct Collected<'a, S> {
+    pub store: S,
+    pub notes: Notes<'a>,
+    pub fault: Option<FileFault>,
+}
+
+impl<'a, S: Store + Drop> Target for Collected<'a, S> {
+    ghost use Rattle.feed_files.specs.Kept.{keeping};
+
+    type Parts = S::Texts;
+
+    type Notes = ();
+
+    ghost keeping = { keeping S.with_text };
+
+    ghost parts = { λ c. S.texts c.store };
+
+    ghost notes = { λ c. tt };
+
+    fn part(&mut self, text: &[u8]) -> Result<(), AllocError> {
+        match self.store.add(text) {
+            Ok(()) => Ok(()),
+            Err(fault) => {
+                self.fault = Some(fault);
+                Err(AllocError)
+            }
+        }
+    }
+
+    fn product(&mut self, reference: &[u8], on_it: &[Note<'_>]) -> Result<(), AllocError> {
+        self.notes.add(reference, on_it)
+    }
+}

@@ -1,0 +1,537 @@
+//! A run over FILEs.
+
+ghost use Rattle.std.specs.Prelude.{◌≡◌, ◌≢◌, ◌⊎◌, ◌<◌, ◌≤◌, ℕ, List, [], Option, IfErr, IfOk, OnOk, codes, is_some, map, max, option_map, true, false};
+ghost use Rattle.std.specs.Io.KnownBytes.{Appends};
+ghost use Rattle.program_files.specs.Holdings.{MayName, Names};
+ghost use Rattle.program_files.specs.PartFiles.{files_of, place};
+ghost use Rattle.program_files.specs.Texts.{with_file};
+ghost use Rattle.feed_conversion.specs.Views.{options_view};
+ghost use Rattle.feed_files.specs.Ends.{IsEnd, IsTaken, IsUnconverted, asking, file_end, is_converted};
+ghost use Rattle.feed_files.specs.Runs.{AllEnd, outputs, run_asking};
+ghost use Rattle.feed_files.specs.Titles.{EndsWith, TitlesEnd, converted_names};
+
+use crate::collected::Collected;
+use crate::converted::ConvertedNames;
+use crate::ended::Ended;
+use crate::fault::write_fault;
+use crate::notes::{Notes, PREFIX};
+use crate::refusal::{Known, push_packed, push_refusal};
+use crate::summary::Summary;
+use crate::titles::write_titles;
+use crate::watched::{Seen, Watched};
+use feed_conversion::{Fault, Options, Outcome, convert};
+use program_files::{
+    FileFault, MadeFiles, NamedFiles, PartFiles, STANDARD_INPUT, Spool, is_packed, name_of,
+};
+use std::alloc::{AllocError, Global};
+use std::io::{Read, Write};
+use std::rt::HostRuntime;
+
+/// What a run is asked to do.
+#[derive(Clone, Copy, Debug)]
+pub struct Run<'a> {
+    /// How each message is converted.
+    pub options: Options<'a>,
+    /// The folder that takes the messages, or none where they go to standard output.
+    pub folder: Option<&'a str>,
+}
+
+// Writes lines. Those that cannot be written are lost: there is nowhere left to say so.
+fn write_lines<E: Write>(text: &str, errors: &mut E) {
+    let _ = errors.write_all(text.as_bytes());
+}
+
+// Says what ended a FILE.
+fn report_fault<E: Write>(alloc: Global, fault: &FileFault, errors: &mut E) -> Ended
+    ensures { result ≡ Ended.Fault }
+{
+    write_fault(alloc, fault, errors);
+    Ended::Fault
+}
+
+// Says that a FILE cannot be read.
+fn report_unread<E: Write>(alloc: Global, known: &Known<'_>, errors: &mut E) -> Ended
+    ensures { result ≡ Ended.Fault }
+{
+    match &known.seen.fault {
+        Some(fault) => report_fault(alloc, fault, errors),
+        None => {
+            let fault = FileFault::new(alloc, known.file, "cannot be read");
+            report_fault(alloc, &fault, errors)
+        }
+    }
+}
+
+// Says why a FILE is refused.
+fn report_refusal<E: Write>(
+    alloc: Global,
+    known: &Known<'_>,
+    fault: &Fault,
+    errors: &mut E,
+) -> Ended
+    ensures { (result ≡ Ended.Fault) ⊎ (result ≡ Ended.Refused) }
+{
+    let mut line = String::new(alloc);
+    match push_refusal(&mut line, known, fault) {
+        Ok(()) => {
+            write_lines(line.as_str(), errors);
+            Ended::Refused
+        }
+        Err(AllocError) => report_fault(alloc, &FileFault::Memory, errors),
+    }
+}
+
+// Says what ended the reading of a FILE.
+fn report_ended<E: Write>(alloc: Global, known: &Known<'_>, fault: &Fault, errors: &mut E) -> Ended
+    ensures { IsUnconverted fault.now result }
+{
+    match fault {
+        Fault::Unread(feed_outline::Fault::Document(feed_xml::Fault::Read), _, _) => {
+            report_unread(alloc, known, errors)
+        }
+        Fault::Unread(feed_outline::Fault::Document(feed_xml::Fault::Memory), _, _) => {
+            report_fault(alloc, &FileFault::Memory, errors)
+        }
+        Fault::Unread(feed_outline::Fault::Document(feed_xml::Fault::Refused), _, _)
+        | Fault::Memory => report_fault(alloc, &FileFault::Memory, errors),
+        _ => report_refusal(alloc, known, fault, errors),
+    }
+}
+
+// Says what ended the reading of a FILE; where what was read could not be kept, that.
+fn report_stopped<E: Write>(
+    alloc: Global,
+    known: &Known<'_>,
+    fault: &Fault,
+    kept: &Option<FileFault>,
+    errors: &mut E,
+) -> Ended
+    ensures { IsUnconverted fault.now result }
+{
+    match kept {
+        Some(kept) => report_fault(alloc, kept, errors),
+        None => report_ended(alloc, known, fault, errors),
+    }
+}
+
+// How a FILE ended that was read so.
+fn end_of<E: Write>(
+    alloc: Global,
+    known: &Known<'_>,
+    read: &Result<u32, Fault>,
+    kept: &Option<FileFault>,
+    errors: &mut E,
+) -> Ended
+    ensures done { IfOk read.now (λ wrong. wrong ≡ 0 → result ≡ Ended.Done) }
+    ensures left_out { IfOk read.now (λ wrong. 0 < wrong → result ≡ Ended.LeftOut) }
+    ensures err { IfErr read.now (λ f. IsUnconverted f result) }
+{
+    match read {
+        Ok(wrong) => Ended::of_converted(*wrong),
+        Err(fault) => report_stopped(alloc, known, fault, kept, errors),
+    }
+}
+
+// How a FILE ended of which this was seen and noted.
+fn end_of_seen<E: Write>(
+    alloc: Global,
+    notes: &Notes<'_>,
+    seen: &Seen,
+    options: &Options<'_>,
+    read: &Result<u32, Fault>,
+    kept: &Option<FileFault>,
+    errors: &mut E,
+) -> Ended
+    ensures done { IfOk read.now (λ wrong. wrong ≡ 0 → result ≡ Ended.Done) }
+    ensures left_out { IfOk read.now (λ wrong. 0 < wrong → result ≡ Ended.LeftOut) }
+    ensures err { IfErr read.now (λ f. IsUnconverted f result) }
+{
+    let known = Known {
+        file: notes.file(),
+        options,
+        seen,
+        notes,
+    };
+    end_of(alloc, &known, read, kept, errors)
+}
+
+// Counts the wrong products of a FILE that was converted.
+fn count_wrong(notes: &mut Notes<'_>, read: &Result<u32, Fault>) {
+    if let Ok(wrong) = read {
+        notes.count_wrong(*wrong);
+    }
+}
+
+// Writes the notes of a FILE that was converted, and counts them. Where memory runs out, the
+// summary counts less.
+fn tell<E: Write>(notes: &Notes<'_>, summary: &mut Summary, errors: &mut E) {
+    write_lines(notes.text(), errors);
+    let _ = summary.add_all(notes.summary());
+}
+
+// Converts a FILE to standard output.
+fn convert_out<F: NamedFiles, R: Read, W: Write, E: Write>(
+    rt: &HostRuntime,
+    file: &str,
+    files: &F,
+    reader: &mut R,
+    options: &Options<'_>,
+    output: &mut W,
+    summary: &mut Summary,
+    errors: &mut E,
+) -> Ended
+    ensures { (written : List ℕ) × Appends (W.contents output.old) (W.contents output.new) written
+        × IsEnd (asking (options_view options.now) None F.is_told) file.now (R.remaining reader.old)
+        (file_end result written (F.holds files.now) (F.holds files.now)) }
+{
+    let alloc = rt.alloc();
+    let target = Collected {
+        store: Spool::new(alloc, files),
+        notes: Notes::new(alloc, file),
+        fault: None,
+    };
+    let mut watched = Watched::new(rt, file, reader);
+    let Outcome { target, ended } = convert(alloc, &mut watched, options, target);
+    let seen = watched.into_seen();
+    let Collected {
+        store,
+        mut notes,
+        fault,
+    } = target;
+    count_wrong(&mut notes, &ended);
+    let ended = end_of_seen(alloc, &notes, &seen, options, &ended, &fault, errors);
+    if !ended.is_converted() {
+        return ended;
+    }
+    match store.place(output) {
+        Ok(()) => {
+            tell(&notes, summary, errors);
+            ended
+        }
+        Err(fault) => report_fault(alloc, &fault, errors),
+    }
+}
+
+// Gives the files of a FILE their names, where it was converted.
+fn place_parts<F: NamedFiles, E: Write>(
+    alloc: Global,
+    files: &mut F,
+    made: &MadeFiles<F>,
+    folder: &str,
+    name: &str,
+    parts: u32,
+    ended: Ended,
+    errors: &mut E,
+) -> Ended
+    ensures left { is_converted ended ≡ false
+        → (result ≡ ended) × (F.holds files.new ≡ F.holds files.old) }
+    ensures done { is_converted ended ≡ true → (result ≡ Ended.Fault)
+        ⊎ ((result ≡ ended) × (F.is_told ≡ true
+        → Names (files_of (place folder.now name.now parts) (map F.text_of made.now.made.items))
+        (F.holds files.old) (F.holds files.new))) }
+    ensures may { F.is_told ≡ true → is_converted ended ≡ true
+        → MayName (files_of (place folder.now name.now parts) (map F.text_of made.now.made.items))
+        (F.holds files.old) (F.holds files.new) }
+{
+    if !ended.is_converted() {
+        return ended;
+    }
+    match made.place(files, folder, name, parts) {
+        Ok(()) => ended,
+        Err(fault) => report_fault(alloc, &fault, errors),
+    }
+}
+
+// Reads a FILE, and makes the files of its parts under hidden names.
+fn read_parts<'a, F: NamedFiles, R: Read, E: Write>(
+    rt: &HostRuntime,
+    file: &'a str,
+    files: &F,
+    reader: &mut R,
+    options: &Options<'_>,
+    folder: &str,
+    errors: &mut E,
+) -> (MadeFiles<F>, Notes<'a>, Ended)
+    ensures { IsTaken (with_file F.is_told) (options_view options.now) (R.remaining reader.old) []
+        (map F.text_of result.0.made.items) result.2 }
+{
+    let alloc = rt.alloc();
+    let target = Collected {
+        store: PartFiles::new(alloc, files, folder, name_of(file)),
+        notes: Notes::new(alloc, file),
+        fault: None,
+    };
+    let mut watched = Watched::new(rt, file, reader);
+    let Outcome { target, ended } = convert(alloc, &mut watched, options, target);
+    let seen = watched.into_seen();
+    let Collected {
+        store,
+        mut notes,
+        fault,
+    } = target;
+    count_wrong(&mut notes, &ended);
+    let ended = end_of_seen(alloc, &notes, &seen, options, &ended, &fault, errors);
+    (store.finish(), notes, ended)
+}
+
+// Converts a FILE into a folder.
+fn convert_into<F: NamedFiles, R: Read, E: Write>(
+    rt: &HostRuntime,
+    file: &str,
+    files: &mut F,
+    reader: &mut R,
+    options: &Options<'_>,
+    folder: &str,
+    summary: &mut Summary,
+    errors: &mut E,
+) -> Ended
+    ensures { IsEnd (asking (options_view options.now) (Some folder.now) F.is_told) file.now
+        (R.remaining reader.old) (file_end result [] (F.holds files.old) (F.holds files.new)) }
+{
+    let (made, notes, read) = read_parts(rt, file, files, reader, options, folder, errors);
+    let name = name_of(file);
+    let parts = options.choices.parts;
+    let ended = place_parts(rt.alloc(), files, &made, folder, name, parts, read, errors);
+    if ended.is_converted() {
+        tell(&notes, summary, errors);
+    }
+    made.discard(files);
+    ended
+}
+
+// Converts what a reader gives.
+fn convert_read<F: NamedFiles, R: Read, W: Write, E: Write>(
+    rt: &HostRuntime,
+    run: &Run<'_>,
+    file: &str,
+    files: &mut F,
+    reader: &mut R,
+    output: &mut W,
+    summary: &mut Summary,
+    errors: &mut E,
+) -> Ended
+    ensures { (written : List ℕ) × Appends (W.contents output.old) (W.contents output.new) written
+        × IsEnd (run_asking F.is_told run.now) file.now (R.remaining reader.old)
+        (file_end result written (F.holds files.old) (F.holds files.new)) }
+{
+    match run.folder {
+        Some(folder) => convert_into(
+            rt,
+            file,
+            files,
+            reader,
+            &run.options,
+            folder,
+            summary,
+            errors,
+        ),
+        None => convert_out(
+            rt,
+            file,
+            files,
+            reader,
+            &run.options,
+            output,
+            summary,
+            errors,
+        ),
+    }
+}
+
+// Says that a FILE is packed.
+fn report_packed<E: Write>(alloc: Global, file: &str, errors: &mut E) -> Ended
+    ensures { (result ≡ Ended.Packed) ⊎ (result ≡ Ended.Fault) }
+{
+    let mut line = String::new(alloc);
+    match push_packed(&mut line, file) {
+        Ok(()) => {
+            write_lines(line.as_str(), errors);
+            Ended::Packed
+        }
+        Err(AllocError) => report_fault(alloc, &FileFault::Memory, errors),
+    }
+}
+
+// Converts a FILE that is not standard input.
+fn convert_named<F: NamedFiles, W: Write, E: Write>(
+    rt: &HostRuntime,
+    run: &Run<'_>,
+    file: &str,
+    files: &mut F,
+    output: &mut W,
+    summary: &mut Summary,
+    errors: &mut E,
+) -> Ended
+    ensures { (written : List ℕ) × Appends (W.contents output.old) (W.contents output.new) written
+        × IsEnd (run_asking F.is_told run.now) file.now (F.holds files.old file.now)
+        (file_end result written (F.holds files.old) (F.holds files.new)) }
+{
+    if is_packed(file) {
+        return report_packed(rt.alloc(), file, errors);
+    }
+    match files.open(file) {
+        Ok(mut reader) => {
+            convert_read(rt, run, file, files, &mut reader, output, summary, errors)
+        }
+        Err(fault) => report_fault(rt.alloc(), &fault, errors),
+    }
+}
+
+// Converts one FILE.
+fn convert_file<F: NamedFiles, R: Read, W: Write, E: Write>(
+    rt: &HostRuntime,
+    run: &Run<'_>,
+    file: &str,
+    files: &mut F,
+    input: &mut R,
+    output: &mut W,
+    summary: &mut Summary,
+    errors: &mut E,
+) -> Ended
+    ensures end { (bytes : Option (List ℕ)) × (written : List ℕ)
+        × (file.now ≡ codes "-" → bytes ≡ R.remaining input.old)
+        × (file.now ≢ codes "-" → bytes ≡ F.holds files.old file.now)
+        × Appends (W.contents output.old) (W.contents output.new) written
+        × IsEnd (run_asking F.is_told run.now) file.now bytes
+        (file_end result written (F.holds files.old) (F.holds files.new)) }
+    ensures untouched { file.now ≢ codes "-" → input.new ≡ input.old }
+{
+    if file == STANDARD_INPUT {
+        convert_read(rt, run, file, files, input, output, summary, errors)
+    } else {
+        convert_named(rt, run, file, files, output, summary, errors)
+    }
+}
+
+// Writes the titles of the FILEs that were noted, where all are.
+fn write_noted<F: NamedFiles, E: Write>(
+    alloc: Global,
+    titles: &str,
+    converted: &ConvertedNames<'_>,
+    files: &mut F,
+    errors: &mut E,
+) -> u8
+    ensures end { (names : List (List ℕ)) → (converted.now.is_whole ≡ true
+        → map (λ name. name.now) converted.now.names.items ≡ names)
+        → TitlesEnd F.is_told titles.now names (F.holds files.old) (F.holds files.new) result }
+    ensures most { result ≤ 3 }
+{
+    if converted.is_whole {
+        return write_titles(alloc, titles, converted.names.as_slice(), files, errors);
+    }
+    write_fault(alloc, &FileFault::Memory, errors);
+    3
+}
+
+// Writes the summary of a run. Where memory runs out, it is lost.
+fn write_summary<E: Write>(alloc: Global, summary: &Summary, errors: &mut E) {
+    let mut text = String::new(alloc);
+    if let Ok(()) = summary.push_lines(PREFIX, &mut text) {
+        write_lines(text.as_str(), errors);
+    }
+}
+
+fn greater(one: u8, other: u8) -> u8
+    ensures is { result ≡ max one other }
+    ensures most { one ≤ 3 → other ≤ 3 → result ≤ 3 }
+{
+    if one < other { other } else { one }
+}
+
+// Converts each FILE in turn, notes those that were converted, and gives the greatest status.
+fn convert_each<'a, F: NamedFiles, R: Read, W: Write, E: Write>(
+    rt: &HostRuntime,
+    run: &Run<'_>,
+    names: &[&'a str],
+    files: &mut F,
+    input: &mut R,
+    output: &mut W,
+    summary: &mut Summary,
+    converted: &mut ConvertedNames<'a>,
+    errors: &mut E,
+) -> u8
+    requires { map (λ name. name.now) converted.old.names.items ≡ [] }
+    ensures end { AllEnd (run_asking F.is_told run.now) (R.remaining input.old)
+        (F.holds files.old) (F.holds files.new) (map (λ name. name.now) names.now)
+        (λ ends. Appends (W.contents output.old) (W.contents output.new) (outputs ends)
+        × (converted.new.is_whole ≡ true → map (λ name. name.now) converted.new.names.items
+        ≡ converted_names (map (λ name. name.now) names.now) ends)) result }
+    ensures most { result ≤ 3 }
+{
+    let mut status = 0;
+    for file in names {
+        let ended = convert_file(rt, run, file, files, input, output, summary, errors);
+        status = greater(status, ended.status());
+        converted.note(file, ended);
+    }
+    status
+}
+
+// Whether the folder that is to take messages is one; a line says so where it is none.
+fn has_folder<F: NamedFiles, E: Write>(
+    alloc: Global,
+    run: &Run<'_>,
+    files: &F,
+    errors: &mut E,
+) -> bool
+    ensures { result ≡ false → is_some run.now.folder ≡ true }
+{
+    match run.folder {
+        Some(folder) if !files.is_folder(folder) => {
+            write_fault(alloc, &FileFault::new(alloc, folder, "no folder"), errors);
+            false
+        }
+        _ => true,
+    }
+}
+
+/// Converts each FILE in turn, where `-` is standard input and each other one is opened by its
+/// name, and gives the status: 0, or 1 where one was refused or a wrong product left out, or 3
+/// where a file could not be read or written or memory ran out, which outweighs 1. What one ends
+/// in does not keep the others from being converted.
+///
+/// Where titles are asked for, those of the FILEs that were converted then go into a new file of
+/// that path, each FILE opened again by its name. Where that cannot be, the records stand, a line
+/// says why, and the status is 3.
+pub fn convert_files<F: NamedFiles, R: Read, W: Write, E: Write>(
+    rt: &HostRuntime,
+    run: &Run<'_>,
+    titles: Option<&str>,
+    names: &[&str],
+    files: &mut F,
+    input: &mut R,
+    output: &mut W,
+    errors: &mut E,
+) -> u8
+    ensures end { EndsWith (run_asking F.is_told run.now) (R.remaining input.old)
+        (F.holds files.old) (F.holds files.new) (map (λ name. name.now) names.now)
+        (Appends (W.contents output.old) (W.contents output.new)) result
+        (option_map (λ file. file.now) titles.entry) }
+    ensures most { result ≤ 3 }
+{
+    let alloc = rt.alloc();
+    if !has_folder(alloc, run, files, errors) {
+        return 3;
+    }
+    let mut summary = Summary::new(alloc);
+    let mut converted = ConvertedNames::new(alloc);
+    let status = convert_each(
+        rt,
+        run,
+        names,
+        files,
+        input,
+        output,
+        &mut summary,
+        &mut converted,
+        errors,
+    );
+    write_summary(alloc, &summary, errors);
+    match titles {
+        None => status,
+        Some(titles) => {
+            let titled = write_noted(alloc, titles, &converted, files, errors);
+            greater(status, titled)
+        }
+    }
+}

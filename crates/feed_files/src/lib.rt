@@ -1,0 +1,27 @@
+//! The conversion of ONIX messages in files: FILEs are read in turn, the records of each are
+//! written to standard output or into files of a folder, and lines on standard error say what is
+//! left out or refused.
+#![tactic(auto)]
+
+mod collected;
+mod converted;
+mod converting;
+pub mod ended;
+mod fault;
+mod kinds;
+mod notes;
+mod numbers;
+mod progress;
+mod refusal;
+mod shown;
+mod store;
+mod summary;
+mod titles;
+mod unread;
+mod watched;
+mod words;
+
+pub use converting::{Run, convert_files};
+pub use ended::Ended;
+pub use fault::write_fault;
+pub use program_files::STANDARD_INPUT;

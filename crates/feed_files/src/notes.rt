@@ -1,0 +1,164 @@
+//! Notes on what is left out of the message of a FILE.
+
+use crate::shown::{push_reference, push_shown};
+use crate::summary::Summary;
+use crate::words::{Saying, is_counted_alone, is_of_product, push_saying, saying_of};
+use feed_mapping::Note;
+use feed_xml::Position;
+use std::alloc::{AllocError, Global};
+
+/// What each line on standard error begins with.
+pub(crate) const PREFIX: &str = "onixdesk: ";
+
+// The most lines of notes on a FILE, and besides the most on Products that are left out or emptied.
+// Those behind them are only counted.
+const MOST_LINES: u32 = 1_000;
+
+// Lines of notes on a FILE: how many there are, but for those on Products, and how many of those.
+#[derive(Drop)]
+struct Lines {
+    text: String,
+    others: u32,
+    of_products: u32,
+}
+
+/// The notes on a FILE, kept until the whole of it was read.
+#[derive(Drop)]
+pub struct Notes<'a> {
+    file: &'a str,
+    all: Lines,
+    // Those on products that are wrong, with a bound of their own: they are told where the FILE is
+    // refused for these.
+    of_wrong: Lines,
+    summary: Summary,
+}
+
+/// Adds the beginning of a line on what stands at a place of a FILE.
+pub(crate) fn push_place(text: &mut String, file: &str, place: Position) -> Result<(), AllocError> {
+    text.push_str(PREFIX)?;
+    push_shown(text, file)?;
+    write!(text, ":{}:{}: ", place.line, place.column)
+}
+
+// Adds the line of a note on a product of that reference.
+fn push_line(
+    text: &mut String,
+    file: &str,
+    reference: &[u8],
+    note: Note<'_>,
+    saying: Saying,
+) -> Result<(), AllocError> {
+    push_place(text, file, note.line.place)?;
+    push_reference(text, reference)?;
+    text.push_str(": ")?;
+    push_saying(text, saying, note.reason.text)?;
+    text.push_str("\n")
+}
+
+// Whether a line more may be written, which is then counted.
+fn has_room(count: &mut u32) -> bool {
+    let has_room = *count < MOST_LINES;
+    *count = count.saturating_add(u32::from(has_room));
+    has_room
+}
+
+// Whether one of the notes says that something is wrong.
+fn has_wrong(notes: &[Note<'_>]) -> bool {
+    notes.iter().any(|note| note.reason.kind.is_wrong())
+}
+
+impl Lines {
+    fn new(alloc: Global) -> Lines {
+        Lines {
+            text: String::new(alloc),
+            others: 0,
+            of_products: 0,
+        }
+    }
+
+    // Adds the line of a note on a product of that reference, where there is room for one of its
+    // kind.
+    fn add(
+        &mut self,
+        file: &str,
+        reference: &[u8],
+        note: Note<'_>,
+        saying: Saying,
+    ) -> Result<(), AllocError> {
+        let count = if is_of_product(note.reason.kind) {
+            &mut self.of_products
+        } else {
+            &mut self.others
+        };
+        if has_room(count) {
+            push_line(&mut self.text, file, reference, note, saying)?;
+        }
+        Ok(())
+    }
+}
+
+impl<'a> Notes<'a> {
+    /// None yet.
+    pub(crate) fn new(alloc: Global, file: &'a str) -> Notes<'a> {
+        Notes {
+            file,
+            all: Lines::new(alloc),
+            of_wrong: Lines::new(alloc),
+            summary: Summary::new(alloc),
+        }
+    }
+
+    /// Adds the notes on a product of that reference.
+    pub(crate) fn add(&mut self, reference: &[u8], notes: &[Note<'_>]) -> Result<(), AllocError> {
+        let is_wrong = has_wrong(notes);
+        for note in notes.iter() {
+            let saying = saying_of(*note);
+            let has_lines = !is_counted_alone(note.reason.kind);
+            self.summary.add(saying, note.reason.text, has_lines)?;
+            if has_lines {
+                self.add_lines(reference, *note, saying, is_wrong)?;
+            }
+        }
+        Ok(())
+    }
+
+    // Adds the lines of a note on a product of that reference, which is wrong or not.
+    fn add_lines(
+        &mut self,
+        reference: &[u8],
+        note: Note<'_>,
+        saying: Saying,
+        is_wrong: bool,
+    ) -> Result<(), AllocError> {
+        self.all.add(self.file, reference, note, saying)?;
+        if is_wrong {
+            self.of_wrong.add(self.file, reference, note, saying)?;
+        }
+        Ok(())
+    }
+
+    /// Counts so many wrong products.
+    pub(crate) fn count_wrong(&mut self, wrong: u32) {
+        self.summary.count_wrong(wrong);
+    }
+
+    /// The FILE that they are on.
+    pub(crate) fn file(&self) -> &'a str {
+        self.file
+    }
+
+    /// Their lines.
+    pub(crate) fn text(&self) -> &str {
+        self.all.text.as_str()
+    }
+
+    /// The lines on products that are wrong.
+    pub(crate) fn of_wrong(&self) -> &str {
+        self.of_wrong.text.as_str()
+    }
+
+    /// How often each reason was given.
+    pub(crate) fn summary(&self) -> &Summary {
+        &self.summary
+    }
+}

@@ -1,0 +1,102 @@
+//! A FILE that is watched as it is read.
+
+ghost use Rattle.std.specs.Prelude.{◌≡◌};
+
+use crate::kinds::other_kind;
+use crate::progress::Progress;
+use feed_xml::HEAD;
+use program_files::FileFault;
+use std::io::{Read, Result};
+use std::rt::HostRuntime;
+
+// How many of the first bytes are kept: they tell what a FILE is that is no XML.
+const FIRST: usize = 4_096;
+
+/// What was seen of a FILE that is refused.
+#[derive(Drop)]
+pub struct Seen {
+    /// What it is in place of XML, where its first bytes tell that.
+    pub kind: Option<&'static str>,
+    /// Whether the reader of XML has asked for more behind its end.
+    pub is_at_end: bool,
+    /// Why a read failed.
+    pub fault: Option<FileFault>,
+}
+
+/// Gives what a reader gives, keeps what tells of a FILE that is refused, and shows on a terminal
+/// how far it is.
+#[derive(Drop)]
+pub struct Watched<'a, R> {
+    rt: &'a HostRuntime,
+    file: &'a str,
+    reader: R,
+    progress: Progress<'a>,
+    first: Vec<u8>,
+    count: u64,
+    ends: u32,
+    fault: Option<FileFault>,
+}
+
+impl<'a, R: Read + Drop> Watched<'a, R> {
+    /// A FILE of which nothing was read yet.
+    pub(crate) fn new(rt: &'a HostRuntime, file: &'a str, reader: R) -> Watched<'a, R>
+        ensures { result.reader ≡ reader }
+    {
+        Watched {
+            rt,
+            file,
+            reader,
+            progress: Progress::new(rt, file),
+            first: Vec::new(rt.alloc()),
+            count: 0,
+            ends: 0,
+            fault: None,
+        }
+    }
+
+    /// What was seen of it. The line on the terminal is taken away. The reader of XML meets the end
+    /// of a FILE of less than `HEAD` bytes once before it reads any.
+    pub(crate) fn into_seen(mut self) -> Seen {
+        self.progress.clear();
+        Seen {
+            kind: other_kind(self.first.as_slice()),
+            is_at_end: self.ends > 1 || self.ends == 1 && self.count >= HEAD as u64,
+            fault: self.fault,
+        }
+    }
+}
+
+impl<'a, R> Watched<'a, R> {
+    // Keeps bytes that follow those that are kept, as far as there is room. Without memory none are
+    // kept any more.
+    fn keep(&mut self, bytes: &[u8])
+        ensures { self.new.reader ≡ self.old.reader }
+    {
+        if self.first.len() as u64 == self.count {
+            let room = FIRST.saturating_sub(self.first.len());
+            let _ = self
+                .first
+                .extend_from_slice(bytes.get(..room).unwrap_or(bytes));
+        }
+        self.count = self.count.saturating_add(bytes.len() as u64);
+        self.ends = self.ends.saturating_add(u32::from(bytes.is_empty()));
+    }
+}
+
+impl<'a, R: Read> Read for Watched<'a, R> {
+    ghost remaining = { λ w. R.remaining w.reader };
+
+    fn read(&mut self, buffer: &mut [u8]) -> Result<usize> {
+        match self.reader.read(buffer) {
+            Ok(count) => {
+                self.keep(&buffer[..count]);
+                self.progress.show(self.count);
+                Ok(count)
+            }
+            Err(error) => {
+                self.fault = Some(FileFault::of(self.rt.alloc(), self.file, &error));
+                Err(error)
+            }
+        }
+    }
+}

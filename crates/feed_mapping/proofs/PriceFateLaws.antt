@@ -1,0 +1,69 @@
+-- What becomes of each Price of a SupplyDetail that is written.
+use Rattle.std.proofs.Common.{◌≡◌, ℕ, Bool, true, false, List, [], ◌∷◌, Option, Some, None, refl}
+use Rattle.std.specs.Prelude.{codes, if◌then◌else◌, is_some}
+use Rattle.std.specs.List.{AllByRecursion}
+use Rattle.feed_outline.specs.Nodes.{Nodes}
+use Rattle.onix_records.specs.declared.row.Opening.{Opening}
+use Rattle.feed_mapping.specs.Details.{context_in, detail_fields, detail_outcome, detail_reason, prices_in}
+use Rattle.feed_mapping.specs.Elements.{Composite, first}
+use Rattle.feed_mapping.specs.Notes.{Reason}
+use Rattle.feed_mapping.specs.Outcomes.{all_records, notes_below, nothing, outcome_reason, outcome_records}
+use Rattle.feed_mapping.specs.PriceFates.{HasDetails, HasPrices, HasSupplies, IsPrice}
+use Rattle.feed_mapping.specs.Prices.{PriceContext, is_nothing, outcome_of, price_fields, price_outcome, price_reasons}
+use Rattle.feed_mapping.specs.ProductRecords.{fate_of, supplies_in, written_notes}
+use Rattle.feed_mapping.specs.Products.{identifier_notes, notification_in, own_reason, product_record, reference_in, right_pairs}
+use Rattle.feed_mapping.specs.Records.{first_some, is_field}
+use Rattle.feed_mapping.specs.declared.product_records.Fate.TheVariants as fate
+use Rattle.feed_mapping.specs.Supplies.{detail_in, details_in, supplies_reason, supply_markets, supply_outcome}
+
+reason-is : (context : PriceContext) (nodes : Nodes) (kind : Option Reason) → IsPrice context nodes (outcome_of kind context nodes)
+reason-is context nodes None = (price_fields context nodes, refl)
+reason-is context nodes (Some kind) = tt
+
+price-is : (context : PriceContext) (nodes : Nodes) → IsPrice context nodes (price_outcome context nodes)
+price-is context nodes = go (is_nothing context nodes) refl
+  where
+    go : (n : Bool) → is_nothing context nodes ≡ n → IsPrice context nodes (if n then nothing else outcome_of (first_some (price_reasons context nodes)) context nodes)
+    go true e = e
+    go false e = reason-is context nodes (first_some (price_reasons context nodes))
+
+prices-are : (context : PriceContext) (cs : List Composite) → AllByRecursion (λ p. IsPrice context p.below (price_outcome context p.below)) cs
+prices-are context [] = tt
+prices-are context (c ∷ cs) = (price-is context c.below, prices-are context cs)
+
+pub detail-has : (o : Opening) (preferred : List ℕ) (nodes : Nodes) → outcome_reason (detail_outcome o preferred nodes) ≡ None → HasPrices o preferred nodes
+detail-has o preferred nodes e = go (detail_reason preferred nodes) refl
+  where
+    go : (kind : Option Reason) → detail_reason preferred nodes ≡ kind → HasPrices o preferred nodes
+    go (Some kind) is = let no' = rw is at e in absurd cc
+    go None is = record { own = codes "SupplyDetail" ∷ detail_fields preferred nodes; records = rw is refl; notes = rw is refl; each = prices-are (context_in o nodes) (prices_in nodes) }
+
+pub supply-has : (o : Opening) (preferred : List ℕ) (nodes : Nodes) → outcome_reason (supply_outcome o preferred nodes) ≡ None → HasDetails o preferred nodes
+supply-has o preferred nodes e = go (is_some (first (details_in nodes))) refl (outcome_reason (supply_markets nodes)) refl (all_records (detail_in o preferred) (details_in nodes)) refl
+  where
+    go : (some : Bool) → is_some (first (details_in nodes)) ≡ some → (kind : Option Reason) → outcome_reason (supply_markets nodes) ≡ kind → (rs : List (List (List ℕ))) → all_records (detail_in o preferred) (details_in nodes) ≡ rs
+        → HasDetails o preferred nodes
+    go false d kind m rs r = let no' = rw d at e in absurd cc
+    go true d (Some reason) m rs r = let no' = rw (d, m) at e in absurd cc
+    go true d None m [] r = let no' = rw (d, m, r) at e in absurd cc
+    go true d None m (y ∷ rs) r = record {
+      own = outcome_records (supply_markets nodes);
+      markets = notes_below (supply_markets nodes);
+      records = rw (d, m, r) refl;
+      notes = rw (d, m, r) refl;
+    }
+
+pub product-has : (o : Opening) (preferred : List ℕ) (c : Composite) → fate_of o preferred c.below ≡ fate.Written → HasSupplies o preferred c
+product-has o preferred c e = go (is_field (reference_in c.below)) refl (own_reason c.below) refl (supplies_reason o preferred (supplies_in c.below)) refl
+  where
+    go : (stands : Bool) → is_field (reference_in c.below) ≡ stands → (own : Option Reason) → own_reason c.below ≡ own → (below : Option Reason) → supplies_reason o preferred (supplies_in c.below) ≡ below → HasSupplies o preferred c
+    go false f own w below b = let no' = rw f at e in absurd cc
+    go true f (Some own) w below b = let no' = rw (f, w) at e in absurd cc
+    go true f None w (Some below) b = let no' = rw (f, w, b) at e in absurd cc
+    go true f None w None b = record {
+      own = product_record (notification_in c.below) (right_pairs c.below) c.below;
+      before = identifier_notes c.below;
+      behind = written_notes c.below c.element;
+      records = rw (f, w, b) refl;
+      notes = rw (f, w, b) refl;
+    }

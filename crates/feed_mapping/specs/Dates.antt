@@ -1,0 +1,156 @@
+-- The days between which a Price holds, by its PriceDates.
+use Prim.Native.String.{String}
+use Rattle.std.specs.Prelude.{ℕ, ℤ, Bool, true, ◌==◌, ◌&&◌, not, List, [], ◌∷◌, ◌++◌, length, map}
+use Rattle.std.specs.Prelude.{take, drop, find, Option, Some, None, Result, Ok}
+use Rattle.std.specs.Prelude.{Err, if◌then◌else◌, codes, option_map, option_and_then, unwrap_or}
+use Rattle.std.specs.List.{list_any}
+use Rattle.std.specs.Option.{option_map_or, option_or, ok_or}
+use Rattle.std.specs.Result.{result_map_both}
+use Rattle.std.specs.Str.{bytes_eq}
+use Rattle.feed_xml.specs.Grammar.{is_filled}
+use Rattle.feed_outline.specs.Nodes.{Nodes}
+use Rattle.onix_terms.specs.Day.{day_of}
+use Rattle.onix_terms.specs.Options.{◌>>=◌}
+use Rattle.feed_mapping.specs.Elements.{Element, each_at, some_at, text_at}
+use Rattle.feed_mapping.specs.Notes.{Reason, foreign, is_wrong, wrong}
+use Rattle.feed_mapping.specs.Records.{first_some, parsed_term}
+use Rattle.feed_mapping.specs.declared.dates.Days.{Days}
+use Rattle.feed_mapping.specs.declared.notes.Foreign.TheVariants.{DateFormat}
+use Rattle.feed_mapping.specs.declared.notes.Wrong.TheVariants.{Day, NoDate, NotTwoDays}
+
+-- the first and the last day, each where there is one
+abbrev pub days : Option ℤ → Option ℤ → Days
+days first last = record { first = first; last = last }
+
+-- these days, or why they are none
+abbrev pub Dated : Type 0
+Dated = Result Days Reason
+
+-- ---- what a Date says
+
+-- the day of eight digits
+abbrev pub parsed_day : List ℕ → Option ℤ
+parsed_day text = parsed_term day_of text
+
+-- what may stand behind a day: nothing, or a T and the time
+abbrev pub is_time : List ℕ → Bool
+is_time [] = true
+is_time (b ∷ more) = b == 84
+
+-- The bytes of a text at the letters of a form, as YYYY-MM-DD, whose hyphens it has too, where what
+-- is behind them passes
+abbrev pub digits_by : (List ℕ → Bool) → List ℕ → List ℕ → Option (List ℕ)
+digits_by ends [] text = if ends text then Some [] else None
+digits_by ends (f ∷ form) [] = None
+digits_by ends (f ∷ form) (b ∷ text) =
+    if f == 45 then (if b == 45 then digits_by ends form text else None)
+    else option_map (λ digits. b ∷ digits) (digits_by ends form text)
+
+-- those of the first of these forms that it has
+abbrev pub digits_in : (List ℕ → Bool) → List String → List ℕ → Option (List ℕ)
+digits_in ends forms text = first_some (map (λ form. digits_by ends (codes form) text) forms)
+
+-- The first and the last day of digits: with these behind them, and with the first of those that
+-- make a day
+abbrev pub span : String → List String → List ℕ → Option Days
+span first lasts digits = do
+  a ← parsed_day (digits ++ codes first)
+  b ← first_some (map (λ last. parsed_day (digits ++ codes last)) lasts)
+  Some (days (Some a) (Some b))
+
+module _ (text : List ℕ) where
+  -- a day, behind which nothing stands or a time, as the first and the last
+  abbrev pub in_day : Option Days
+  in_day = digits_in is_time ("YYYYMMDD" ∷ "YYYY-MM-DD" ∷ []) text >>= span "" ("" ∷ [])
+
+  -- the first and the last day of a month
+  abbrev pub in_month : Option Days
+  in_month =
+      digits_in (bytes_eq []) ("YYYYMM" ∷ "YYYY-MM" ∷ []) text
+      >>= span "01" ("31" ∷ "30" ∷ "29" ∷ "28" ∷ [])
+
+  -- the first and the last day of a year
+  abbrev pub in_year : Option Days
+  in_year = digits_in (bytes_eq []) ("YYYY" ∷ []) text >>= span "0101" ("1231" ∷ [])
+
+-- the formats of a day (00, and with a time 13 and 14), of a month and of a year
+abbrev pub formats : List (List ℕ)
+formats = codes "00" ∷ codes "13" ∷ codes "14" ∷ codes "01" ∷ codes "05" ∷ []
+
+-- the first and the last day of a text of one of these formats
+abbrev pub in_format : List ℕ → List ℕ → Option Days
+in_format format text =
+    if bytes_eq format (codes "01") then in_month text
+    else if bytes_eq format (codes "05") then in_year text
+    else in_day text
+
+-- the two days of a date of 16 bytes
+unfoldable pub two_days : List ℕ → Dated
+two_days text =
+    if length text == 16
+    then ok_or (do
+      first ← parsed_day (take 8 text)
+      last ← parsed_day (drop 8 text)
+      Some (days (Some first) (Some last))) (wrong Day text)
+    else Err (wrong NotTwoDays text)
+
+-- ---- a PriceDate
+
+-- the days of a text of this format
+abbrev pub parsed_days : List ℕ → List ℕ → Dated
+parsed_days format text = ok_or (in_format format text) (wrong Day text)
+
+module _ (nodes : Nodes) where
+  -- the Date of a PriceDate: of several the first one that has a text
+  abbrev pub date_in : Option Element
+  date_in = find (λ e. is_filled e.text) (map (λ c. c.element) (each_at "Date" nodes))
+
+  -- the format of a PriceDate: the attribute of its Date, else its DateFormat, else 00
+  abbrev pub format_in : List ℕ
+  format_in =
+      unwrap_or (option_or (option_and_then (λ d. d.tag.format) date_in)
+      (some_at "DateFormat" nodes)) (codes "00")
+
+  -- the days of the Date of a role, where its format is one of these
+  abbrev pub role_days : List (List ℕ) → (List ℕ → Dated) → List ℕ → Dated
+  role_days allowed read role =
+      if list_any (bytes_eq format_in) allowed
+      then option_map_or (λ date. read date.text) date_in (Err (wrong NoDate role))
+      else Err (foreign DateFormat format_in)
+
+  -- What a PriceDate says: by its role the first day, the last day or both. Another role says
+  -- nothing.
+  abbrev pub days_of : Dated
+  days_of =
+      let role = text_at "PriceDateRole" nodes in
+      let one = role_days formats (parsed_days format_in) role in
+      if bytes_eq role (codes "14") then result_map_both (λ d. days d.first None) (λ e. e) one
+      else if bytes_eq role (codes "15") then result_map_both (λ d. days None d.last) (λ e. e) one
+      else if bytes_eq role (codes "24") then role_days (codes "06" ∷ []) two_days role
+      else Ok (days None None)
+
+-- ---- several PriceDates
+
+-- of two first days the former counts, and so of last days
+abbrev pub or_days : Days → Days → Days
+or_days a b = days (option_or a.first b.first) (option_or a.last b.last)
+
+-- of two reasons the first that is foreign, else the first
+abbrev pub graver : Reason → Reason → Reason
+graver a b = if is_wrong a.kind && not (is_wrong b.kind) then b else a
+
+-- two that follow each other
+abbrev pub and_days : Dated → Dated → Dated
+and_days (Ok a) (Ok b) = Ok (or_days a b)
+and_days (Ok a) (Err e) = Err e
+and_days (Err e) (Ok b) = Err e
+and_days (Err e) (Err f) = Err (graver e f)
+
+-- the days of several PriceDates, or why their Price is left out
+abbrev pub all_days : List Dated → Dated
+all_days [] = Ok (days None None)
+all_days (d ∷ more) = and_days d (all_days more)
+
+-- the days of a Price
+abbrev pub days_in : Nodes → Dated
+days_in nodes = all_days (map (λ c. days_of c.below) (each_at "PriceDate" nodes))

@@ -1,0 +1,108 @@
+-- A SupplyDetail: the records that are written of it and of its Prices.
+use Rattle.std.specs.Prelude.{ℕ, List, [], ◌∷◌, Option, None, if◌then◌else◌, codes, is_some, map}
+use Rattle.std.specs.Option.{option_or, unwrap_or}
+use Rattle.feed_xml.specs.Grammar.{is_filled}
+use Rattle.feed_outline.specs.Nodes.{Nodes}
+use Rattle.onix_terms.specs.Code.{code2_of}
+use Rattle.onix_terms.specs.Quantity.{quantity_of}
+use Rattle.onix_records.specs.Detail.{detail_of}
+use Rattle.onix_records.specs.Fields.{optional}
+use Rattle.onix_records.specs.declared.row.Opening.{Opening}
+use Rattle.feed_mapping.specs.Elements.{Composite, below_at, each_at, some_at, text_at}
+use Rattle.feed_mapping.specs.Identifiers.{chosen, identifiers_in}
+use Rattle.feed_mapping.specs.Notes.{Reason, Reasons}
+use Rattle.feed_mapping.specs.Outcomes.{Outcome, all_notes, all_records, written_unless}
+use Rattle.feed_mapping.specs.Parties.{Pair, is_there, pair}
+use Rattle.feed_mapping.specs.Prices.{PriceContext, price_outcome}
+use Rattle.feed_mapping.specs.Records.{Fields, desk_reason, first_some, is_field, option_filter}
+use Rattle.feed_mapping.specs.Records.{parsed}
+use Rattle.feed_mapping.specs.Records.{parsed_term, unless, invalid}
+use Rattle.feed_mapping.specs.declared.notes.Wrong.TheVariants as bad
+
+-- the UnpricedItemType of a Price without an amount
+abbrev pub unpriced_price : Nodes → Option (List ℕ)
+unpriced_price nodes =
+    if is_some (some_at "PriceAmount" nodes) then None else some_at "UnpricedItemType" nodes
+
+module _ (nodes : Nodes) where
+  abbrev pub prices_in : List Composite
+  prices_in = each_at "Price" nodes
+
+  -- what stands in the Supplier
+  abbrev pub supplier_in : Nodes
+  supplier_in = below_at "Supplier" nodes
+
+  -- the UnpricedItemType of a SupplyDetail, else the first one of its Prices that have no amount
+  abbrev pub unpriced_in : Option (List ℕ)
+  unpriced_in =
+      option_or (some_at "UnpricedItemType" nodes)
+      (first_some (map (λ c. unpriced_price c.below) prices_in))
+
+  -- the OrderQuantityMinimum, where it is a quantity
+  abbrev pub default_minimum : Option (List ℕ)
+  default_minimum =
+      option_filter (λ text. is_some (parsed_term quantity_of text))
+      (some_at "OrderQuantityMinimum" nodes)
+
+-- an identifier has a type, and a value that the desk takes; without one there is a name
+abbrev pub identifier_reasons : Pair → List ℕ → Reasons
+identifier_reasons i name =
+    if is_there i
+    then invalid (parsed_term code2_of) bad.SupplierType i.id_type
+    ∷ unless (is_field i.id_value) bad.SupplierValue i.id_value ∷ []
+    else unless (is_filled name) bad.Supplier [] ∷ []
+
+-- a name of the supplier that the desk would not take
+abbrev pub name_reason : List ℕ → Option Reason
+name_reason name = if is_filled name then unless (is_field name) bad.SupplierName name else None
+
+module _ (preferred : List ℕ) (nodes : Nodes) where
+  -- the identifier of the supplier: the first of the preferred type, else the first
+  abbrev pub supplier_id : Pair
+  supplier_id =
+      unwrap_or (chosen preferred (identifiers_in (codes "SupplierIdentifier")
+      (codes "SupplierIDType") (supplier_in nodes))) (pair [] [])
+
+  -- The fields of a SupplyDetail behind its name, each as it stands, and empty where it is absent:
+  -- role, identifier and name of the supplier, availability, UnpricedItemType.
+  abbrev pub detail_fields : Fields
+  detail_fields =
+      text_at "SupplierRole" (supplier_in nodes) ∷ supplier_id.id_type ∷ supplier_id.id_value
+      ∷ text_at "SupplierName" (supplier_in nodes) ∷ text_at "ProductAvailability" nodes
+      ∷ unwrap_or (unpriced_in nodes) [] ∷ []
+
+  -- which fields of a SupplyDetail the desk does not take, each where it does not
+  abbrev pub detail_reasons : Reasons
+  detail_reasons =
+      invalid (parsed_term code2_of) bad.SupplierRole (text_at "SupplierRole" (supplier_in nodes))
+      ∷ first_some (identifier_reasons supplier_id (text_at "SupplierName" (supplier_in nodes)))
+      ∷ name_reason (text_at "SupplierName" (supplier_in nodes))
+      ∷ invalid (parsed_term code2_of) bad.Availability (text_at "ProductAvailability" nodes)
+      ∷ invalid (optional (parsed_term code2_of)) bad.Unpriced (unwrap_or (unpriced_in nodes) [])
+      ∷ []
+
+  -- why a SupplyDetail is left out, where the desk would not take it
+  abbrev pub detail_reason : Option Reason
+  detail_reason =
+      desk_reason (is_some (parsed detail_of detail_fields)) detail_reasons bad.SupplyDetail
+
+module _ (o : Opening) where
+  -- the context of the Prices of a SupplyDetail
+  abbrev pub context_in : Nodes → PriceContext
+  context_in nodes = record {
+    opening = o;
+    is_unpriced = is_some (unpriced_in nodes);
+    minimum = default_minimum nodes;
+  }
+
+  -- what a Price of a SupplyDetail with these elements comes to
+  abbrev pub price_in : Nodes → Composite → Outcome
+  price_in nodes price = price_outcome (context_in nodes) price.below
+
+  -- what a SupplyDetail comes to: its record with those of its Prices, or it is left out
+  abbrev pub detail_outcome : List ℕ → Nodes → Outcome
+  detail_outcome preferred nodes =
+      written_unless (detail_reason preferred nodes)
+      ((codes "SupplyDetail" ∷ detail_fields preferred nodes)
+      ∷ all_records (price_in nodes) (prices_in nodes))
+      (all_notes (price_in nodes) (prices_in nodes))

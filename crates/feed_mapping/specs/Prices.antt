@@ -1,0 +1,218 @@
+-- A Price: the record that is written of it, or why it is left out.
+use Prim.Native.String.{String}
+use Rattle.std.specs.Prelude.{ℕ, Bool, false, ◌+◌, ◌&&◌, ◌==◌, nat_lt, drop, length, position, take}
+use Rattle.std.specs.Prelude.{List, [], ◌∷◌, ◌++◌, Option, Some, None, if◌then◌else◌, codes}
+use Rattle.std.specs.Prelude.{find, map, not, option_map, is_none, is_some}
+use Rattle.std.specs.Char.{is_ascii_digit}
+use Rattle.std.specs.List.{flat_map, list_all}
+use Rattle.std.specs.Option.{option_map_or, option_or, option_to_list, unwrap_or}
+use Rattle.std.specs.Result.{result_err, result_unwrap_or}
+use Rattle.std.specs.Str.{bytes_eq}
+use Rattle.feed_outline.specs.Composites.{text_in}
+use Rattle.feed_outline.specs.Nodes.{Nodes}
+use Rattle.onix_records.specs.Fields.{optional, or_default}
+use Rattle.onix_records.specs.Price.{day_field, price_of}
+use Rattle.onix_records.specs.declared.row.Opening.{Opening}
+use Rattle.onix_terms.specs.Amount.{amount_of}
+use Rattle.onix_terms.specs.Code.{code2_of, currency_of}
+use Rattle.onix_terms.specs.Quantity.{quantity_of}
+use Rattle.feed_mapping.specs.Dates.{days, days_in}
+use Rattle.feed_mapping.specs.declared.dates.Days.{Days}
+use Rattle.feed_mapping.specs.Elements.{composites, each_at, first, some_at, text_at}
+use Rattle.feed_mapping.specs.Notes.{Note, Reason, Reasons, foreign, is_wrong, note}
+use Rattle.feed_mapping.specs.Notes.{wrong}
+use Rattle.feed_mapping.specs.Outcomes.{Outcome, nothing, written_unless}
+use Rattle.feed_mapping.specs.Records.{Fields, desk_reason, first_some, option_filter, parsed}
+use Rattle.feed_mapping.specs.Records.{parsed_term}
+use Rattle.feed_mapping.specs.Records.{invalid}
+use Rattle.feed_mapping.specs.Territories.{Area, area_fields, area_in, area_reason}
+use Rattle.feed_mapping.specs.Territories.{territory_notes, unsupported}
+use Rattle.feed_mapping.specs.declared.notes.Foreign.{Foreign}
+use Rattle.feed_mapping.specs.declared.notes.Foreign.TheVariants.{CurrencyZone, Discount}
+use Rattle.feed_mapping.specs.declared.notes.Foreign.TheVariants.{DiscountCoded, EpubLicense}
+use Rattle.feed_mapping.specs.declared.notes.Foreign.TheVariants.{MoreDecimals, NoCharge}
+use Rattle.feed_mapping.specs.declared.notes.Foreign.TheVariants.{PriceCoded, PriceCondition}
+use Rattle.feed_mapping.specs.declared.notes.Foreign.TheVariants.{PriceConstraint, PricePer}
+use Rattle.feed_mapping.specs.declared.notes.Foreign.TheVariants.{PriceQualifier}
+use Rattle.feed_mapping.specs.declared.notes.Wrong.TheVariants as bad
+use Rattle.feed_mapping.specs.declared.prices.PriceContext.{PriceContext as Lent}
+
+-- The context of a Price: what its message begins with, whether the record of its SupplyDetail has
+-- an UnpricedItemType, and the quantity that stands for a minimum that it does not have.
+pub record PriceContext : Type 0 where
+  pub opening : Opening
+  pub is_unpriced : Bool
+  pub minimum : Option (List ℕ)
+
+-- ---- the record
+
+abbrev pub are_zeros : List ℕ → Bool
+are_zeros text = list_all (λ b. b == 48) text
+
+-- a text with its point there, without the zeros behind the third decimal
+abbrev pub cut_zeros : Option ℕ → List ℕ → List ℕ
+cut_zeros None text = text
+cut_zeros (Some at) text = if are_zeros (drop (at + 4) text) then take (at + 4) text else text
+
+-- where an amount has its point
+abbrev pub point_in : List ℕ → Option ℕ
+point_in text = position (λ b. b == 46) text
+
+module _ (nodes : Nodes) where
+  -- the days of a Price whose PriceDates are right
+  abbrev pub right_days : Days
+  right_days = result_unwrap_or (days_in nodes) (days None None)
+
+  -- an amount, as it is written
+  abbrev pub amount_written : List ℕ
+  amount_written =
+      cut_zeros (point_in (text_at "PriceAmount" nodes)) (text_at "PriceAmount" nodes)
+
+  -- the MinimumOrderQuantity of a Price: one of zeros alone is as absent
+  abbrev pub own_minimum : Option (List ℕ)
+  own_minimum = option_filter (λ text. not (are_zeros text)) (some_at "MinimumOrderQuantity" nodes)
+
+-- The fields that each Price has behind its name, empty where it has none: type, amount, currency,
+-- territory, the first and the last day.
+abbrev pub eight_fields : Area → Days → Nodes → Fields
+eight_fields a d nodes =
+    text_at "PriceType" nodes ∷ amount_written nodes ∷ text_at "CurrencyCode" nodes
+    ∷ (area_fields a ++ (day_field d.first ∷ day_field d.last ∷ []))
+
+-- the fields of a Price: those, and a minimum where it or its SupplyDetail has one
+abbrev pub price_fields : PriceContext → Nodes → Fields
+price_fields context nodes =
+    eight_fields (area_in nodes) (right_days nodes) nodes
+    ++ option_to_list (option_or (own_minimum nodes) context.minimum)
+
+-- ---- why a Price is left out
+
+abbrev pub is_other : List ℕ → Bool
+is_other code = not (bytes_eq code (codes "00"))
+
+-- what stands behind the digits at the front
+abbrev pub behind_digits : List ℕ → List ℕ
+behind_digits [] = []
+behind_digits (b ∷ text) = if is_ascii_digit b then behind_digits text else b ∷ text
+
+-- a point and more than three digits
+abbrev pub is_long_part : List ℕ → Bool
+is_long_part [] = false
+is_long_part (b ∷ part) = (b == 46) && (nat_lt 3 (length part) && list_all is_ascii_digit part)
+
+-- digits, a point and more than three digits
+abbrev pub has_more_decimals : List ℕ → Bool
+has_more_decimals [] = false
+has_more_decimals (b ∷ text) = is_ascii_digit b && is_long_part (behind_digits text)
+
+-- an amount of 0, which a choice by price would always take
+abbrev pub is_zero : List ℕ → Bool
+is_zero amount = option_map_or (λ n. n == 0) (parsed_term amount_of amount) false
+
+module _ (nodes : Nodes) where
+  -- the first type other than 00 of composites of this name, the empty text of one without
+  abbrev pub other_type : String → String → Option (List ℕ)
+  other_type name type_name =
+      find is_other (map (λ c. text_at type_name c.below) (each_at name nodes))
+
+  -- whether there is such a composite, of which the text does not count
+  abbrev pub mark_in : String → Option (List ℕ)
+  mark_in name = option_map (λ c. []) (first (each_at name nodes))
+
+  -- the name of the first of the elements of ONIX 2.1 that say what a Price is
+  abbrev pub old_element : Option (List ℕ)
+  old_element =
+      find (λ name. is_some (text_in name nodes))
+      (codes "PriceTypeCode" ∷ codes "PriceEffectiveFrom" ∷ codes "PriceEffectiveUntil"
+      ∷ codes "CountryCode" ∷ [])
+
+  -- for where, for how much and between which days a Price holds; behind those the elements of
+  -- ONIX 2.1, and dates that are none
+  abbrev pub late_reasons : Reasons
+  late_reasons =
+      unsupported (area_in nodes)
+      ∷ option_map (foreign MoreDecimals)
+      (option_filter has_more_decimals (Some (amount_written nodes)))
+      ∷ option_map (foreign NoCharge) (option_filter is_zero (Some (amount_written nodes)))
+      ∷ option_filter (λ r. not (is_wrong r.kind)) (result_err (days_in nodes))
+      ∷ option_map (wrong bad.OldElement) old_element
+      ∷ option_filter (λ r. is_wrong r.kind) (result_err (days_in nodes))
+      ∷ []
+
+  -- why a Price is another than the desk knows, each where it holds
+  abbrev pub early_reasons : Reasons
+  early_reasons =
+      option_map (foreign PriceQualifier) (option_filter is_other (some_at "PriceQualifier" nodes))
+      ∷ option_map (foreign PricePer) (option_filter is_other (some_at "PricePer" nodes))
+      ∷ option_map (foreign PriceCondition) (other_type "PriceCondition" "PriceConditionType")
+      ∷ option_map (foreign PriceConstraint) (other_type "PriceConstraint" "PriceConstraintType")
+      ∷ option_map (foreign PriceCoded) (mark_in "PriceCoded")
+      ∷ option_map (foreign CurrencyZone) (some_at "CurrencyZone" nodes)
+      ∷ option_map (foreign EpubLicense) (mark_in "EpubLicense")
+      ∷ late_reasons
+
+-- Which fields of a Price the desk does not take, each where it does not: it is outside its
+-- grammar, or it is empty and has no default in the header.
+abbrev pub field_reasons : Opening → Nodes → Reasons
+field_reasons o nodes =
+    invalid (parsed_term amount_of) bad.Amount (amount_written nodes)
+    ∷ invalid (or_default (parsed_term code2_of) o.header.default_type) bad.PriceType
+    (text_at "PriceType" nodes)
+    ∷ invalid (or_default (parsed_term currency_of) o.header.default_currency) bad.Currency
+    (text_at "CurrencyCode" nodes)
+    ∷ area_reason (area_in nodes)
+    ∷ invalid (optional (parsed_term quantity_of)) bad.Quantity (unwrap_or (own_minimum nodes) [])
+    ∷ []
+
+module _ (context : PriceContext) (nodes : Nodes) where
+  -- a Price of which the desk would not take the record, for the first field that it does not take,
+  -- if it is one of those
+  abbrev pub record_reason : Option Reason
+  record_reason =
+      desk_reason (is_some (parsed (price_of context.opening) (price_fields context nodes)))
+      (field_reasons context.opening nodes) bad.Price
+
+  -- why a Price is left out, each where it holds: what is both foreign and wrong is foreign
+  abbrev pub price_reasons : Reasons
+  price_reasons = early_reasons nodes ++ record_reason ∷ []
+
+-- ---- what a Price comes to
+
+-- a note on each element of this name, which is not read
+abbrev pub unread_notes : List ℕ → Foreign → Nodes → List Note
+unread_notes name kind nodes =
+    flat_map (λ c. note c.element (foreign kind []) ∷ []) (composites name nodes)
+
+-- notes on what would make another price
+abbrev pub discount_notes : Nodes → List Note
+discount_notes nodes =
+    unread_notes (codes "Discount") Discount nodes
+    ++ unread_notes (codes "DiscountCoded") DiscountCoded nodes
+
+abbrev pub outcome_of : Option Reason → PriceContext → Nodes → Outcome
+outcome_of reason context nodes =
+    written_unless reason ((codes "Price" ∷ price_fields context nodes) ∷ [])
+    (territory_notes (area_in nodes) ++ discount_notes nodes)
+
+module _ (context : PriceContext) (nodes : Nodes) where
+  -- A Price without an amount and without PriceCoded is nothing, whatever else stands in it, where
+  -- the record of its SupplyDetail has an UnpricedItemType: its own is there too, where it has one.
+  abbrev pub is_nothing : Bool
+  is_nothing =
+      context.is_unpriced
+      && (is_none (some_at "PriceAmount" nodes) && is_none (mark_in nodes "PriceCoded"))
+
+  -- what a Price comes to
+  abbrev pub price_outcome : Outcome
+  price_outcome =
+      if is_nothing then nothing
+      else outcome_of (first_some (price_reasons context nodes)) context nodes
+
+-- ---- without where it lies in memory
+
+abbrev pub context_view : Lent → PriceContext
+context_view a = record {
+  opening = a.opening.now;
+  is_unpriced = a.is_unpriced;
+  minimum = option_map (λ t. t.now) a.minimum;
+}

@@ -1,0 +1,119 @@
+-- Where a Market or a Price holds: what its Territory says, and what of that the desk supports.
+use Rattle.std.specs.Prelude.{ℕ, ◌||◌, List, [], ◌∷◌, ◌++◌, Option, None}
+use Rattle.std.specs.Prelude.{if◌then◌else◌, is_some, map, option_map}
+use Rattle.std.specs.Option.{option_map_or, option_or}
+use Rattle.feed_xml.specs.Grammar.{is_filled}
+use Rattle.feed_outline.specs.Nodes.{Nodes}
+use Rattle.onix_records.specs.Supply.{supply_of}
+use Rattle.onix_records.specs.declared.parts.ProductSupply.{ProductSupply}
+use Rattle.onix_terms.specs.Territory.{countries_of, words_of, world_text}
+use Rattle.feed_mapping.specs.Elements.{Element, below_at, each_at, element_view, first}
+use Rattle.feed_mapping.specs.Elements.{text_at}
+use Rattle.feed_mapping.specs.Notes.{Note, Reason, Reasons, foreign, note}
+use Rattle.feed_mapping.specs.Records.{Fields, desk_reason, parsed, parsed_term, invalid}
+use Rattle.feed_mapping.specs.Regions.{IsRenamed, countries_written, names_world, other_names}
+use Rattle.feed_mapping.specs.Regions.{other_regions, region_of_no_country}
+use Rattle.feed_mapping.specs.declared.notes.Foreign.{Foreign}
+use Rattle.feed_mapping.specs.declared.notes.Foreign.TheVariants.{CountryName, RegionIncluded}
+use Rattle.feed_mapping.specs.declared.notes.Foreign.TheVariants.{RegionExcluded, RegionAlone}
+use Rattle.feed_mapping.specs.declared.notes.Foreign.TheVariants.{RegionOfNoCountry}
+use Rattle.feed_mapping.specs.declared.notes.Wrong.TheVariants.{CountriesExcluded}
+use Rattle.feed_mapping.specs.declared.notes.Wrong.TheVariants.{CountriesIncluded, Territory}
+use Rattle.feed_mapping.specs.declared.territories.Area.{Area as Lent}
+use Rattle.feed_mapping.specs.declared.territories.Renamed.{Renamed}
+
+-- the Territory of a Market or a Price, where it has one, and the four texts in it, each empty
+-- where it has none
+pub record Area : Type 0 where
+  pub territory : Option Element
+  pub included : List ℕ
+  pub regions_included : List ℕ
+  pub excluded : List ℕ
+  pub regions_excluded : List ℕ
+
+-- where a Market or a Price with these elements holds: its first Territory says it
+abbrev pub area_in : Nodes → Area
+area_in nodes =
+    let below = below_at "Territory" nodes in
+    record {
+      territory = option_map (λ c. c.element) (first (each_at "Territory" nodes));
+      included = text_at "CountriesIncluded" below;
+      regions_included = text_at "RegionsIncluded" below;
+      excluded = text_at "CountriesExcluded" below;
+      regions_excluded = text_at "RegionsExcluded" below;
+    }
+
+-- ---- what the desk does not support
+
+-- a note for each of some words
+abbrev pub word_notes : Element → Foreign → List (List ℕ) → List Note
+word_notes element kind words = map (λ word. note element (foreign kind word)) words
+
+-- the countries that a text names
+abbrev pub parsed_countries : List ℕ → Option (List (List ℕ))
+parsed_countries text = parsed_term countries_of (countries_written text)
+
+module _ (a : Area) where
+  -- the first of the regions that are included, where neither a country nor the world is: without
+  -- them the territory would be the world
+  abbrev pub region_alone : Option (List ℕ)
+  region_alone =
+      if is_filled a.included || names_world a.regions_included then None
+      else first (words_of a.regions_included)
+
+  -- why the desk does not support a territory, whatever is left out of it: it would be another one,
+  -- and not only a smaller one or one without whole countries
+  abbrev pub unsupported : Option Reason
+  unsupported =
+      option_or (option_map (foreign RegionAlone) region_alone)
+      (option_map (foreign RegionOfNoCountry) (region_of_no_country a.regions_excluded))
+
+  -- ---- what is written, and what is left out of it
+
+  -- CountriesIncluded, RegionsIncluded and CountriesExcluded, as the desk reads them: countries by
+  -- their codes, and of the regions WORLD alone
+  abbrev pub area_fields : Fields
+  area_fields =
+      countries_written a.included ∷ world_text (names_world a.regions_included)
+      ∷ countries_written a.excluded ∷ []
+
+  -- Notes on a territory that the desk supports. Beside a country or the world a region that is
+  -- included is left out, and one that is excluded is a part of a country.
+  abbrev pub territory_notes : List Note
+  territory_notes =
+      option_map_or (λ e. word_notes e RegionIncluded (other_regions a.regions_included)
+      ++ (word_notes e RegionExcluded (other_regions a.regions_excluded)
+      ++ (word_notes e CountryName (other_names a.included)
+      ++ word_notes e CountryName (other_names a.excluded)))) a.territory []
+
+  -- the market of a territory, as the desk reads it
+  abbrev pub market_of : Option ProductSupply
+  market_of = parsed supply_of area_fields
+
+  -- why the desk does not take a territory, each where it does not
+  abbrev pub area_reasons : Reasons
+  area_reasons =
+      invalid parsed_countries CountriesIncluded a.included
+      ∷ invalid parsed_countries CountriesExcluded a.excluded ∷ []
+
+  -- why the desk does not take a territory, where it does not
+  abbrev pub area_reason : Option Reason
+  area_reason = desk_reason (is_some market_of) area_reasons Territory
+
+-- ---- without where it lies in memory
+
+-- a Territory, as its line and its four texts
+abbrev pub area_view : Lent → Area
+area_view a = record {
+  territory = option_map (λ l. element_view l.now) a.line;
+  included = a.included.now;
+  regions_included = a.regions_included.now;
+  excluded = a.excluded.now;
+  regions_excluded = a.regions_excluded.now;
+}
+
+-- what is renamed of the countries of a territory
+abbrev pub AreRenamed : Renamed → Area → Type 0
+AreRenamed r a =
+    IsRenamed (option_map (λ v. v.items) r.included) a.included
+    × IsRenamed (option_map (λ v. v.items) r.excluded) a.excluded

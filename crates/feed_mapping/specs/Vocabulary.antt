@@ -1,0 +1,34 @@
+-- The elements of ONIX for Books, release 3.0 and 3.1, that say something to the desk.
+use Rattle.std.specs.Prelude.{List, [], ◌∷◌}
+use Rattle.feed_outline.specs.Names.{Word, vocabulary_of}
+
+-- of each composite its name, and then its children
+unfoldable pub desk_vocabulary : List Word
+desk_vocabulary =
+    vocabulary_of
+    ("ONIXMessage Header Product"
+    ∷ "Header Sender Addressee MessageNumber=m180 MessageRepeat=m181 SentDateTime=x307"
+    ∷ "Header DefaultPriceType=x310 DefaultCurrencyCode=m186"
+    ∷ "Sender SenderIdentifier"
+    ∷ "SenderIdentifier SenderIDType=m379 IDValue=b244"
+    ∷ "Addressee AddresseeIdentifier"
+    ∷ "AddresseeIdentifier AddresseeIDType=m380 IDValue=b244"
+    ∷ "Product RecordReference=a001 NotificationType=a002 ProductIdentifier ProductSupply"
+    ∷ "ProductIdentifier ProductIDType=b221 IDValue=b244"
+    ∷ "ProductSupply Market SupplyDetail"
+    ∷ "Market Territory"
+    ∷ "Territory CountriesIncluded=x449 RegionsIncluded=x450 CountriesExcluded=x451"
+    ∷ "Territory RegionsExcluded=x452"
+    ∷ "SupplyDetail OrderQuantityMinimum=x532 Supplier ProductAvailability=j396"
+    ∷ "SupplyDetail UnpricedItemType=j192 Price"
+    ∷ "Supplier SupplierRole=j292 SupplierIdentifier SupplierName=j137"
+    ∷ "SupplierIdentifier SupplierIDType=j345 IDValue=b244"
+    ∷ "Price PriceType=x462 PriceQualifier=j261 PricePer=j239 PriceCondition PriceConstraint"
+    ∷ "Price MinimumOrderQuantity=j263 PriceCoded PriceAmount=j151 UnpricedItemType=j192"
+    ∷ "Price CurrencyCode=j152 CurrencyZone=x475 EpubLicense PriceTypeCode=j148"
+    ∷ "Price PriceEffectiveFrom=j161 PriceEffectiveUntil=j162 CountryCode=b251 Territory PriceDate"
+    ∷ "Price Discount DiscountCoded"
+    ∷ "PriceCondition PriceConditionType=x463"
+    ∷ "PriceConstraint PriceConstraintType=x529"
+    ∷ "PriceDate PriceDateRole=x476 DateFormat=j260 Date=b306"
+    ∷ [])

@@ -1,0 +1,454 @@
+//! The days between which a Price holds.
+
+ghost use Rattle.std.specs.Prelude.{◌≡◌, ◌++◌, ◌∷◌, [], Ok, codes, map, option_map};
+ghost use Rattle.std.specs.List.{list_any};
+ghost use Rattle.std.specs.Option.{option_or};
+ghost use Rattle.std.specs.Result.{result_map_both};
+ghost use Rattle.std.specs.Str.{bytes_eq};
+ghost use Rattle.feed_mapping.specs.Elements.{element_view};
+ghost use Rattle.feed_mapping.specs.DateViews.{dated_view, days_read};
+ghost use Rattle.feed_mapping.specs.Dates.{and_days, date_in, parsed_day, days_in, days_of, parsed_days, digits_by, digits_in, format_in, formats, graver, in_day, in_format, in_month, in_year, is_time, or_days, role_days, two_days};
+ghost use Rattle.feed_mapping.specs.Notes.{foreign, reason_view, wrong};
+ghost use Rattle.feed_mapping.specs.Records.{first_some};
+ghost use Rattle.feed_mapping.specs.declared.notes.Foreign.TheVariants.{DateFormat};
+ghost use Rattle.feed_mapping.specs.declared.notes.Wrong.TheVariants as bad;
+
+use crate::elements::{next_composite, text_or_empty};
+use crate::notes::{Foreign, Reason, ReasonKind, Wrong};
+use crate::records::utf8_text;
+use feed_outline::{Elements, Line, text_in};
+use onix_terms::day::Day;
+
+/// The first and the last day on which a Price holds, each where there is one.
+#[derive(Clone, Copy, Debug)]
+pub struct Days {
+    pub first: Option<Day>,
+    pub last: Option<Day>,
+}
+
+/// What PriceDates say: their days, or why they leave their Price out.
+#[derive(Clone, Copy, Debug)]
+pub struct Dated<'a> {
+    pub days: Days,
+    pub wrong: Option<Reason<'a>>,
+}
+
+const NO_DAYS: Days = Days {
+    first: None,
+    last: None,
+};
+
+// The day of eight digits.
+fn parsed_day(text: &[u8]) -> Option<Day>
+    ensures { result ≡ parsed_day text.now }
+{
+    utf8_text(text)?.parse().ok()
+}
+
+// Whether a text may stand behind a day.
+fn is_time(text: &[u8]) -> bool
+    ensures { result ≡ is_time text.now }
+{
+    match text {
+        [] => true,
+        [byte, ..] => *byte == b'T',
+    }
+}
+
+// The digits of YYYYMMDD, behind which nothing stands or a time.
+fn plain_day(text: &[u8]) -> Option<[u8; 8]>
+    ensures { result ≡ digits_by is_time (codes "YYYYMMDD") text.now }
+{
+    if text.len() < 8 || !is_time(&text[8..]) {
+        return None;
+    }
+    Some([
+        text[0], text[1], text[2], text[3], text[4], text[5], text[6], text[7],
+    ])
+}
+
+// The digits of YYYY-MM-DD, behind which nothing stands or a time.
+fn hyphened_day(text: &[u8]) -> Option<[u8; 8]>
+    ensures { result ≡ digits_by is_time (codes "YYYY-MM-DD") text.now }
+{
+    if text.len() < 10 || text[4] != b'-' || text[7] != b'-' || !is_time(&text[10..]) {
+        return None;
+    }
+    Some([
+        text[0], text[1], text[2], text[3], text[5], text[6], text[8], text[9],
+    ])
+}
+
+// A day, as the first and the last.
+fn in_day(text: &[u8]) -> Option<Days>
+    ensures { result ≡ in_day text.now }
+{
+    let digits = match plain_day(text) {
+        Some(digits) => digits,
+        None => hyphened_day(text)?,
+    };
+    let day = parsed_day(&digits)?;
+    Some(Days {
+        first: Some(day),
+        last: Some(day),
+    })
+}
+
+// The digits of YYYYMM.
+fn plain_month(text: &[u8]) -> Option<[u8; 6]>
+    ensures { result ≡ digits_by (bytes_eq []) (codes "YYYYMM") text.now }
+{
+    if text.len() != 6 {
+        return None;
+    }
+    Some([text[0], text[1], text[2], text[3], text[4], text[5]])
+}
+
+// The digits of YYYY-MM.
+fn hyphened_month(text: &[u8]) -> Option<[u8; 6]>
+    ensures { result ≡ digits_by (bytes_eq []) (codes "YYYY-MM") text.now }
+{
+    if text.len() != 7 || text[4] != b'-' {
+        return None;
+    }
+    Some([text[0], text[1], text[2], text[3], text[5], text[6]])
+}
+
+// The digits of a month.
+fn month_digits(text: &[u8]) -> Option<[u8; 6]>
+    ensures { result
+        ≡ digits_in (bytes_eq []) ("YYYYMM" ∷ "YYYY-MM" ∷ []) text.now }
+{
+    match plain_month(text) {
+        Some(digits) => Some(digits),
+        None => hyphened_month(text),
+    }
+}
+
+// The day of a month, by the two digits of its number.
+fn day_in_month(month: &[u8; 6], day: &[u8; 2]) -> Option<Day>
+    ensures { result ≡ parsed_day (month.now ++ day.now) }
+{
+    let [a, b, c, d, e, f] = *month;
+    let [g, h] = *day;
+    parsed_day(&[a, b, c, d, e, f, g, h])
+}
+
+// The last day of a month.
+fn last_of_month(month: &[u8; 6]) -> Option<Day>
+    ensures { result ≡ first_some (map (λ last. parsed_day (month.now ++ codes last))
+        ("31" ∷ "30" ∷ "29" ∷ "28" ∷ [])) }
+{
+    if let Some(day) = day_in_month(month, b"31") {
+        return Some(day);
+    }
+    if let Some(day) = day_in_month(month, b"30") {
+        return Some(day);
+    }
+    if let Some(day) = day_in_month(month, b"29") {
+        return Some(day);
+    }
+    day_in_month(month, b"28")
+}
+
+// The first and the last day of a month.
+fn in_month(text: &[u8]) -> Option<Days>
+    ensures { result ≡ in_month text.now }
+{
+    let month = month_digits(text)?;
+    let first = day_in_month(&month, b"01")?;
+    let last = last_of_month(&month)?;
+    Some(Days {
+        first: Some(first),
+        last: Some(last),
+    })
+}
+
+// The digits of a year.
+fn year_digits(text: &[u8]) -> Option<[u8; 4]>
+    ensures { result ≡ digits_in (bytes_eq []) ("YYYY" ∷ []) text.now }
+{
+    if text.len() != 4 {
+        return None;
+    }
+    Some([text[0], text[1], text[2], text[3]])
+}
+
+// The day of a year, by the four digits of its month and its number.
+fn day_in_year(year: &[u8; 4], day: &[u8; 4]) -> Option<Day>
+    ensures { result ≡ parsed_day (year.now ++ day.now) }
+{
+    let [a, b, c, d] = *year;
+    let [e, f, g, h] = *day;
+    parsed_day(&[a, b, c, d, e, f, g, h])
+}
+
+// The first and the last day of a year, YYYY.
+fn in_year(text: &[u8]) -> Option<Days>
+    ensures { result ≡ in_year text.now }
+{
+    let year = year_digits(text)?;
+    let first = day_in_year(&year, b"0101")?;
+    let last = day_in_year(&year, b"1231")?;
+    Some(Days {
+        first: Some(first),
+        last: Some(last),
+    })
+}
+
+// Whether it is the format of a day, of a month or of a year.
+fn is_format(format: &[u8]) -> bool
+    ensures { result ≡ list_any (bytes_eq format.now) formats }
+{
+    format == b"00".as_slice()
+        || format == b"13".as_slice()
+        || format == b"14".as_slice()
+        || format == b"01".as_slice()
+        || format == b"05".as_slice()
+}
+
+// The first and the last day of a text of such a format.
+fn in_format(format: &[u8], text: &[u8]) -> Option<Days>
+    ensures { result ≡ in_format format.now text.now }
+{
+    if format == b"01".as_slice() {
+        in_month(text)
+    } else if format == b"05".as_slice() {
+        in_year(text)
+    } else {
+        in_day(text)
+    }
+}
+
+fn wrong_day<'a>(text: &'a [u8]) -> Reason<'a>
+    ensures { reason_view result ≡ wrong bad.Day text.now }
+{
+    Reason {
+        kind: ReasonKind::Wrong(Wrong::Day),
+        text,
+    }
+}
+
+// The days of a text of such a format.
+fn parsed_days<'a>(format: &[u8], text: &'a [u8]) -> Result<Days, Reason<'a>>
+    ensures { days_read result ≡ parsed_days format.now text.now }
+{
+    match in_format(format, text) {
+        Some(days) => Ok(days),
+        None => Err(wrong_day(text)),
+    }
+}
+
+// The two days of a Date.
+#[tactic(auto, unfolding(crate::specs::Dates::two_days))]
+fn two_days<'a>(text: &'a [u8]) -> Result<Days, Reason<'a>>
+    ensures { days_read result ≡ two_days text.now }
+{
+    if text.len() != 16 {
+        return Err(Reason {
+            kind: ReasonKind::Wrong(Wrong::NotTwoDays),
+            text,
+        });
+    }
+    let (first, last) = text.split_at(8);
+    let Some(first) = parsed_day(first) else {
+        return Err(wrong_day(text));
+    };
+    let Some(last) = parsed_day(last) else {
+        return Err(wrong_day(text));
+    };
+    Ok(Days {
+        first: Some(first),
+        last: Some(last),
+    })
+}
+
+// The Date of a PriceDate.
+fn date_in<'a>(elements: &Elements<'a>) -> Option<&'a Line>
+    ensures { option_map (λ l. element_view l.now) result ≡ date_in elements.now }
+{
+    let mut rest = elements.copy();
+    while let Some(node) = rest.first() {
+        if node.line.name == b"Date".as_slice() && !node.line.text.is_empty() {
+            return Some(node.line);
+        }
+        rest = node.rest;
+    }
+    None
+}
+
+// The format of a PriceDate with this Date.
+fn format_in<'a>(date: Option<&'a Line>, elements: &Elements<'a>) -> &'a [u8]
+    ensures { option_map (λ l. element_view l.now) date.entry ≡ date_in elements.now
+        → result.now ≡ format_in elements.now }
+{
+    if let Some(line) = date {
+        if let Some(format) = &line.format {
+            return format.as_slice();
+        }
+    }
+    match text_in(b"DateFormat", elements) {
+        Some(format) => format,
+        None => b"00",
+    }
+}
+
+fn no_date<'a>(role: &'a [u8]) -> Reason<'a>
+    ensures { reason_view result ≡ wrong bad.NoDate role.now }
+{
+    Reason {
+        kind: ReasonKind::Wrong(Wrong::NoDate),
+        text: role,
+    }
+}
+
+fn other_format<'a>(format: &'a [u8]) -> Reason<'a>
+    ensures { reason_view result ≡ foreign DateFormat format.now }
+{
+    Reason {
+        kind: ReasonKind::Foreign(Foreign::DateFormat),
+        text: format,
+    }
+}
+
+// The days of the Date of a role that has one day.
+fn one_day<'a>(role: &'a [u8], elements: &Elements<'a>) -> Result<Days, Reason<'a>>
+    ensures { days_read result
+        ≡ role_days elements.now formats (parsed_days (format_in elements.now)) role.now }
+{
+    let date = date_in(elements);
+    let format = format_in(date, elements);
+    if !is_format(format) {
+        return Err(other_format(format));
+    }
+    match date {
+        Some(line) => parsed_days(format, line.text.as_slice()),
+        None => Err(no_date(role)),
+    }
+}
+
+// The days of the Date of the role that has two.
+fn both_days<'a>(role: &'a [u8], elements: &Elements<'a>) -> Result<Days, Reason<'a>>
+    ensures { days_read result ≡ role_days elements.now (codes "06" ∷ []) two_days role.now }
+{
+    let date = date_in(elements);
+    let format = format_in(date, elements);
+    if format != b"06".as_slice() {
+        return Err(other_format(format));
+    }
+    match date {
+        Some(line) => two_days(line.text.as_slice()),
+        None => Err(no_date(role)),
+    }
+}
+
+// What a PriceDate says by its role.
+fn read_role<'a>(elements: &Elements<'a>) -> Result<Days, Reason<'a>>
+    ensures { days_read result ≡ days_of elements.now }
+{
+    let role = text_or_empty(b"PriceDateRole", elements);
+    if role == b"14".as_slice() {
+        let days = one_day(role, elements)?;
+        return Ok(Days {
+            first: days.first,
+            last: None,
+        });
+    }
+    if role == b"15".as_slice() {
+        let days = one_day(role, elements)?;
+        return Ok(Days {
+            first: None,
+            last: days.last,
+        });
+    }
+    if role == b"24".as_slice() {
+        return both_days(role, elements);
+    }
+    Ok(NO_DAYS)
+}
+
+// What a PriceDate says.
+fn days_of<'a>(elements: &Elements<'a>) -> Dated<'a>
+    ensures { dated_view result ≡ days_of elements.now }
+{
+    match read_role(elements) {
+        Ok(days) => Dated { days, wrong: None },
+        Err(reason) => Dated {
+            days: NO_DAYS,
+            wrong: Some(reason),
+        },
+    }
+}
+
+// The former of two days, where there is one.
+fn former(one: Option<Day>, other: Option<Day>) -> Option<Day>
+    ensures { result ≡ option_or one other }
+{
+    match one {
+        Some(day) => Some(day),
+        None => other,
+    }
+}
+
+// Of two first days the former counts, and so of last days.
+fn or_days(days: Days, more: Days) -> Days
+    ensures { result ≡ or_days days more }
+{
+    Days {
+        first: former(days.first, more.first),
+        last: former(days.last, more.last),
+    }
+}
+
+// Of two reasons the first that is foreign, else the first.
+fn graver<'a>(one: Reason<'a>, other: Reason<'a>) -> Reason<'a>
+    ensures { reason_view result ≡ graver (reason_view one.entry) (reason_view other.entry) }
+{
+    if one.kind.is_wrong() && !other.kind.is_wrong() {
+        other
+    } else {
+        one
+    }
+}
+
+// What two PriceDates say that follow each other.
+fn and_days<'a>(one: &Dated<'a>, other: &Dated<'a>) -> Dated<'a>
+    ensures { dated_view result ≡ and_days (dated_view one.now) (dated_view other.now) }
+{
+    let days = or_days(one.days, other.days);
+    match one.wrong {
+        None => Dated {
+            days,
+            wrong: other.wrong,
+        },
+        Some(reason) => match other.wrong {
+            None => Dated {
+                days,
+                wrong: Some(reason),
+            },
+            Some(second) => Dated {
+                days,
+                wrong: Some(graver(reason, second)),
+            },
+        },
+    }
+}
+
+/// What the PriceDates among the elements say: by its role each gives the first day
+/// (14), the last day (15) or both (24), and of several the first counts. They leave their Price
+/// out where one of these roles has no Date, has a format that is not its own, or a Date that has
+/// not the form of its format: for the first reason that is foreign, else for the first.
+pub fn days_in<'a>(elements: &Elements<'a>) -> Dated<'a>
+    ensures { dated_view result ≡ days_in elements.now }
+{
+    let mut dated = Dated {
+        days: NO_DAYS,
+        wrong: None,
+    };
+    let mut rest = elements.copy();
+    while let Some((found, behind)) = next_composite(b"PriceDate", &rest) {
+        dated = and_days(&dated, &days_of(&found.below));
+        rest = behind;
+    }
+    dated
+}

@@ -1,0 +1,347 @@
+//! SupplyDetails.
+
+ghost use Rattle.std.specs.Prelude.{◌≡◌, ◌++◌, ◌∷◌, ◌+◌, ◌<◌, [], ℕ, List, None, Some, IfOk, OnOk, true, is_some, map, codes};
+ghost use Rattle.std.specs.List.{list_all};
+ghost use Rattle.std.specs.Option.{unwrap_or};
+ghost use Rattle.std.specs.Str.{is_utf8};
+ghost use Rattle.feed_mapping.specs.Details.{context_in, default_minimum, detail_fields, detail_outcome, detail_reasons, detail_reason, identifier_reasons, name_reason, price_in, prices_in, supplier_id, supplier_in, unpriced_in, unpriced_price};
+ghost use Rattle.feed_mapping.specs.Elements.{composites, first, text_or_empty, below_of};
+ghost use Rattle.feed_mapping.specs.Notes.{note_views, reason_view, wrong};
+ghost use Rattle.feed_mapping.specs.Outcomes.{all_notes, all_records, notes_below, outcome_reason, outcome_records, written_unless};
+ghost use Rattle.feed_mapping.specs.PartyViews.{pair_view};
+ghost use Rattle.feed_mapping.specs.PriceViews.{reason_read, text_view};
+ghost use Rattle.feed_mapping.specs.Prices.{context_view};
+ghost use Rattle.feed_mapping.specs.Records.{first_some, parsed, parsed_term, invalid};
+ghost use Rattle.feed_mapping.specs.declared.notes.Wrong.TheVariants as bad;
+ghost use Rattle.onix_records.specs.Fields.{optional};
+ghost use Rattle.onix_records.specs.declared.row.Opening.{Opening as Said};
+ghost use Rattle.onix_terms.specs.Code.{code2_of};
+ghost use Rattle.onix_records.specs.Detail.{detail_of};
+ghost use Rattle.onix_records.specs.Gives.{Gives};
+ghost use Rattle.feed_outline.specs.Views.{line_views};
+
+use crate::elements::{elements_in, next_composite, text_or_empty};
+use crate::identifiers::{SUPPLIER, choose_identifier, is_there};
+use crate::notes::{Note, Reason, ReasonKind, Wrong};
+use crate::parties::{NO_PAIR, Pair};
+use crate::prices::{PriceContext, add_price, fill_record};
+use crate::records::{former, is_field, may_be_empty, parsed_code, parsed_quantity, unless};
+use csv_records::buffer::RecordBuffer;
+use csv_records::fields::FieldBuffer;
+use csv_records::record::Record;
+use feed_outline::{Elements, Line, text_in};
+use onix_records::detail::read_detail;
+use onix_records::fields::read_fields;
+use onix_records::parts::SupplyDetail;
+use onix_records::row::{Opening, RowFault};
+use std::alloc::{AllocError, Global};
+
+// The UnpricedItemType of a Price without an amount.
+fn unpriced_price<'a>(elements: &Elements<'a>) -> Option<&'a [u8]>
+    ensures { text_view result ≡ unpriced_price elements.now }
+{
+    if text_in(b"PriceAmount", elements).is_some() {
+        return None;
+    }
+    text_in(b"UnpricedItemType", elements)
+}
+
+// The first UnpricedItemType of the Prices that have no amount.
+fn unpriced_prices<'a>(elements: &Elements<'a>) -> Option<&'a [u8]>
+    ensures { text_view result
+        ≡ first_some (map (λ c. unpriced_price c.below) (composites (codes "Price") elements.now)) }
+{
+    let mut rest = elements.copy();
+    while let Some((price, behind)) = next_composite(b"Price", &rest) {
+        if let Some(text) = unpriced_price(&price.below) {
+            return Some(text);
+        }
+        rest = behind;
+    }
+    None
+}
+
+// The UnpricedItemType of a SupplyDetail.
+fn unpriced_in<'a>(elements: &Elements<'a>) -> Option<&'a [u8]>
+    ensures { text_view result ≡ unpriced_in elements.now }
+{
+    match text_in(b"UnpricedItemType", elements) {
+        Some(text) => Some(text),
+        None => unpriced_prices(elements),
+    }
+}
+
+// The identifier of the supplier that is chosen.
+fn supplier_id<'a>(preferred: &[u8], elements: &Elements<'a>) -> Pair<'a>
+    ensures { pair_view result ≡ supplier_id preferred.now elements.now }
+{
+    let supplier = elements_in(b"Supplier", elements);
+    match choose_identifier(SUPPLIER, preferred, &supplier) {
+        Some(identifier) => identifier,
+        None => NO_PAIR,
+    }
+}
+
+// The texts of the fields of a SupplyDetail whose supplier has this identifier.
+fn detail_texts<'a>(supplier: Pair<'a>, elements: &Elements<'a>) -> [&'a [u8]; 6]
+    ensures { (preferred : List ℕ) → pair_view supplier.entry ≡ supplier_id preferred elements.now
+        → map (λ t. t.now) result ≡ detail_fields preferred elements.now }
+{
+    let below = elements_in(b"Supplier", elements);
+    [
+        text_or_empty(b"SupplierRole", &below),
+        supplier.id_type,
+        supplier.id_value,
+        text_or_empty(b"SupplierName", &below),
+        text_or_empty(b"ProductAvailability", elements),
+        unpriced_in(elements).unwrap_or(b""),
+    ]
+}
+
+// The SupplyDetail that the desk reads of fields that are UTF-8.
+fn parse_fields(alloc: Global, from: &Record<'_>) -> Result<SupplyDetail, RowFault>
+    ensures { list_all is_utf8 from.now ≡ true → Gives result (parsed detail_of from.now) }
+{
+    let mut fields = Vec::new(alloc);
+    read_fields(from, &mut fields)?;
+    read_detail(alloc, &fields)
+}
+
+// Whether the desk reads a SupplyDetail of the record in the list.
+fn is_taken(alloc: Global, fields: &FieldBuffer) -> Result<bool, AllocError>
+    ensures { (behind : List (List ℕ)) → fields.now ≡ codes "SupplyDetail" ∷ behind
+        → list_all is_utf8 behind ≡ true
+        → IfOk result (λ is. is ≡ is_some (parsed detail_of behind)) }
+{
+    let record = fields.as_record();
+    let Some((_, behind)) = record.split_first() else {
+        return Ok(false);
+    };
+    match parse_fields(alloc, &behind) {
+        Ok(_) => Ok(true),
+        Err(RowFault::Wrong) => Ok(false),
+        Err(RowFault::Memory) => Err(AllocError),
+    }
+}
+
+// Puts the record of these fields in place of what the list had, and says whether the desk takes
+// it.
+fn take_texts(alloc: Global, fields: &mut FieldBuffer, texts: &[&[u8]]) -> Result<bool, AllocError>
+    ensures record { IfOk result (λ is. is ≡ true
+        → fields.new ≡ codes "SupplyDetail" ∷ map (λ t. t.now) texts.now) }
+    ensures taken { IfOk result
+        (λ is. is ≡ is_some (parsed detail_of (map (λ t. t.now) texts.now))) }
+{
+    match fill_record(fields, "SupplyDetail", texts) {
+        Ok(()) => is_taken(alloc, fields),
+        Err(RowFault::Wrong) => Ok(false),
+        Err(RowFault::Memory) => Err(AllocError),
+    }
+}
+
+// Adds the record of a SupplyDetail whose supplier has this identifier, or gives the reason for
+// which the desk would not take it.
+fn write_detail<'a>(
+    alloc: Global,
+    supplier: Pair<'a>,
+    elements: &Elements<'a>,
+    fields: &mut FieldBuffer,
+    records: &mut RecordBuffer,
+) -> Result<Option<Reason<'a>>, AllocError>
+    ensures reason { (preferred : List ℕ)
+        → pair_view supplier.entry ≡ supplier_id preferred elements.now
+        → IfOk result (λ reason. reason_read reason ≡ detail_reason preferred elements.now) }
+    ensures record { (preferred : List ℕ)
+        → pair_view supplier.entry ≡ supplier_id preferred elements.now
+        → OnOk result (records.new ≡ records.old ++ outcome_records
+        (written_unless (detail_reason preferred elements.now)
+        ((codes "SupplyDetail" ∷ detail_fields preferred elements.now) ∷ []) [])) }
+{
+    if take_texts(alloc, fields, &detail_texts(supplier, elements))? {
+        records.push(&fields.as_record())?;
+        return Ok(None);
+    }
+    Ok(Some(detail_reason(supplier, elements)))
+}
+
+// A text, empty where there is none.
+fn text_or_none<'a>(text: Option<&'a [u8]>) -> &'a [u8]
+    ensures { result.now ≡ unwrap_or (text_view text.entry) [] }
+{
+    match text {
+        Some(text) => text,
+        None => b"",
+    }
+}
+
+// What is wrong with the identifier of a supplier, who has this name.
+fn identifier_reason<'a>(supplier: Pair<'a>, name: &[u8]) -> Option<Reason<'a>>
+    ensures { reason_read result
+        ≡ first_some (identifier_reasons (pair_view supplier.entry) name.now) }
+{
+    if !is_there(supplier) {
+        return former(unless(!name.is_empty(), Wrong::Supplier, b""), None);
+    }
+    let id_type = supplier.id_type;
+    let typed = unless(parsed_code(id_type).is_some(), Wrong::SupplierType, id_type);
+    let id_value = supplier.id_value;
+    let valued = unless(is_field(id_value), Wrong::SupplierValue, id_value);
+    former(typed, former(valued, None))
+}
+
+// That the SupplierRole is no code.
+fn role_reason<'a>(elements: &Elements<'a>) -> Option<Reason<'a>>
+    ensures { reason_read result
+        ≡ invalid (parsed_term code2_of) bad.SupplierRole
+        (text_or_empty (codes "SupplierRole") (supplier_in elements.now)) }
+{
+    let below = elements_in(b"Supplier", elements);
+    let role = text_or_empty(b"SupplierRole", &below);
+    unless(parsed_code(role).is_some(), Wrong::SupplierRole, role)
+}
+
+// What is wrong with the identifier of the supplier, or that there is neither one nor a name.
+fn supplier_reason<'a>(supplier: Pair<'a>, elements: &Elements<'a>) -> Option<Reason<'a>>
+    ensures { reason_read result
+        ≡ first_some (identifier_reasons (pair_view supplier.entry)
+        (text_or_empty (codes "SupplierName") (supplier_in elements.now))) }
+{
+    let below = elements_in(b"Supplier", elements);
+    identifier_reason(supplier, text_or_empty(b"SupplierName", &below))
+}
+
+// That the desk would not take the SupplierName.
+fn name_reason<'a>(elements: &Elements<'a>) -> Option<Reason<'a>>
+    ensures { reason_read result
+        ≡ name_reason (text_or_empty (codes "SupplierName") (supplier_in elements.now)) }
+{
+    let below = elements_in(b"Supplier", elements);
+    let name = text_or_empty(b"SupplierName", &below);
+    if name.is_empty() {
+        return None;
+    }
+    unless(is_field(name), Wrong::SupplierName, name)
+}
+
+// That the ProductAvailability is no code.
+fn availability_reason<'a>(elements: &Elements<'a>) -> Option<Reason<'a>>
+    ensures { reason_read result
+        ≡ invalid (parsed_term code2_of) bad.Availability
+        (text_or_empty (codes "ProductAvailability") elements.now) }
+{
+    let text = text_or_empty(b"ProductAvailability", elements);
+    unless(parsed_code(text).is_some(), Wrong::Availability, text)
+}
+
+// That the UnpricedItemType is no code.
+fn unpriced_reason<'a>(elements: &Elements<'a>) -> Option<Reason<'a>>
+    ensures { reason_read result
+        ≡ invalid (optional (parsed_term code2_of)) bad.Unpriced
+        (unwrap_or (unpriced_in elements.now) []) }
+{
+    let text = text_or_none(unpriced_in(elements));
+    unless(may_be_empty(text, parsed_code(text)), Wrong::Unpriced, text)
+}
+
+// The first field of a SupplyDetail that the desk would not take.
+fn field_reason<'a>(supplier: Pair<'a>, elements: &Elements<'a>) -> Option<Reason<'a>>
+    ensures { (preferred : List ℕ) → pair_view supplier.entry ≡ supplier_id preferred elements.now
+        → reason_read result ≡ first_some (detail_reasons preferred elements.now) }
+{
+    let last = former(unpriced_reason(elements), None);
+    let there = former(availability_reason(elements), last);
+    let named = former(name_reason(elements), there);
+    let identified = former(supplier_reason(supplier, elements), named);
+    former(role_reason(elements), identified)
+}
+
+// Why a SupplyDetail that the desk would not take is left out.
+fn detail_reason<'a>(supplier: Pair<'a>, elements: &Elements<'a>) -> Reason<'a>
+    ensures { (preferred : List ℕ) → pair_view supplier.entry ≡ supplier_id preferred elements.now
+        → reason_view result ≡ unwrap_or
+        (first_some (detail_reasons preferred elements.now)) (wrong bad.SupplyDetail []) }
+{
+    match field_reason(supplier, elements) {
+        Some(reason) => reason,
+        None => Reason {
+            kind: ReasonKind::Wrong(Wrong::SupplyDetail),
+            text: b"",
+        },
+    }
+}
+
+// The OrderQuantityMinimum, where it is a quantity.
+fn default_minimum<'a>(elements: &Elements<'a>) -> Option<&'a [u8]>
+    ensures { text_view result ≡ default_minimum elements.now }
+{
+    let text = text_in(b"OrderQuantityMinimum", elements)?;
+    if parsed_quantity(text).is_some() {
+        Some(text)
+    } else {
+        None
+    }
+}
+
+// The context of the Prices of a SupplyDetail.
+fn context_in<'a, 'b>(opening: &'a Opening, elements: &Elements<'b>) -> PriceContext<'a, 'b>
+    ensures { context_view result ≡ context_in opening.now elements.now }
+{
+    PriceContext {
+        opening,
+        is_unpriced: unpriced_in(elements).is_some(),
+        minimum: default_minimum(elements),
+    }
+}
+
+// Adds what comes of the Prices of a SupplyDetail.
+fn add_prices<'a>(
+    alloc: Global,
+    context: &PriceContext<'_, '_>,
+    elements: &Elements<'a>,
+    fields: &mut FieldBuffer,
+    records: &mut RecordBuffer,
+    notes: &mut Vec<Note<'a>>,
+) -> Result<(), AllocError>
+    ensures records { (o : Said) → context_view context.now ≡ context_in o elements.now
+        → OnOk result (records.new ≡ records.old
+        ++ all_records (price_in o elements.now) (prices_in elements.now)) }
+    ensures notes { (o : Said) → context_view context.now ≡ context_in o elements.now
+        → OnOk result (note_views notes.new.items ≡ note_views notes.old.items
+        ++ all_notes (price_in o elements.now) (prices_in elements.now)) }
+{
+    let mut rest = elements.copy();
+    while let Some((price, behind)) = next_composite(b"Price", &rest) {
+        add_price(alloc, context, &price, fields, records, notes)?;
+        rest = behind;
+    }
+    Ok(())
+}
+
+/// Adds the records of a SupplyDetail and of its Prices in a message that begins so, and notes on
+/// what is left out below it, or gives the reason for which it is left out. Of several identifiers
+/// the first of the preferred type is written, else the first. The list takes the fields of a
+/// record.
+pub(crate) fn add_detail<'a>(
+    alloc: Global,
+    opening: &Opening,
+    preferred: &[u8],
+    elements: &Elements<'a>,
+    fields: &mut FieldBuffer,
+    records: &mut RecordBuffer,
+    notes: &mut Vec<Note<'a>>,
+) -> Result<Option<Reason<'a>>, AllocError>
+    ensures reason { IfOk result (λ reason. reason_read reason
+        ≡ outcome_reason (detail_outcome opening.now preferred.now elements.now)) }
+    ensures records { OnOk result (records.new ≡ records.old
+        ++ outcome_records (detail_outcome opening.now preferred.now elements.now)) }
+    ensures notes { OnOk result (note_views notes.new.items ≡ note_views notes.old.items
+        ++ notes_below (detail_outcome opening.now preferred.now elements.now)) }
+{
+    let supplier = supplier_id(preferred, elements);
+    let left_out = write_detail(alloc, supplier, elements, fields, records)?;
+    if left_out.is_none() {
+        let context = context_in(opening, elements);
+        add_prices(alloc, &context, elements, fields, records, notes)?;
+    }
+    Ok(left_out)
+}

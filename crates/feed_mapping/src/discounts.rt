@@ -1,0 +1,44 @@
+//! The discounts of a Price, which are not read.
+
+ghost use Rattle.std.specs.Prelude.{◌≡◌, ◌++◌, OnOk};
+ghost use Rattle.feed_mapping.specs.Notes.{note_views};
+ghost use Rattle.feed_mapping.specs.Prices.{discount_notes, unread_notes};
+
+use crate::elements::next_composite;
+use crate::notes::{Foreign, Note, Reason, ReasonKind, push_note};
+use feed_outline::Elements;
+use std::alloc::AllocError;
+
+// Adds a note on each element of this name.
+fn push_unread<'a>(
+    notes: &mut Vec<Note<'a>>,
+    name: &[u8],
+    kind: Foreign,
+    elements: &Elements<'a>,
+) -> Result<(), AllocError>
+    ensures { OnOk result (note_views notes.new.items
+        ≡ note_views notes.old.items ++ unread_notes name.now kind elements.now) }
+{
+    let mut rest = elements.copy();
+    while let Some((found, behind)) = next_composite(name, &rest) {
+        let reason = Reason {
+            kind: ReasonKind::Foreign(kind),
+            text: b"",
+        };
+        push_note(notes, found.line, reason)?;
+        rest = behind;
+    }
+    Ok(())
+}
+
+/// Adds a note on each Discount and each DiscountCoded of a Price.
+pub(crate) fn push_discounts<'a>(
+    notes: &mut Vec<Note<'a>>,
+    elements: &Elements<'a>,
+) -> Result<(), AllocError>
+    ensures { OnOk result (note_views notes.new.items
+        ≡ note_views notes.old.items ++ discount_notes elements.now) }
+{
+    push_unread(notes, b"Discount", Foreign::Discount, elements)?;
+    push_unread(notes, b"DiscountCoded", Foreign::DiscountCoded, elements)
+}

@@ -1,0 +1,190 @@
+//! Notes on what of a message is left out, or read as another than it stands.
+
+ghost use Rattle.std.specs.Prelude.{◌≡◌, ◌++◌, ◌∷◌, [], OnOk, option_map};
+ghost use Rattle.feed_mapping.specs.Elements.{element_view};
+ghost use Rattle.feed_mapping.specs.Notes.{is_wrong, note, note_views, reason_notes, reason_view};
+
+use feed_outline::Line;
+use std::alloc::AllocError;
+
+/// What the desk has no field for.
+#[derive(Clone, Copy, Debug, PartialEq, Eq)]
+pub enum Foreign {
+    /// A Price with a PriceQualifier, which is the text.
+    PriceQualifier,
+    /// A Price that is not for one copy: its PricePer is the text.
+    PricePer,
+    /// A Price with a PriceCondition of the type that is the text, or of none.
+    PriceCondition,
+    /// A Price with a PriceConstraint of the type that is the text, or of none.
+    PriceConstraint,
+    /// A Price with PriceCoded.
+    PriceCoded,
+    /// A Price with a CurrencyZone, which is the text.
+    CurrencyZone,
+    /// A Price with an EpubLicense.
+    EpubLicense,
+    /// A Price with a PriceDate in a format that its role does not have: the format is the text.
+    DateFormat,
+    /// A Price whose amount, the text, has more than three decimals.
+    MoreDecimals,
+    /// A Price whose amount, the text, is 0.
+    NoCharge,
+    /// A Price or Market that holds in a region, the text, without a country and without the
+    /// world.
+    RegionAlone,
+    /// A Price or Market that does not hold in a region, the text, that is no part of a country.
+    RegionOfNoCountry,
+    /// A region in RegionsIncluded beside a country or the world: without it the territory is
+    /// smaller, or the same.
+    RegionIncluded,
+    /// A region in RegionsExcluded that is a part of a country.
+    RegionExcluded,
+    /// A country of a Territory, the text, that is read by its code in ISO 3166: UK as GB, EL as
+    /// GR.
+    CountryName,
+    /// A Discount of a Price, which is not read and would make another price.
+    Discount,
+    /// A DiscountCoded of a Price, likewise.
+    DiscountCoded,
+    /// A ProductSupply without SupplyDetail.
+    NoSupplyDetail,
+    /// A ProductSupply whose Markets are all left out, one of them as foreign.
+    NoMarketLeft,
+    /// A ProductSupply whose Markets together are longer than a field of the desk.
+    LongMarkets,
+    /// A Product of which no ProductSupply is left: the first that had a SupplyDetail is foreign.
+    NoSupplyLeft,
+    /// A Product without a GTIN-13 or ISBN-13 of thirteen digits, by which the desk would find it.
+    NoIsbn,
+    /// A Product of a NotificationType, the text, that the desk ignores.
+    Ignored,
+}
+
+/// What the desk would not take.
+#[derive(Clone, Copy, Debug, PartialEq, Eq)]
+pub enum Wrong {
+    /// A Price with an element of ONIX 2.1, whose name is the text.
+    OldElement,
+    /// A Price with a PriceDate without Date, whose role is the text.
+    NoDate,
+    /// A Price with a PriceDate that is to have two days: the text, its Date, is not 16 bytes long.
+    NotTwoDays,
+    /// A Price that holds from or until a day, the text, that is none.
+    Day,
+    /// A Price whose PriceType, the text, is no code; where it is empty the Header has no default.
+    PriceType,
+    /// A Price whose amount, the text, is none.
+    Amount,
+    /// A Price whose currency, the text, is none; where it is empty the Header has no default.
+    Currency,
+    /// A Price or Market whose CountriesIncluded, the text, are no countries.
+    CountriesIncluded,
+    /// A Price or Market whose CountriesExcluded, the text, are no countries.
+    CountriesExcluded,
+    /// A Price or Market whose Territory the desk would not take for another reason.
+    Territory,
+    /// A Price whose MinimumOrderQuantity, the text, is none.
+    Quantity,
+    /// A Price that the desk would not take for another reason.
+    Price,
+    /// A SupplyDetail whose SupplierRole, the text, is no code.
+    SupplierRole,
+    /// A SupplyDetail with an identifier of the supplier whose type, the text, is no code.
+    SupplierType,
+    /// A SupplyDetail with an identifier of the supplier whose value, the text, the desk would not
+    /// take.
+    SupplierValue,
+    /// A SupplyDetail with a SupplierName, the text, that the desk would not take.
+    SupplierName,
+    /// A SupplyDetail with neither an identifier nor a name of the supplier.
+    Supplier,
+    /// A SupplyDetail whose ProductAvailability, the text, is no code.
+    Availability,
+    /// A SupplyDetail whose UnpricedItemType, the text, is no code.
+    Unpriced,
+    /// A SupplyDetail that the desk would not take for another reason.
+    SupplyDetail,
+    /// A ProductSupply whose Markets are all left out, none of them as foreign.
+    NoMarketLeft,
+    /// A ProductSupply whose SupplyDetails are all left out.
+    NoDetailLeft,
+    /// A ProductIdentifier whose type, the text, is no code.
+    IdentifierType,
+    /// A ProductIdentifier whose value, the text, the desk would not take.
+    IdentifierValue,
+    /// A Product whose RecordReference, the text, the desk would not take.
+    RecordReference,
+    /// A Product whose NotificationType, the text, is no code.
+    NotificationType,
+    /// A Product of which no identifier is left.
+    NoIdentifierLeft,
+    /// A Product with an element in another namespace, whose name, the text, is one that counts
+    /// there.
+    OtherNamespace,
+    /// A Product of which no ProductSupply is left: the first that had a SupplyDetail is wrong.
+    NoSupplyLeft,
+    /// A Product that alone is too large for a message.
+    TooLarge,
+}
+
+/// Why something is left out.
+#[derive(Clone, Copy, Debug, PartialEq, Eq)]
+pub enum ReasonKind {
+    Foreign(Foreign),
+    Wrong(Wrong),
+}
+
+impl ReasonKind {
+    /// Whether the desk would not take it; else the desk has no field for it.
+    pub fn is_wrong(self) -> bool
+        ensures { result ≡ is_wrong self }
+    {
+        match self {
+            ReasonKind::Foreign(_) => false,
+            ReasonKind::Wrong(_) => true,
+        }
+    }
+}
+
+/// Why something is left out, and the text that is the reason, where there is one.
+#[derive(Clone, Copy, Debug)]
+pub struct Reason<'a> {
+    pub kind: ReasonKind,
+    pub text: &'a [u8],
+}
+
+/// That something is left out: the line of what the note speaks of, and the reason.
+#[derive(Clone, Copy)]
+pub struct Note<'a> {
+    pub line: &'a Line,
+    pub reason: Reason<'a>,
+}
+
+/// Adds a note on the element of a line.
+pub(crate) fn push_note<'a>(
+    notes: &mut Vec<Note<'a>>,
+    line: &'a Line,
+    reason: Reason<'a>,
+) -> Result<(), AllocError>
+    ensures { OnOk result (note_views notes.new.items ≡ note_views notes.old.items
+        ++ note (element_view line.now) (reason_view reason.entry) ∷ []) }
+{
+    notes.push(Note { line, reason })?;
+    Ok(())
+}
+
+/// Adds a note on the element of a line, where there is a reason.
+pub(crate) fn push_reason<'a>(
+    notes: &mut Vec<Note<'a>>,
+    line: &'a Line,
+    reason: Option<Reason<'a>>,
+) -> Result<(), AllocError>
+    ensures { OnOk result (note_views notes.new.items ≡ note_views notes.old.items
+        ++ reason_notes (element_view line.now) (option_map reason_view reason.entry)) }
+{
+    match reason {
+        None => Ok(()),
+        Some(reason) => push_note(notes, line, reason),
+    }
+}

@@ -1,0 +1,652 @@
+//! Prices.
+
+ghost use Rattle.std.specs.Prelude.{◌≡◌, ◌++◌, ◌∷◌, ◌<◌, [], ℕ, List, None, Some, IfOk, IsErrOf, OnOk, false, true, find, is_some, map, not, codes, option_map};
+ghost use Rattle.std.specs.List.{list_all};
+ghost use Rattle.std.specs.Option.{option_or, option_to_list};
+ghost use Rattle.std.specs.Result.{result_err, result_unwrap_or};
+ghost use Rattle.std.specs.Str.{is_utf8};
+ghost use Rattle.feed_mapping.specs.DateViews.{dated_view};
+ghost use Rattle.feed_mapping.specs.Dates.{days, days_in};
+ghost use Rattle.feed_mapping.specs.Elements.{composites, first, text_or_empty};
+ghost use Rattle.feed_mapping.specs.Notes.{foreign, is_wrong, note_views, wrong};
+ghost use Rattle.feed_mapping.specs.Outcomes.{notes_below, outcome_notes, outcome_records};
+ghost use Rattle.feed_mapping.specs.PriceViews.{reason_read, text_view};
+ghost use Rattle.feed_mapping.specs.Prices.{amount_written, context_view, behind_digits, cut_zeros, early_reasons, eight_fields, has_more_decimals, is_long_part, is_nothing, is_other, is_zero, late_reasons, old_element, outcome_of, own_minimum, point_in, price_fields, price_outcome, price_reasons, record_reason, right_days};
+ghost use Rattle.feed_mapping.specs.Records.{first_some, option_filter, parsed};
+ghost use Rattle.feed_mapping.specs.Territories.{AreRenamed, area_in, area_view};
+ghost use Rattle.feed_mapping.specs.declared.notes.Wrong.TheVariants.{OldElement};
+ghost use Rattle.onix_records.specs.Gives.{Gives};
+ghost use Rattle.onix_records.specs.Price.{day_field, price_of};
+ghost use Rattle.feed_outline.specs.Composites.{text_in};
+ghost use Rattle.feed_outline.specs.Nodes.{Nodes};
+
+use crate::dates::{Dated, Days, days_in};
+use crate::discounts::push_discounts;
+use crate::elements::{Composite, first_composite, next_composite, text_or_empty};
+use crate::notes::{Foreign, Note, Reason, ReasonKind, Wrong, push_reason};
+use crate::reasons::{field_reason, or_price};
+use crate::records::{are_zeros, former, parsed_amount, push_texts};
+use crate::territories::{
+    Area, Renamed, area_fields, area_in, push_territory_notes, renamed_in, unsupported,
+};
+use csv_records::buffer::RecordBuffer;
+use csv_records::fields::FieldBuffer;
+use csv_records::record::Record;
+use feed_outline::{Elements, text_in};
+use onix_records::fields::read_fields;
+use onix_records::parts::Price;
+use onix_records::price::read_price;
+use onix_records::row::{Opening, RowFault};
+use onix_terms::ascii::are_digits;
+use onix_terms::day::Day;
+use onix_terms::text::Text;
+use std::alloc::{AllocError, Global};
+
+/// The context of a Price: what its message begins with, whether the record of its SupplyDetail
+/// has an UnpricedItemType, and the quantity that stands for a minimum that it does not have.
+#[derive(Clone, Copy)]
+pub struct PriceContext<'a, 'b> {
+    pub opening: &'a Opening,
+    pub is_unpriced: bool,
+    pub minimum: Option<&'b [u8]>,
+}
+
+fn is_other(code: &[u8]) -> bool
+    ensures { result ≡ is_other code.now }
+{
+    code != b"00".as_slice()
+}
+
+// The text of an element, where it is another than 00.
+fn other_in<'a>(name: &[u8], elements: &Elements<'a>) -> Option<&'a [u8]>
+    ensures { text_view result ≡ option_filter is_other (text_in name.now elements.now) }
+{
+    match text_in(name, elements) {
+        Some(text) => if is_other(text) { Some(text) } else { None },
+        None => None,
+    }
+}
+
+// The type of the first composite of this name that has another type than 00.
+fn other_type<'a>(name: &[u8], type_name: &[u8], elements: &Elements<'a>) -> Option<&'a [u8]>
+    ensures { text_view result ≡ find is_other
+        (map (λ c. text_or_empty type_name.now c.below) (composites name.now elements.now)) }
+{
+    let mut rest = elements.copy();
+    while let Some((found, behind)) = next_composite(name, &rest) {
+        let code = text_or_empty(type_name, &found.below);
+        if is_other(code) {
+            return Some(code);
+        }
+        rest = behind;
+    }
+    None
+}
+
+// Whether there is such a composite.
+fn mark_in(name: &[u8], elements: &Elements<'_>) -> Option<&'static [u8]>
+    ensures { text_view result ≡ option_map (λ c. []) (first (composites name.now elements.now)) }
+{
+    match first_composite(name, elements) {
+        Some(_) => Some(b""),
+        None => None,
+    }
+}
+
+fn behind_digits(text: &[u8]) -> &[u8]
+    ensures { result.now ≡ behind_digits text.now }
+{
+    let mut rest = text;
+    while let [byte, tail @ ..] = rest {
+        if !byte.is_ascii_digit() {
+            return rest;
+        }
+        rest = tail;
+    }
+    rest
+}
+
+fn is_long_part(text: &[u8]) -> bool
+    ensures { result ≡ is_long_part text.now }
+{
+    match text {
+        [] => false,
+        [byte, part @ ..] => *byte == b'.' && (part.len() > 3 && are_digits(part)),
+    }
+}
+
+fn has_more_decimals(text: &[u8]) -> bool
+    ensures { result ≡ has_more_decimals text.now }
+{
+    match text {
+        [] => false,
+        [byte, rest @ ..] => byte.is_ascii_digit() && is_long_part(behind_digits(rest)),
+    }
+}
+
+// A text with its point there, without the zeros behind the third decimal.
+fn cut_zeros(point: Option<usize>, text: &[u8]) -> &[u8]
+    requires { point ≡ point_in text.now }
+    ensures { result.now ≡ cut_zeros point text.now }
+{
+    let Some(at) = point else {
+        return text;
+    };
+    if text.len() - at <= 4 {
+        return text;
+    }
+    let (front, zeros) = text.split_at(at + 4);
+    if are_zeros(zeros) { front } else { text }
+}
+
+fn point_in(text: &[u8]) -> Option<usize>
+    ensures { result ≡ point_in text.now }
+{
+    text.iter().position(|byte| *byte == b'.')
+}
+
+/// The amount of a Price as it is written, without the zeros behind its third decimal.
+pub(crate) fn amount_written<'a>(elements: &Elements<'a>) -> &'a [u8]
+    ensures { result.now ≡ amount_written elements.now }
+{
+    let text = text_or_empty(b"PriceAmount", elements);
+    cut_zeros(point_in(text), text)
+}
+
+// An amount that has more decimals than the desk knows.
+fn long_amount<'a>(amount: &'a [u8]) -> Option<&'a [u8]>
+    ensures { (nodes : Nodes) → amount.now ≡ amount_written nodes
+        → text_view result
+        ≡ option_filter has_more_decimals (Some (amount_written nodes)) }
+{
+    if has_more_decimals(amount) {
+        Some(amount)
+    } else {
+        None
+    }
+}
+
+fn is_zero(amount: &[u8]) -> bool
+    ensures { result ≡ is_zero amount.now }
+{
+    match parsed_amount(amount) {
+        None => false,
+        Some(amount) => amount.thousandths() == 0,
+    }
+}
+
+// An amount of 0.
+fn no_charge<'a>(amount: &'a [u8]) -> Option<&'a [u8]>
+    ensures { (nodes : Nodes) → amount.now ≡ amount_written nodes
+        → text_view result ≡ option_filter is_zero (Some (amount_written nodes)) }
+{
+    if is_zero(amount) { Some(amount) } else { None }
+}
+
+fn has_text(name: &[u8], elements: &Elements<'_>) -> bool
+    ensures { result ≡ is_some (text_in name.now elements.now) }
+{
+    text_in(name, elements).is_some()
+}
+
+// The first of the elements of ONIX 2.1 that is there.
+fn old_element(elements: &Elements<'_>) -> Option<&'static [u8]>
+    ensures { text_view result ≡ old_element elements.now }
+{
+    if has_text(b"PriceTypeCode", elements) {
+        return Some(b"PriceTypeCode");
+    }
+    if has_text(b"PriceEffectiveFrom", elements) {
+        return Some(b"PriceEffectiveFrom");
+    }
+    if has_text(b"PriceEffectiveUntil", elements) {
+        return Some(b"PriceEffectiveUntil");
+    }
+    if has_text(b"CountryCode", elements) {
+        return Some(b"CountryCode");
+    }
+    None
+}
+
+// A foreign reason, where there is a text that is one.
+fn because<'a>(kind: Foreign, text: Option<&'a [u8]>) -> Option<Reason<'a>>
+    ensures { reason_read result ≡ option_map (foreign kind) (text_view text.entry) }
+{
+    match text {
+        Some(text) => Some(Reason {
+            kind: ReasonKind::Foreign(kind),
+            text,
+        }),
+        None => None,
+    }
+}
+
+fn because_old(text: Option<&'static [u8]>) -> Option<Reason<'static>>
+    ensures { reason_read result ≡ option_map (wrong OldElement) (text_view text.entry) }
+{
+    match text {
+        Some(text) => Some(Reason {
+            kind: ReasonKind::Wrong(Wrong::OldElement),
+            text,
+        }),
+        None => None,
+    }
+}
+
+// The reason for which PriceDates leave their Price out.
+fn wrong_date<'a>(dated: &Dated<'a>) -> Option<Reason<'a>>
+    ensures { reason_read result ≡ result_err (dated_view dated.now) }
+{
+    dated.wrong
+}
+
+fn if_foreign<'a>(reason: Option<Reason<'a>>) -> Option<Reason<'a>>
+    ensures { reason_read result
+        ≡ option_filter (λ r. not (is_wrong r.kind)) (reason_read reason.entry) }
+{
+    match reason {
+        Some(reason) => if reason.kind.is_wrong() {
+            None
+        } else {
+            Some(reason)
+        },
+        None => None,
+    }
+}
+
+fn if_wrong<'a>(reason: Option<Reason<'a>>) -> Option<Reason<'a>>
+    ensures { reason_read result ≡ option_filter (λ r. is_wrong r.kind) (reason_read reason.entry) }
+{
+    match reason {
+        Some(reason) => if reason.kind.is_wrong() {
+            Some(reason)
+        } else {
+            None
+        },
+        None => None,
+    }
+}
+
+// The days, none where they are wrong.
+fn right_days(dated: &Dated<'_>) -> Days
+    ensures { result ≡ result_unwrap_or (dated_view dated.now) (days None None) }
+{
+    match dated.wrong {
+        None => dated.days,
+        Some(_) => Days {
+            first: None,
+            last: None,
+        },
+    }
+}
+
+// Why dates, an amount or the territory leave a Price out, or elements of ONIX 2.1.
+fn late_reason<'a>(
+    area: &Area<'a>,
+    wrong_date: Option<Reason<'a>>,
+    elements: &Elements<'a>,
+) -> Option<Reason<'a>>
+    ensures { area_view area.now ≡ area_in elements.now
+        → reason_read wrong_date.entry ≡ result_err (days_in elements.now)
+        → reason_read result ≡ first_some (late_reasons elements.now) }
+{
+    let amount = amount_written(elements);
+    let old = because_old(old_element(elements));
+    let dated = former(old, former(if_wrong(wrong_date), None));
+    let free = because(Foreign::NoCharge, no_charge(amount));
+    let charged = former(free, former(if_foreign(wrong_date), dated));
+    let long = because(Foreign::MoreDecimals, long_amount(amount));
+    former(unsupported(area), former(long, charged))
+}
+
+// Why a Price that holds there is another than the desk knows.
+fn early_reason<'a>(
+    area: &Area<'a>,
+    wrong_date: Option<Reason<'a>>,
+    elements: &Elements<'a>,
+) -> Option<Reason<'a>>
+    ensures { area_view area.now ≡ area_in elements.now
+        → reason_read wrong_date.entry ≡ result_err (days_in elements.now)
+        → reason_read result ≡ first_some (early_reasons elements.now) }
+{
+    let late = late_reason(area, wrong_date, elements);
+    let license = because(Foreign::EpubLicense, mark_in(b"EpubLicense", elements));
+    let zone = because(Foreign::CurrencyZone, text_in(b"CurrencyZone", elements));
+    let coded = because(Foreign::PriceCoded, mark_in(b"PriceCoded", elements));
+    let constraint = because(
+        Foreign::PriceConstraint,
+        other_type(b"PriceConstraint", b"PriceConstraintType", elements),
+    );
+    let condition = because(
+        Foreign::PriceCondition,
+        other_type(b"PriceCondition", b"PriceConditionType", elements),
+    );
+    let per = because(Foreign::PricePer, other_in(b"PricePer", elements));
+    let qualifier = because(
+        Foreign::PriceQualifier,
+        other_in(b"PriceQualifier", elements),
+    );
+    let typed = former(
+        condition,
+        former(
+            constraint,
+            former(coded, former(zone, former(license, late))),
+        ),
+    );
+    former(qualifier, former(per, typed))
+}
+
+// Whether a Price is nothing: it has no amount and no PriceCoded, and the record of its
+// SupplyDetail an UnpricedItemType.
+fn is_nothing(context: &PriceContext<'_, '_>, elements: &Elements<'_>) -> bool
+    ensures { result ≡ is_nothing (context_view context.now) elements.now }
+{
+    context.is_unpriced
+        && text_in(b"PriceAmount", elements).is_none()
+        && mark_in(b"PriceCoded", elements).is_none()
+}
+
+// The text of a day, empty where there is none.
+fn day_field(alloc: Global, day: Option<Day>) -> Result<Text, AllocError>
+    ensures { IfOk result (λ t. t ≡ day_field day) }
+{
+    match day {
+        Some(day) => day.text(alloc),
+        None => Ok(Text::new(alloc)),
+    }
+}
+
+// The texts of a Price that do not stand in it as they are written: what is renamed of its
+// countries, and its days.
+#[derive(Drop)]
+struct Owned {
+    renamed: Renamed,
+    first: Text,
+    last: Text,
+}
+
+fn owned_texts(alloc: Global, area: &Area<'_>, days: Days) -> Result<Owned, AllocError>
+    ensures renamed { IfOk result (λ o. AreRenamed o.renamed (area_view area.now)) }
+    ensures first { IfOk result (λ o. o.first ≡ day_field days.first) }
+    ensures last { IfOk result (λ o. o.last ≡ day_field days.last) }
+{
+    Ok(Owned {
+        renamed: renamed_in(alloc, area)?,
+        first: day_field(alloc, days.first)?,
+        last: day_field(alloc, days.last)?,
+    })
+}
+
+// The texts of the fields that each Price has.
+fn eight_texts<'b>(owned: &'b Owned, area: &'b Area<'_>, elements: &Elements<'b>) -> [&'b [u8]; 8]
+    ensures { (days : Days) → AreRenamed owned.now.renamed (area_view area.now)
+        → owned.now.first ≡ day_field days.first → owned.now.last ≡ day_field days.last
+        → map (λ t. t.now) result ≡ eight_fields (area_view area.now) days elements.now }
+{
+    let [included, world, excluded] = area_fields(area, &owned.renamed);
+    [
+        text_or_empty(b"PriceType", elements),
+        amount_written(elements),
+        text_or_empty(b"CurrencyCode", elements),
+        included,
+        world,
+        excluded,
+        owned.first.as_str().as_bytes(),
+        owned.last.as_str().as_bytes(),
+    ]
+}
+
+// The MinimumOrderQuantity of a Price, where it is not of zeros alone.
+pub(crate) fn own_minimum<'a>(elements: &Elements<'a>) -> Option<&'a [u8]>
+    ensures { text_view result ≡ own_minimum elements.now }
+{
+    let text = text_in(b"MinimumOrderQuantity", elements)?;
+    if are_zeros(text) { None } else { Some(text) }
+}
+
+// A minimum, or the other one where there is none.
+fn or_text<'b>(one: Option<&'b [u8]>, other: Option<&'b [u8]>) -> Option<&'b [u8]>
+    ensures { text_view result ≡ option_or (text_view one.entry) (text_view other.entry) }
+{
+    match one {
+        Some(text) => Some(text),
+        None => other,
+    }
+}
+
+/// Puts a record of this name in place of what the list had. `Wrong` exactly where a text is no
+/// UTF-8.
+pub(crate) fn fill_record(
+    fields: &mut FieldBuffer,
+    name: &str,
+    texts: &[&[u8]],
+) -> Result<(), RowFault>
+    ensures record { OnOk result (fields.new ≡ name.now ∷ map (λ t. t.now) texts.now) }
+    ensures utf8 { OnOk result (list_all is_utf8 (map (λ t. t.now) texts.now) ≡ true) }
+    ensures wrong { IsErrOf result RowFault.Wrong
+        → list_all is_utf8 (map (λ t. t.now) texts.now) ≡ false }
+{
+    fields.clear();
+    fields.push(name)?;
+    push_texts(fields, texts)
+}
+
+// Puts the record of a Price in place of what the list had. `Wrong` exactly where a text is no
+// UTF-8.
+fn fill_price(
+    fields: &mut FieldBuffer,
+    texts: &[&[u8]],
+    minimum: Option<&[u8]>,
+) -> Result<(), RowFault>
+    ensures record { OnOk result (fields.new ≡ codes "Price"
+        ∷ (map (λ t. t.now) texts.now ++ option_to_list (text_view minimum.entry))) }
+    ensures utf8 { OnOk result (list_all is_utf8
+        (map (λ t. t.now) texts.now ++ option_to_list (text_view minimum.entry)) ≡ true) }
+    ensures wrong { IsErrOf result RowFault.Wrong → list_all is_utf8
+        (map (λ t. t.now) texts.now ++ option_to_list (text_view minimum.entry)) ≡ false }
+{
+    fill_record(fields, "Price", texts)?;
+    match minimum {
+        Some(minimum) => push_texts(fields, &[minimum]),
+        None => Ok(()),
+    }
+}
+
+// The Price that the desk reads of fields that are UTF-8.
+fn parse_fields(alloc: Global, opening: &Opening, from: &Record<'_>) -> Result<Price, RowFault>
+    ensures { list_all is_utf8 from.now ≡ true
+        → Gives result (parsed (price_of opening.now) from.now) }
+{
+    let mut fields = Vec::new(alloc);
+    read_fields(from, &mut fields)?;
+    read_price(alloc, opening, &fields)
+}
+
+// Whether the desk reads a Price of the record in the list.
+fn is_taken(alloc: Global, opening: &Opening, fields: &FieldBuffer) -> Result<bool, AllocError>
+    ensures { (behind : List (List ℕ)) → fields.now ≡ codes "Price" ∷ behind
+        → list_all is_utf8 behind ≡ true
+        → IfOk result (λ is. is ≡ is_some (parsed (price_of opening.now) behind)) }
+{
+    let record = fields.as_record();
+    let Some((_, behind)) = record.split_first() else {
+        return Ok(false);
+    };
+    match parse_fields(alloc, opening, &behind) {
+        Ok(_) => Ok(true),
+        Err(RowFault::Wrong) => Ok(false),
+        Err(RowFault::Memory) => Err(AllocError),
+    }
+}
+
+// Puts the record of a Price in place of what the list had, and says whether the desk takes it.
+fn take_price(
+    alloc: Global,
+    opening: &Opening,
+    fields: &mut FieldBuffer,
+    texts: &[&[u8]],
+    minimum: Option<&[u8]>,
+) -> Result<bool, AllocError>
+    ensures record { IfOk result (λ is. is ≡ true → fields.new ≡ codes "Price"
+        ∷ (map (λ t. t.now) texts.now ++ option_to_list (text_view minimum.entry))) }
+    ensures taken { IfOk result (λ is. is ≡ is_some (parsed (price_of opening.now)
+        (map (λ t. t.now) texts.now ++ option_to_list (text_view minimum.entry)))) }
+{
+    match fill_price(fields, texts, minimum) {
+        Ok(()) => is_taken(alloc, opening, fields),
+        Err(RowFault::Wrong) => Ok(false),
+        Err(RowFault::Memory) => Err(AllocError),
+    }
+}
+
+// Puts the record of a Price in this territory, with these texts, in place of what the list had,
+// and says whether the desk takes it.
+fn take_texts(
+    alloc: Global,
+    context: &PriceContext<'_, '_>,
+    owned: &Owned,
+    area: &Area<'_>,
+    elements: &Elements<'_>,
+    fields: &mut FieldBuffer,
+) -> Result<bool, AllocError>
+    ensures record { area_view area.now ≡ area_in elements.now
+        → AreRenamed owned.now.renamed (area_view area.now)
+        → owned.now.first ≡ day_field (right_days elements.now).first
+        → owned.now.last ≡ day_field (right_days elements.now).last → IfOk result (λ is. is ≡ true
+        → fields.new ≡ codes "Price" ∷ price_fields (context_view context.now) elements.now) }
+    ensures taken { area_view area.now ≡ area_in elements.now
+        → AreRenamed owned.now.renamed (area_view area.now)
+        → owned.now.first ≡ day_field (right_days elements.now).first
+        → owned.now.last ≡ day_field (right_days elements.now).last → IfOk result (λ is. is
+        ≡ is_some (parsed (price_of context.now.opening.now)
+        (price_fields (context_view context.now) elements.now))) }
+{
+    let minimum = or_text(own_minimum(elements), context.minimum);
+    take_price(
+        alloc,
+        context.opening,
+        fields,
+        &eight_texts(owned, area, elements),
+        minimum,
+    )
+}
+
+// Adds the record of a Price with these days in this territory, or gives the reason for which the
+// desk would not take it.
+fn write_price<'a>(
+    alloc: Global,
+    context: &PriceContext<'_, '_>,
+    elements: &Elements<'a>,
+    area: &Area<'a>,
+    days: Days,
+    fields: &mut FieldBuffer,
+    records: &mut RecordBuffer,
+) -> Result<Option<Reason<'a>>, AllocError>
+    ensures reason { area_view area.now ≡ area_in elements.now → days ≡ right_days elements.now
+        → IfOk result (λ reason. reason_read reason
+        ≡ record_reason (context_view context.now) elements.now) }
+    ensures record { area_view area.now ≡ area_in elements.now → days ≡ right_days elements.now
+        → OnOk result (records.new ≡ records.old ++ outcome_records
+        (outcome_of (record_reason (context_view context.now) elements.now)
+        (context_view context.now) elements.now)) }
+{
+    let owned = owned_texts(alloc, area, days)?;
+    let is_taken = take_texts(alloc, context, &owned, area, elements, fields)?;
+    if is_taken {
+        records.push(&fields.as_record())?;
+        return Ok(None);
+    }
+    let field = field_reason(alloc, context.opening, area, &owned.renamed, elements)?;
+    Ok(Some(or_price(field)))
+}
+
+// Adds what comes of a Price that is none other than the desk knows, or gives the reason for which
+// the desk would not take it.
+fn add_known<'a>(
+    alloc: Global,
+    context: &PriceContext<'_, '_>,
+    elements: &Elements<'a>,
+    area: &Area<'a>,
+    days: Days,
+    fields: &mut FieldBuffer,
+    records: &mut RecordBuffer,
+    notes: &mut Vec<Note<'a>>,
+) -> Result<Option<Reason<'a>>, AllocError>
+    ensures reason { area_view area.now ≡ area_in elements.now → days ≡ right_days elements.now
+        → IfOk result (λ reason. reason_read reason
+        ≡ record_reason (context_view context.now) elements.now) }
+    ensures records { area_view area.now ≡ area_in elements.now → days ≡ right_days elements.now
+        → OnOk result (records.new ≡ records.old ++ outcome_records
+        (outcome_of (record_reason (context_view context.now) elements.now)
+        (context_view context.now) elements.now)) }
+    ensures notes { area_view area.now ≡ area_in elements.now → days ≡ right_days elements.now
+        → OnOk result (note_views notes.new.items ≡ note_views notes.old.items ++ notes_below
+        (outcome_of (record_reason (context_view context.now) elements.now)
+        (context_view context.now) elements.now)) }
+{
+    let left_out = write_price(alloc, context, elements, area, days, fields, records)?;
+    if left_out.is_none() {
+        push_territory_notes(notes, area)?;
+        push_discounts(notes, elements)?;
+    }
+    Ok(left_out)
+}
+
+// Adds what comes of a Price that is something: its record, or the reason for which it is left out.
+fn add_priced<'a>(
+    alloc: Global,
+    context: &PriceContext<'_, '_>,
+    elements: &Elements<'a>,
+    fields: &mut FieldBuffer,
+    records: &mut RecordBuffer,
+    notes: &mut Vec<Note<'a>>,
+) -> Result<Option<Reason<'a>>, AllocError>
+    ensures reason { IfOk result (λ reason. reason_read reason
+        ≡ first_some (price_reasons (context_view context.now) elements.now)) }
+    ensures records { OnOk result (records.new ≡ records.old ++ outcome_records (outcome_of
+        (first_some (price_reasons (context_view context.now) elements.now))
+        (context_view context.now) elements.now)) }
+    ensures notes { OnOk result (note_views notes.new.items ≡ note_views notes.old.items
+        ++ notes_below (outcome_of
+        (first_some (price_reasons (context_view context.now) elements.now))
+        (context_view context.now) elements.now)) }
+{
+    let area = area_in(elements);
+    let dated = days_in(elements);
+    match early_reason(&area, wrong_date(&dated), elements) {
+        None => add_known(
+            alloc,
+            context,
+            elements,
+            &area,
+            right_days(&dated),
+            fields,
+            records,
+            notes,
+        ),
+        Some(reason) => Ok(Some(reason)),
+    }
+}
+
+/// Adds what comes of a Price: its record, where it has one, and notes on what is left out. The
+/// list takes the fields of the record.
+pub(crate) fn add_price<'a>(
+    alloc: Global,
+    context: &PriceContext<'_, '_>,
+    price: &Composite<'a>,
+    fields: &mut FieldBuffer,
+    records: &mut RecordBuffer,
+    notes: &mut Vec<Note<'a>>,
+) -> Result<(), AllocError>
+    ensures records { OnOk result (records.new ≡ records.old
+        ++ outcome_records (price_outcome (context_view context.now) price.now.below)) }
+    ensures notes { OnOk result (note_views notes.new.items ≡ note_views notes.old.items
+        ++ outcome_notes price.now.element
+        (price_outcome (context_view context.now) price.now.below)) }
+{
+    if is_nothing(context, &price.below) {
+        return Ok(());
+    }
+    let left_out = add_priced(alloc, context, &price.below, fields, records, notes)?;
+    push_reason(notes, price.line, left_out)
+}

@@ -1,0 +1,295 @@
+//! The records of a Product and of its supplies.
+
+ghost use Rattle.std.specs.Prelude.{◌≡◌, ◌++◌, ◌∷◌, ◌<◌, [], None, IfOk, OnOk};
+ghost use Rattle.feed_mapping.specs.Elements.{element_view};
+ghost use Rattle.feed_mapping.specs.Notes.{note, note_views};
+ghost use Rattle.feed_mapping.specs.Outcomes.{all_notes, all_records};
+ghost use Rattle.feed_mapping.specs.PriceViews.{reason_read};
+ghost use Rattle.feed_mapping.specs.ProductRecords.{fate_of, ignored_reason, is_followed, isbn_reason, notes_behind, product_notes, product_records, fate_by, records_by, supplies_in, too_large_notes, why_emptied, written_notes};
+ghost use Rattle.feed_mapping.specs.Supplies.{supplies_reason, supply_in};
+ghost use Rattle.std.specs.Option.{option_map_or};
+ghost use Rattle.feed_mapping.specs.Products.{bare_record, emptied_record, has_isbn, dropping, notification_in, own_reason, product_record, right_pairs};
+
+use crate::elements::Composite;
+use crate::notes::{Foreign, Note, Reason, ReasonKind, Wrong, push_note, push_reason};
+use crate::products::{
+    Identifiers, dropping, fill_product, is_deletion, notification_in, own_reason, reference_in,
+    take_identifiers,
+};
+use crate::records::is_field;
+use crate::supplies::add_supplies;
+use csv_records::buffer::RecordBuffer;
+use csv_records::fields::FieldBuffer;
+use feed_outline::Elements;
+use onix_records::row::Opening;
+use std::alloc::{AllocError, Global};
+
+/// What becomes of a Product.
+#[derive(Clone, Copy, Debug, PartialEq, Eq)]
+pub enum Fate {
+    /// It is written, with what is left of its supplies.
+    Written,
+    /// It is written without supplies, with a note that says why.
+    Emptied,
+    /// It is left out, since it has no RecordReference that the desk would take.
+    LeftOut,
+}
+
+fn is_followed(notification: &[u8]) -> bool
+    ensures { result ≡ is_followed notification.now }
+{
+    notification == b"01".as_slice()
+        || notification == b"02".as_slice()
+        || notification == b"03".as_slice()
+        || notification == b"04".as_slice()
+        || notification == b"05".as_slice()
+}
+
+// That the desk will not find a Product by an ISBN.
+fn isbn_reason(is_found: bool, elements: &Elements<'_>) -> Option<Reason<'static>>
+    ensures { is_found ≡ has_isbn elements.now → reason_read result ≡ isbn_reason elements.now }
+{
+    if is_deletion(elements) || is_found {
+        None
+    } else {
+        Some(Reason {
+            kind: ReasonKind::Foreign(Foreign::NoIsbn),
+            text: b"",
+        })
+    }
+}
+
+// That the desk ignores a Product of its NotificationType.
+fn ignored_reason<'a>(elements: &Elements<'a>) -> Option<Reason<'a>>
+    ensures { reason_read result ≡ ignored_reason elements.now }
+{
+    let notification = notification_in(elements);
+    if is_followed(notification) {
+        None
+    } else {
+        Some(Reason {
+            kind: ReasonKind::Foreign(Foreign::Ignored),
+            text: notification,
+        })
+    }
+}
+
+// Adds the notes on a Product that is written.
+fn push_written_notes<'a>(
+    is_found: bool,
+    product: &Composite<'a>,
+    notes: &mut Vec<Note<'a>>,
+) -> Result<(), AllocError>
+    ensures { is_found ≡ has_isbn product.now.below
+        → OnOk result (note_views notes.new.items
+        ≡ note_views notes.old.items ++ written_notes product.now.below product.now.element) }
+{
+    push_reason(notes, product.line, isbn_reason(is_found, &product.below))?;
+    push_reason(notes, product.line, ignored_reason(&product.below))
+}
+
+// Adds the record of a Product that is emptied, with these types and values.
+fn add_emptied(
+    pairs: &FieldBuffer,
+    elements: &Elements<'_>,
+    fields: &mut FieldBuffer,
+    records: &mut RecordBuffer,
+) -> Result<(), AllocError>
+    ensures { OnOk result
+        (records.new ≡ records.old
+        ++ product_record (dropping (notification_in elements.now)) pairs.now elements.now ∷ []) }
+{
+    let notification = dropping(notification_in(elements));
+    fill_product(notification, pairs, elements, fields)?;
+    records.push(&fields.as_record())
+}
+
+// Adds the record of a Product as it stands, with these types and values.
+fn add_own(
+    pairs: &FieldBuffer,
+    elements: &Elements<'_>,
+    fields: &mut FieldBuffer,
+    records: &mut RecordBuffer,
+) -> Result<(), AllocError>
+    ensures { OnOk result (records.new ≡ records.old
+        ++ product_record (notification_in elements.now) pairs.now elements.now ∷ []) }
+{
+    fill_product(notification_in(elements), pairs, elements, fields)?;
+    records.push(&fields.as_record())
+}
+
+// Adds the records below a Product, and notes on what is left out of them, or gives the reason for
+// which none is left.
+fn add_below<'a>(
+    alloc: Global,
+    opening: &Opening,
+    preferred: &[u8],
+    elements: &Elements<'a>,
+    fields: &mut FieldBuffer,
+    records: &mut RecordBuffer,
+    notes: &mut Vec<Note<'a>>,
+) -> Result<Option<Reason<'a>>, AllocError>
+    ensures reason { IfOk result (λ reason. reason_read reason
+        ≡ supplies_reason opening.now preferred.now (supplies_in elements.now)) }
+    ensures records { OnOk result (records.new ≡ records.old
+        ++ all_records (supply_in opening.now preferred.now) (supplies_in elements.now)) }
+    ensures notes { OnOk result (note_views notes.new.items ≡ note_views notes.old.items
+        ++ all_notes (supply_in opening.now preferred.now) (supplies_in elements.now)) }
+{
+    if is_deletion(elements) {
+        return Ok(None);
+    }
+    add_supplies(alloc, opening, preferred, elements, fields, records, notes)
+}
+
+// Adds what comes of a Product with these identifiers, of which no own field empties it.
+fn add_sound<'a>(
+    alloc: Global,
+    opening: &Opening,
+    preferred: &[u8],
+    product: &Composite<'a>,
+    identifiers: &Identifiers,
+    fields: &mut FieldBuffer,
+    records: &mut RecordBuffer,
+    notes: &mut Vec<Note<'a>>,
+) -> Result<Fate, AllocError>
+    ensures fate { IfOk result (λ f. f ≡ fate_by
+        (supplies_reason opening.now preferred.now (supplies_in product.now.below))) }
+    ensures records { identifiers.now.pairs ≡ right_pairs product.now.below
+        → OnOk result (records.new ≡ records.old ++ records_by opening.now preferred.now
+        (supplies_reason opening.now preferred.now (supplies_in product.now.below))
+        product.now.below) }
+    ensures notes { identifiers.now.has_isbn ≡ has_isbn product.now.below
+        → OnOk result (note_views notes.new.items ≡ note_views notes.old.items
+        ++ notes_behind opening.now preferred.now product.now) }
+{
+    let count = records.len();
+    let elements = &product.below;
+    add_own(&identifiers.pairs, elements, fields, records)?;
+    match add_below(alloc, opening, preferred, elements, fields, records, notes)? {
+        None => {
+            push_written_notes(identifiers.has_isbn, product, notes)?;
+            Ok(Fate::Written)
+        }
+        Some(reason) => {
+            records.truncate(count);
+            add_emptied(&identifiers.pairs, elements, fields, records)?;
+            push_note(notes, product.line, reason)?;
+            Ok(Fate::Emptied)
+        }
+    }
+}
+
+// Adds what comes of a Product that has a RecordReference, behind the notes on its identifiers.
+fn add_standing<'a>(
+    alloc: Global,
+    opening: &Opening,
+    preferred: &[u8],
+    product: &Composite<'a>,
+    identifiers: &Identifiers,
+    fields: &mut FieldBuffer,
+    records: &mut RecordBuffer,
+    notes: &mut Vec<Note<'a>>,
+) -> Result<Fate, AllocError>
+    ensures fate { identifiers.now.pairs ≡ right_pairs product.now.below → IfOk result (λ f. f
+        ≡ fate_by (why_emptied opening.now preferred.now product.now.below)) }
+    ensures records { identifiers.now.pairs ≡ right_pairs product.now.below
+        → OnOk result (records.new ≡ records.old ++ records_by opening.now preferred.now
+        (why_emptied opening.now preferred.now product.now.below) product.now.below) }
+    ensures notes { identifiers.now.pairs ≡ right_pairs product.now.below
+        → identifiers.now.has_isbn ≡ has_isbn product.now.below
+        → OnOk result (note_views notes.new.items ≡ note_views notes.old.items
+        ++ option_map_or (λ reason. note product.now.element reason ∷ [])
+        (own_reason product.now.below) (notes_behind opening.now preferred.now product.now)) }
+{
+    match own_reason(&identifiers.pairs, &product.below) {
+        Some(reason) => {
+            add_emptied(&identifiers.pairs, &product.below, fields, records)?;
+            push_note(notes, product.line, reason)?;
+            Ok(Fate::Emptied)
+        }
+        None => add_sound(
+            alloc,
+            opening,
+            preferred,
+            product,
+            identifiers,
+            fields,
+            records,
+            notes,
+        ),
+    }
+}
+
+/// Adds the records of a Product and of its supplies, in a message that begins so, and notes on
+/// what is left out of it; it tells what becomes of it. Of several identifiers of a supplier the
+/// first of the preferred type is written, else the first. The list takes the fields of a record.
+/// After an error there may be more records and notes.
+pub fn add_product<'a>(
+    alloc: Global,
+    opening: &Opening,
+    preferred: &[u8],
+    product: &Composite<'a>,
+    fields: &mut FieldBuffer,
+    records: &mut RecordBuffer,
+    notes: &mut Vec<Note<'a>>,
+) -> Result<Fate, AllocError>
+    ensures fate { IfOk result (λ f. f ≡ fate_of opening.now preferred.now product.now.below) }
+    ensures records { OnOk result (records.new
+        ≡ records.old ++ product_records opening.now preferred.now product.now.below) }
+    ensures notes { OnOk result (note_views notes.new.items
+        ≡ note_views notes.old.items ++ product_notes opening.now preferred.now product.now) }
+{
+    let reference = reference_in(&product.below);
+    if !is_field(reference) {
+        let kind = ReasonKind::Wrong(Wrong::RecordReference);
+        let text = reference;
+        push_note(notes, product.line, Reason { kind, text })?;
+        return Ok(Fate::LeftOut);
+    }
+    let identifiers = take_identifiers(alloc, &product.below, notes)?;
+    add_standing(
+        alloc,
+        opening,
+        preferred,
+        product,
+        &identifiers,
+        fields,
+        records,
+        notes,
+    )
+}
+
+/// Adds the record of a Product that is emptied since it is too large for a message, and the notes
+/// on it then.
+pub fn add_large<'a>(
+    alloc: Global,
+    product: &Composite<'a>,
+    fields: &mut FieldBuffer,
+    records: &mut RecordBuffer,
+    notes: &mut Vec<Note<'a>>,
+) -> Result<(), AllocError>
+    ensures record { OnOk result
+        (records.new ≡ records.old ++ emptied_record product.now.below ∷ []) }
+    ensures notes { OnOk result (note_views notes.new.items
+        ≡ note_views notes.old.items ++ too_large_notes product.now) }
+{
+    let identifiers = take_identifiers(alloc, &product.below, notes)?;
+    add_emptied(&identifiers.pairs, &product.below, fields, records)?;
+    let kind = ReasonKind::Wrong(Wrong::TooLarge);
+    push_note(notes, product.line, Reason { kind, text: b"" })
+}
+
+/// Adds the record of a Product that is too large even without supplies: its reference stands for
+/// its identifiers.
+pub fn add_bare(
+    alloc: Global,
+    product: &Composite<'_>,
+    fields: &mut FieldBuffer,
+    records: &mut RecordBuffer,
+) -> Result<(), AllocError>
+    ensures { OnOk result (records.new ≡ records.old ++ bare_record product.now.below ∷ []) }
+{
+    let none = FieldBuffer::new(alloc);
+    add_emptied(&none, &product.below, fields, records)
+}

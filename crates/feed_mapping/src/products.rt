@@ -1,0 +1,381 @@
+//! A Product by itself: its reference, its NotificationType and its identifiers.
+
+ghost use Rattle.std.specs.Prelude.{◌≡◌, ◌++◌, ◌<◌, ◌||◌, ℕ, List, IfOk, OnOk, Some, map, option_map};
+ghost use Rattle.std.specs.Char.{is_ascii_digit};
+ghost use Rattle.std.specs.List.{list_all};
+ghost use Rattle.std.specs.Str.{chars};
+ghost use Rattle.feed_mapping.specs.Notes.{note_views};
+ghost use Rattle.feed_mapping.specs.PriceViews.{reason_read};
+ghost use Rattle.std.specs.Prelude.{[], not};
+ghost use Rattle.feed_mapping.specs.Products.{MayBe, are_some, digit_byte, dropping, has_isbn, has_strange_identifier, identifier_note, identifier_notes, is_blank, is_deletion, is_gtin_type, is_hyphen, is_isbn, is_strange, is_thirteen, notification_in, or_reference, own_reasons, pair_reason, product_record, reference_in, right_pair, right_pairs, thirteen_of, type_of, value_of, without_marks, written_value};
+ghost use Rattle.feed_mapping.specs.Records.{first_some, option_filter, parsed_term, unless, invalid};
+ghost use Rattle.feed_mapping.specs.declared.notes.Wrong.TheVariants as bad;
+ghost use Rattle.onix_terms.specs.Code.{code2_of};
+ghost use Rattle.std.specs.Prelude.{◌&&◌, codes};
+ghost use Rattle.std.specs.Str.{bytes_eq};
+ghost use Rattle.feed_outline.specs.Composites.{has_stranger};
+ghost use Rattle.feed_outline.specs.Names.{stranger};
+
+use crate::elements::{Composite, next_composite, text_or_empty};
+use crate::notes::{Note, Reason, Wrong, push_note};
+use crate::records::{former, is_field, parsed_code, push_texts, unless, utf8_text};
+use csv_records::fields::FieldBuffer;
+use feed_outline::{Elements, Line, has_stranger};
+use onix_terms::ascii::are_digits;
+use std::alloc::{AllocError, Global};
+
+/// The RecordReference, empty where there is none.
+pub(crate) fn reference_in<'a>(elements: &Elements<'a>) -> &'a [u8]
+    ensures { result.now ≡ reference_in elements.now }
+{
+    text_or_empty(b"RecordReference", elements)
+}
+
+/// The NotificationType, empty where there is none.
+pub(crate) fn notification_in<'a>(elements: &Elements<'a>) -> &'a [u8]
+    ensures { result.now ≡ notification_in elements.now }
+{
+    text_or_empty(b"NotificationType", elements)
+}
+
+/// Whether a Product is a deletion.
+pub(crate) fn is_deletion(elements: &Elements<'_>) -> bool
+    ensures { result ≡ is_deletion elements.now }
+{
+    notification_in(elements) == b"05".as_slice()
+}
+
+fn is_gtin_type(id_type: &[u8]) -> bool
+    ensures { result ≡ is_gtin_type id_type.now }
+{
+    id_type == b"03".as_slice() || id_type == b"15".as_slice()
+}
+
+fn is_thirteen(text: &[u8]) -> bool
+    ensures { result ≡ is_thirteen text.now }
+{
+    text.len() == 13 && are_digits(text)
+}
+
+fn is_hyphen(c: char) -> bool
+    ensures { result ≡ is_hyphen c }
+{
+    c == '-' || c == '\u{ad}' || (c >= '\u{2010}' && c <= '\u{2015}') || c == '\u{2212}'
+}
+
+fn is_blank(c: char) -> bool
+    ensures { result ≡ is_blank c }
+{
+    c == ' ' || c == '\u{a0}' || c == '\u{2009}' || c == '\u{202f}'
+}
+
+fn is_mark(c: char) -> bool
+    ensures { result ≡ (is_hyphen c || is_blank c) }
+{
+    is_hyphen(c) || is_blank(c)
+}
+
+fn characters_of(alloc: Global, text: &str) -> Result<Vec<char>, AllocError>
+    ensures { IfOk result (λ v. v.items ≡ chars text.now) }
+{
+    text.chars().collect(alloc)
+}
+
+// The characters of a text but hyphens and spaces.
+fn without_marks(alloc: Global, text: &str) -> Result<Vec<char>, AllocError>
+    ensures { IfOk result (λ v. v.items ≡ without_marks text.now) }
+{
+    let all = characters_of(alloc, text)?;
+    all.iter().filter(|c| !is_mark(**c)).copied().collect(alloc)
+}
+
+fn are_all_digits(characters: &[char]) -> bool
+    ensures { result ≡ list_all is_ascii_digit characters.now }
+{
+    characters.iter().all(|c| c.is_ascii_digit())
+}
+
+fn are_thirteen(characters: &[char]) -> bool
+    ensures { result ≡ is_thirteen characters.now }
+{
+    characters.len() == 13 && are_all_digits(characters)
+}
+
+fn digit_byte(c: char) -> u8
+    ensures { result ≡ digit_byte c }
+{
+    if c.is_ascii_digit() { c as u8 } else { 0 }
+}
+
+// Characters that are digits, as bytes.
+fn bytes_of(alloc: Global, characters: &[char]) -> Result<Vec<u8>, AllocError>
+    ensures { IfOk result (λ v. v.items ≡ map digit_byte characters.now) }
+{
+    characters.iter().map(|c| digit_byte(*c)).collect(alloc)
+}
+
+// The thirteen digits that are left of a value without hyphens and spaces.
+fn thirteen_of(alloc: Global, value: &[u8]) -> Result<Option<Vec<u8>>, AllocError>
+    ensures { IfOk result
+        (λ d. MayBe (option_map (λ v. v.items) d) (thirteen_of value.now) value.now) }
+{
+    let Some(text) = utf8_text(value) else {
+        return Ok(None);
+    };
+    let characters = without_marks(alloc, text)?;
+    if are_thirteen(&characters) {
+        Ok(Some(bytes_of(alloc, &characters)?))
+    } else {
+        Ok(None)
+    }
+}
+
+// The digits that are written in place of a value.
+fn digits_of(alloc: Global, id_type: &[u8], value: &[u8]) -> Result<Option<Vec<u8>>, AllocError>
+    ensures { IfOk result (λ d. MayBe (option_map (λ v. v.items) d)
+        (written_value id_type.now value.now) value.now) }
+{
+    if is_gtin_type(id_type) && !is_thirteen(value) {
+        thirteen_of(alloc, value)
+    } else {
+        Ok(None)
+    }
+}
+
+// The digits, where there are such, else the value.
+fn or_value<'b>(digits: &'b Option<Vec<u8>>, value: &'b [u8]) -> &'b [u8]
+    ensures { (written : List ℕ)
+        → MayBe (option_map (λ v. v.items) digits.now) written value.now
+        → result.now ≡ written }
+{
+    match digits {
+        Some(digits) => digits.as_slice(),
+        None => value,
+    }
+}
+
+/// The thirteen digits of an identifier of this type and value as it is written, where it has them.
+pub fn thirteen_written(
+    alloc: Global,
+    id_type: &[u8],
+    value: &[u8],
+) -> Result<Option<Vec<u8>>, AllocError>
+    ensures { IfOk result (λ d. option_map (λ v. v.items) d
+        ≡ option_filter is_thirteen (Some (written_value id_type.now value.now))) }
+{
+    let digits = digits_of(alloc, id_type, value)?;
+    let written = or_value(&digits, value);
+    if is_thirteen(written) {
+        Ok(Some(Vec::from_slice(alloc, written)?))
+    } else {
+        Ok(None)
+    }
+}
+
+// Why the desk would not take an identifier.
+fn pair_reason<'a>(id_type: &'a [u8], written: &[u8], stands: &'a [u8]) -> Option<Reason<'a>>
+    ensures { reason_read result ≡ pair_reason id_type.now written.now stands.now }
+{
+    let typed = unless(
+        parsed_code(id_type).is_some(),
+        Wrong::IdentifierType,
+        id_type,
+    );
+    let valued = unless(is_field(written), Wrong::IdentifierValue, stands);
+    former(typed, former(valued, None))
+}
+
+// Adds texts that are UTF-8 to the fields of a record.
+fn push_utf8(fields: &mut FieldBuffer, texts: &[&[u8]]) -> Result<(), AllocError>
+    ensures { OnOk result (fields.new ≡ fields.old ++ map (λ t. t.now) texts.now) }
+{
+    match push_texts(fields, texts) {
+        Ok(()) => Ok(()),
+        Err(_) => Err(AllocError),
+    }
+}
+
+/// The identifiers of a Product: the types and values that are written, and whether the desk would
+/// find it by one of them as an ISBN.
+#[derive(Drop)]
+pub(crate) struct Identifiers {
+    pub(crate) pairs: FieldBuffer,
+    pub(crate) has_isbn: bool,
+}
+
+// The type of an identifier, empty where it is absent.
+fn type_of<'a>(identifier: &Composite<'a>) -> &'a [u8]
+    ensures { result.now ≡ type_of identifier.now }
+{
+    text_or_empty(b"ProductIDType", &identifier.below)
+}
+
+// The value of an identifier, empty where it is absent.
+fn value_of<'a>(identifier: &Composite<'a>) -> &'a [u8]
+    ensures { result.now ≡ value_of identifier.now }
+{
+    text_or_empty(b"IDValue", &identifier.below)
+}
+
+// Takes an identifier, and adds a note on it where it is left out.
+fn take_identifier<'a>(
+    alloc: Global,
+    identifier: &Composite<'a>,
+    taken: &mut Identifiers,
+    notes: &mut Vec<Note<'a>>,
+) -> Result<(), AllocError>
+    ensures pairs { OnOk result (taken.new.pairs ≡ taken.old.pairs ++ right_pair identifier.now) }
+    ensures isbn { OnOk result
+        (taken.new.has_isbn ≡ (taken.old.has_isbn || is_isbn identifier.now)) }
+    ensures notes { OnOk result (note_views notes.new.items
+        ≡ note_views notes.old.items ++ identifier_note identifier.now) }
+{
+    let id_type = type_of(identifier);
+    let value = value_of(identifier);
+    let digits = digits_of(alloc, id_type, value)?;
+    let written = or_value(&digits, value);
+    taken.has_isbn = taken.has_isbn || (is_gtin_type(id_type) && is_thirteen(written));
+    if id_type.is_empty() && value.is_empty() {
+        return Ok(());
+    }
+    match pair_reason(id_type, written, value) {
+        None => push_utf8(&mut taken.pairs, &[id_type, written]),
+        Some(reason) => push_note(notes, identifier.line, reason),
+    }
+}
+
+/// Takes the identifiers of a Product by the elements in it, and adds a note
+/// on each that the desk would not take.
+pub(crate) fn take_identifiers<'a>(
+    alloc: Global,
+    elements: &Elements<'a>,
+    notes: &mut Vec<Note<'a>>,
+) -> Result<Identifiers, AllocError>
+    ensures pairs { IfOk result (λ i. i.pairs ≡ right_pairs elements.now) }
+    ensures isbn { IfOk result (λ i. i.has_isbn ≡ has_isbn elements.now) }
+    ensures notes { OnOk result (note_views notes.new.items
+        ≡ note_views notes.old.items ++ identifier_notes elements.now) }
+{
+    let mut taken = Identifiers {
+        pairs: FieldBuffer::new(alloc),
+        has_isbn: false,
+    };
+    let mut rest = elements.copy();
+    while let Some((identifier, behind)) = next_composite(b"ProductIdentifier", &rest) {
+        take_identifier(alloc, &identifier, &mut taken, notes)?;
+        rest = behind;
+    }
+    Ok(taken)
+}
+
+// Adds these types and values; where there are none, the type 01 and the reference.
+fn push_or_reference(
+    fields: &mut FieldBuffer,
+    reference: &[u8],
+    pairs: &FieldBuffer,
+) -> Result<(), AllocError>
+    ensures { OnOk result
+        (fields.new ≡ fields.old ++ or_reference reference.now pairs.now) }
+{
+    if pairs.len() == 0 {
+        push_utf8(fields, &[b"01", reference])
+    } else {
+        fields.push_record(&pairs.as_record())
+    }
+}
+
+/// Puts the record of a Product of this NotificationType, with these types and values, in place of
+/// what the list had. Its texts are UTF-8.
+pub(crate) fn fill_product(
+    notification: &[u8],
+    pairs: &FieldBuffer,
+    elements: &Elements<'_>,
+    fields: &mut FieldBuffer,
+) -> Result<(), AllocError>
+    ensures { OnOk result (fields.new ≡ product_record notification.now pairs.now elements.now) }
+{
+    let reference = reference_in(elements);
+    fields.clear();
+    push_utf8(fields, &[b"Product", reference, notification])?;
+    push_or_reference(fields, reference, pairs)
+}
+
+/// The NotificationType of a Product that is written without supplies.
+pub(crate) fn dropping<'a>(notification: &'a [u8]) -> &'a [u8]
+    ensures { result.now ≡ dropping notification.now }
+{
+    if parsed_code(notification).is_none() || notification == b"04".as_slice() {
+        b"03"
+    } else {
+        notification
+    }
+}
+
+// Whether an element of a deletion, or one in a ProductIdentifier, is of another namespace.
+fn has_strange_identifier(elements: &Elements<'_>) -> bool
+    ensures { result ≡ has_strange_identifier elements.now }
+{
+    let mut rest = elements.copy();
+    while let Some(node) = rest.first() {
+        if is_strange_element(node.line, &node.below) {
+            return true;
+        }
+        rest = node.rest;
+    }
+    false
+}
+
+// Whether an element is of another namespace, or a ProductIdentifier with such a one.
+fn is_strange_element(line: &Line, below: &Elements<'_>) -> bool
+    ensures { result ≡ (bytes_eq line.now.name.now stranger
+        || (bytes_eq line.now.name.now (codes "ProductIdentifier") && has_stranger below.now)) }
+{
+    line.name == b":".as_slice()
+        || (line.name == b"ProductIdentifier".as_slice() && has_stranger(below))
+}
+
+// Whether an element that is looked at is of another namespace, and called as one that counts
+// there.
+fn is_strange(elements: &Elements<'_>) -> bool
+    ensures { result ≡ is_strange elements.now }
+{
+    if is_deletion(elements) {
+        has_strange_identifier(elements)
+    } else {
+        has_stranger(elements)
+    }
+}
+
+// That the NotificationType is no code.
+fn notification_reason<'a>(elements: &Elements<'a>) -> Option<Reason<'a>>
+    ensures { reason_read result
+        ≡ invalid (parsed_term code2_of) bad.NotificationType (notification_in elements.now) }
+{
+    let text = notification_in(elements);
+    unless(parsed_code(text).is_some(), Wrong::NotificationType, text)
+}
+
+// That no identifier is left.
+fn left_reason(pairs: &FieldBuffer, elements: &Elements<'_>) -> Option<Reason<'static>>
+    ensures { reason_read result
+        ≡ unless (is_deletion elements.now || are_some pairs.now) bad.NoIdentifierLeft [] }
+{
+    let are_left = is_deletion(elements) || pairs.len() > 0;
+    unless(are_left, Wrong::NoIdentifierLeft, b"")
+}
+
+// That an element is of another namespace.
+fn strange_reason(elements: &Elements<'_>) -> Option<Reason<'static>>
+    ensures { reason_read result ≡ unless (not (is_strange elements.now)) bad.OtherNamespace [] }
+{
+    unless(!is_strange(elements), Wrong::OtherNamespace, b"")
+}
+
+/// Why a Product with these types and values is emptied, whatever its supplies are.
+pub(crate) fn own_reason<'a>(pairs: &FieldBuffer, elements: &Elements<'a>) -> Option<Reason<'a>>
+    ensures { reason_read result ≡ first_some (own_reasons pairs.now elements.now) }
+{
+    let strange = former(strange_reason(elements), None);
+    let left = former(left_reason(pairs, elements), strange);
+    former(notification_reason(elements), left)
+}

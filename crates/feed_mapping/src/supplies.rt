@@ -1,0 +1,286 @@
+//! The supplies of a Product.
+
+ghost use Rattle.std.specs.Prelude.{◌≡◌, ◌++◌, ◌<◌, [], None, IfOk, OnOk, codes};
+ghost use Rattle.feed_mapping.specs.Elements.{Element, composites, element_view};
+ghost use Rattle.feed_mapping.specs.Notes.{foreign, note_views, reason_view, wrong};
+ghost use Rattle.feed_mapping.specs.Outcomes.{Outcome, all_notes, all_records, notes_below, outcome_notes, outcome_reason, outcome_records};
+ghost use Rattle.feed_mapping.specs.PriceViews.{reason_read};
+ghost use Rattle.feed_mapping.specs.Records.{option_filter};
+ghost use Rattle.feed_mapping.specs.declared.notes.Foreign.TheVariants as other;
+ghost use Rattle.feed_mapping.specs.declared.notes.Wrong.TheVariants as bad;
+ghost use Rattle.feed_mapping.specs.Supplies.{detail_in, details_in, detailed_outcome, first_lost, is_lost, none_left, supplies_reason, supply_in, supply_outcome};
+
+use crate::details::add_detail;
+use crate::elements::{Composite, next_composite};
+use crate::markets::add_markets;
+use crate::notes::{Foreign, Note, Reason, ReasonKind, Wrong, push_note, push_reason};
+use crate::records::former;
+use csv_records::buffer::RecordBuffer;
+use csv_records::fields::FieldBuffer;
+use feed_outline::{Elements, Line};
+use onix_records::row::Opening;
+use std::alloc::{AllocError, Global};
+
+// Adds what comes of a SupplyDetail: its records, and notes on what is left out.
+fn add_one_detail<'a>(
+    alloc: Global,
+    opening: &Opening,
+    preferred: &[u8],
+    detail: &Composite<'a>,
+    fields: &mut FieldBuffer,
+    records: &mut RecordBuffer,
+    notes: &mut Vec<Note<'a>>,
+) -> Result<(), AllocError>
+    ensures records { OnOk result (records.new
+        ≡ records.old ++ outcome_records (detail_in opening.now preferred.now detail.now)) }
+    ensures notes { OnOk result (note_views notes.new.items ≡ note_views notes.old.items
+        ++ outcome_notes detail.now.element (detail_in opening.now preferred.now detail.now)) }
+{
+    let left_out = add_detail(
+        alloc,
+        opening,
+        preferred,
+        &detail.below,
+        fields,
+        records,
+        notes,
+    )?;
+    push_reason(notes, detail.line, left_out)
+}
+
+// Adds what comes of the SupplyDetails among the elements.
+fn add_details<'a>(
+    alloc: Global,
+    opening: &Opening,
+    preferred: &[u8],
+    elements: &Elements<'a>,
+    fields: &mut FieldBuffer,
+    records: &mut RecordBuffer,
+    notes: &mut Vec<Note<'a>>,
+) -> Result<(), AllocError>
+    ensures records { OnOk result (records.new ≡ records.old
+        ++ all_records (detail_in opening.now preferred.now) (details_in elements.now)) }
+    ensures notes { OnOk result (note_views notes.new.items ≡ note_views notes.old.items
+        ++ all_notes (detail_in opening.now preferred.now) (details_in elements.now)) }
+{
+    let mut rest = elements.copy();
+    while let Some((detail, behind)) = next_composite(b"SupplyDetail", &rest) {
+        add_one_detail(alloc, opening, preferred, &detail, fields, records, notes)?;
+        rest = behind;
+    }
+    Ok(())
+}
+
+fn no_detail() -> Reason<'static>
+    ensures { reason_view result ≡ foreign other.NoSupplyDetail [] }
+{
+    Reason {
+        kind: ReasonKind::Foreign(Foreign::NoSupplyDetail),
+        text: b"",
+    }
+}
+
+fn no_detail_left() -> Reason<'static>
+    ensures { reason_view result ≡ wrong bad.NoDetailLeft [] }
+{
+    Reason {
+        kind: ReasonKind::Wrong(Wrong::NoDetailLeft),
+        text: b"",
+    }
+}
+
+// Adds the records of a ProductSupply that has SupplyDetails, and notes on what is left out below
+// it, or gives the reason for which it is left out: the notes count only where it is not.
+fn add_detailed<'a>(
+    alloc: Global,
+    opening: &Opening,
+    preferred: &[u8],
+    elements: &Elements<'a>,
+    fields: &mut FieldBuffer,
+    records: &mut RecordBuffer,
+    notes: &mut Vec<Note<'a>>,
+) -> Result<Option<Reason<'a>>, AllocError>
+    ensures reason { IfOk result (λ reason. reason_read reason
+        ≡ outcome_reason (detailed_outcome opening.now preferred.now elements.now)) }
+    ensures records { OnOk result (records.new ≡ records.old
+        ++ outcome_records (detailed_outcome opening.now preferred.now elements.now)) }
+    ensures notes { IfOk result (λ kind. kind ≡ None → note_views notes.new.items
+        ≡ note_views notes.old.items
+        ++ notes_below (detailed_outcome opening.now preferred.now elements.now)) }
+{
+    let count = records.len();
+    if let Some(reason) = add_markets(alloc, elements, fields, records, notes)? {
+        return Ok(Some(reason));
+    }
+    let with_market = records.len();
+    add_details(alloc, opening, preferred, elements, fields, records, notes)?;
+    if records.len() == with_market {
+        records.truncate(count);
+        return Ok(Some(no_detail_left()));
+    }
+    Ok(None)
+}
+
+// Adds the records of a ProductSupply, and notes on what is left out below it, or gives the reason
+// for which it is left out.
+fn add_supply<'a>(
+    alloc: Global,
+    opening: &Opening,
+    preferred: &[u8],
+    elements: &Elements<'a>,
+    fields: &mut FieldBuffer,
+    records: &mut RecordBuffer,
+    notes: &mut Vec<Note<'a>>,
+) -> Result<Option<Reason<'a>>, AllocError>
+    ensures reason { IfOk result (λ reason. reason_read reason
+        ≡ outcome_reason (supply_outcome opening.now preferred.now elements.now)) }
+    ensures records { OnOk result (records.new ≡ records.old
+        ++ outcome_records (supply_outcome opening.now preferred.now elements.now)) }
+    ensures notes { IfOk result (λ kind. kind ≡ None → note_views notes.new.items
+        ≡ note_views notes.old.items
+        ++ notes_below (supply_outcome opening.now preferred.now elements.now)) }
+{
+    if next_composite(b"SupplyDetail", elements).is_none() {
+        return Ok(Some(no_detail()));
+    }
+    add_detailed(alloc, opening, preferred, elements, fields, records, notes)
+}
+
+// Adds the note on an element that is left out for this reason, else the notes below it.
+fn push_outcome<'a>(
+    notes: &mut Vec<Note<'a>>,
+    line: &'a Line,
+    left_out: Option<Reason<'a>>,
+    below: &Vec<Note<'a>>,
+) -> Result<(), AllocError>
+    ensures { (element : Element) (outcome : Outcome) → element_view line.now ≡ element
+        → reason_read left_out.entry ≡ outcome_reason outcome
+        → (left_out.entry ≡ None → note_views below.now.items ≡ notes_below outcome)
+        → OnOk result (note_views notes.new.items
+        ≡ note_views notes.old.items ++ outcome_notes element outcome) }
+{
+    match left_out {
+        None => notes.extend_from_slice(below),
+        Some(reason) => push_note(notes, line, reason),
+    }
+}
+
+// Adds what comes of a ProductSupply: its records, and notes on what is left out. It gives the
+// reason for which it is left out.
+fn add_one_supply<'a>(
+    alloc: Global,
+    opening: &Opening,
+    preferred: &[u8],
+    supply: &Composite<'a>,
+    fields: &mut FieldBuffer,
+    records: &mut RecordBuffer,
+    notes: &mut Vec<Note<'a>>,
+) -> Result<Option<Reason<'a>>, AllocError>
+    ensures reason { IfOk result (λ reason. reason_read reason
+        ≡ outcome_reason (supply_in opening.now preferred.now supply.now)) }
+    ensures records { OnOk result (records.new
+        ≡ records.old ++ outcome_records (supply_in opening.now preferred.now supply.now)) }
+    ensures notes { OnOk result (note_views notes.new.items ≡ note_views notes.old.items
+        ++ outcome_notes supply.now.element (supply_in opening.now preferred.now supply.now)) }
+{
+    let mut below: Vec<Note<'a>> = Vec::new(alloc);
+    let left_out = add_supply(
+        alloc,
+        opening,
+        preferred,
+        &supply.below,
+        fields,
+        records,
+        &mut below,
+    )?;
+    push_outcome(notes, supply.line, left_out, &below)?;
+    Ok(left_out)
+}
+
+// The reason for which a ProductSupply that has a SupplyDetail is left out.
+fn lost_by<'a>(left_out: Option<Reason<'a>>) -> Option<Reason<'a>>
+    ensures { reason_read result
+        ≡ option_filter (λ r. is_lost r.kind) (reason_read left_out.entry) }
+{
+    match left_out {
+        None => None,
+        Some(reason) => match reason.kind {
+            ReasonKind::Foreign(Foreign::NoSupplyDetail) => None,
+            _ => Some(reason),
+        },
+    }
+}
+
+// Adds what comes of all ProductSupplys among the elements. It gives the reason for
+// which the first that has a SupplyDetail is left out.
+fn add_each<'a>(
+    alloc: Global,
+    opening: &Opening,
+    preferred: &[u8],
+    elements: &Elements<'a>,
+    fields: &mut FieldBuffer,
+    records: &mut RecordBuffer,
+    notes: &mut Vec<Note<'a>>,
+) -> Result<Option<Reason<'a>>, AllocError>
+    ensures lost { IfOk result (λ reason. reason_read reason ≡ first_lost opening.now preferred.now
+        (composites (codes "ProductSupply") elements.now)) }
+    ensures records { OnOk result (records.new ≡ records.old ++ all_records
+        (supply_in opening.now preferred.now) (composites (codes "ProductSupply") elements.now)) }
+    ensures notes { OnOk result (note_views notes.new.items ≡ note_views notes.old.items
+        ++ all_notes (supply_in opening.now preferred.now)
+        (composites (codes "ProductSupply") elements.now)) }
+{
+    let mut lost = None;
+    let mut rest = elements.copy();
+    while let Some((supply, behind)) = next_composite(b"ProductSupply", &rest) {
+        let left_out = add_one_supply(alloc, opening, preferred, &supply, fields, records, notes)?;
+        lost = former(lost, lost_by(left_out));
+        rest = behind;
+    }
+    Ok(lost)
+}
+
+// That no supply is left, where the first that is lost is so.
+fn none_left(first: Reason<'_>) -> Reason<'static>
+    ensures { reason_view result ≡ none_left (reason_view first.entry) }
+{
+    let kind = if first.kind.is_wrong() {
+        ReasonKind::Wrong(Wrong::NoSupplyLeft)
+    } else {
+        ReasonKind::Foreign(Foreign::NoSupplyLeft)
+    };
+    Reason { kind, text: b"" }
+}
+
+/// Adds the records of all ProductSupplys among the elements, in a message that
+/// begins so, and notes on what is left out of them. It gives a reason where some had a
+/// SupplyDetail and none is left. Of several identifiers of a supplier the first of the preferred
+/// type is written, else the first. The list takes the fields of a record.
+pub(crate) fn add_supplies<'a>(
+    alloc: Global,
+    opening: &Opening,
+    preferred: &[u8],
+    elements: &Elements<'a>,
+    fields: &mut FieldBuffer,
+    records: &mut RecordBuffer,
+    notes: &mut Vec<Note<'a>>,
+) -> Result<Option<Reason<'a>>, AllocError>
+    ensures reason { IfOk result (λ reason. reason_read reason
+        ≡ supplies_reason opening.now preferred.now
+        (composites (codes "ProductSupply") elements.now)) }
+    ensures records { OnOk result (records.new ≡ records.old ++ all_records
+        (supply_in opening.now preferred.now) (composites (codes "ProductSupply") elements.now)) }
+    ensures notes { OnOk result (note_views notes.new.items ≡ note_views notes.old.items
+        ++ all_notes (supply_in opening.now preferred.now)
+        (composites (codes "ProductSupply") elements.now)) }
+{
+    let count = records.len();
+    let lost = add_each(alloc, opening, preferred, elements, fields, records, notes)?;
+    if records.len() != count {
+        return Ok(None);
+    }
+    match lost {
+        None => Ok(None),
+        Some(first) => Ok(Some(none_left(first))),
+    }
+}

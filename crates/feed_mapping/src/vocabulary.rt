@@ -1,0 +1,49 @@
+//! The elements of ONIX that say something to the desk.
+
+ghost use Rattle.std.specs.Prelude.{◌≡◌};
+ghost use Rattle.feed_mapping.specs.Vocabulary.{desk_vocabulary};
+ghost use Rattle.feed_outline.specs.Views.{word_views};
+
+use feed_outline::{Word, words};
+
+static WORDS: [Word; 63] = words! {
+    b"ONIXMessage": b"Header" = b"header", b"Product" = b"product";
+    b"Header": b"Sender" = b"sender", b"Addressee" = b"addressee", b"MessageNumber" = b"m180",
+        b"MessageRepeat" = b"m181", b"SentDateTime" = b"x307", b"DefaultPriceType" = b"x310",
+        b"DefaultCurrencyCode" = b"m186";
+    b"Sender": b"SenderIdentifier" = b"senderidentifier";
+    b"SenderIdentifier": b"SenderIDType" = b"m379", b"IDValue" = b"b244";
+    b"Addressee": b"AddresseeIdentifier" = b"addresseeidentifier";
+    b"AddresseeIdentifier": b"AddresseeIDType" = b"m380", b"IDValue" = b"b244";
+    b"Product": b"RecordReference" = b"a001", b"NotificationType" = b"a002",
+        b"ProductIdentifier" = b"productidentifier", b"ProductSupply" = b"productsupply";
+    b"ProductIdentifier": b"ProductIDType" = b"b221", b"IDValue" = b"b244";
+    b"ProductSupply": b"Market" = b"market", b"SupplyDetail" = b"supplydetail";
+    b"Market": b"Territory" = b"territory";
+    b"Territory": b"CountriesIncluded" = b"x449", b"RegionsIncluded" = b"x450",
+        b"CountriesExcluded" = b"x451", b"RegionsExcluded" = b"x452";
+    b"SupplyDetail": b"OrderQuantityMinimum" = b"x532", b"Supplier" = b"supplier",
+        b"ProductAvailability" = b"j396", b"UnpricedItemType" = b"j192", b"Price" = b"price";
+    b"Supplier": b"SupplierRole" = b"j292", b"SupplierIdentifier" = b"supplieridentifier",
+        b"SupplierName" = b"j137";
+    b"SupplierIdentifier": b"SupplierIDType" = b"j345", b"IDValue" = b"b244";
+    b"Price": b"PriceType" = b"x462", b"PriceQualifier" = b"j261", b"PricePer" = b"j239",
+        b"PriceCondition" = b"pricecondition", b"PriceConstraint" = b"priceconstraint",
+        b"MinimumOrderQuantity" = b"j263", b"PriceCoded" = b"pricecoded", b"PriceAmount" = b"j151",
+        b"UnpricedItemType" = b"j192", b"CurrencyCode" = b"j152", b"CurrencyZone" = b"x475",
+        b"EpubLicense" = b"epublicense", b"PriceTypeCode" = b"j148",
+        b"PriceEffectiveFrom" = b"j161", b"PriceEffectiveUntil" = b"j162",
+        b"CountryCode" = b"b251", b"Territory" = b"territory", b"PriceDate" = b"pricedate",
+        b"Discount" = b"discount", b"DiscountCoded" = b"discountcoded";
+    b"PriceCondition": b"PriceConditionType" = b"x463";
+    b"PriceConstraint": b"PriceConstraintType" = b"x529";
+    b"PriceDate": b"PriceDateRole" = b"x476", b"DateFormat" = b"j260", b"Date" = b"b306";
+};
+
+/// The elements that say something to the desk.
+#[tactic(auto, unfolding(crate::specs::Vocabulary::desk_vocabulary))]
+pub fn desk_vocabulary() -> &'static [Word]
+    ensures { word_views result.now ≡ desk_vocabulary }
+{
+    &WORDS
+}

@@ -1,0 +1,297 @@
+-- What comes of the tokens of a document.
+use Rattle.std.proofs.Common.{◌≡◌, ℕ, Bool, true, false, List, [], Option, Some, None, Result, Ok, Err, refl, sym, ap, ◌∙◌, append-nil, fold, subst}
+use Rattle.std.specs.Prelude.{IfOk, IfErr, IfSome, IsErrOf}
+use Rattle.std.specs.List.{flat_map, list_all}
+use Rattle.std.proofs.lemmas.Bool.{and_parts}
+use Rattle.feed_outline.specs.Names.{Word}
+use Rattle.feed_xml.specs.declared.fault.Fault.{Fault as DocumentFault}
+use Rattle.feed_xml.specs.declared.fault.Fault.TheVariants.{Malformed, NotText, TooDeep, TooLong, LargeTag, Refused, UnknownEncoding, Read, Memory}
+use Rattle.feed_xml.specs.declared.position.Position.{Position}
+use Rattle.feed_xml.specs.Grammar.{Token, spelling}
+use Rattle.feed_xml.specs.Faults.{AtFault}
+use Rattle.feed_xml.specs.Documents.{IsDocument, IsNoDocument, IsNoText}
+use Rattle.feed_xml.specs.Positions.{first_position, position_past}
+use Rattle.feed_xml.specs.EncodingNames.{IsTextOf, OfText, IsOfUnknown}
+use Rattle.feed_xml.specs.Limits.{BeginsWith, Bound, Meets, IsDeep, IsLarge, IsLong, NoneMayStand}
+use Rattle.feed_xml.specs.Tree.{Content}
+use Rattle.feed_xml.specs.Trees.{AreDocument, IsTree}
+use Rattle.feed_outline.specs.declared.dialect.Wrong.{Wrong}
+use Rattle.feed_outline.specs.declared.reading.Fault.{Fault}
+use Rattle.feed_outline.specs.declared.reading.Fault.TheVariants.{Document, Message, Reference, TooLarge, ManyPrefixes}
+use Rattle.feed_outline.specs.declared.reading.Stopped.{Stopped}
+use Rattle.feed_outline.specs.Dialect.{Dialect}
+use Rattle.feed_outline.specs.Nodes.{is_known, nodes_in}
+use Rattle.feed_outline.specs.Outline.{Line, parts_of}
+use Rattle.feed_outline.specs.Sizes.{first_large}
+use Rattle.feed_outline.specs.private.Bounded.{Bounded, bounded, bound, ends, ends_with, first_bounded, goes_on}
+use Rattle.feed_outline.specs.private.Feed.{Feed, feed, first_feed, fits, is_sound, is_sound_with, takes_more, takes_more_with}
+use Rattle.feed_outline.specs.Roots.{root_of, root_place}
+use Rattle.feed_outline.specs.Faults.{Explains, MeetsAt, IsPlaceOf, IsUnknown}
+use Rattle.feed_outline.specs.private.Reasons.{IsAt, IsReason}
+use Rattle.feed_outline.specs.private.Finishing.{finished, finished_with, first_place_of, is_of_text}
+use Rattle.feed_outline.specs.Message.{IsMessage}
+use Rattle.feed_outline.proofs.FeedLaws.{tree_feeds}
+use Rattle.feed_outline.proofs.KnownLaws.{has_root, known_tree, unknown_among}
+use Rattle.feed_outline.proofs.LargeLaws.{is_stuck, stuck_large}
+use Rattle.feed_outline.proofs.ManyLaws.{bounds, is_many, many_behind, many_root, tree_many}
+use Rattle.feed_outline.proofs.RefusalLaws.{Finds, finds_root, finds_unknown, places, roots}
+use Rattle.feed_outline.proofs.TreeLaws.{is_large, tree_kept}
+
+-- a message was read
+abbrev pub Reads : (vocabulary : List Word) {T : Type 0} → (T → List Line → T) → T → Option (List ℕ) → T → Type 0
+Reads vocabulary after taker bytes taken =
+    (text : List ℕ) × (d : Dialect) × (place : Position) × (inside : Content) × IsTextOf bytes text × IsMessage vocabulary text d place inside × (taken ≡ fold after taker (parts_of (nodes_in vocabulary d [] place inside)))
+
+-- what a call gave is one of the two
+pub record Comes (vocabulary : List Word) {T : Type 0} (after : T → List Line → T) (taker : T) (bytes : Option (List ℕ)) (result : Result T (Stopped T)) : Type 0 where
+  pub ok : IfOk result (Reads vocabulary after taker bytes)
+  pub err : IfErr result (λ s. IsReason vocabulary bytes s.fault)
+  pub at : IfErr result (λ s. IsAt vocabulary bytes s.fault s.place)
+
+-- a document begins with all of its tokens
+all_tokens : (bytes : Option (List ℕ)) (text : List ℕ) (tokens : List Token) → IsTextOf bytes text → IsDocument text tokens → OfText (BeginsWith tokens) bytes
+all_tokens None text tokens is document = tt
+all_tokens (Some b) text tokens is document =
+    (text, is, ([], document.spelled ∙ sym (append-nil (flat_map spelling tokens)), ([], subst AreDocument (sym (append-nil tokens)) document.are), tt))
+
+-- ---- tokens that are refused
+
+place_of : (vocabulary : List Word) (P : List Token → Token → Type 0) (bytes : Option (List ℕ)) (tokens : List Token) (place : Position) → OfText (BeginsWith tokens) bytes → Finds P first_position tokens place
+    → IsPlaceOf vocabulary bytes P place
+place_of vocabulary P bytes tokens place begins h = (h.before, h.token, h.behind, rw (sym h.parts) begins, h.holds, h.at)
+
+refuses : (vocabulary : List Word) {T : Type 0} (after : T → List Line → T) (taker : T) (bytes : Option (List ℕ)) (tokens : List Token) → OfText (BeginsWith tokens) bytes
+    → takes_more (fold (feed vocabulary after) (first_feed taker) tokens) ≡ false → Comes vocabulary after taker bytes (finished (fold (feed vocabulary after) (first_feed taker) tokens))
+refuses vocabulary {T = T} after taker bytes tokens begins refused = go f.root refl f.known refl (fits f.child) refl refused
+  where
+    f : Feed T
+    f = fold (feed vocabulary after) (first_feed taker) tokens
+
+    root_is : f.root ≡ root_of tokens
+    root_is = roots vocabulary after (first_feed taker) tokens
+
+    go : (o : Option (Result Dialect Wrong)) → f.root ≡ o → (k : Bool) → f.known ≡ k → (small : Bool) → fits f.child ≡ small → takes_more_with o k small ≡ false
+        → Comes vocabulary after taker bytes (finished_with o k small f)
+    go None e k known small size r = absurd cc
+    go (Some (Err w)) e k known small size r = record {
+      ok = tt;
+      err = (tokens, begins, sym root_is ∙ e);
+      at = place_of vocabulary _ bytes tokens f.place begins (finds_root vocabulary after (first_feed taker) tokens w refl e);
+    }
+    go (Some (Ok d)) e true known true size r = absurd cc
+    go (Some (Ok d)) e true known false size r =
+        let place = first_place_of f.child.lines f.place in
+        let large = is_large vocabulary after taker d tokens place (sym root_is ∙ e) (is_stuck f.child f.place size) in
+        record { ok = tt; err = (tokens, begins, (place, large)); at = (tokens, begins, large) }
+    go (Some (Ok d)) e false known small size r =
+        let unsound : is_sound f ≡ false = ap (λ o. is_sound_with o f.known) e ∙ known in
+        let h = finds_unknown vocabulary after (first_feed taker) tokens refl known unsound (λ w x. absurd (cc (sym e ∙ x))) in
+        record {
+          ok = tt;
+          err = (tokens, begins, ap (list_all is_known) h.parts ∙ unknown_among h.before h.token h.behind h.holds);
+          at = place_of vocabulary IsUnknown bytes tokens f.place begins h;
+        }
+
+-- ---- a document
+
+takes_is : {T : Type 0} (f : Feed T) (o : Option (Result Dialect Wrong)) (k small : Bool) → f.root ≡ o → f.known ≡ k → fits f.child ≡ small → takes_more f ≡ takes_more_with o k small
+takes_is f o k small e known size =
+    ap (λ r. takes_more_with r f.known (fits f.child)) e ∙ ap (λ b. takes_more_with o b (fits f.child)) known ∙ ap (λ b. takes_more_with o k b) size
+
+finished_is : {T : Type 0} (f : Feed T) (o : Option (Result Dialect Wrong)) (k small : Bool) → f.root ≡ o → f.known ≡ k → fits f.child ≡ small → finished f ≡ finished_with o k small f
+finished_is f o k small e known size =
+    ap (λ r. finished_with r f.known (fits f.child) f) e ∙ ap (λ b. finished_with o b (fits f.child) f) known ∙ ap (λ b. finished_with o k b f) size
+
+comes : (vocabulary : List Word) {T : Type 0} (after : T → List Line → T) (taker : T) (bytes : Option (List ℕ)) (text : List ℕ) (tokens : List Token) (name : List ℕ) (inside : Content)
+    → IsTextOf bytes text → IsDocument text tokens → IsTree tokens name inside → many_behind vocabulary after (first_feed taker) None tokens ≡ None
+    → Comes vocabulary after taker bytes (finished (fold (feed vocabulary after) (first_feed taker) tokens))
+comes vocabulary {T = T} after taker bytes text tokens name inside is document tree none = go f.root refl f.known refl (fits f.child) refl (refuses vocabulary after taker bytes tokens (all_tokens bytes text tokens is document))
+  where
+    f : Feed T
+    f = fold (feed vocabulary after) (first_feed taker) tokens
+
+    place : Position
+    place = root_place first_position tokens
+
+    root_is : f.root ≡ root_of tokens
+    root_is = roots vocabulary after (first_feed taker) tokens
+
+    taken : (d : Dialect) → root_of tokens ≡ Some (Ok d) → list_all is_known tokens ≡ true → fits f.child ≡ true → (o : Option Position) → first_large (nodes_in vocabulary d [] place inside) ≡ o
+        → Reads vocabulary after taker bytes f.taker
+    taken d e known size None small = (
+      text,
+      d,
+      place,
+      inside,
+      is,
+      record {
+        tokens = tokens;
+        name = name;
+        document = document;
+        tree = tree;
+        root = e;
+        begins = refl;
+        known = known;
+        fits = small;
+        few = sym (tree_many vocabulary after taker d tokens name inside tree e known) ∙ none;
+      },
+      ap (λ g. g.taker) (tree_feeds vocabulary after taker d tokens name inside tree e known small),
+    )
+    taken d e known size (Some q) large =
+        absurd (cc (sym size ∙ stuck_large q f.child (tree_kept vocabulary after taker d tokens name inside q tree e known large)))
+
+    by_refusal : (o : Option (Result Dialect Wrong)) → f.root ≡ o → (k : Bool) → f.known ≡ k → (small : Bool) → fits f.child ≡ small → takes_more_with o k small ≡ false
+        → (takes_more f ≡ false → Comes vocabulary after taker bytes (finished f)) → Comes vocabulary after taker bytes (finished_with o k small f)
+    by_refusal o e k known small size r refused =
+        subst (Comes vocabulary after taker bytes) (finished_is f o k small e known size) (refused (takes_is f o k small e known size ∙ r))
+
+    go : (o : Option (Result Dialect Wrong)) → f.root ≡ o → (k : Bool) → f.known ≡ k → (small : Bool) → fits f.child ≡ small
+        → (takes_more f ≡ false → Comes vocabulary after taker bytes (finished f)) → Comes vocabulary after taker bytes (finished_with o k small f)
+    go None e k known small size refused = absurd (has_root tokens name inside tree (sym root_is ∙ e))
+    go (Some (Err w)) e k known small size refused = by_refusal (Some (Err w)) e k known small size refl refused
+    go (Some (Ok d)) e true known true size refused =
+        let root = sym root_is ∙ e in
+        record { ok = taken d root (known_tree vocabulary after taker d tokens name inside tree root known) size (first_large (nodes_in vocabulary d [] place inside)) refl; err = tt; at = tt }
+    go (Some (Ok d)) e true known false size refused = by_refusal (Some (Ok d)) e true known false size refl refused
+    go (Some (Ok d)) e false known small size refused = by_refusal (Some (Ok d)) e false known small size refl refused
+
+-- ---- within the bound on prefixes
+
+many_refused : (vocabulary : List Word) {T : Type 0} (after : T → List Line → T) (taker : T) (bytes : Option (List ℕ)) (tokens : List Token) (place : Position) → OfText (BeginsWith tokens) bytes
+    → many_behind vocabulary after (first_feed taker) None tokens ≡ Some place → Comes vocabulary after taker bytes (ends_with (Some place) (fold (feed vocabulary after) (first_feed taker) tokens))
+many_refused vocabulary after taker bytes tokens place begins met =
+    let r = many_root vocabulary after (first_feed taker) tokens place met in
+    let many = is_many vocabulary after taker r.0 tokens place (sym (roots vocabulary after (first_feed taker) tokens) ∙ r.1) met in
+    record { ok = tt; err = (tokens, begins, (place, many)); at = (tokens, begins, many) }
+
+ends_is : (vocabulary : List Word) {T : Type 0} (after : T → List Line → T) (taker : T) (tokens : List Token)
+    → ends (fold (bound vocabulary after) (first_bounded taker) tokens) ≡ ends_with (many_behind vocabulary after (first_feed taker) None tokens) (fold (feed vocabulary after) (first_feed taker) tokens)
+ends_is vocabulary after taker tokens = ap ends (bounds vocabulary after (first_feed taker) None tokens)
+
+-- what comes of a document that was read to its end
+pub all_comes : (vocabulary : List Word) {T : Type 0} (after : T → List Line → T) (taker : T) (bytes : Option (List ℕ)) (text : List ℕ) (tokens : List Token) (name : List ℕ) (inside : Content)
+    → IsTextOf bytes text → IsDocument text tokens → IsTree tokens name inside → Comes vocabulary after taker bytes (ends (fold (bound vocabulary after) (first_bounded taker) tokens))
+all_comes vocabulary after taker bytes text tokens name inside is document tree =
+    subst (Comes vocabulary after taker bytes) (sym (ends_is vocabulary after taker tokens)) (go (many_behind vocabulary after (first_feed taker) None tokens) refl)
+  where
+    go : (m : Option Position) → many_behind vocabulary after (first_feed taker) None tokens ≡ m → Comes vocabulary after taker bytes (ends_with m (fold (feed vocabulary after) (first_feed taker) tokens))
+    go None e = comes vocabulary after taker bytes text tokens name inside is document tree e
+    go (Some place) e = many_refused vocabulary after taker bytes tokens place (all_tokens bytes text tokens is document) e
+
+-- and of tokens of which no more are taken
+pub all_refuses : (vocabulary : List Word) {T : Type 0} (after : T → List Line → T) (taker : T) (bytes : Option (List ℕ)) (tokens : List Token) → OfText (BeginsWith tokens) bytes
+    → goes_on (fold (bound vocabulary after) (first_bounded taker) tokens) ≡ false → Comes vocabulary after taker bytes (ends (fold (bound vocabulary after) (first_bounded taker) tokens))
+all_refuses vocabulary after taker bytes tokens begins refused =
+    subst (Comes vocabulary after taker bytes) (sym (ends_is vocabulary after taker tokens))
+    (go (many_behind vocabulary after (first_feed taker) None tokens) refl (sym (ap goes_on (bounds vocabulary after (first_feed taker) None tokens)) ∙ refused))
+  where
+    go : (m : Option Position) → many_behind vocabulary after (first_feed taker) None tokens ≡ m → goes_on (bounded (fold (feed vocabulary after) (first_feed taker) tokens) m) ≡ false
+        → Comes vocabulary after taker bytes (ends_with m (fold (feed vocabulary after) (first_feed taker) tokens))
+    go None e r = refuses vocabulary after taker bytes tokens begins r
+    go (Some place) e r = many_refused vocabulary after taker bytes tokens place begins e
+
+-- ---- a document that was not read to its end
+
+pub at_text : (P : Type 0) (fault : DocumentFault) → is_of_text fault ≡ true → AtFault P fault → P
+at_text P Malformed e h = h
+at_text P NotText e h = h
+at_text P TooDeep e h = h
+at_text P TooLong e h = h
+at_text P LargeTag e h = h
+at_text P Refused e h = h
+at_text P (UnknownEncoding name) e h = absurd cc
+at_text P Read e h = absurd cc
+at_text P Memory e h = absurd cc
+
+pub takes_sound : {T : Type 0} (f : Feed T) → takes_more f ≡ true → is_sound f ≡ true
+takes_sound f h = go f.root f.known (fits f.child) h
+  where
+    go : (o : Option (Result Dialect Wrong)) (k small : Bool) → takes_more_with o k small ≡ true → is_sound_with o k ≡ true
+    go None k small h = refl
+    go (Some (Err w)) k small h = h
+    go (Some (Ok d)) true small h = refl
+    go (Some (Ok d)) false small h = h
+
+-- the text goes beyond a bound behind tokens, and they were fed
+abbrev pub Goes : (vocabulary : List Word) {T : Type 0} → (T → List Line → T) → Option (List ℕ) → Bounded T → Bounded T → Bound → Type 0
+Goes vocabulary after bytes start b Limit = (tokens : List Token) × OfText (Meets Limit tokens) bytes × (b ≡ fold (bound vocabulary after) start tokens)
+
+-- what is said of each fault that comes from the reading of the document
+pub record Reasons (vocabulary : List Word) {T R : Type 0} (after : T → List Line → T) (bytes : Option (List ℕ)) (start f : Bounded T) (r : Result R DocumentFault) : Type 0 where
+  pub malformed : IsErrOf r Malformed → OfText IsNoDocument bytes
+  pub stuck : IsErrOf r Malformed → Goes vocabulary after bytes start f NoneMayStand
+  pub garbled : IsErrOf r NotText → OfText IsNoText bytes
+  pub deep : IsErrOf r TooDeep → Goes vocabulary after bytes start f IsDeep
+  pub large : IsErrOf r LargeTag → Goes vocabulary after bytes start f IsLarge
+  pub long : IsErrOf r TooLong → Goes vocabulary after bytes start f IsLong
+  pub unknown : (name : List ℕ) → IsErrOf r (UnknownEncoding name) → IfSome bytes (IsOfUnknown name)
+  pub refused : IsErrOf r Refused → goes_on f ≡ false
+
+goes_at : (vocabulary : List Word) {T : Type 0} (after : T → List Line → T) (bytes : Option (List ℕ)) (start f : Bounded T) (Limit : Bound)
+    → Goes vocabulary after bytes start f Limit → (place : Position) × MeetsAt vocabulary bytes Limit place
+goes_at vocabulary after bytes start f Limit w = (position_past first_position w.0, (w.0, w.1, refl))
+
+-- a document that was read while more was taken is refused for a reason
+pub document_explained : (vocabulary : List Word) {T R : Type 0} (after : T → List Line → T) (bytes : Option (List ℕ)) (start f : Bounded T) (fault : DocumentFault)
+    → (is_of_text fault ≡ true → goes_on f ≡ true) → Reasons vocabulary {T = T} {R = R} after bytes start f (Err fault) → IsReason vocabulary bytes (Document fault)
+document_explained vocabulary after bytes start f Malformed takes r = r.malformed refl
+document_explained vocabulary after bytes start f NotText takes r = r.garbled refl
+document_explained vocabulary after bytes start f TooDeep takes r = goes_at vocabulary after bytes start f IsDeep (r.deep refl)
+document_explained vocabulary after bytes start f TooLong takes r = goes_at vocabulary after bytes start f IsLong (r.long refl)
+document_explained vocabulary after bytes start f LargeTag takes r = goes_at vocabulary after bytes start f IsLarge (r.large refl)
+document_explained vocabulary after bytes start f Refused takes r = absurd (cc (sym (takes refl) ∙ r.refused refl))
+document_explained vocabulary after bytes start f (UnknownEncoding name) takes r = r.unknown name refl
+document_explained vocabulary after bytes start f Read takes r = tt
+document_explained vocabulary after bytes start f Memory takes r = tt
+
+-- while more is taken, the next token stands behind those that were
+place_is : (vocabulary : List Word) {T : Type 0} (after : T → List Line → T) (taker : T) (b : Bounded T) (tokens : List Token) → goes_on b ≡ true → b ≡ fold (bound vocabulary after) (first_bounded taker) tokens
+    → b.feed.place ≡ position_past first_position tokens
+place_is vocabulary after taker b tokens more is =
+    let f = fold (feed vocabulary after) (first_feed taker) tokens in
+    let whole : b ≡ bounded f (many_behind vocabulary after (first_feed taker) None tokens) = is ∙ bounds vocabulary after (first_feed taker) None tokens in
+    let takes : takes_more f ≡ true = (and_parts _ (takes_more f) (sym (ap goes_on whole) ∙ more)).1 in
+    ap (λ g. g.feed.place) whole ∙ places vocabulary after (first_feed taker) tokens (takes_sound f takes)
+
+-- and so is its place
+pub document_at : (vocabulary : List Word) {T R : Type 0} (after : T → List Line → T) (bytes : Option (List ℕ)) (taker : T) (start f : Bounded T) (fault : DocumentFault) → start ≡ first_bounded taker
+    → (is_of_text fault ≡ true → goes_on f ≡ true) → AtFault ((tokens : List Token) × OfText (BeginsWith tokens) bytes × (f ≡ fold (bound vocabulary after) start tokens)) fault
+    → Reasons vocabulary {T = T} {R = R} after bytes start f (Err fault) → IsAt vocabulary bytes (Document fault) f.feed.place
+document_at vocabulary {T = T} {R = R} after bytes taker start f fault starts takes h r = go fault takes h r
+  where
+    at : goes_on f ≡ true → (tokens : List Token) → f ≡ fold (bound vocabulary after) start tokens → f.feed.place ≡ position_past first_position tokens
+    at more tokens is = place_is vocabulary after taker f tokens more (is ∙ ap (λ g. fold (bound vocabulary after) g tokens) starts)
+
+    go : (e : DocumentFault) → (is_of_text e ≡ true → goes_on f ≡ true) → AtFault ((tokens : List Token) × OfText (BeginsWith tokens) bytes × (f ≡ fold (bound vocabulary after) start tokens)) e
+        → Reasons vocabulary {T = T} {R = R} after bytes start f (Err e) → IsAt vocabulary bytes (Document e) f.feed.place
+    go Malformed t w r = let g = r.stuck refl in (g.0, g.1, at (t refl) g.0 g.2)
+    go NotText t w r = (w.0, w.1, at (t refl) w.0 w.2)
+    go TooDeep t w r = let g = r.deep refl in (g.0, g.1, at (t refl) g.0 g.2)
+    go TooLong t w r = let g = r.long refl in (g.0, g.1, at (t refl) g.0 g.2)
+    go LargeTag t w r = let g = r.large refl in (g.0, g.1, at (t refl) g.0 g.2)
+    go Refused t w r = absurd (cc (sym (t refl) ∙ r.refused refl))
+    go (UnknownEncoding name) t w r = tt
+    go Read t w r = tt
+    go Memory t w r = tt
+
+-- ---- both as one
+
+pub explained : (vocabulary : List Word) (bytes : Option (List ℕ)) (fault : Fault) (place : Position) → IsReason vocabulary bytes fault → IsAt vocabulary bytes fault place → Explains vocabulary bytes fault place
+explained vocabulary bytes (Document Malformed) place why at = (why, at)
+explained vocabulary bytes (Document NotText) place why at = (why, at)
+explained vocabulary bytes (Document TooDeep) place why at = at
+explained vocabulary bytes (Document TooLong) place why at = at
+explained vocabulary bytes (Document LargeTag) place why at = at
+explained vocabulary bytes (Document Refused) place why at = at
+explained vocabulary bytes (Document (UnknownEncoding name)) place why at = why
+explained vocabulary bytes (Document Read) place why at = tt
+explained vocabulary bytes (Document Memory) place why at = tt
+explained vocabulary bytes (Message wrong) place why at = at
+explained vocabulary bytes Reference place why at = at
+explained vocabulary bytes TooLarge place why at = at
+explained vocabulary bytes ManyPrefixes place why at = at
+
+pub all_explained : (vocabulary : List Word) {T : Type 0} (bytes : Option (List ℕ)) (result : Result T (Stopped T)) → IfErr result (λ s. IsReason vocabulary bytes s.fault) → IfErr result (λ s. IsAt vocabulary bytes s.fault s.place)
+    → IfErr result (λ s. Explains vocabulary bytes s.fault s.place)
+all_explained vocabulary bytes (Ok taken) why at = tt
+all_explained vocabulary bytes (Err s) why at = explained vocabulary bytes s.fault s.place why at

@@ -1,0 +1,60 @@
+-- The names of ONIX for Books, release 3.0 and 3.1, as far as they are read.
+use Prim.Native.String.{String}
+use Rattle.std.specs.Prelude.{ℕ, ◌&&◌, List, [], ◌∷◌, Option}
+use Rattle.std.specs.Prelude.{◌==◌, if◌then◌else◌, codes, map, option_map}
+use Rattle.std.specs.List.{after_first, before_first, find, flat_map, slice_split}
+use Rattle.std.specs.Str.{bytes_eq, str_to_ascii_lowercase}
+use Rattle.feed_xml.specs.Grammar.{is_filled}
+use Rattle.feed_xml.specs.Tables.{entry}
+use Rattle.feed_outline.specs.declared.names.Naming.{Naming}
+use Rattle.feed_outline.specs.declared.names.Naming.TheVariants.{Reference, Short}
+
+-- An element that counts: the composite that it stands in, its reference name and its short tag
+pub record Word : Type 0 where
+  pub composite : List ℕ
+  pub reference : List ℕ
+  pub short : List ℕ
+
+-- the name of the word in a message of this kind of names
+abbrev pub spelled : Naming → Word → List ℕ
+spelled Reference w = w.reference
+spelled Short w = w.short
+
+-- the reference name of the first word of a composite that is spelled so
+abbrev pub name_among : Naming → List Word → List ℕ → List ℕ → Option (List ℕ)
+name_among naming words composite name =
+    option_map (λ w. w.reference)
+    (find (λ w. bytes_eq (spelled naming w) name && bytes_eq w.composite composite) words)
+
+-- A word of a composite, by its reference name, and its short tag behind = where that is not the
+-- name in small letters
+abbrev pub word : List ℕ → List ℕ → Word
+word composite text =
+    let tag = after_first (λ b. b == 61) text in
+    let reference = before_first (λ b. b == 61) text in
+    let short = if is_filled tag then tag else str_to_ascii_lowercase text in
+    record { composite = composite; reference = reference; short = short }
+
+-- the words of a composite, whose name goes before theirs
+abbrev pub children : List (List ℕ) → List Word
+children [] = []
+children (composite ∷ names) = map (word composite) names
+
+-- the root, by its reference name
+abbrev pub root : List ℕ
+root = codes "ONIXMessage"
+
+-- a vocabulary, by rows: of each composite its name, and then its children
+abbrev pub vocabulary_of : List String → List Word
+vocabulary_of rows = flat_map (λ row. children (slice_split (λ b. b == 32) (codes row))) rows
+
+-- the root of a message: its name tells which kind of names it has
+abbrev pub naming_of_root : List ℕ → Option Naming
+naming_of_root name =
+    entry (λ key. bytes_eq name (codes key))
+    (("ONIXMessage", Reference) ∷ ("ONIXmessage", Short) ∷ [])
+
+-- The name of a stranger: an element that is called as one that counts where it stands, and is in
+-- another namespace. No element of ONIX is called so.
+abbrev pub stranger : List ℕ
+stranger = codes ":"

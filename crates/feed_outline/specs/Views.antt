@@ -1,0 +1,40 @@
+-- Lines and words without where they lie in memory.
+use Rattle.std.specs.Borrow.{Bor}
+use Rattle.std.specs.Prelude.{List, map, option_map}
+use Rattle.feed_outline.specs.declared.line.Line.{Line}
+use Rattle.feed_outline.specs.declared.names.Word.{Word}
+use Rattle.feed_outline.specs.declared.namespaces.Binding.{Binding}
+use Rattle.feed_outline.specs.Namespaces.{Binding as Declared}
+use Rattle.feed_outline.specs.Nodes.{Tag}
+use Rattle.feed_outline.specs.Outline.{Line as Told}
+use Rattle.feed_outline.specs.Names.{Word as Spelled}
+
+-- the tag of a line's element
+abbrev pub tag_view : Line → Tag
+tag_view l = record { place = l.place; format = option_map (λ f. f.items) l.format }
+
+-- a line, as its depth, its tag and its texts
+abbrev pub line_view : Line → Told
+line_view l = record { depth = l.depth; name = l.name.now; tag = tag_view l; text = l.text.items }
+
+-- lines, as that
+abbrev pub line_views : List Line → List Told
+line_views lines = map line_view lines
+
+-- a word, as its texts
+abbrev pub word_view : Word → Spelled
+word_view w =
+    record { composite = w.composite.now; reference = w.reference.now; short = w.short.now }
+
+-- words, as that
+abbrev pub word_views : List Word → List Spelled
+word_views words = map word_view words
+
+abbrev pub binding_view : Binding → Declared
+binding_view b = record { prefix = b.prefix.items; address = b.address.items }
+
+abbrev pub binding_views : List Binding → List Declared
+binding_views bindings = map binding_view bindings
+
+abbrev pub borrowed_views : List (Bor Binding) → List Declared
+borrowed_views bindings = map (λ b. binding_view b.now) bindings

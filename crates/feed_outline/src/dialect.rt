@@ -1,0 +1,189 @@
+//! How a message is written.
+
+ghost use Rattle.std.specs.Prelude.{◌≡◌, ◌∷◌, [], IfOk, option_map};
+ghost use Rattle.feed_outline.specs.Dialect.{address_of, counted, dialect_of, format_of, is_release, root_address};
+ghost use Rattle.feed_outline.specs.private.Growing.{scopes_of};
+ghost use Rattle.feed_outline.specs.Namespaces.{scope};
+ghost use Rattle.feed_outline.specs.Prefixes.{has_many};
+ghost use Rattle.feed_outline.specs.Views.{binding_views, word_views};
+
+use crate::grower::Grower;
+use crate::names::{Naming, Word, name_among, naming_of_root, stranger};
+use crate::namespaces::{Binding, address_among, bindings_of, split_name, undeclared};
+use crate::prefixes::are_many_at;
+use crate::spaces::fill;
+use feed_xml::{Attributes, Bytes};
+use std::alloc::{AllocError, Global};
+use std::marker::Model;
+
+/// Why a document is no message that is read.
+#[derive(Debug, Drop)]
+pub enum Wrong {
+    /// Its root, which has this name behind its prefix, is neither `ONIXMessage` nor `ONIXmessage`.
+    Root(Bytes),
+    /// Its release, where it has one, is neither 3.0 nor 3.1. Its root is in the namespace of this
+    /// address, which is empty where it is in none.
+    Release(Option<Bytes>, Bytes),
+}
+
+/// The kind of names and the namespace of a message.
+#[derive(Drop)]
+pub struct Dialect {
+    naming: Naming,
+    address: Vec<u8>,
+    bindings: Vec<Binding>,
+}
+
+impl Model for Dialect {
+    ghost use Rattle.feed_outline.specs.Dialect.{Dialect};
+    ghost use Rattle.feed_outline.specs.Views.{binding_views};
+
+    ghost Value = { Dialect };
+
+    ghost view = { λ d. record {
+      naming = d.naming;
+      address = d.address.items;
+      bindings = binding_views d.bindings.items;
+    } };
+}
+
+// Whether the release is one that is read.
+fn is_release(release: &Option<Vec<u8>>) -> bool
+    ensures { result ≡ is_release (option_map (λ r. r.items) release.now) }
+{
+    match release {
+        None => false,
+        Some(release) => {
+            release.as_slice() == b"3.0".as_slice() || release.as_slice() == b"3.1".as_slice()
+        }
+    }
+}
+
+// What a prefix stands for by the declarations of the root.
+fn root_address<'a>(prefix: &[u8], bindings: &'a [Binding]) -> &'a [u8]
+    ensures { result.now ≡ root_address prefix.now (binding_views bindings.now) }
+{
+    match address_among(prefix, bindings) {
+        None => undeclared(prefix),
+        Some(address) => address,
+    }
+}
+
+// That the release of a root in the namespace of this address is none that is read.
+fn other_release(release: Option<Vec<u8>>, address: Vec<u8>) -> Wrong
+    ensures { result ≡ Wrong.Release (option_map (λ r. r.items) release) address.items }
+{
+    let address = Bytes::from_vec(address);
+    match release {
+        None => Wrong::Release(None, address),
+        Some(release) => Wrong::Release(Some(Bytes::from_vec(release)), address),
+    }
+}
+
+impl Dialect {
+    /// How a message is written whose root has this tag.
+    pub(crate) fn of_root(
+        alloc: Global,
+        name: &[u8],
+        attributes: &Attributes<'_>,
+    ) -> Result<Result<Dialect, Wrong>, AllocError>
+        ensures { IfOk result (λ found. found ≡ dialect_of name.now attributes.now) }
+    {
+        let (prefix, local) = split_name(name);
+        let Some(naming) = naming_of_root(local) else {
+            let name = Bytes::from_vec(Vec::from_slice(alloc, local)?);
+            return Ok(Err(Wrong::Root(name)));
+        };
+        let release = attributes.normalized_value_of(alloc, b"release")?;
+        let bindings = bindings_of(alloc, attributes)?;
+        let address = Vec::from_slice(alloc, root_address(prefix, &bindings))?;
+        if !is_release(&release) {
+            return Ok(Err(other_release(release, address)));
+        }
+        Ok(Ok(Dialect {
+            naming,
+            address,
+            bindings,
+        }))
+    }
+
+    // What a prefix stands for in a tag with these declarations, below what a grower has open.
+    fn address_of<'a>(
+        &'a self,
+        around: &'a Grower,
+        prefix: &[u8],
+        bindings: &'a [Binding],
+    ) -> &'a [u8]
+        ensures { result.now ≡ address_of self.now
+            (scope [] (binding_views bindings.now) ∷ scopes_of around.now.opens) prefix.now }
+    {
+        if let Some(address) = address_among(prefix, bindings) {
+            return address;
+        }
+        match around.address_within(prefix) {
+            Some(address) => address,
+            None => root_address(prefix, &self.bindings),
+        }
+    }
+
+    /// The kind of its names.
+    pub(crate) fn naming(&self) -> Naming {
+        self.naming
+    }
+
+    /// The reference name of an element with this name and these declarations below what a grower
+    /// has open, where it counts by a vocabulary; a stranger's name, where it would in the
+    /// namespace of the root.
+    pub(crate) fn counted(
+        &self,
+        vocabulary: &[Word],
+        around: &Grower,
+        name: &[u8],
+        bindings: &[Binding],
+    ) -> Option<&'static [u8]>
+        ensures { option_map (λ n. n.now) result ≡ counted (word_views vocabulary.now) self.now
+            (scopes_of around.now.opens) name.now (binding_views bindings.now) }
+    {
+        let (prefix, local) = split_name(name);
+        let reference = name_among(self.naming, vocabulary, around.composite(), local)?;
+        if self.address_of(around, prefix, bindings) == self.address.as_slice() {
+            Some(reference)
+        } else {
+            Some(stranger())
+        }
+    }
+
+    /// Whether too many prefixes stand for the root's address at a tag with these declarations,
+    /// below what a grower has open; of a tag without a declaration it is not asked.
+    #[tactic(auto, using(crate::proofs::PrefixLaws::declaring))]
+    pub(crate) fn has_many(
+        &self,
+        alloc: Global,
+        around: &Grower,
+        bindings: &[Binding],
+    ) -> Result<bool, AllocError>
+        ensures { IfOk result (λ many. many ≡ has_many self.now
+            (scopes_of around.now.opens) (binding_views bindings.now)) }
+    {
+        match bindings {
+            [] => Ok(false),
+            [_first, ..] => {
+                let opens = around.opens();
+                are_many_at(alloc, &self.address, &self.bindings, opens, bindings)
+            }
+        }
+    }
+}
+
+/// The attribute `dateformat` of a tag, where it has a text.
+pub(crate) fn format_of(
+    alloc: Global,
+    attributes: &Attributes<'_>,
+) -> Result<Option<Vec<u8>>, AllocError>
+    ensures { IfOk result (λ found. option_map (λ f. f.items) found ≡ format_of attributes.now) }
+{
+    match attributes.normalized_value_of(alloc, b"dateformat")? {
+        None => Ok(None),
+        Some(text) => fill(alloc, &text),
+    }
+}

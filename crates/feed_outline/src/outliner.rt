@@ -1,0 +1,414 @@
+//! The tokens of a message, of which each Header and Product becomes an outline.
+
+ghost use Rattle.std.specs.Prelude.{◌≡◌, [], IfOk, OnOk, true, unwrap_or, is_some};
+ghost use Rattle.feed_xml.specs.References.{reference_text};
+ghost use Rattle.feed_xml.specs.View.{token_view};
+ghost use Rattle.feed_outline.specs.private.Feed.{feeding, first_feed, begun, ended, emptied, spoken, handed, settled, told, moved, is_sound, takes_more};
+ghost use Rattle.feed_outline.specs.private.Bounded.{many_at};
+ghost use Rattle.feed_outline.specs.private.Finishing.{finished, first_place_of, stopped};
+ghost use Rattle.feed_outline.specs.private.Growing.{closed};
+ghost use Rattle.feed_outline.specs.Outline.{is_part};
+ghost use Rattle.feed_outline.specs.Views.{line_views};
+
+use crate::dialect::{Dialect, Wrong, format_of};
+use crate::grower::Grower;
+use crate::line::Line;
+use crate::names::{Naming, Word, stranger};
+use crate::namespaces::bindings_of;
+use crate::reading::{Fault, Stopped};
+use crate::told::Told;
+use feed_xml::{Attributes, Bytes, Piece, Position, Sink, Token, push_reference};
+use std::alloc::{AllocError, Global};
+use std::marker::Model;
+
+/// What takes the outlines of a message: that of its Header, of each of its Products, and of each
+/// stranger that is called so, in order.
+pub trait Taker {
+    ghost use Rattle.std.specs.Prelude.{◌≡◌, List};
+    ghost use Rattle.feed_outline.specs.Names.{Word};
+    ghost use Rattle.feed_outline.specs.Outline.{Line};
+    ghost use Rattle.feed_outline.specs.Views.{word_views};
+
+    /// The elements that count for it.
+    ghost vocabulary: { List Word };
+
+    /// What it is after an outline.
+    ghost after: { Self → List Line → Self };
+
+    /// The elements that count for it.
+    fn vocabulary() -> &'static [Word]
+        ensures { word_views result.now ≡ vocabulary };
+
+    /// Takes an outline, whose first line is the Header, the Product or the stranger itself.
+    fn take(&mut self, lines: &[Line]) -> Result<(), AllocError>
+        ensures { OnOk result (self.new ≡ after self.old (line_views lines.now)) };
+}
+
+/// The state of reading a message.
+#[derive(Drop)]
+pub struct Outliner<T> {
+    alloc: Global,
+    taker: T,
+    root: Option<Result<Dialect, Wrong>>,
+    child: Grower,
+    known: bool,
+    place: Position,
+    told: Told,
+}
+
+impl<T> Model for Outliner<T> {
+    ghost use Rattle.feed_outline.specs.private.Feed.{Feed, feeding};
+
+    ghost Value = { Feed T };
+
+    ghost view = { λ o. feeding o.taker o.root o.child o.known o.place };
+}
+
+// What a reference stands for, and whether it stands for anything.
+fn reference_text(alloc: Global, body: &[u8]) -> Result<(Vec<u8>, bool), AllocError>
+    ensures text { IfOk result (λ x. x.0.items ≡ unwrap_or (reference_text body.now) []) }
+    ensures known { IfOk result (λ x. x.1 ≡ is_some (reference_text body.now)) }
+{
+    let mut text = Vec::new(alloc);
+    let known = push_reference(&mut text, body)?;
+    Ok((text, known))
+}
+
+// Where the first of the lines stands.
+fn first_place_of(lines: &[Line], place: Position) -> Position
+    ensures { result ≡ first_place_of (line_views lines.now) place }
+{
+    match lines {
+        [] => place,
+        [first, ..] => first.place,
+    }
+}
+
+// Whether an element is a Header, a Product, or a stranger that is called so.
+fn is_part(name: &[u8]) -> bool
+    ensures { result ≡ is_part name.now }
+{
+    name == b"Product".as_slice() || name == b"Header".as_slice() || name == stranger()
+}
+
+// The kind of names that a root tells, where it is that of a message.
+fn naming_in(root: &Option<Result<Dialect, Wrong>>) -> Option<Naming> {
+    match root {
+        Some(Ok(dialect)) => Some(dialect.naming()),
+        _ => None,
+    }
+}
+
+impl<T: Taker + Drop> Outliner<T> {
+    /// Before the first token.
+    pub(crate) fn new(alloc: Global, taker: T) -> Outliner<T>
+        ensures { result ≡ first_feed taker }
+    {
+        Outliner {
+            alloc,
+            taker,
+            root: None,
+            child: Grower::new(alloc),
+            known: true,
+            place: Position::first(),
+            told: Told::new(),
+        }
+    }
+
+    /// What comes of the message at its end.
+    pub(crate) fn finish(self) -> Result<T, Stopped<T>>
+        ensures { result ≡ finished self }
+    {
+        let Outliner {
+            alloc,
+            taker,
+            root,
+            child,
+            known,
+            place,
+            mut told,
+        } = self;
+        match root {
+            None => {
+                let name = Bytes::from_vec(Vec::new(alloc));
+                let fault = Fault::Message(Wrong::Root(name));
+                Err(Stopped {
+                    fault,
+                    place,
+                    taker,
+                    told,
+                })
+            }
+            Some(Err(wrong)) => {
+                let fault = Fault::Message(wrong);
+                Err(Stopped {
+                    fault,
+                    place,
+                    taker,
+                    told,
+                })
+            }
+            Some(Ok(dialect)) => {
+                told.naming = Some(dialect.naming());
+                if !known {
+                    let fault = Fault::Reference;
+                    return Err(Stopped {
+                        fault,
+                        place,
+                        taker,
+                        told,
+                    });
+                }
+                if child.fits() {
+                    Ok(taker)
+                } else {
+                    let place = first_place_of(child.lines(), place);
+                    let fault = Fault::TooLarge;
+                    Err(Stopped {
+                        fault,
+                        place,
+                        taker,
+                        told,
+                    })
+                }
+            }
+        }
+    }
+
+    /// No message was read, for this reason, at this place.
+    pub(crate) fn stop(self, fault: Fault, place: Position) -> Stopped<T>
+        ensures { result ≡ stopped fault place self }
+    {
+        let Outliner {
+            alloc: _,
+            taker,
+            root,
+            child: _,
+            known: _,
+            place: _,
+            mut told,
+        } = self;
+        told.naming = naming_in(&root);
+        Stopped {
+            fault,
+            place,
+            taker,
+            told,
+        }
+    }
+
+    // Hands on the lines of a child of the root.
+    fn hand_on(&mut self) -> Result<(), AllocError>
+        ensures { OnOk result (self.new ≡ feeding
+            (handed T.after self.old.taker self.old.child.lines)
+            self.old.root self.old.child self.old.known self.old.place) }
+    {
+        match self.child.lines() {
+            [] => Ok(()),
+            [first, ..] => {
+                if is_part(first.name) {
+                    self.taker.take(self.child.lines())
+                } else {
+                    Ok(())
+                }
+            }
+        }
+    }
+
+    // Ends an element of a message, which may be a child of the root.
+    fn settle(&mut self) -> Result<(), AllocError>
+        ensures { OnOk result (self.new ≡ settled T.after self.old
+            (closed self.old.child.passed self.old.child)) }
+    {
+        self.child.close();
+        if self.child.is_idle() && self.child.fits() {
+            self.hand_on()?;
+            self.child.clear();
+        }
+        Ok(())
+    }
+
+    // Takes the tag of an element. In one that is passed over nothing is asked of it.
+    #[tactic(auto, using(crate::proofs::GrowerLaws::opened_in_passed))]
+    fn begin(&mut self, name: &[u8], attributes: &Attributes<'_>) -> Result<(), AllocError>
+        ensures { OnOk result (self.new
+            ≡ begun T.vocabulary self.old.root name.now attributes.now self.old) }
+    {
+        match &self.root {
+            None => {
+                self.root = Some(Dialect::of_root(self.alloc, name, attributes)?);
+                Ok(())
+            }
+            Some(Err(_)) => Ok(()),
+            Some(Ok(dialect)) => {
+                if self.child.is_passing() {
+                    return self.child.pass();
+                }
+                let bindings = bindings_of(self.alloc, attributes)?;
+                let name = dialect.counted(T::vocabulary(), &self.child, name, &bindings);
+                let format = format_of(self.alloc, attributes)?;
+                self.child.open(name, self.place, format, bindings)
+            }
+        }
+    }
+
+    /// Where a tag stands at which too many prefixes hold, if they do; of one that is passed over
+    /// it is not asked.
+    #[tactic(auto, using(crate::proofs::PrefixLaws::none_passed, crate::proofs::PrefixLaws::none_else))]
+    pub(crate) fn many_at(
+        &self,
+        attributes: &Attributes<'_>,
+    ) -> Result<Option<Position>, AllocError>
+        ensures { IfOk result (λ place. place
+            ≡ many_at self.now.root self.now.child self.now.place attributes.now) }
+    {
+        match &self.root {
+            None => Ok(None),
+            Some(Err(_)) => Ok(None),
+            Some(Ok(dialect)) => {
+                if self.child.is_passing() {
+                    return Ok(None);
+                }
+                let bindings = bindings_of(self.alloc, attributes)?;
+                if dialect.has_many(self.alloc, &self.child, &bindings)? {
+                    Ok(Some(self.place))
+                } else {
+                    Ok(None)
+                }
+            }
+        }
+    }
+
+    // Takes an end tag.
+    fn end(&mut self) -> Result<(), AllocError>
+        ensures { OnOk result (self.new ≡ ended T.after self.old.root self.old) }
+    {
+        match &self.root {
+            None => Ok(()),
+            Some(Err(_)) => Ok(()),
+            Some(Ok(_)) => self.settle(),
+        }
+    }
+
+    // Takes an empty element.
+    fn empty(&mut self, name: &[u8], attributes: &Attributes<'_>) -> Result<(), AllocError>
+        ensures { OnOk result (self.new
+            ≡ emptied T.vocabulary T.after self.old.root name.now attributes.now self.old) }
+    {
+        let is_root = self.root.is_none();
+        self.begin(name, attributes)?;
+        if is_root { Ok(()) } else { self.end() }
+    }
+
+    // Takes text.
+    fn speak(&mut self, text: &[u8], known: bool) -> Result<(), AllocError>
+        ensures { OnOk result (self.new ≡ spoken self.old.root text.now known self.old) }
+    {
+        match &self.root {
+            None => Ok(()),
+            Some(Err(_)) => Ok(()),
+            Some(Ok(_)) => {
+                self.known = known && self.known;
+                self.child.add(text)
+            }
+        }
+    }
+
+    // Takes a reference.
+    fn refer(&mut self, body: &[u8]) -> Result<(), AllocError>
+        ensures { OnOk result (self.new ≡ spoken self.old.root
+            (unwrap_or (reference_text body.now) [])
+            (is_some (reference_text body.now)) self.old) }
+    {
+        let (text, known) = reference_text(self.alloc, body)?;
+        if !known {
+            self.told.take_reference(self.alloc, body)?;
+        }
+        self.speak(&text, known)
+    }
+
+    // Takes a token, but for its place.
+    fn take_token(&mut self, token: Token<'_>) -> Result<(), AllocError>
+        ensures { OnOk result (self.new
+            ≡ told T.vocabulary T.after self.old (token_view token.entry)) }
+    {
+        match token {
+            Token::Start(name, attributes, _) => self.begin(name, &attributes),
+            Token::Empty(name, attributes, _) => self.empty(name, &attributes),
+            Token::End(_, _) => self.end(),
+            Token::Reference(body) => self.refer(body),
+            Token::CData(body) => self.speak(body, true),
+            Token::Comment(_) => self.speak(b"", true),
+            Token::Instruction(_) => self.speak(b"", true),
+            Token::Declaration(_) => self.speak(b"", true),
+            Token::Doctype(body) => {
+                self.told.take_doctype(body);
+                self.speak(b"", true)
+            }
+        }
+    }
+
+    // Whether the root may be that of a message, and each reference stands for something.
+    fn is_sound(&self) -> bool
+        ensures { result ≡ is_sound self.now }
+    {
+        match &self.root {
+            None => true,
+            Some(Err(_)) => false,
+            Some(Ok(_)) => self.known,
+        }
+    }
+
+    /// Whether more tokens are taken.
+    pub(crate) fn takes_more(&self) -> bool
+        ensures { result ≡ takes_more self.now }
+    {
+        match &self.root {
+            None => true,
+            Some(Err(_)) => false,
+            Some(Ok(_)) => self.known && self.child.fits(),
+        }
+    }
+
+    // Goes behind what was read, unless it is refused, and tells whether more is taken.
+    fn move_on(&mut self, spelled: &[u8]) -> Result<bool, AllocError>
+        ensures moved { OnOk result (self.new ≡ moved spelled.now self.old) }
+        ensures more { IfOk result (λ more. more ≡ takes_more self.new) }
+    {
+        if self.is_sound() {
+            let Some(place) = self.place.after(spelled) else {
+                return Err(AllocError);
+            };
+            self.place = place;
+        }
+        Ok(self.takes_more())
+    }
+
+    /// Where the next token stands.
+    pub(crate) fn place(&self) -> Position
+        ensures { result ≡ self.now.place }
+    {
+        self.place
+    }
+}
+
+impl<T: Taker + Drop> Sink for Outliner<T> {
+    ghost use Rattle.feed_outline.specs.private.Feed.{feed, takes_more};
+
+    ghost after = { λ f token. feed T.vocabulary T.after f token };
+
+    ghost goes_on = { λ f. takes_more f };
+
+    fn take(&mut self, piece: Piece<'_>, spelled: &[u8]) -> Result<bool, AllocError> {
+        match piece {
+            Piece::Text(run) => {
+                self.speak(run, true)?;
+                self.move_on(spelled)
+            }
+            Piece::Markup(token) => {
+                self.take_token(token)?;
+                self.move_on(spelled)
+            }
+        }
+    }
+}

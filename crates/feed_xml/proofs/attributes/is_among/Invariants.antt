@@ -1,0 +1,10 @@
+use Rattle.std.proofs.Common.{◌≡◌, List, length}
+use Rattle.feed_xml.specs.Grammar.{Attribute, is_among}
+use Rattle.feed_xml.specs.AttributeView.{Spell}
+use Rattle.feed_xml.proofs.attributes.is_among.Given as goal
+
+abbrev pub invariant-loop-first : goal.invariant-loop-first
+invariant-loop-first l = (list : List Attribute) → Spell l.bytes list → (left : List Attribute) × Spell l.rest left × (is_among l.name left ≡ is_among l.name list)
+
+abbrev pub decreases-loop-first : goal.decreases-loop-first
+decreases-loop-first l = length l.rest

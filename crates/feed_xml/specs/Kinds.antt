@@ -1,0 +1,16 @@
+-- The kinds of bytes that runs are made of.
+use Rattle.std.specs.Prelude.{ℕ, Bool}
+use Rattle.feed_xml.specs.declared.classes.Kind.{Kind}
+use Rattle.feed_xml.specs.declared.classes.Kind.TheVariants.{Space, Name, Plain, Value, Reference}
+use Rattle.feed_xml.specs.declared.classes.Kind.TheVariants.{Digit, HexDigit}
+use Rattle.feed_xml.specs.Grammar.{is_space, is_name_byte, is_plain, is_value_byte}
+use Rattle.feed_xml.specs.Grammar.{is_reference_byte, is_digit, is_hex_digit}
+
+abbrev pub passes : Kind → ℕ → Bool
+passes Space = is_space
+passes Name = is_name_byte
+passes Plain = is_plain
+passes (Value quote) = is_value_byte quote
+passes Reference = is_reference_byte
+passes Digit = is_digit
+passes HexDigit = is_hex_digit

@@ -1,0 +1,45 @@
+-- How far a document was read, of which a window is in memory.
+use Rattle.std.specs.Prelude.{◌≡◌, ℕ, true, List, ◌++◌, Option, Some, None, ⊤, Bool, not, ◌&&◌}
+use Rattle.std.specs.List.{flat_map, list_all}
+use Rattle.feed_xml.specs.declared.place.Place.{Place}
+use Rattle.feed_xml.specs.declared.texts.Part.{Part}
+use Rattle.feed_xml.specs.Texts.{follow, is_start, IsSmall}
+use Rattle.feed_xml.specs.Grammar.{Token, spelling, is_token, is_filled}
+use Rattle.feed_xml.specs.private.Places.{steps, is_last}
+use Rattle.feed_xml.specs.declared.encodings.Encoding.{Encoding}
+use Rattle.feed_xml.specs.declared.encodings.Held.{Held}
+use Rattle.feed_xml.specs.private.Decoders.{ending}
+
+-- the bytes are these tokens, which lead from one place to the other, and then the rest
+pub record Advances (bytes : List ℕ) (tokens : List Token) (rest : List ℕ) (old new : Place)
+    : Type 0 where
+  pub spelled : bytes ≡ flat_map spelling tokens ++ rest
+  pub each : list_all is_token tokens ≡ true
+  pub leads : steps old tokens ≡ Some new
+
+-- a text is what a reader has left, where the reader tells that
+abbrev pub IsTold : Option (List ℕ) → List ℕ → Type 0
+IsTold None text = ⊤
+IsTold (Some known) text = known ≡ text
+
+-- a document may end here
+abbrev pub is_whole : List ℕ → Place → Part → Bool
+is_whole window p part = is_start part && (not (is_filled window) && is_last p)
+
+-- from a place on the bytes begin with these tokens
+abbrev pub BeginsAt : Place → List Token → List ℕ → Type 0
+BeginsAt from tokens bytes =
+    (rest : List ℕ) × (place : Place) × Advances bytes tokens rest from place
+
+-- A piece of text went behind the old bytes, and the next byte stands at this part of a character.
+-- Nothing is told where the piece is none of a text: then what went behind them is its front.
+abbrev pub Grows : List ℕ → List ℕ → Part → List ℕ → Option Part → Type 0
+Grows old new part piece (Some next) =
+    (new ≡ old ++ piece) × (follow part piece ≡ Some next) × IsSmall next
+Grows old new part piece None =
+    (good : List ℕ) × (bad : List ℕ) × (piece ≡ good ++ bad) × (new ≡ old ++ good)
+    × (follow part piece ≡ None)
+
+-- what the end of a text adds to it, in some encoding
+abbrev pub IsEnding : List ℕ → Type 0
+IsEnding piece = (encoding : Encoding) × (held : Held) × (piece ≡ ending encoding held)

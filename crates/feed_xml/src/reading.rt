@@ -1,0 +1,458 @@
+//! The reading of documents.
+
+ghost use Rattle.std.specs.Prelude.{◌≡◌, ◌≢◌, ◌≤◌, ◌<◌, ◌++◌, ◌⊎◌, ◌∷◌, ℕ, List, Bool, map, IfOk, IfErr, OnOk, OnErr, true, false, vec_len, IsErrOf, IfSome, [], length, take, drop, fold, Some, None};
+ghost use Rattle.std.specs.Io.KnownBytes.{Consumes, IsAtEnd};
+ghost use Rattle.feed_xml.specs.Grammar.{Token, raw};
+ghost use Rattle.feed_xml.specs.Pieces.{Begins, HasNoToken};
+ghost use Rattle.feed_xml.specs.View.{piece_view};
+ghost use Rattle.feed_xml.specs.Limits.{BeginsWith, Meets, IsDeep, IsLarge, IsLong, NoneMayStand};
+ghost use Rattle.feed_xml.specs.private.Places.{Completes, IsComplete, IsNeverComplete, first_place, steps};
+ghost use Rattle.feed_xml.specs.Documents.{IsDocument, IsNoDocument, IsNoText};
+ghost use Rattle.feed_xml.specs.private.Windows.{Advances, BeginsAt, Grows, IsEnding, IsTold, is_whole};
+ghost use Rattle.feed_xml.specs.EncodingNames.{IsOfUnknown, IsTextOf, OfText, declared_name, encoding_at};
+ghost use Rattle.feed_xml.specs.private.Decoders.{decoded_rest, ending, held_behind, text_from, text_left};
+ghost use Rattle.feed_xml.specs.Faults.{AtFault, IsOfEnd, IsOfPlace, IsOfReading};
+ghost use Rattle.feed_xml.specs.Texts.{IsSmall, is_start};
+ghost use Rattle.feed_xml.specs.private.Bounds.{MeetsFrom, IsDeepAt, IsLargeAt, IsLongAt, NoneStandsAt, NoneWillStand};
+
+use crate::bytes::Bytes;
+use crate::classes::is_filled;
+use crate::encoding_names::{encoding_at, unknown_name};
+use crate::encodings::{Encoding, Held, push_decoded, push_ending};
+use crate::fault::Fault;
+use crate::pieces::{Piece, read_piece};
+use crate::place::Place;
+use crate::sink::Sink;
+use crate::stop::Stop;
+use crate::texts::{Part, follow, is_start};
+use std::alloc::Global;
+use std::io::Read;
+
+// Goes on by what the rest begins with, or of a stretch of text by as much as may stand here, and
+// gives it and what follows it.
+fn take_some<'a>(
+    place: &mut Place,
+    piece: Piece<'a>,
+    rest: &'a [u8],
+    next: &'a [u8],
+) -> Result<(Piece<'a>, &'a [u8]), Fault>
+    requires { Begins rest.now (piece_view piece) next.now }
+    ensures begins { IfOk result (λ x. Begins rest.entry.now (piece_view x.0) x.1.now) }
+    ensures ok { IfOk result (λ x. steps place.old (piece_view x.0) ≡ Some place.new) }
+    ensures malformed { IsErrOf result Fault.Malformed → (token : Token) × (behind : List ℕ)
+        × Begins rest.entry.now (token ∷ []) behind × (steps place.old (token ∷ []) ≡ None) }
+    ensures deep { IsErrOf result Fault.TooDeep → IsDeepAt place.old rest.entry.now }
+    ensures large { IsErrOf result Fault.LargeTag → IsLargeAt place.old rest.entry.now }
+    ensures fault { IfErr result IsOfPlace }
+{
+    match piece {
+        Piece::Markup(token) => {
+            place.take_markup(&token)?;
+            Ok((Piece::Markup(token), next))
+        }
+        Piece::Text(run) => match place.take_text(run) {
+            Ok(()) => Ok((Piece::Text(run), next)),
+            Err(Fault::Malformed) => take_front(place, run, rest),
+            Err(fault) => Err(fault),
+        },
+    }
+}
+
+// The same of a stretch of text that may not stand here.
+fn take_front<'a>(
+    place: &mut Place,
+    run: &'a [u8],
+    rest: &'a [u8],
+) -> Result<(Piece<'a>, &'a [u8]), Fault>
+    requires begins { (next : List ℕ) × Begins rest.now (map raw run.now) next }
+    requires malformed { steps place.old (map raw run.now) ≡ None }
+    ensures begins { IfOk result (λ x. Begins rest.entry.now (piece_view x.0) x.1.now) }
+    ensures ok { IfOk result (λ x. steps place.old (piece_view x.0) ≡ Some place.new) }
+    ensures malformed { IsErrOf result Fault.Malformed → (token : Token) × (behind : List ℕ)
+        × Begins rest.entry.now (token ∷ []) behind × (steps place.old (token ∷ []) ≡ None) }
+    ensures deep { ¬ (IsErrOf result Fault.TooDeep) }
+    ensures large { ¬ (IsErrOf result Fault.LargeTag) }
+    ensures fault { IfErr result IsOfPlace }
+{
+    let fitting = place.fitting(run);
+    if fitting == 0 {
+        return Err(Fault::Malformed);
+    }
+    let front = first(run, fitting);
+    place.take_text(front)?;
+    Ok((Piece::Text(front), behind(rest, fitting)))
+}
+
+// The first bytes, so many of them.
+fn first(bytes: &[u8], count: usize) -> &[u8]
+    requires { count ≤ length bytes.now }
+    ensures { result.now ≡ take count bytes.now }
+{
+    &bytes[..count]
+}
+
+// Hands on each token that is whole, and counts their bytes.
+fn drain<S: Sink>(window: &[u8], place: &mut Place, sink: &mut S) -> Result<usize, Fault>
+    ensures within { IfOk result (λ n. n ≤ length window.now) }
+    ensures whole { IfOk result (λ n. (tokens : List Token)
+        × Advances window.now tokens (drop n window.now) place.old place.new
+        × (sink.new ≡ fold S.after sink.old tokens)) }
+    ensures no_more { IfOk result (λ n. HasNoToken (drop n window.now)) }
+    ensures malformed { IsErrOf result Fault.Malformed → (more : List ℕ) (tokens : List Token)
+        → ¬ (Completes place.old (window.now ++ more) tokens) }
+    ensures stuck { IsErrOf result Fault.Malformed → (tokens : List Token)
+        × MeetsFrom NoneWillStand place.old tokens window.now
+        × (sink.new ≡ fold S.after sink.old tokens) }
+    ensures deep { IsErrOf result Fault.TooDeep → (tokens : List Token)
+        × MeetsFrom IsDeepAt place.old tokens window.now
+        × (sink.new ≡ fold S.after sink.old tokens) }
+    ensures large { IsErrOf result Fault.LargeTag → (tokens : List Token)
+        × MeetsFrom IsLargeAt place.old tokens window.now
+        × (sink.new ≡ fold S.after sink.old tokens) }
+    ensures long { ¬ (IsErrOf result Fault.TooLong) }
+    ensures text { ¬ (IsErrOf result Fault.NotText) }
+    ensures known { (name : List ℕ) → ¬ (IsErrOf result (Fault.UnknownEncoding name)) }
+    ensures refused { IsErrOf result Fault.Refused → S.goes_on sink.new ≡ false }
+    ensures stopped { IfErr result (AtFault ((tokens : List Token)
+        × BeginsAt place.old tokens window.now × (sink.new ≡ fold S.after sink.old tokens))) }
+{
+    let mut rest = window;
+    'reading: loop {
+        match read_piece(rest) {
+            Ok((piece, next)) => {
+                let (taken, behind) = take_some(place, piece, rest, next)?;
+                match sink.take(taken, &rest[..rest.len() - behind.len()]) {
+                    Ok(true) => rest = behind,
+                    Ok(false) => return Err(Fault::Refused),
+                    Err(_) => return Err(Fault::Memory),
+                }
+            }
+            Err(Stop::More) => return Ok(window.len() - rest.len()),
+            Err(Stop::Never) => return Err(Fault::Malformed),
+        }
+    }
+}
+
+// The most bytes that a token may have before it is refused, and how many are read at once.
+const MOST_WAITING: usize = 4_194_304;
+
+const CHUNK: usize = 65_536;
+
+/// Within how many bytes the encoding of a document is told: where it has fewer, its end is met
+/// once before any of it is handed on.
+pub const HEAD: usize = 1024;
+
+// Reads a document in an encoding to the end of the input, and hands on its tokens. Its first
+// bytes, the head, were read before.
+fn read_encoded<R: Read, S: Sink>(
+    alloc: Global,
+    head: &[u8],
+    reader: &mut R,
+    encoding: Encoding,
+    sink: &mut S,
+) -> Result<(), Fault>
+    ensures document { OnOk result ((input : List ℕ) × (tokens : List Token)
+        × IsTold (text_left encoding head.now (R.remaining reader.old)) input
+        × IsComplete input tokens × (sink.new ≡ fold S.after sink.old tokens)) }
+    ensures malformed { IsErrOf result Fault.Malformed
+        → IfSome (text_left encoding head.now (R.remaining reader.old)) IsNeverComplete }
+    ensures stuck { IsErrOf result Fault.Malformed → (tokens : List Token)
+        × IfSome (text_left encoding head.now (R.remaining reader.old))
+        (MeetsFrom NoneStandsAt first_place tokens) × (sink.new ≡ fold S.after sink.old tokens) }
+    ensures garbled { IsErrOf result Fault.NotText
+        → IfSome (text_left encoding head.now (R.remaining reader.old)) IsNoText }
+    ensures deep { IsErrOf result Fault.TooDeep → (tokens : List Token)
+        × IfSome (text_left encoding head.now (R.remaining reader.old))
+        (MeetsFrom IsDeepAt first_place tokens) × (sink.new ≡ fold S.after sink.old tokens) }
+    ensures large { IsErrOf result Fault.LargeTag → (tokens : List Token)
+        × IfSome (text_left encoding head.now (R.remaining reader.old))
+        (MeetsFrom IsLargeAt first_place tokens) × (sink.new ≡ fold S.after sink.old tokens) }
+    ensures long { IsErrOf result Fault.TooLong → (tokens : List Token)
+        × IfSome (text_left encoding head.now (R.remaining reader.old))
+        (MeetsFrom IsLongAt first_place tokens) × (sink.new ≡ fold S.after sink.old tokens) }
+    ensures known { (name : List ℕ) → ¬ (IsErrOf result (Fault.UnknownEncoding name)) }
+    ensures refused { IsErrOf result Fault.Refused → S.goes_on sink.new ≡ false }
+    ensures stopped { IfErr result (AtFault ((tokens : List Token)
+        × IfSome (text_left encoding head.now (R.remaining reader.old))
+        (BeginsAt first_place tokens)
+        × (sink.new ≡ fold S.after sink.old tokens))) }
+{
+    let mut place = Place::first(alloc);
+    let mut held = Held::Nothing;
+    let (begun, first) = begin(alloc, encoding, &mut held, head)?;
+    let mut window = begun;
+    let mut part = first;
+    let mut chunk = chunk_buffer(alloc)?;
+    for _ in 0..u64::MAX {
+        let count = drain(&window, &mut place, sink)?;
+        drop_front(alloc, &mut window, count)?;
+        let Some(at) = part else {
+            return Err(Fault::NotText);
+        };
+        if window.len() > MOST_WAITING {
+            return Err(Fault::TooLong);
+        }
+        let (more, next) = refill(reader, encoding, &mut held, at, &mut chunk, &mut window)?;
+        part = next;
+        if !more {
+            if let Some(last) = next {
+                return end_of(&window, &place, last);
+            }
+        }
+    }
+    Err(Fault::Read)
+}
+
+/// Reads a document to the end of the input, and hands on its tokens. Its first bytes tell its
+/// encoding: a byte order mark, else the declaration, and it is UTF-8 where neither does.
+///
+/// `Refused` is what the sink does.
+pub fn read_document<R: Read, S: Sink>(
+    alloc: Global,
+    reader: &mut R,
+    sink: &mut S,
+) -> Result<(), Fault>
+    ensures document { OnOk result ((text : List ℕ) × (tokens : List Token)
+        × IsTextOf (R.remaining reader.old) text
+        × IsDocument text tokens × (sink.new ≡ fold S.after sink.old tokens)) }
+    ensures malformed { IsErrOf result Fault.Malformed
+        → OfText IsNoDocument (R.remaining reader.old) }
+    ensures stuck { IsErrOf result Fault.Malformed → (tokens : List Token)
+        × OfText (Meets NoneMayStand tokens) (R.remaining reader.old)
+        × (sink.new ≡ fold S.after sink.old tokens) }
+    ensures garbled { IsErrOf result Fault.NotText
+        → OfText IsNoText (R.remaining reader.old) }
+    ensures deep { IsErrOf result Fault.TooDeep → (tokens : List Token)
+        × OfText (Meets IsDeep tokens) (R.remaining reader.old)
+        × (sink.new ≡ fold S.after sink.old tokens) }
+    ensures large { IsErrOf result Fault.LargeTag → (tokens : List Token)
+        × OfText (Meets IsLarge tokens) (R.remaining reader.old)
+        × (sink.new ≡ fold S.after sink.old tokens) }
+    ensures long { IsErrOf result Fault.TooLong → (tokens : List Token)
+        × OfText (Meets IsLong tokens) (R.remaining reader.old)
+        × (sink.new ≡ fold S.after sink.old tokens) }
+    ensures unknown { (name : List ℕ) → IsErrOf result (Fault.UnknownEncoding name)
+        → IfSome (R.remaining reader.old) (IsOfUnknown name) }
+    ensures refused { IsErrOf result Fault.Refused → S.goes_on sink.new ≡ false }
+    ensures stopped { IfErr result (AtFault ((tokens : List Token)
+        × OfText (BeginsWith tokens) (R.remaining reader.old)
+        × (sink.new ≡ fold S.after sink.old tokens))) }
+{
+    let head = read_head(alloc, reader)?;
+    let Some((encoding, mark)) = encoding_at(front(&head)) else {
+        return Err(unknown_encoding(alloc, front(&head)));
+    };
+    read_encoded(alloc, behind(&head, mark), reader, encoding, sink)
+}
+
+// That the encoding of a document that begins so is none that is known.
+fn unknown_encoding(alloc: Global, head: &[u8]) -> Fault
+    requires { encoding_at head.now ≡ None }
+    ensures named { (name : List ℕ) → result ≡ Fault.UnknownEncoding name
+        → declared_name head.now ≡ Some name }
+    ensures fault { (result ≡ Fault.Memory)
+        ⊎ ((name : List ℕ) × (result ≡ Fault.UnknownEncoding name)) }
+{
+    match Vec::from_slice(alloc, unknown_name(head)) {
+        Ok(name) => Fault::UnknownEncoding(Bytes::from_vec(name)),
+        Err(_) => Fault::Memory,
+    }
+}
+
+// The bytes that tell the encoding.
+fn front(head: &[u8]) -> &[u8]
+    ensures { result.now ≡ take HEAD head.now }
+{
+    if head.len() > HEAD {
+        &head[..HEAD]
+    } else {
+        head
+    }
+}
+
+// The bytes behind so many.
+fn behind(bytes: &[u8], count: usize) -> &[u8]
+    requires { count ≤ length bytes.now }
+    ensures { result.now ≡ drop count bytes.now }
+{
+    &bytes[count..]
+}
+
+// Reads the bytes that tell the encoding, or all that there are, and maybe more.
+fn read_head<R: Read>(alloc: Global, reader: &mut R) -> Result<Vec<u8>, Fault>
+    ensures read { IfOk result (λ head. Consumes
+        (R.remaining reader.old) (R.remaining reader.new) head.items) }
+    ensures whole { IfOk result (λ head. IfSome (R.remaining reader.old)
+        (λ bytes. take HEAD bytes ≡ take HEAD head.items)) }
+    ensures fault { IfErr result IsOfReading }
+{
+    let mut chunk = chunk_buffer(alloc)?;
+    let mut head = Vec::new(alloc);
+    while head.len() < HEAD {
+        match reader.read(&mut chunk) {
+            Ok(0) => return Ok(head),
+            Ok(n) => {
+                if head.extend_from_slice(&chunk[..n]).is_err() {
+                    return Err(Fault::Memory);
+                }
+            }
+            Err(_) => return Err(Fault::Read),
+        }
+    }
+    Ok(head)
+}
+
+// A window with the text of the bytes that were read before, and where the next byte stands.
+fn begin(
+    alloc: Global,
+    encoding: Encoding,
+    held: &mut Held,
+    head: &[u8],
+) -> Result<(Vec<u8>, Option<Part>), Fault>
+    ensures grows { IfOk result (λ x. Grows [] x.0.items Part.Whole
+        (text_from encoding held.old head.now) x.1) }
+    ensures held { IfOk result (λ _. held.new ≡ held_behind encoding held.old head.now) }
+    ensures fault { IfErr result IsOfReading }
+{
+    let Ok(mut window) = Vec::with_capacity(alloc, CHUNK) else {
+        return Err(Fault::Memory);
+    };
+    let part = take_in(&mut window, encoding, held, Part::Whole, head)?;
+    Ok((window, part))
+}
+
+// Whether a document may end here.
+fn end_of(window: &[u8], place: &Place, part: Part) -> Result<(), Fault>
+    ensures ok { OnOk result (is_whole window.now place.now part ≡ true) }
+    ensures malformed { OnErr result (is_whole window.now place.now part ≡ false) }
+    ensures garbled { IsErrOf result Fault.NotText → is_start part ≡ false }
+    ensures fault { IfErr result IsOfEnd }
+{
+    if !is_start(part) {
+        return Err(Fault::NotText);
+    }
+    if !is_filled(window) && place.is_last() {
+        Ok(())
+    } else {
+        Err(Fault::Malformed)
+    }
+}
+
+// Keeps of the bytes from a place of the window on those that are a text, and tells where the next
+// byte stands.
+fn keep_text(window: &mut Vec<u8>, start: usize, part: Part) -> Option<Part>
+    requires small { IsSmall part }
+    requires start { start ≤ length window.old.items }
+    ensures { Grows (take start window.old.items) window.new.items part
+        (drop start window.old.items) result }
+{
+    match follow(part, &window.as_slice()[start..]) {
+        Ok(next) => Some(next),
+        Err(whole) => {
+            window.truncate(start + whole);
+            None
+        }
+    }
+}
+
+// The text of bytes goes behind the window, as far as it is one.
+fn take_in(
+    window: &mut Vec<u8>,
+    encoding: Encoding,
+    held: &mut Held,
+    part: Part,
+    bytes: &[u8],
+) -> Result<Option<Part>, Fault>
+    requires { IsSmall part }
+    ensures grows { IfOk result (Grows window.old.items window.new.items part
+        (text_from encoding held.old bytes.now)) }
+    ensures held { IfOk result (λ _. held.new ≡ held_behind encoding held.old bytes.now) }
+    ensures fault { IfErr result IsOfReading }
+{
+    let start = window.len();
+    let Ok(behind) = push_decoded(window, encoding, *held, bytes) else {
+        return Err(Fault::Memory);
+    };
+    *held = behind;
+    Ok(keep_text(window, start, part))
+}
+
+// The same of what the end of a text adds.
+fn take_end(
+    window: &mut Vec<u8>,
+    encoding: Encoding,
+    held: &mut Held,
+    part: Part,
+) -> Result<Option<Part>, Fault>
+    requires { IsSmall part }
+    ensures grows { IfOk result (Grows window.old.items window.new.items part
+        (ending encoding held.old)) }
+    ensures held { IfOk result (λ _. held.new ≡ Held.Nothing) }
+    ensures fault { IfErr result IsOfReading }
+{
+    let start = window.len();
+    let Ok(()) = push_ending(window, encoding, *held) else {
+        return Err(Fault::Memory);
+    };
+    *held = Held::Nothing;
+    Ok(keep_text(window, start, part))
+}
+
+// One read, whose text goes behind the window; whether there were bytes, and where the next one
+// stands.
+fn refill<R: Read>(
+    reader: &mut R,
+    encoding: Encoding,
+    held: &mut Held,
+    part: Part,
+    chunk: &mut Vec<u8>,
+    window: &mut Vec<u8>,
+) -> Result<(bool, Option<Part>), Fault>
+    requires small { IsSmall part }
+    requires room { 0 < length chunk.old.items }
+    ensures size { IfOk result (λ _. length chunk.new.items ≡ length chunk.old.items) }
+    ensures read { IfOk result (λ x. (piece : List ℕ)
+        × Grows window.old.items window.new.items part piece x.1
+        × Consumes (decoded_rest encoding held.old (R.remaining reader.old))
+        (decoded_rest encoding held.new (R.remaining reader.new)) piece
+        × (x.0 ≡ false → IsEnding piece)) }
+    ensures end { IfOk result (λ x. x.0 ≡ false
+        → IsAtEnd (decoded_rest encoding held.new (R.remaining reader.new))) }
+    ensures fault { IfErr result IsOfReading }
+{
+    match reader.read(chunk) {
+        Ok(0) => {
+            let next = take_end(window, encoding, held, part)?;
+            Ok((false, next))
+        }
+        Ok(n) => {
+            let next = take_in(window, encoding, held, part, &chunk[..n])?;
+            Ok((true, next))
+        }
+        Err(_) => Err(Fault::Read),
+    }
+}
+
+// A buffer for what is read at once, all zero.
+fn chunk_buffer(alloc: Global) -> Result<Vec<u8>, Fault>
+    ensures size { IfOk result (λ bytes. vec_len bytes ≡ CHUNK) }
+    ensures fault { IfErr result IsOfReading }
+{
+    match vec![in alloc; 0u8; CHUNK] {
+        Ok(bytes) => Ok(bytes),
+        Err(_) => Err(Fault::Memory),
+    }
+}
+
+// Lets go of so many bytes at the front.
+fn drop_front(alloc: Global, bytes: &mut Vec<u8>, count: usize) -> Result<(), Fault>
+    requires { count ≤ length bytes.old.items }
+    ensures rest { OnOk result (bytes.new.items ≡ drop count bytes.old.items) }
+    ensures fault { IfErr result IsOfReading }
+{
+    let Ok(rest) = Vec::from_slice(alloc, &bytes.as_slice()[count..]) else {
+        return Err(Fault::Memory);
+    };
+    *bytes = rest;
+    Ok(())
+}

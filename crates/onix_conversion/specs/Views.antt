@@ -1,8 +1,0 @@
--- What the caller chooses, without where it lies in memory.
-use Rattle.onix_mapping.specs.HeaderViews.{choices_view}
-use Rattle.onix_conversion.specs.Conversion.{Options}
-use Rattle.onix_conversion.specs.declared.options.Options.{Options as Lent}
-
--- what the caller chooses, as its texts and numbers
-abbrev pub options_view : Lent → Options
-options_view o = record { choices = choices_view o.choices; wrong = o.wrong }

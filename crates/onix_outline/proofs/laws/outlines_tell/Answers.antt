@@ -1,5 +1,0 @@
-use Rattle.onix_outline.proofs.OutlineLaws.{told, passes, again}
-use Rattle.onix_outline.proofs.laws.outlines_tell.Goals as goal
-
-pub returns : goal.returns
-returns c = record { told = told; passes = passes; again = again }

@@ -1,0 +1,30 @@
+-- Clients that come one after the other.
+use Rattle.std.specs.Prelude.{◌≡◌, ◌∷◌, ℕ, Bool, true, List, [], IfSome, Option, Some, None, Result, Ok, Err, ⊤}
+use Rattle.program_lines.specs.declared.fault.Fault.{Fault}
+use Rattle.program_clients.specs.declared.clients.Protocol.{Protocol}
+use Rattle.program_clients.specs.declared.clients.Protocol.TheVariants as protocol
+
+-- The next client sends that. Old, new: what the clients send that are still to come, where that is
+-- known
+abbrev pub IsNext : Option (List ℕ) → Option (List (List ℕ)) → Option (List (List ℕ)) → Type 0
+IsNext sent old new =
+    IfSome old (λ clients. (first : List ℕ) × (rest : List (List ℕ)) × (clients ≡ first ∷ rest)
+    × (sent ≡ Some first) × (new ≡ Some rest))
+
+-- a client may come by that protocol. Batches: whether these are taken
+abbrev pub MayCome : Bool → Protocol → Type 0
+MayCome batches protocol.Exchange = ⊤
+MayCome batches protocol.Batch = batches ≡ true
+
+-- what waiting for a client gives: its protocol and the two ways of its connection, of which
+-- nothing has been read or written yet; or that it was gone, which is so of no client of whom it is
+-- known what it sends. Sends, holds: what a reader and a writer tell of their bytes. Speaks: by
+-- what a client is served that is read so
+abbrev pub Accepts : {R W : Type 0} → (R → Option (List ℕ)) → (R → Protocol)
+    → (W → Option (List ℕ)) → Bool → Option (List (List ℕ)) → Option (List (List ℕ))
+    → Result (Option (Protocol × R × W)) Fault → Type 0
+Accepts sends speaks holds batches old new (Ok (Some client)) =
+    (client.0 ≡ speaks client.1) × MayCome batches client.0 × IsNext (sends client.1) old new
+    × IfSome (holds client.2) (λ bytes. bytes ≡ [])
+Accepts sends speaks holds batches old new (Ok None) = IfSome old (λ clients. ⊥)
+Accepts sends speaks holds batches old new (Err fault) = ⊤

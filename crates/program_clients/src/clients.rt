@@ -1,0 +1,44 @@
+//! Where the connections of the command `serve` come from.
+
+use program_lines::fault::Fault;
+use std::io::{Read, Write};
+
+/// By what a client is served.
+#[derive(Clone, Copy)]
+pub enum Protocol {
+    /// One exchange over HTTP.
+    Exchange,
+    /// One batch: the text to the end of what it sends.
+    Batch,
+}
+
+/// Clients that come one after the other.
+pub trait Clients {
+    ghost use Rattle.std.specs.Prelude.{◌≡◌, Bool, List, Option, ℕ};
+    ghost use Rattle.program_clients.specs.Clients.{Accepts};
+    ghost use Rattle.program_clients.specs.declared.clients.Protocol.{Protocol};
+
+    // Whether some may send batches.
+    ghost takes_batches: { Bool };
+
+    // What each client sends that is still to come, where that is known.
+    ghost coming: { Self → Option (List (List ℕ)) };
+
+    // By what a client is served that is read so.
+    ghost speaks: { Self.Reader → Protocol };
+
+    /// Reads what a client sends.
+    type Reader: Read + Drop;
+    /// Writes to it.
+    type Writer: Write + Drop;
+
+    /// Waits for the next client, and gives its protocol and the two ways of its connection, or
+    /// `None` where it was gone before that was accepted.
+    fn accept(&mut self) -> Result<Option<(Protocol, Self::Reader, Self::Writer)>, Fault>
+        ensures { Accepts Self.Reader.remaining speaks Self.Writer.contents takes_batches
+            (coming self.old) (coming self.new) result };
+
+    /// Closes the connection of a client.
+    fn close(&mut self, reader: Self::Reader, writer: Self::Writer)
+        ensures { coming self.new ≡ coming self.old };
+}

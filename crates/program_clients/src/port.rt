@@ -1,0 +1,86 @@
+//! A port of 127.0.0.1, whose clients come over sockets.
+
+use crate::clients::{Clients, Protocol};
+use crate::timed::{Stream, Timed};
+use program_lines::fault::Fault;
+use std::io::{self, ErrorKind};
+use std::net::{Ipv4Addr, SocketAddr, SocketAddrV4, TcpListener};
+use std::time::Duration;
+
+/// How many seconds a client may let the desk wait while it sends, and again while it takes what is
+/// sent to it.
+const CLIENT_SECONDS: u64 = 10;
+
+/// A port that is listened at, and how long its clients may let the desk wait.
+#[derive(Drop)]
+pub struct Port<'a> {
+    pub rt: &'a HostRuntime,
+    pub number: u16,
+    pub listener: TcpListener,
+    pub limit: Duration,
+}
+
+/// The port of a command that serves at one, or why it could not be bound. A command that does not
+/// has none.
+pub type Bound<'a> = Option<Result<Port<'a>, Fault>>;
+
+/// A client was gone before its connection was accepted.
+pub fn is_lost(error: &io::Error) -> bool {
+    matches!(
+        error.kind(),
+        ErrorKind::ConnectionAborted | ErrorKind::ConnectionReset
+    )
+}
+
+impl<'a> Port<'a> {
+    /// Listens at a port of 127.0.0.1.
+    pub fn open(rt: &'a HostRuntime, number: u16) -> Result<Port<'a>, Fault> {
+        let address = SocketAddr::V4(SocketAddrV4::new(Ipv4Addr::LOCALHOST, number));
+        match TcpListener::bind(rt, address) {
+            Ok(listener) => Ok(Port {
+                rt,
+                number,
+                listener,
+                limit: Duration::from_secs(CLIENT_SECONDS),
+            }),
+            Err(_) => Err(Fault::Port(number)),
+        }
+    }
+}
+
+impl<'a> Clients for Port<'a> {
+    ghost use Rattle.std.specs.Prelude.{None, false};
+    ghost use Rattle.program_clients.specs.Streams.{protocol_of};
+
+    ghost takes_batches = { false };
+
+    // Of what a client sends and is sent over a socket no clause can say which bytes they are.
+    ghost coming = { λ port. None };
+
+    ghost speaks = { λ way. protocol_of way.stream };
+
+    type Reader = Timed<'a>;
+
+    type Writer = Timed<'a>;
+
+    fn accept(&mut self) -> Result<Option<(Protocol, Timed<'a>, Timed<'a>)>, Fault> {
+        match self.listener.accept() {
+            Ok((stream, _)) => match Timed::both(self.rt, Stream::Port(stream), self.limit) {
+                Some((reader, writer)) => Ok(Some((Protocol::Exchange, reader, writer))),
+                None => Ok(None),
+            },
+            Err(error) => {
+                if is_lost(&error) {
+                    Ok(None)
+                } else {
+                    Err(Fault::Port(self.number))
+                }
+            }
+        }
+    }
+
+    fn close(&mut self, reader: Timed<'a>, writer: Timed<'a>) {
+        drop(writer);
+        reader.into_stream().close();
+    }
+}

@@ -1,0 +1,15 @@
+use Rattle.std.proofs.Common.{[], refl}
+use Rattle.std.proofs.KnownBytes.{Appends-nil}
+use Rattle.std.specs.Io.KnownBytes.{Appends}
+use Rattle.std.specs.Option.{is_some}
+use Rattle.series_rules.specs.Steps.{Asked}
+use Rattle.program_commands.proofs.ServingLemmas.{unserved_ends}
+use Rattle.program_commands.specs.Serving.{listening_line}
+use Rattle.program_commands.proofs.serve.run.Goals as goal
+
+pub returns-in-Err-clause-end : goal.returns-in-Err-clause-end
+returns-in-Err-clause-end g c =
+    let asked = Asked g.D.Desk.seen c.args.precedence.now c.args.desk.now c.args.desk.now in
+    let written = Appends (g.O.Write.contents c.args.output.now) (g.O.Write.contents c.args.output.now) in
+    unserved_ends asked written (is_some c.args.batches) c.args.number c.args.requests c.report.result refl c.report.ensures
+    ([], listening_line c.args.number, refl, Appends-nil (g.O.Write.contents c.args.output.now))

@@ -1,0 +1,55 @@
+-- The deliveries of files.
+use Rattle.std.specs.Prelude.{◌≡◌, ◌≢◌, ◌<◌, ◌⊎◌, ◌∷◌, ℕ, Bool, List, [], Option, Some, Result, Ok, Err, ⊤, codes, slice_get}
+use Rattle.csv_records.specs.RecordTexts.{records_of}
+use Rattle.csv_records.specs.Streams.{IsTold}
+use Rattle.csv_records.specs.declared.reading.RecordFault.TheVariants as record_fault
+use Rattle.program_files.specs.Holdings.{Holdings}
+use Rattle.series_rules.specs.Steps.{Step}
+use Rattle.series_rules.specs.declared.requests.Request.{Request}
+use Rattle.series_rules.specs.declared.requests.Request.TheVariants.{Deliver}
+use Rattle.desk_batch.specs.Batch.{RequestGives}
+use Rattle.desk_texts.specs.Requests.{HasRecords, RecordsFit}
+use Rattle.desk_batch.specs.Talks.{Talks}
+use Rattle.program_commands.specs.declared.deliver.DeliveryFault.{DeliveryFault}
+use Rattle.program_commands.specs.declared.deliver.DeliveryFault.TheVariants as fault
+
+-- the delivery of the records of a text
+unfoldable pub delivery_of : List ℕ → Request
+delivery_of text = Deliver (records_of text)
+
+-- how reading the delivery of a text can end
+abbrev pub ReadFits : List ℕ → Result Request DeliveryFault → Type 0
+ReadFits text (Ok r) = HasRecords text × (r ≡ delivery_of text)
+ReadFits text (Err (fault.Records f)) = RecordsFit text f
+ReadFits text (Err fault.Unreadable) = ⊤
+ReadFits text (Err (fault.Request f)) = ⊥
+
+-- a file could not be opened: that, or out of memory
+abbrev pub IsUnasked : DeliveryFault → Type 0
+IsUnasked f = (f ≡ fault.Unreadable) ⊎ (f ≡ fault.Records record_fault.Memory)
+
+-- how the delivery of a text can end: there was a talk of it; or nothing was asked and nothing
+-- written, since it has no records or cannot be read. Asked, written: as of a talk
+abbrev pub Delivers : (List Step → Type 0) → (List ℕ → Type 0) → List ℕ
+    → Result Bool DeliveryFault → Type 0
+Delivers asked written text (Ok b) =
+    HasRecords text × Talks asked written (delivery_of text ∷ []) (RequestGives (Ok b))
+Delivers asked written text (Err (fault.Request f)) =
+    HasRecords text × Talks asked written (delivery_of text ∷ []) (RequestGives (Err f))
+Delivers asked written text (Err (fault.Records f)) = RecordsFit text f × asked [] × written []
+Delivers asked written text (Err fault.Unreadable) = asked [] × written []
+
+-- the i-th of these names is `-`, which stands for the input, and none before it is
+abbrev pub IsFirstInput : List (List ℕ) → ℕ → Type 0
+IsFirstInput names i =
+    (slice_get names i ≡ Some (codes "-"))
+    × ((j : ℕ) → j < i → slice_get names j ≢ Some (codes "-"))
+
+-- of the files of these names, in order, each text is what its name holds, and that of the first
+-- that is the input what that tells of its bytes
+pub record TellsTexts (holds : Holdings) (told : Option (List ℕ)) (names texts : List (List ℕ))
+    : Type 0 where
+  pub held : (i : ℕ) (name text : List ℕ) → slice_get names i ≡ Some name
+      → name ≢ codes "-" → slice_get texts i ≡ Some text → IsTold (holds name) text
+  pub input : (i : ℕ) (text : List ℕ) → IsFirstInput names i
+      → slice_get texts i ≡ Some text → IsTold told text

@@ -1,0 +1,178 @@
+//! The command `deliver`: one message a file.
+
+ghost use Rattle.std.specs.Prelude.{◌≡◌, ◌≢◌, ◌≤◌, ℕ, List, codes, map, if◌then◌else◌};
+ghost use Rattle.std.specs.Io.KnownBytes.{Appends};
+ghost use Rattle.csv_records.specs.Streams.{IsTold};
+ghost use Rattle.series_rules.specs.Steps.{Asked};
+ghost use Rattle.program_commands.specs.Deliveries.{Delivers, IsUnasked, ReadFits};
+ghost use Rattle.program_commands.specs.TaskEnds.{DeliverEnds};
+
+use crate::faults::fault_of_request;
+use csv_records::reading::{LIMIT, RecordFault, read_records};
+use csv_records::streams::{InputFault, read_input};
+use desk_batch::{RequestFault, run_request};
+use price_rules::precedence::Precedence;
+use program_files::{FileFault, NamedFiles, STANDARD_INPUT};
+use program_lines::fault::{Fault, report, report_file};
+use series_rules::desk::Desk;
+use series_rules::requests::Request;
+use std::alloc::Global;
+use std::io::{Read, Write};
+
+/// Why the message of a file has no answer that is written whole.
+#[derive(Drop)]
+pub enum DeliveryFault {
+    /// The file cannot be opened or read. Nothing was asked of the desk.
+    Unreadable,
+    /// Its text has no records, or memory ran out for them. Nothing was asked of the desk.
+    Records(RecordFault),
+    /// The delivery was asked of the desk.
+    Request(RequestFault),
+}
+
+// The delivery of the records of a text.
+fn delivery_of(alloc: Global, bytes: &[u8]) -> Result<Request, DeliveryFault>
+    ensures { ReadFits bytes.now result }
+{
+    match read_records(alloc, bytes) {
+        Ok(records) => Ok(Request::Deliver(records)),
+        Err(fault) => Err(DeliveryFault::Records(fault)),
+    }
+}
+
+// Reads a delivery, of which the bytes are not kept.
+fn delivery_from_reader<R: Read>(alloc: Global, reader: &mut R) -> Result<Request, DeliveryFault>
+    ensures { (text : List ℕ) × IsTold (R.remaining reader.old) text × ReadFits text result }
+{
+    match read_input(alloc, reader, LIMIT) {
+        Ok(bytes) => delivery_of(alloc, bytes.as_slice()),
+        Err(InputFault::Read) => Err(DeliveryFault::Unreadable),
+        Err(InputFault::TooLarge) => Err(DeliveryFault::Records(RecordFault::TooLarge)),
+        Err(InputFault::Memory) => Err(DeliveryFault::Records(RecordFault::Memory)),
+    }
+}
+
+/// Delivers the message that a reader has, to its end or to one byte past 4,194,304, writes the
+/// answer, and says whether that is a refusal.
+pub fn deliver_one<D: Desk, R: Read, W: Write>(
+    alloc: Global,
+    desk: &mut D,
+    precedence: &Precedence,
+    reader: &mut R,
+    writer: &mut W,
+) -> Result<bool, DeliveryFault>
+    // There is a text, that of the reader where it tells its bytes, that was delivered.
+    ensures { (text : List ℕ) × IsTold (R.remaining reader.old) text
+        × Delivers (Asked D.seen precedence.now desk.old desk.new)
+        (Appends (W.contents writer.old) (W.contents writer.new)) text result }
+{
+    let request = delivery_from_reader(alloc, reader)?;
+    let outcome = run_request(alloc, desk, precedence, &request, writer);
+    drop(request);
+    match outcome {
+        Ok(is_refused) => Ok(is_refused),
+        Err(fault) => Err(DeliveryFault::Request(fault)),
+    }
+}
+
+// Why a file was not opened.
+fn open_fault(fault: FileFault) -> DeliveryFault
+    ensures { IsUnasked result }
+{
+    match fault {
+        FileFault::Memory => DeliveryFault::Records(RecordFault::Memory),
+        FileFault::File { .. } => DeliveryFault::Unreadable,
+    }
+}
+
+// Delivers the message in the file of this name.
+fn deliver_file<D: Desk, F: NamedFiles, W: Write>(
+    alloc: Global,
+    desk: &mut D,
+    precedence: &Precedence,
+    files: &F,
+    name: &str,
+    writer: &mut W,
+) -> Result<bool, DeliveryFault>
+    ensures { (text : List ℕ) × IsTold (F.holds files.now name.now) text
+        × Delivers (Asked D.seen precedence.now desk.old desk.new)
+        (Appends (W.contents writer.old) (W.contents writer.new)) text result }
+{
+    match files.open(name) {
+        Ok(mut file) => deliver_one(alloc, desk, precedence, &mut file, writer),
+        Err(fault) => Err(open_fault(fault)),
+    }
+}
+
+// Delivers the message that is named: `-` is standard input, each other name a file's.
+fn deliver_named<D: Desk, F: NamedFiles, R: Read, W: Write>(
+    alloc: Global,
+    desk: &mut D,
+    precedence: &Precedence,
+    files: &F,
+    name: &str,
+    input: &mut R,
+    writer: &mut W,
+) -> Result<bool, DeliveryFault>
+    ensures run { (text : List ℕ)
+        × (name.now ≡ codes "-" → IsTold (R.remaining input.old) text)
+        × (name.now ≢ codes "-" → IsTold (F.holds files.now name.now) text)
+        × Delivers (Asked D.seen precedence.now desk.old desk.new)
+        (Appends (W.contents writer.old) (W.contents writer.new)) text result }
+    ensures untouched { name.now ≢ codes "-" → input.new ≡ input.old }
+{
+    if name == STANDARD_INPUT {
+        deliver_one(alloc, desk, precedence, input, writer)
+    } else {
+        deliver_file(alloc, desk, precedence, files, name, writer)
+    }
+}
+
+// Reports why the message of the file of this name has no answer, and gives the status.
+fn report_delivery<E: Write>(fault: DeliveryFault, name: &str, errors: &mut E) -> u8
+    ensures { result ≡ 3 }
+{
+    match fault {
+        DeliveryFault::Unreadable => {
+            report_file(name, errors);
+            3
+        }
+        DeliveryFault::Records(fault) => report(&Fault::from(fault), errors),
+        DeliveryFault::Request(fault) => report(&fault_of_request(fault), errors),
+    }
+}
+
+fn refusal_status(has_refusal: bool) -> u8
+    ensures is { result ≡ (if has_refusal then 1 else 0) }
+    ensures most { result ≤ 1 }
+{
+    if has_refusal { 1 } else { 0 }
+}
+
+/// Delivers the message of each file in turn, where `-` is standard input, and writes each answer
+/// before the next file is opened. Gives 0, or 1 where an answer was a refusal, or 3 after a fault,
+/// which is reported and ends the command.
+pub fn run<D: Desk, F: NamedFiles, R: Read, W: Write, E: Write>(
+    alloc: Global,
+    desk: &mut D,
+    precedence: &Precedence,
+    files: &F,
+    names: &[&str],
+    input: &mut R,
+    output: &mut W,
+    errors: &mut E,
+) -> u8
+    ensures status { result ≤ 3 }
+    ensures end { DeliverEnds (Asked D.seen precedence.now desk.old desk.new)
+        (Appends (W.contents output.old) (W.contents output.new)) (F.holds files.now)
+        (R.remaining input.old) (map (λ name. name.now) names.now) result }
+{
+    let mut has_refusal = false;
+    for name in names {
+        match deliver_named(alloc, desk, precedence, files, name, input, output) {
+            Ok(is_refused) => has_refusal |= is_refused,
+            Err(fault) => return report_delivery(fault, name, errors),
+        }
+    }
+    refusal_status(has_refusal)
+}

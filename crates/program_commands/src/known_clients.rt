@@ -1,0 +1,88 @@
+//! Clients of whom it is known what they send. No command has such: that there are some shows that
+//! what is said of them is said of something.
+
+ghost use Rattle.std.specs.Io.KnownBytes.{Appends};
+ghost use Rattle.std.specs.Prelude.{Some, false, length, map};
+ghost use Rattle.series_rules.specs.Steps.{Asked};
+ghost use Rattle.program_commands.specs.TaskEnds.{ConnectionsServed};
+
+use crate::serve::serve_clients;
+use desk_http::Routes;
+use price_rules::precedence::Precedence;
+use program_clients::clients::{Clients, Protocol};
+use program_lines::fault::Fault;
+use series_rules::desk::Desk;
+use std::alloc::Global;
+use std::io::Write;
+use std::rt::HostRuntime;
+
+/// Clients that send these bytes, one after the other, and come for an exchange each.
+#[derive(Drop)]
+pub struct KnownClients<'a> {
+    pub alloc: Global,
+    pub sent: &'a [&'a [u8]],
+}
+
+impl<'a> Clients for KnownClients<'a> {
+    ghost use Rattle.std.specs.Prelude.{Some, false, map};
+    ghost use Rattle.program_clients.specs.declared.clients.Protocol.TheVariants.{Exchange};
+
+    ghost takes_batches = { false };
+
+    ghost coming = { λ clients. Some (map (λ bytes. bytes.now) clients.sent.now) };
+
+    ghost speaks = { λ reader. Exchange };
+
+    type Reader = &'a [u8];
+
+    type Writer = Vec<u8>;
+
+    // Behind the last of them no more can be had.
+    fn accept(&mut self) -> Result<Option<(Protocol, &'a [u8], Vec<u8>)>, Fault> {
+        match self.sent {
+            [first, rest @ ..] => {
+                self.sent = rest;
+                Ok(Some((Protocol::Exchange, first, Vec::new(self.alloc))))
+            }
+            [] => Err(Fault::Socket),
+        }
+    }
+
+    fn close(&mut self, reader: &'a [u8], writer: Vec<u8>) {
+        drop(reader);
+        drop(writer);
+    }
+}
+
+/// Whatever clients send, there are some of whom that is known, and serving them ends as is said of
+/// such.
+pub fn serve_known<D: Desk, O: Write, E: Write>(
+    rt: &HostRuntime,
+    routes: &Routes,
+    desk: &mut D,
+    precedence: &Precedence,
+    sent: &[&[u8]],
+    output: &mut O,
+    errors: &mut E,
+) -> u8
+    ensures { ConnectionsServed (Asked D.seen precedence.now desk.old desk.new)
+        (Appends (O.contents output.old) (O.contents output.new))
+        ⟦<KnownClients<'static> as Clients>⟧.speaks false
+        (Some (map (λ bytes. bytes.now) sent.now)) (length sent.now) result }
+{
+    let mut clients = KnownClients {
+        alloc: rt.alloc(),
+        sent,
+    };
+    let requests = sent.len() as u64;
+    serve_clients(
+        rt,
+        routes,
+        desk,
+        precedence,
+        &mut clients,
+        requests,
+        output,
+        errors,
+    )
+}

@@ -1,0 +1,223 @@
+//! The command `serve`: the desk over HTTP at a port of 127.0.0.1, and for batches at a socket of
+//! the file system where one is named.
+
+ghost use Rattle.std.specs.Prelude.{◌≤◌, is_some};
+ghost use Rattle.std.specs.Io.KnownBytes.{Appends};
+ghost use Rattle.program_commands.specs.ServedClients.{ServesNext};
+ghost use Rattle.series_rules.specs.Steps.{Asked};
+ghost use Rattle.program_lines.specs.Printing.{WritesWhole};
+ghost use Rattle.program_commands.specs.Serving.{listening_line};
+ghost use Rattle.program_commands.specs.TaskEnds.{ConnectionsServed, ServeEnds};
+
+use crate::connection::{print_line, serve_connection};
+use desk_http::{HttpFault, Routes};
+use price_rules::precedence::Precedence;
+use program_clients::clients::Clients;
+use program_clients::doors::Doors;
+use program_clients::port::{Bound, Port};
+use program_lines::fault::{Fault, report};
+use program_lines::printing::print_number;
+use series_rules::desk::Desk;
+use std::io::Write;
+
+// Waits for a client, serves its connection, and writes the line of that. Of a client that was gone
+// before nothing was read, and nothing was asked of the desk.
+fn serve_next<D: Desk, C: Clients, O: Write>(
+    rt: &HostRuntime,
+    routes: &Routes,
+    desk: &mut D,
+    precedence: &Precedence,
+    clients: &mut C,
+    output: &mut O,
+) -> Result<(), Fault>
+    ensures { ServesNext (Asked D.seen precedence.now desk.old desk.new) C.speaks
+        C.takes_batches (C.coming clients.old) (C.coming clients.new)
+        (Appends (O.contents output.old) (O.contents output.new)) result }
+{
+    match clients.accept() {
+        Ok(Some((protocol, mut reader, mut writer))) => {
+            let ended = serve_connection(
+                rt.alloc(),
+                routes,
+                desk,
+                precedence,
+                protocol,
+                &mut reader,
+                &mut writer,
+                output,
+            );
+            clients.close(reader, writer);
+            ended
+        }
+        Ok(None) => print_line(&Err(HttpFault::Read), output),
+        Err(fault) => Err(fault),
+    }
+}
+
+/// Serves so many clients, one after the other, and writes the line of each connection at once.
+/// Gives 0, or 3 where no more clients can be had or a line cannot be written, which is reported.
+pub fn serve_clients<D: Desk, C: Clients, O: Write, E: Write>(
+    rt: &HostRuntime,
+    routes: &Routes,
+    desk: &mut D,
+    precedence: &Precedence,
+    clients: &mut C,
+    requests: u64,
+    output: &mut O,
+    errors: &mut E,
+) -> u8
+    ensures status { result ≤ 3 }
+    // Each client was replied to or answered as the desk makes it, and what was answered is kept,
+    // by an exchange or within a batch: behind a fault of the store too. The lines are written,
+    // each whole but perhaps the last; with 0 they are all. A batch comes of a reader that speaks
+    // batches.
+    ensures end { ConnectionsServed (Asked D.seen precedence.now desk.old desk.new)
+        (Appends (O.contents output.old) (O.contents output.new)) C.speaks
+        C.takes_batches (C.coming clients.old) requests result }
+{
+    'serving: for _served in 0..requests {
+        match serve_next(rt, routes, desk, precedence, clients, output) {
+            Ok(()) => {}
+            Err(fault) => return report(&fault, errors),
+        }
+    }
+    0
+}
+
+// Writes the line of the port.
+fn print_listening<O: Write>(number: u16, output: &mut O) -> Result<(), Fault>
+    ensures { WritesWhole (Appends (O.contents output.old) (O.contents output.new))
+        (listening_line number) result }
+{
+    print_number("listening ", u64::from(number), output)
+}
+
+// Says which port is listened at, and serves its clients.
+fn serve_at<D: Desk, C: Clients, O: Write, E: Write>(
+    rt: &HostRuntime,
+    routes: &Routes,
+    desk: &mut D,
+    precedence: &Precedence,
+    clients: &mut C,
+    number: u16,
+    requests: u64,
+    output: &mut O,
+    errors: &mut E,
+) -> u8
+    ensures status { result ≤ 3 }
+    ensures end { ServeEnds (Asked D.seen precedence.now desk.old desk.new)
+        (Appends (O.contents output.old) (O.contents output.new))
+        C.takes_batches number requests result }
+{
+    match print_listening(number, output) {
+        Ok(()) => serve_clients(
+            rt, routes, desk, precedence, clients, requests, output, errors,
+        ),
+        Err(fault) => report(&fault, errors),
+    }
+}
+
+// What cannot be listened at is reported, and nothing is served.
+fn serve_opened<D: Desk, C: Clients + Drop, O: Write, E: Write>(
+    rt: &HostRuntime,
+    routes: &Routes,
+    desk: &mut D,
+    precedence: &Precedence,
+    opened: Result<C, Fault>,
+    number: u16,
+    requests: u64,
+    output: &mut O,
+    errors: &mut E,
+) -> u8
+    ensures status { result ≤ 3 }
+    ensures end { ServeEnds (Asked D.seen precedence.now desk.old desk.new)
+        (Appends (O.contents output.old) (O.contents output.new))
+        C.takes_batches number requests result }
+{
+    match opened {
+        Ok(mut clients) => serve_at(
+            rt,
+            routes,
+            desk,
+            precedence,
+            &mut clients,
+            number,
+            requests,
+            output,
+            errors,
+        ),
+        Err(fault) => report(&fault, errors),
+    }
+}
+
+// The port that was bound, or that is bound now.
+fn bound_port<'a>(rt: &'a HostRuntime, bound: Bound<'a>, number: u16) -> Result<Port<'a>, Fault> {
+    match bound {
+        Some(opened) => opened,
+        None => Port::open(rt, number),
+    }
+}
+
+// Listens, and serves by these routes.
+fn listen<D: Desk, O: Write, E: Write>(
+    rt: &HostRuntime,
+    routes: &Routes,
+    desk: &mut D,
+    precedence: &Precedence,
+    port: Result<Port<'_>, Fault>,
+    number: u16,
+    batches: Option<&str>,
+    requests: u64,
+    output: &mut O,
+    errors: &mut E,
+) -> u8
+    ensures status { result ≤ 3 }
+    ensures end { ServeEnds (Asked D.seen precedence.now desk.old desk.new)
+        (Appends (O.contents output.old) (O.contents output.new))
+        (is_some batches.entry) number requests result }
+{
+    match batches {
+        None => serve_opened(
+            rt, routes, desk, precedence, port, number, requests, output, errors,
+        ),
+        Some(socket) => {
+            let opened = Doors::open(rt, port, socket);
+            serve_opened(
+                rt, routes, desk, precedence, opened, number, requests, output, errors,
+            )
+        }
+    }
+}
+
+/// Listens at a port of 127.0.0.1, the one that was bound where there is one, and at a socket of
+/// the file system where one is named, writes `listening` and the number of the port, and serves so
+/// many connections: an exchange over HTTP at the port, a batch at the socket. Gives 0, or 3 after
+/// a fault of the port, of the socket or of the output, or when out of memory, which is reported.
+/// The routes of HTTP are made before.
+pub fn run<D: Desk, O: Write, E: Write>(
+    rt: &HostRuntime,
+    desk: &mut D,
+    precedence: &Precedence,
+    bound: Bound<'_>,
+    number: u16,
+    batches: Option<&str>,
+    requests: u64,
+    output: &mut O,
+    errors: &mut E,
+) -> u8
+    ensures status { result ≤ 3 }
+    // As `serve_clients`, behind the line of the port; with batches only where a socket is named.
+    ensures end { ServeEnds (Asked D.seen precedence.now desk.old desk.new)
+        (Appends (O.contents output.old) (O.contents output.new))
+        (is_some batches.entry) number requests result }
+{
+    match Routes::new(rt.alloc()) {
+        Ok(routes) => {
+            let port = bound_port(rt, bound, number);
+            listen(
+                rt, &routes, desk, precedence, port, number, batches, requests, output, errors,
+            )
+        }
+        Err(_) => report(&Fault::Memory, errors),
+    }
+}

@@ -1,0 +1,66 @@
+//! A command over a desk, by what it is asked.
+
+ghost use Rattle.std.specs.Prelude.{◌≤◌};
+ghost use Rattle.std.specs.Io.KnownBytes.{Appends};
+ghost use Rattle.series_rules.specs.Steps.{Asked};
+ghost use Rattle.program_commands.specs.TaskEnds.{TaskEnds};
+
+use crate::{batch, deliver, gaps, serve};
+use price_rules::precedence::Precedence;
+use program_clients::port::{Bound, Port};
+use program_files::NamedFiles;
+use program_words::invocation::Task;
+use series_rules::desk::Desk;
+use std::io::{Read, Write};
+use std::rt::HostRuntime;
+
+/// The port at which a command serves. It is bound before the desk is opened, so that nobody else
+/// has it meanwhile and clients wait; whether it could be is told behind the faults of the desk.
+pub fn port_of<'a>(rt: &'a HostRuntime, task: &Task<'_>) -> Bound<'a> {
+    match task {
+        Task::Serve { port, .. } => Some(Port::open(rt, *port)),
+        _ => None,
+    }
+}
+
+/// Runs a command over a desk, and gives its status.
+pub fn run_task<D: Desk, F: NamedFiles, R: Read, W: Write, E: Write>(
+    rt: &HostRuntime,
+    desk: &mut D,
+    precedence: &Precedence,
+    bound: Bound<'_>,
+    task: &Task<'_>,
+    files: &F,
+    input: &mut R,
+    output: &mut W,
+    errors: &mut E,
+) -> u8
+    ensures status { result ≤ 3 }
+    ensures end { TaskEnds (Asked D.seen precedence.now desk.old desk.new)
+        (Appends (W.contents output.old) (W.contents output.new))
+        task.now (F.holds files.now) (R.remaining input.old) result }
+{
+    match task {
+        Task::Batch => batch::run(rt.alloc(), desk, precedence, input, output, errors),
+        Task::Deliver(names) => {
+            deliver::run(
+                rt.alloc(),
+                desk,
+                precedence,
+                files,
+                names.as_slice(),
+                input,
+                output,
+                errors,
+            )
+        }
+        Task::Gaps(name) => gaps::run(rt.alloc(), desk, precedence, name, output, errors),
+        Task::Serve {
+            port,
+            requests,
+            batches,
+        } => serve::run(
+            rt, desk, precedence, bound, *port, *batches, *requests, output, errors,
+        ),
+    }
+}

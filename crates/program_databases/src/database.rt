@@ -1,0 +1,73 @@
+//! The database file, looked at before it is opened.
+
+ghost use Rattle.std.specs.Prelude.{◌≡◌, ◌⊎◌, ◌↔◌, IfErr, IsTrue, OnOk};
+ghost use Rattle.program_databases.specs.Found.{IsMissing, IsStray};
+ghost use Rattle.program_lines.specs.declared.fault.Fault.{Fault};
+
+use program_lines::fault::Fault;
+use program_words::invocation::Database;
+use std::fs::Metadata;
+use std::io::{Error, ErrorKind, IsTerminal, Write};
+use std::rt::HostRuntime;
+
+/// Of a file of more bytes it is said that it is checked, since that takes some seconds.
+const LARGE: u64 = 50_000_000;
+
+// Whether there is no such file.
+fn is_missing(found: &Result<Metadata, Error>) -> bool
+    ensures { IsTrue result ↔ IsMissing found.now }
+{
+    match found {
+        Ok(_) => false,
+        Err(error) => error.kind() == ErrorKind::NotFound,
+    }
+}
+
+// Whether a file has one byte, which no opening under way has left.
+fn is_stray(found: &Result<Metadata, Error>, log: &Result<Metadata, Error>) -> bool
+    ensures { IsTrue result ↔ IsStray found.now log.now }
+{
+    let Ok(file) = found else {
+        return false;
+    };
+    match log {
+        Ok(beside) => file.len() == 1 && beside.len() == 0,
+        Err(_) => file.len() == 1,
+    }
+}
+
+// Says on a terminal that a large file is checked.
+fn announce<E: Write>(rt: &HostRuntime, name: &str, bytes: u64, errors: &mut E) {
+    if bytes > LARGE && rt.stderr().is_terminal() {
+        let size = bytes / 1_000_000;
+        let _ = write!(errors, "onixdesk: checking {name}, {size} MB\n");
+    }
+}
+
+/// Looks at the database file before it is opened, by what was found of it and of its log: a desk
+/// reads and checks all of it. On a terminal a line says so of one of more than 50 MB.
+/// `StorageUnusable` where the file has to be there and is missing, so that none is made, and where
+/// it is of one byte that no opening has left, since it would be written over.
+pub fn look_at<E: Write>(
+    rt: &HostRuntime,
+    db: &Database<'_>,
+    found: &Result<Metadata, Error>,
+    log: &Result<Metadata, Error>,
+    errors: &mut E,
+) -> Result<(), Fault>
+    ensures there { OnOk result (IsTrue db.now.is_existing → ¬ IsMissing found.now) }
+    ensures own { OnOk result (¬ IsStray found.now log.now) }
+    ensures err { IfErr result (λ fault. (fault ≡ Fault.StorageUnusable)
+        × ((IsTrue db.now.is_existing × IsMissing found.now) ⊎ IsStray found.now log.now)) }
+{
+    if db.is_existing && is_missing(found) {
+        return Err(Fault::StorageUnusable);
+    }
+    if is_stray(found, log) {
+        return Err(Fault::StorageUnusable);
+    }
+    if let Ok(file) = found {
+        announce(rt, db.name, file.len(), errors);
+    }
+    Ok(())
+}

@@ -1,0 +1,110 @@
+-- What led from one desk to another led from what that came from to what comes of it, as from the files of a desk before they are opened to those that are closed.
+use Rattle.std.proofs.Common.{◌≡◌, ◌⊎◌, ◌||◌, ℕ, Bool, true, false, List, [], ◌∷◌, Option, Some, None, Ok, Err, inl, inr, refl, sym}
+use Rattle.std.proofs.lemmas.List.Elements.{All-head, All-tail}
+use Rattle.program_files.specs.Holdings.{Holdings}
+use Rattle.onix_terms.specs.SeriesName.{series_name_of}
+use Rattle.price_rules.specs.declared.precedence.Rule.{Rule}
+use Rattle.series_rules.proofs.Questions.{question_changes_nothing}
+use Rattle.series_rules.proofs.StepLemmas.{unchanged_all}
+use Rattle.series_rules.specs.Changes.{changes, is_question}
+use Rattle.series_rules.specs.Content.{SameContent}
+use Rattle.series_rules.specs.Steps.{AreQuestions, Follows, HasAll, Leads, Step, has_change, in_doubt, with_answered}
+use Rattle.series_rules.specs.Views.{DeskKind, LeavesOnly, View}
+use Rattle.series_rules.specs.declared.requests.Request.{Request}
+use Rattle.program_commands.proofs.TalkEnds.{batch_as, talks_as}
+use Rattle.program_commands.specs.TaskEnds.{GapsEnds, RequestsEnd, TaskEnds}
+use Rattle.program_words.specs.declared.invocation.Task.{Task}
+use Rattle.program_words.specs.declared.invocation.Task.TheVariants as task
+
+-- what is seen of what comes of a desk: it stands for no less, and a crash leaves nothing more, or only what the desk stood for
+pub record ComesOf {k : DeskKind} (last new : View k) : Type 0 where
+  pub premise : new.sound → last.sound
+  pub stands : new.sound → (M : List Request) → last.stands_for M → new.stands_for M
+  pub left : new.sound → ((x : k.Left) → new.may_leave x → last.may_leave x) ⊎ ((M : List Request) → last.stands_for M → LeavesOnly new M)
+  pub holds : new.sound → (x : k.Left) → last.holds x → new.holds x
+
+-- what is seen of what a desk came from: each list of it is one that the desk stood for alone, and what comes to all of these it may have left
+pub record ComesTo {k : DeskKind} (old first : View k) : Type 0 where
+  pub premise : first.sound → old.sound
+  pub stands : first.sound → (L : List Request) → old.stands_for L → first.stands_for L
+  pub alone : first.sound → (L : List Request) → old.stands_for L → LeavesOnly first L
+  pub all : (x : k.Left) → ((L : List Request) → old.stands_for L → k.comes_to x L) → old.may_leave x
+  pub holds : first.sound → (x : k.Left) → old.holds x → first.holds x
+
+pub same_refl : (L : List Request) → SameContent L L
+same_refl L = record { agreements = λ name. refl; firsts = λ series number. refl }
+
+sym_same : (L M : List Request) → SameContent L M → SameContent M L
+sym_same L M same = record { agreements = λ name. sym (same.agreements name); firsts = λ series number. sym (same.firsts series number) }
+
+or_both : (a b : Bool) → a ≡ false → b ≡ false → (a || b) ≡ false
+or_both false b one two = two
+or_both true b one two = absurd cc
+
+-- questions change nothing
+questions_change : (L : List Request) (steps : List Step) → AreQuestions steps → has_change L steps ≡ false
+questions_change L [] are = refl
+questions_change L ((r, Ok a) ∷ steps) are =
+    or_both (changes L r) (has_change (r ∷ L) steps) (question_changes_nothing L r (All-head (λ (s : Step). is_question s.0 ≡ true) (r, Ok a) steps are))
+    (questions_change (r ∷ L) steps (All-tail (λ (s : Step). is_question s.0 ≡ true) (r, Ok a) steps are))
+questions_change L ((r, Err f) ∷ steps) are = questions_change L steps (All-tail (λ (s : Step). is_question s.0 ≡ true) (r, Err f) steps are)
+
+module _ {k : DeskKind} (rules : List Rule) (steps : List Step) (old first last new : View k) (begins : ComesTo old first) (comes : ComesOf last new) (leads : Leads rules steps first last) where
+  module _ (sound : new.sound) where
+    opened : first.sound
+    opened = leads.premise (comes.premise sound)
+
+    -- of every list
+    follows : (L : List Request) → old.stands_for L → Follows rules L steps old new
+    follows L stood = record {
+      answers = then.answers;
+      stands = comes.stands sound (with_answered L steps) then.stands;
+      left = λ x may. by x may (comes.left sound);
+    }
+      where
+        then : Follows rules L steps first last
+        then = leads.follows L (begins.stands opened L stood) (comes.premise sound)
+
+        go : (x : k.Left) → HasAll k (with_answered L steps) (in_doubt L steps) x ⊎ ((has_change L steps ≡ false) × first.may_leave x) → HasAll k (with_answered L steps) (in_doubt L steps) x ⊎ ((has_change L steps ≡ false) × old.may_leave x)
+        go x (inl has) = inl has
+        go x (inr left) = inr (left.0, begins.all x (λ M held. begins.alone opened M held x left.1))
+
+        by : (x : k.Left) → new.may_leave x → ((y : k.Left) → new.may_leave y → last.may_leave y) ⊎ ((M : List Request) → last.stands_for M → LeavesOnly new M)
+            → HasAll k (with_answered L steps) (in_doubt L steps) x ⊎ ((has_change L steps ≡ false) × old.may_leave x)
+        by x may (inl no_more) = go x (then.left x (no_more x may))
+        by x may (inr alone) = inl (inl (alone (with_answered L steps) then.stands x may))
+
+    questions : AreQuestions steps → (x : k.Left) → new.may_leave x → old.may_leave x
+    questions are x may = begins.all x (λ L held. by L held (comes.left sound))
+      where
+        by : (L : List Request) → old.stands_for L → ((y : k.Left) → new.may_leave y → last.may_leave y) ⊎ ((M : List Request) → last.stands_for M → LeavesOnly new M) → k.comes_to x L
+        by L held (inl no_more) = begins.alone opened L held x (leads.questions are (comes.premise sound) x (no_more x may))
+        by L held (inr alone) =
+            let then = leads.follows L (begins.stands opened L held) (comes.premise sound) in
+            k.by_content x (with_answered L steps) L (sym_same L (with_answered L steps) (unchanged_all L steps (questions_change L steps are))) (alone (with_answered L steps) then.stands x may)
+
+  pub leads_between : Leads rules steps old new
+  leads_between = record {
+    premise = λ sound. begins.premise (opened sound);
+    follows = λ L stood sound. follows sound L stood;
+    questions = λ are sound x may. questions sound are x may;
+    held = λ are sound x held. comes.holds sound x (leads.held are (comes.premise sound) x (begins.holds (opened sound) x held));
+    faults = leads.faults;
+  }
+
+-- requests that were asked so were asked as well so
+requests_as : (asked asks : List Step → Type 0) (written : List ℕ → Type 0) → ((steps : List Step) → asked steps → asks steps) → (rs : List Request) (status : ℕ) → RequestsEnd asked written rs status → RequestsEnd asks written rs status
+requests_as asked asks written f rs status (result, talks, is) = (result, talks_as asked asks written written rs _ _ f (λ t was. was) (λ steps stop given. given) talks, is)
+
+-- a command that asked so asked as well so
+pub task_as : (asked asks : List Step → Type 0) (written : List ℕ → Type 0) → ((steps : List Step) → asked steps → asks steps) → (task : Task) (holds : Holdings) (told : Option (List ℕ)) (status : ℕ) → TaskEnds asked written task holds told status → TaskEnds asks written task holds told status
+task_as asked asks written f task.Batch holds told status (text, result, is, ran, same) = (text, result, is, batch_as asked asks written written f (λ t was. was) text result ran, same)
+task_as asked asks written f (task.Deliver names) holds told status ended =
+    (ended.0, ended.1, ended.2, ended.3, ended.4, requests_as asked asks written f _ _ ended.5, ended.6)
+task_as asked asks written f (task.Gaps name) holds told status ended = by (series_name_of name.now) ended
+  where
+    by : (o : Option (List ℕ)) → GapsEnds asked written o status → GapsEnds asks written o status
+    by (Some series) end = requests_as asked asks written f _ _ end
+    by None end = (f [] end.0, end.1)
+task_as asked asks written f (task.Serve port requests batches) holds told status ended =
+    (ended.0, (ended.1.0, ended.1.1, f _ ended.1.2), ended.2, ended.3)

@@ -1,0 +1,19 @@
+use Rattle.std.specs.Io.KnownBytes.{Appends}
+use Rattle.desk_memory.specs.contracts.desk.MemoryDeskDesk.TheImpl.{ghosts}
+use Rattle.series_rules.proofs.StepLemmas.{traces_lead}
+use Rattle.series_rules.specs.Steps.{Asked, Leads}
+use Rattle.program_run.proofs.EndLemmas.{task_as}
+use Rattle.program_run.proofs.program.run_in_memory.Goals as goal
+
+pub returns-clause-end : goal.returns-clause-end
+returns-clause-end g c =
+    let rules = c.args.precedence.now in
+    let new = c.new-desk.result in
+    let last = c.run_task-status.new.desk in (
+      new,
+      last,
+      c.new-desk.ensures,
+      tt,
+      task_as (Asked ghosts.seen rules new last) (λ steps. Leads rules steps (ghosts.seen new) (ghosts.seen last)) (Appends (g.W.Write.contents c.args.output.now) (g.W.Write.contents c.run_task-status.new.output))
+          (λ steps trace. traces_lead ghosts.seen rules steps new last trace) c.args.task.now (g.F.NamedFiles.holds c.args.files.now) (g.R.Read.remaining c.args.input.now) c.run_task-status.result c.run_task-status.ensures.end,
+    )

@@ -1,0 +1,243 @@
+//! The commands that list what a desk in a file holds: `agreements`, `gaps` without a NAME,
+//! `export`.
+
+ghost use Rattle.std.specs.Prelude.{◌≡◌, ◌≤◌, ◌⊎◌, ℕ, IsTrue, List, true};
+ghost use Rattle.std.specs.Io.KnownBytes.{Appends};
+ghost use Rattle.sqlite_wal.specs.Recovery.{Image};
+ghost use Rattle.program_files.specs.Holdings.{MayName};
+ghost use Rattle.program_files.specs.PartFiles.{files_of, numbered};
+ghost use Rattle.desk_export.specs.Asking.{IsAsked};
+ghost use Rattle.desk_export.specs.Exports.{export_of};
+ghost use Rattle.desk_export.specs.ListTexts.{listed_text};
+ghost use Rattle.desk_export.specs.PartTexts.{AreInFolder, MayBeInFolder};
+ghost use Rattle.program_databases.specs.Databases.{AreSettled};
+ghost use Rattle.program_run.specs.ListingEnds.{FileListingEnds, IsListed, ListingEnds, ListsAndCloses, SparesFiles};
+
+use crate::closing::close_desk;
+use csv_records::streams::WriteFault;
+use desk_export::export::ExportFault;
+use desk_export::folder::export_into;
+use desk_export::list_text::{Listed, write_list};
+use desk_listing::listing::ListedDesk;
+use desk_store::DeskStore;
+use feed_files::write_fault;
+use onix_terms::number::Number;
+use onix_terms::series_name::SeriesName;
+use program_databases::databases::{Databases, open_database};
+use program_databases::files::{FilesLeft, fault_of};
+use program_files::{FileFault, NamedFiles};
+use program_lines::fault::{Fault, report};
+use program_words::invocation::{Database, Listing};
+use series_rules::desk::Desk;
+use sqlite::{FileStore, Files, Options};
+use sqlite_disk::Disk;
+use std::alloc::Global;
+use std::io::Write;
+use std::rt::HostRuntime;
+
+// Reports that a message is too large for a batch.
+fn report_large<E: Write>(series: &SeriesName, number: Number, errors: &mut E) -> u8
+    ensures { result ≡ 3 }
+{
+    let name = series.as_str();
+    let number = number.value();
+    let _ = write!(errors, "onixdesk: export: {name} {number}: too large\n");
+    3
+}
+
+// Reports why a list is not written whole.
+fn report_listing<E: Write>(fault: ExportFault<WriteFault>, errors: &mut E) -> u8
+    ensures { result ≡ 3 }
+{
+    match fault {
+        ExportFault::Store(fault) => report(&Fault::from(fault), errors),
+        ExportFault::Taking(WriteFault) => report(&Fault::Output, errors),
+        ExportFault::Memory => report(&Fault::Memory, errors),
+        ExportFault::TooLarge { series, number } => report_large(&series, number, errors),
+    }
+}
+
+// Reports why a desk is not in the files of a folder.
+fn report_export<E: Write>(alloc: Global, fault: ExportFault<FileFault>, errors: &mut E) -> u8
+    ensures { result ≡ 3 }
+{
+    match fault {
+        ExportFault::Store(fault) => report(&Fault::from(fault), errors),
+        ExportFault::Taking(fault) => {
+            write_fault(alloc, &fault, errors);
+            3
+        }
+        ExportFault::Memory => report(&Fault::Memory, errors),
+        ExportFault::TooLarge { series, number } => report_large(&series, number, errors),
+    }
+}
+
+// Writes what a desk lists. Gives 0, or 3 after a fault, which is reported.
+fn write_listing<D: ListedDesk, W: Write, E: Write>(
+    alloc: Global,
+    desk: &mut D,
+    listed: Listed,
+    output: &mut W,
+    errors: &mut E,
+) -> u8
+    ensures status { (result ≡ 0) ⊎ (result ≡ 3) }
+    ensures end { IsAsked (D.seen desk.old) (D.seen desk.new) (λ L. result ≡ 0
+        → Appends (W.contents output.old) (W.contents output.new) (listed_text listed L)) }
+{
+    match write_list(alloc, desk, listed, output) {
+        Ok(()) => 0,
+        Err(fault) => report_listing(fault, errors),
+    }
+}
+
+// Exports a desk into a folder. Gives 0, or 3 after a fault, which is reported.
+fn write_folder<D: ListedDesk, F: NamedFiles, E: Write>(
+    alloc: Global,
+    desk: &mut D,
+    folder: &str,
+    files: &mut F,
+    errors: &mut E,
+) -> u8
+    ensures status { (result ≡ 0) ⊎ (result ≡ 3) }
+    ensures end { IsAsked (D.seen desk.old) (D.seen desk.new) (λ L. F.is_told ≡ true
+        → (result ≡ 0
+        → AreInFolder folder.now (export_of L) (F.holds files.old) (F.holds files.new))
+        × MayBeInFolder folder.now (export_of L) (F.holds files.old) (F.holds files.new)) }
+    ensures may { F.is_told ≡ true → (texts : List (List ℕ))
+        × MayName (files_of (numbered folder.now) texts) (F.holds files.old) (F.holds files.new) }
+{
+    match export_into(alloc, desk, files, folder) {
+        Ok(()) => 0,
+        Err(fault) => report_export(alloc, fault, errors),
+    }
+}
+
+// Exports a desk, into a folder where one is named. Gives 0, or 3 after a fault, which is reported.
+fn run_export<D: ListedDesk, F: NamedFiles, W: Write, E: Write>(
+    alloc: Global,
+    desk: &mut D,
+    folder: Option<&str>,
+    files: &mut F,
+    output: &mut W,
+    errors: &mut E,
+) -> u8
+    ensures status { (result ≡ 0) ⊎ (result ≡ 3) }
+    ensures spares { SparesFiles (Appends (W.contents output.old) (W.contents output.new))
+        F.is_told (F.holds files.old) (F.holds files.new) (Listing.Export folder.entry) }
+    ensures end { IsAsked (D.seen desk.old) (D.seen desk.new) (λ L. IsListed
+        (Appends (W.contents output.old) (W.contents output.new))
+        F.is_told (F.holds files.old) (F.holds files.new) (Listing.Export folder.entry)
+        L result) }
+{
+    match folder {
+        None => write_listing(alloc, desk, Listed::Requests, output, errors),
+        Some(folder) => write_folder(alloc, desk, folder, files, errors),
+    }
+}
+
+// Lists what a desk holds. Gives 0, or 3 after a fault, which is reported.
+fn run<D: ListedDesk, F: NamedFiles, W: Write, E: Write>(
+    alloc: Global,
+    desk: &mut D,
+    listing: Listing<'_>,
+    files: &mut F,
+    output: &mut W,
+    errors: &mut E,
+) -> u8
+    ensures status { result ≤ 3 }
+    ensures spares { SparesFiles (Appends (W.contents output.old) (W.contents output.new))
+        F.is_told (F.holds files.old) (F.holds files.new) listing.entry }
+    ensures end { ListingEnds (Appends (W.contents output.old) (W.contents output.new))
+        F.is_told (F.holds files.old) (F.holds files.new) listing.entry
+        (D.seen desk.old) (D.seen desk.new) result }
+{
+    match listing {
+        Listing::Agreements => write_listing(alloc, desk, Listed::Agreements, output, errors),
+        Listing::Gaps => write_listing(alloc, desk, Listed::Gaps, output, errors),
+        Listing::Export { folder } => run_export(alloc, desk, folder, files, output, errors),
+    }
+}
+
+// Lists what a desk in two files holds, and closes them.
+fn list_and_close<O, U, D: Disk + Drop, F: NamedFiles, W: Write, E: Write>(
+    alloc: Global,
+    mut desk: DeskStore<FileStore<D>>,
+    listing: Listing<'_>,
+    files: &mut F,
+    output: &mut W,
+    errors: &mut E,
+) -> (u8, FilesLeft<O, U, D>)
+    ensures status { result.0 ≤ 3 }
+    ensures spares { SparesFiles (Appends (W.contents output.old) (W.contents output.new))
+        F.is_told (F.holds files.old) (F.holds files.new) listing.entry }
+    ensures end { ListsAndCloses (Appends (W.contents output.old) (W.contents output.new))
+        F.is_told (F.holds files.old) (F.holds files.new) listing.entry
+        (⟦<DeskStore<FileStore<D>> as Desk>⟧.seen desk) result.0 result.1 }
+{
+    let status = run(alloc, &mut desk, listing, files, output, errors);
+    close_desk(status, desk, errors)
+}
+
+// Lists what the desk in two files holds that were opened.
+fn list_over_files<O, U, D: Disk + Drop, F: NamedFiles, W: Write, E: Write>(
+    alloc: Global,
+    database: Files<D>,
+    options: Options,
+    listing: Listing<'_>,
+    files: &mut F,
+    output: &mut W,
+    errors: &mut E,
+) -> (u8, FilesLeft<O, U, D>)
+    requires log { IsTrue (D.Disk.is_usable database.log) }
+    requires db { IsTrue (D.Disk.is_usable database.db) }
+    ensures status { result.0 ≤ 3 }
+    ensures spares { SparesFiles (Appends (W.contents output.old) (W.contents output.new))
+        F.is_told (F.holds files.old) (F.holds files.new) listing.entry }
+    ensures end { (image : Image) → AreSettled D.Disk image database
+        → FileListingEnds (Appends (W.contents output.old) (W.contents output.new))
+        F.is_told (F.holds files.old) (F.holds files.new) listing.entry
+        image result.0 result.1 }
+{
+    match DeskStore::open_files_with(alloc, database, options) {
+        Ok(desk) => list_and_close(alloc, desk, listing, files, output, errors),
+        Err((fault, left)) => {
+            let status = report(&fault_of(fault), errors);
+            (status, FilesLeft::Unopened(left))
+        }
+    }
+}
+
+/// Lists what the desk in the database file of a name holds, which is only asked: to the output, or
+/// into a folder. Gives 0, or 3 after a fault, which is reported; and what is left of the files of
+/// the database.
+pub fn list_file<O: Databases, F: NamedFiles, W: Write, E: Write>(
+    rt: &HostRuntime,
+    db: &Database<'_>,
+    databases: O,
+    listing: Listing<'_>,
+    files: &mut F,
+    output: &mut W,
+    errors: &mut E,
+) -> (u8, FilesLeft<O, O::NotOpened, O::File>)
+    ensures status { result.0 ≤ 3 }
+    ensures spares { SparesFiles (Appends (W.contents output.old) (W.contents output.new))
+        F.is_told (F.holds files.old) (F.holds files.new) listing.entry }
+    ensures end { FileListingEnds (Appends (W.contents output.old) (W.contents output.new))
+        F.is_told (F.holds files.old) (F.holds files.new) listing.entry
+        (O.held databases db.now.name.now) result.0 result.1 }
+{
+    match open_database(rt, db, databases, errors) {
+        Ok((database, options)) => {
+            list_over_files(
+                rt.alloc(),
+                database,
+                options,
+                listing,
+                files,
+                output,
+                errors,
+            )
+        }
+        Err((fault, none)) => (report(&fault, errors), none),
+    }
+}

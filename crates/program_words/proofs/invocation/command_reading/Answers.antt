@@ -1,0 +1,25 @@
+use Rattle.std.proofs.Common.{subst, sym}
+use Rattle.program_words.specs.Asked.{ReadsAs}
+use Rattle.program_words.specs.Words.{words_in}
+use Rattle.program_words.proofs.invocation.command_reading.Goals as goal
+
+pub returns-in-Some : goal.returns-in-Some
+returns-in-Some c = c.send_reading.ensures (words_in c.args.matches.now) (words_in c.args.words.now) (sym c.in-Some.ensures)
+
+pub returns-in-convert : goal.returns-in-convert
+returns-in-convert c =
+    subst (λ name. ReadsAs (words_in c.args.matches.now) name (words_in c.args.words.now) c.convert_reading.result) (sym c.in-convert.is)
+    (c.convert_reading.ensures (words_in c.args.matches.now) (sym c.in_default.ensures))
+
+pub returns-in-migrate : goal.returns-in-migrate
+returns-in-migrate c =
+    subst (λ name. ReadsAs (words_in c.args.matches.now) name (words_in c.args.words.now) c.migrate_reading.result) (sym c.in-migrate.is)
+    (c.migrate_reading.ensures (words_in c.args.words.now) (sym c.in_default.ensures))
+
+pub returns-in-rules : goal.returns-in-rules
+returns-in-rules c =
+    subst (λ name. ReadsAs (words_in c.args.matches.now) name (words_in c.args.words.now) c.rules_reading.result) (sym c.in-rules.is)
+    (c.rules_reading.ensures (words_in c.args.matches.now) (sym c.in_default.ensures))
+
+pub returns-in_default-name : goal.returns-in_default-name
+returns-in_default-name c = c.desk_reading.ensures (sym c.in_default.ensures)

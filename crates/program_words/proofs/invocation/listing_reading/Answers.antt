@@ -1,0 +1,7 @@
+use Rattle.program_words.proofs.invocation.listing_reading.Goals as goal
+
+pub returns-in-Some : goal.returns-in-Some
+returns-in-Some c = λ name own is none. ((is, c.in-Some.ensures, none), c.text_in.ensures)
+
+pub returns-in-None : goal.returns-in-None
+returns-in-None c = λ name own is none. (c.args.listing, is, c.in-None.ensures)

@@ -1,5 +1,0 @@
-use Rattle.std.specs.Prelude.{[]}
-use Rattle.rules_file.proofs.rules.open_table.Goals as goal
-
-pub returns-in-Err : goal.returns-in-Err
-returns-in-Err c = ([], c.open_fault.ensures [])

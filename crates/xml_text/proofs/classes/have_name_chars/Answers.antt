@@ -1,7 +1,0 @@
-use Rattle.std.proofs.Common.{◌∙◌, sym}
-use Rattle.xml_text.proofs.CharacterLaws.{ascii_name}
-use Rattle.xml_text.proofs.classes.have_name_chars.Goals as goal
-
-pub returns-then-are_ascii : goal.returns-then-are_ascii
-returns-then-are_ascii c =
-    c.if-are_ascii.true ∙ sym (ascii_name c.args.bytes.now (sym c.are_ascii.ensures ∙ c.if-are_ascii.true) c.requires.begins c.requires.all)

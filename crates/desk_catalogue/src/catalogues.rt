@@ -4,7 +4,7 @@ ghost use Rattle.desk_catalogue.specs.Achieves.{Does};
 ghost use Rattle.desk_catalogue.specs.Calls.{KeepsRows, IsCatalogueOf};
 ghost use Rattle.desk_catalogue.specs.ReadRecords.{AreReadOf};
 
-use crate::reading::read_record;
+use crate::record_rows::read_record;
 use catalogue_rules::catalogue::Catalogue;
 use desk_tables::records::RecordRow;
 use desk_tables::work::Work;

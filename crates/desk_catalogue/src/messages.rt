@@ -12,7 +12,7 @@ ghost use Rattle.desk_catalogue.specs.declared.reading.FoundRecord.{FoundRecord}
 ghost use Rattle.desk_tables.specs.RecordAnswers.{has_minimums};
 
 use crate::minimums::products_have_minimums;
-use crate::reading::{FoundRecord, find_record};
+use crate::record_rows::{FoundRecord, find_record};
 use crate::records::{remove_record, replace_supplies, write_record};
 use crate::runs::{Step, apply_run, brings_new, record_row};
 use catalogue_rules::change::{Change, counted};

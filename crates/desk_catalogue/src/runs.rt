@@ -12,7 +12,7 @@ ghost use Rattle.desk_catalogue.specs.WrittenRows.{product_articles, product_off
 ghost use Rattle.onix_records.specs.declared.parts.Product.{Product};
 
 use crate::build::{add_article_rows, add_offer_rows, add_price_rows};
-use crate::reading::has_record;
+use crate::record_rows::has_record;
 use crate::records::{put_offers_and_prices, put_records_and_articles};
 use catalogue_rules::change::Change;
 use desk_tables::articles::ArticleRow;

@@ -3,7 +3,7 @@
 
 mod answers;
 mod changes;
+pub mod line_terms;
 mod queries;
 mod sample;
 pub mod transcripts;
-pub mod words;

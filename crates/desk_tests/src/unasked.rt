@@ -2,7 +2,7 @@
 //! replies to answers that no request over HTTP has. What is to come is taken from the desk's written rules.
 
 use crate::cases::{expect, expect_bytes, found, made};
-use crate::tables::words::{is_whole, word};
+use crate::tables::line_terms::{is_whole, word};
 use csv_records::reading::RecordReader;
 use desk_http::reply_of;
 use desk_memory::MemoryDesk;

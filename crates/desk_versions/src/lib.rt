@@ -7,5 +7,5 @@
 #![tactic(auto)]
 
 pub mod laws;
-pub mod migration;
 pub mod opening;
+pub mod version_two;

@@ -18,7 +18,7 @@ use Rattle.feed_conversion.specs.Keeping.{Keeping}
 use Rattle.feed_conversion.specs.Messages.{empty_messages, fits, message_text}
 use Rattle.feed_conversion.specs.Packing.{Converted, Packing, product_notes}
 use Rattle.feed_conversion.specs.Packing as defined
-use Rattle.feed_conversion.specs.private.Stages.{Begun, Stored, Taken, empty_parts, end_text, first_fields, first_text, has_room, stored, kept, taken, with_part}
+use Rattle.feed_conversion.specs.private.Stages.{OpenParts, Stored, Taken, empty_parts, end_text, first_fields, first_text, has_room, stored, kept, taken, with_part}
 use Rattle.feed_conversion.specs.private.Stages.{after_product as product_taken}
 use Rattle.feed_conversion.specs.private.Stages as run
 use Rattle.feed_conversion.specs.Tallies.{place_of, refused_for}
@@ -31,7 +31,7 @@ abbrev pub result_map : {A B E : Type 0} → (A → B) → Result A E → Result
 result_map f (Ok x) = Ok (f x)
 result_map f (Err e) = Err e
 
-abbrev pub seen_begun : Heading → Nodes → Packing → Begun
+abbrev pub seen_begun : Heading → Nodes → Packing → OpenParts
 seen_begun h header w = record {
   front = take 6 (first_fields h header);
   back = drop 7 (first_fields h header);
@@ -135,7 +135,7 @@ empty_is h header w k (suc more) =
     ∙ ap (λ (ts : List (List ℕ)). message_text (first_record h header k) [] ∷ ts) (empty_is h header w (suc k) more)
 
 -- one more part without products
-pub one_more : {P N : Type 0} (k : Keeping P N) (b : Begun) (most before : ℕ) (old new all : P) (text : List ℕ) → before < most → text ≡ first_text b before
+pub one_more : {P N : Type 0} (k : Keeping P N) (b : OpenParts) (most before : ℕ) (old new all : P) (text : List ℕ) → before < most → text ≡ first_text b before
     → new ≡ with_part k most before (text ++ end_text 1) old → fold k.with_part old (empty_parts b before (most - before)) ≡ all
     → fold k.with_part new (empty_parts b (before + 1) (most - (before + 1))) ≡ all
 one_more {P} {N} k b most before old new all text lt is added rest =

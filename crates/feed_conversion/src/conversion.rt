@@ -10,7 +10,7 @@ ghost use Rattle.feed_conversion.specs.private.StageViews.{begun_view};
 
 use crate::converter::Converter;
 use crate::options::Options;
-use crate::packing::{Begun, Stage, first_text, hand_on};
+use crate::packing::{OpenParts, Stage, first_text, hand_on};
 use crate::refusal::{Fault, Refusal};
 use crate::tally::refused_for;
 use crate::target::Target;
@@ -30,7 +30,7 @@ pub struct Outcome<T> {
 fn hand_empty<T: Target>(
     alloc: Global,
     most: u32,
-    begun: &Begun,
+    begun: &OpenParts,
     before: u32,
     target: &mut T,
 ) -> Result<(), AllocError>
@@ -51,7 +51,7 @@ fn hand_empty<T: Target>(
 fn hand_rest<T: Target>(
     alloc: Global,
     most: u32,
-    begun: &mut Begun,
+    begun: &mut OpenParts,
     target: &mut T,
 ) -> Result<(), AllocError>
     ensures parts { OnOk result (T.parts target.new
@@ -77,7 +77,7 @@ fn hand_rest<T: Target>(
 fn end_parts<T: Target>(
     alloc: Global,
     most: u32,
-    begun: Begun,
+    begun: OpenParts,
     target: &mut T,
 ) -> Result<u32, Fault>
     ensures { Ends result (T.parts target.new) (T.notes target.new) (ended_at T.keeping most
@@ -101,7 +101,7 @@ fn end_parts<T: Target>(
 fn end<T: Target>(
     alloc: Global,
     options: &Options<'_>,
-    begun: Begun,
+    begun: OpenParts,
     target: &mut T,
 ) -> Result<u32, Fault>
     ensures { Ends result (T.parts target.new) (T.notes target.new)

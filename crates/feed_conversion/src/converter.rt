@@ -13,7 +13,7 @@ ghost use Rattle.feed_conversion.specs.private.StageViews.{begun_view, stage_vie
 
 use crate::messages::record_text;
 use crate::options::Options;
-use crate::packing::{Begun, Stage, keep};
+use crate::packing::{OpenParts, Stage, keep};
 use crate::refusal::Refusal;
 use crate::tally::{Tally, count_product};
 use crate::target::Target;
@@ -50,7 +50,7 @@ impl<'a, T: Target> Model for Converter<'a, T> {
 // Counts a product with these notes, and hands them on.
 fn note_product<T: Target>(
     alloc: Global,
-    begun: &mut Begun,
+    begun: &mut OpenParts,
     target: &mut T,
     product: &Composite<'_>,
     notes: &[Note<'_>],
@@ -70,7 +70,7 @@ fn note_product<T: Target>(
 fn keep_variant<T: Target>(
     alloc: Global,
     most: u32,
-    begun: &mut Begun,
+    begun: &mut OpenParts,
     target: &mut T,
     product: &Composite<'_>,
     records: &RecordBuffer,
@@ -93,7 +93,7 @@ fn keep_variant<T: Target>(
 // Leaves out a product that is too large in each form.
 fn leave_out<T: Target>(
     alloc: Global,
-    begun: &mut Begun,
+    begun: &mut OpenParts,
     target: &mut T,
     product: &Composite<'_>,
 ) -> Result<(), AllocError>
@@ -112,7 +112,7 @@ fn leave_out<T: Target>(
 fn add_smallest<T: Target>(
     alloc: Global,
     most: u32,
-    begun: &mut Begun,
+    begun: &mut OpenParts,
     target: &mut T,
     product: &Composite<'_>,
     notes: &[Note<'_>],
@@ -137,7 +137,7 @@ fn add_smallest<T: Target>(
 fn add_small<T: Target>(
     alloc: Global,
     most: u32,
-    begun: &mut Begun,
+    begun: &mut OpenParts,
     target: &mut T,
     product: &Composite<'_>,
     records: &RecordBuffer,
@@ -160,7 +160,7 @@ fn add_small<T: Target>(
 fn add_large_product<T: Target>(
     alloc: Global,
     most: u32,
-    begun: &mut Begun,
+    begun: &mut OpenParts,
     target: &mut T,
     product: &Composite<'_>,
     fate: Fate,
@@ -188,7 +188,7 @@ fn add_large_product<T: Target>(
 fn add<T: Target>(
     alloc: Global,
     options: &Options<'_>,
-    begun: &mut Begun,
+    begun: &mut OpenParts,
     target: &mut T,
     product: &Composite<'_>,
 ) -> Result<(), AllocError>
@@ -224,7 +224,7 @@ fn begin_with(
     heading: Heading<'_>,
     elements: &Elements<'_>,
     fields: &mut FieldBuffer,
-) -> Result<Begun, RowFault>
+) -> Result<OpenParts, RowFault>
     ensures { IfOk result (λ b. begun_view b
         ≡ first_begun (heading_view heading.entry) elements.now) }
 {
@@ -244,7 +244,7 @@ fn begin_with(
     let mut back = FieldBuffer::new(alloc);
     back.push_record(&record.part(7, 11))?;
     let text = record_text(alloc, fields)?.into_bytes();
-    Ok(Begun {
+    Ok(OpenParts {
         front,
         back,
         number,

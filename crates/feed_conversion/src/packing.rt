@@ -23,7 +23,7 @@ use std::alloc::{AllocError, Global};
 
 /// The parts of a message.
 #[derive(Drop)]
-pub struct Begun {
+pub struct OpenParts {
     /// The fields of their first records before the number.
     pub(crate) front: FieldBuffer,
     /// The fields behind it.
@@ -52,11 +52,15 @@ pub enum Stage {
     /// Refused.
     Refused(Refusal),
     /// In its parts.
-    Within(Begun),
+    Within(OpenParts),
 }
 
 // The text of the first record of the part behind so many.
-pub(crate) fn first_text(alloc: Global, begun: &Begun, before: u32) -> Result<String, AllocError>
+pub(crate) fn first_text(
+    alloc: Global,
+    begun: &OpenParts,
+    before: u32,
+) -> Result<String, AllocError>
     ensures { IfOk result (λ text. string_bytes text ≡ first_text (begun_view begun.now) before) }
 {
     let Some(number) = begun.number.checked_add(before) else {
@@ -93,7 +97,7 @@ fn has_room(
 }
 
 // Adds so many records, of this text, to the part that was begun.
-fn grow(begun: &mut Begun, more: usize, text: &str) -> Result<(), AllocError>
+fn grow(begun: &mut OpenParts, more: usize, text: &str) -> Result<(), AllocError>
     ensures { OnOk result (begun_view begun.new ≡ grown (begun_view begun.old) more text.now) }
 {
     let Some(count) = begun.count.checked_add(more) else {
@@ -138,7 +142,7 @@ pub(crate) fn hand_on<T: Target>(
 
 // Begins the next part with a product at this place, of so many records and this text.
 fn turn(
-    begun: &mut Begun,
+    begun: &mut OpenParts,
     most: u32,
     first: &str,
     place: Position,
@@ -170,7 +174,7 @@ fn turn(
 fn keep_text<T: Target>(
     alloc: Global,
     most: u32,
-    begun: &mut Begun,
+    begun: &mut OpenParts,
     target: &mut T,
     place: Position,
     more: usize,
@@ -211,7 +215,7 @@ fn keep_text<T: Target>(
 pub(crate) fn keep<T: Target>(
     alloc: Global,
     most: u32,
-    begun: &mut Begun,
+    begun: &mut OpenParts,
     target: &mut T,
     place: Position,
     records: &RecordBuffer,

@@ -1,7 +1,7 @@
 //! Why no messages come of a feed.
 
 use feed_mapping::HeaderRefusal;
-use feed_outline::Told;
+use feed_outline::RefusalHints;
 use feed_xml::Position;
 use onix_terms::items::Items;
 
@@ -29,7 +29,7 @@ pub enum Refusal {
 #[derive(Debug, Drop)]
 pub enum Fault {
     /// It was not read: why, where reading stopped, and what was told until then.
-    Unread(feed_outline::Fault, Position, Told),
+    Unread(feed_outline::Fault, Position, RefusalHints),
     /// It is refused.
     Refused(Refusal),
     /// Memory ran out, or the target took no more.

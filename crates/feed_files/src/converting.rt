@@ -15,7 +15,7 @@ use crate::converted::ConvertedNames;
 use crate::ended::Ended;
 use crate::fault::write_fault;
 use crate::notes::{Notes, PREFIX};
-use crate::refusal::{Known, push_packed, push_refusal};
+use crate::refusal::{RefusedFile, push_packed, push_refusal};
 use crate::summary::Summary;
 use crate::titles::write_titles;
 use crate::watched::{Seen, Watched};
@@ -50,7 +50,7 @@ fn report_fault<E: Write>(alloc: Global, fault: &FileFault, errors: &mut E) -> E
 }
 
 // Says that a FILE cannot be read.
-fn report_unread<E: Write>(alloc: Global, known: &Known<'_>, errors: &mut E) -> Ended
+fn report_unread<E: Write>(alloc: Global, known: &RefusedFile<'_>, errors: &mut E) -> Ended
     ensures { result ≡ Ended.Fault }
 {
     match &known.seen.fault {
@@ -65,7 +65,7 @@ fn report_unread<E: Write>(alloc: Global, known: &Known<'_>, errors: &mut E) -> 
 // Says why a FILE is refused.
 fn report_refusal<E: Write>(
     alloc: Global,
-    known: &Known<'_>,
+    known: &RefusedFile<'_>,
     fault: &Fault,
     errors: &mut E,
 ) -> Ended
@@ -82,7 +82,12 @@ fn report_refusal<E: Write>(
 }
 
 // Says what ended the reading of a FILE.
-fn report_ended<E: Write>(alloc: Global, known: &Known<'_>, fault: &Fault, errors: &mut E) -> Ended
+fn report_ended<E: Write>(
+    alloc: Global,
+    known: &RefusedFile<'_>,
+    fault: &Fault,
+    errors: &mut E,
+) -> Ended
     ensures { IsUnconverted fault.now result }
 {
     match fault {
@@ -101,7 +106,7 @@ fn report_ended<E: Write>(alloc: Global, known: &Known<'_>, fault: &Fault, error
 // Says what ended the reading of a FILE; where what was read could not be kept, that.
 fn report_stopped<E: Write>(
     alloc: Global,
-    known: &Known<'_>,
+    known: &RefusedFile<'_>,
     fault: &Fault,
     kept: &Option<FileFault>,
     errors: &mut E,
@@ -117,7 +122,7 @@ fn report_stopped<E: Write>(
 // How a FILE ended that was read so.
 fn end_of<E: Write>(
     alloc: Global,
-    known: &Known<'_>,
+    known: &RefusedFile<'_>,
     read: &Result<u32, Fault>,
     kept: &Option<FileFault>,
     errors: &mut E,
@@ -146,7 +151,7 @@ fn end_of_seen<E: Write>(
     ensures left_out { IfOk read.now (λ wrong. 0 < wrong → result ≡ Ended.LeftOut) }
     ensures err { IfErr read.now (λ f. IsUnconverted f result) }
 {
-    let known = Known {
+    let known = RefusedFile {
         file: notes.file(),
         options,
         seen,

@@ -9,6 +9,7 @@ mod converting;
 pub mod ended;
 mod fault;
 mod kinds;
+mod note_texts;
 mod notes;
 mod numbers;
 mod progress;
@@ -19,7 +20,6 @@ mod summary;
 mod titles;
 mod unread;
 mod watched;
-mod words;
 
 pub use converting::{Run, convert_files};
 pub use ended::Ended;

@@ -1,8 +1,8 @@
 //! Notes on what is left out of the message of a FILE.
 
+use crate::note_texts::{Saying, is_counted_alone, is_of_product, push_saying, saying_of};
 use crate::shown::{push_reference, push_shown};
 use crate::summary::Summary;
-use crate::words::{Saying, is_counted_alone, is_of_product, push_saying, saying_of};
 use feed_mapping::Note;
 use feed_xml::Position;
 use std::alloc::{AllocError, Global};

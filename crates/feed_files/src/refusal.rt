@@ -8,7 +8,7 @@ use crate::unread;
 use crate::watched::Seen;
 use feed_conversion::{Fault, Options, Refusal};
 use feed_mapping::{HeaderRefusal, Pair};
-use feed_outline::{Told, Wrong};
+use feed_outline::{RefusalHints, Wrong};
 use feed_xml::Position;
 use std::alloc::AllocError;
 
@@ -28,7 +28,7 @@ const NO_TEXT: &str =
 
 /// What is known of a FILE that was not converted, beside its fault.
 #[derive(Clone, Copy)]
-pub struct Known<'a> {
+pub struct RefusedFile<'a> {
     pub file: &'a str,
     pub options: &'a Options<'a>,
     pub seen: &'a Seen,
@@ -48,7 +48,7 @@ fn push_no_text(line: &mut String, seen: &Seen) -> Result<(), AllocError> {
 fn push_unread(
     line: &mut String,
     fault: &feed_xml::Fault,
-    told: &Told,
+    told: &RefusalHints,
     seen: &Seen,
 ) -> Result<(), AllocError> {
     match fault {
@@ -62,7 +62,7 @@ fn push_unread(
 }
 
 // Adds why a document is no message.
-fn push_wrong(line: &mut String, wrong: &Wrong, told: &Told) -> Result<(), AllocError> {
+fn push_wrong(line: &mut String, wrong: &Wrong, told: &RefusalHints) -> Result<(), AllocError> {
     match wrong {
         Wrong::Root(name) => unread::push_root(line, name.as_slice()),
         Wrong::Release(release, address) => {
@@ -86,7 +86,7 @@ fn push_header(
     line: &mut String,
     refusal: HeaderRefusal,
     number: &[u8],
-    known: &Known<'_>,
+    known: &RefusedFile<'_>,
 ) -> Result<(), AllocError> {
     match refusal {
         HeaderRefusal::NoSender => line.push_str(
@@ -138,7 +138,11 @@ fn place_of(refusal: &Refusal) -> Position {
 }
 
 // Adds why a message is refused.
-fn push_refused(line: &mut String, refusal: &Refusal, known: &Known<'_>) -> Result<(), AllocError> {
+fn push_refused(
+    line: &mut String,
+    refusal: &Refusal,
+    known: &RefusedFile<'_>,
+) -> Result<(), AllocError> {
     match refusal {
         Refusal::NoHeader(_) => line.push_str(NO_HEADER),
         Refusal::Header(refusal, number, _) => {
@@ -163,7 +167,7 @@ fn push_refused(line: &mut String, refusal: &Refusal, known: &Known<'_>) -> Resu
 fn push_stopped(
     line: &mut String,
     fault: &feed_outline::Fault,
-    told: &Told,
+    told: &RefusalHints,
     seen: &Seen,
 ) -> Result<(), AllocError> {
     match fault {
@@ -201,7 +205,7 @@ fn push_wrong_products(
 /// wrong products, where it is refused for these.
 pub(crate) fn push_refusal(
     line: &mut String,
-    known: &Known<'_>,
+    known: &RefusedFile<'_>,
     fault: &Fault,
 ) -> Result<(), AllocError> {
     match fault {

@@ -1,6 +1,6 @@
 //! How often each reason was given.
 
-use crate::words::{Saying, push_saying};
+use crate::note_texts::{Saying, push_saying};
 use std::alloc::{AllocError, Global};
 
 /// What is counted as one: what the lines say, the text of the reason where that is a code of two

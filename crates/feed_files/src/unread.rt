@@ -2,7 +2,7 @@
 
 use crate::shown::push_shown_bytes;
 use crate::watched::Seen;
-use feed_outline::{Naming, Told};
+use feed_outline::{Naming, RefusalHints};
 use feed_xml::Bytes;
 use std::alloc::AllocError;
 
@@ -26,7 +26,7 @@ fn cut_of(naming: Option<Naming>) -> &'static str {
 /// that can be told.
 pub(crate) fn push_malformed(
     line: &mut String,
-    told: &Told,
+    told: &RefusalHints,
     seen: &Seen,
 ) -> Result<(), AllocError> {
     match seen.kind {
@@ -45,7 +45,7 @@ pub(crate) fn push_encoding(line: &mut String, name: &[u8]) -> Result<(), AllocE
 }
 
 /// Adds that a reference stands for nothing, and which.
-pub(crate) fn push_reference(line: &mut String, told: &Told) -> Result<(), AllocError> {
+pub(crate) fn push_reference(line: &mut String, told: &RefusalHints) -> Result<(), AllocError> {
     match &told.reference {
         Some(body) => {
             line.push_str("&")?;
@@ -85,7 +85,7 @@ fn names_no_third(address: &[u8]) -> bool {
 // Whether a root of this release, in the namespace of this address, is that of ONIX 2.1, as far as
 // can be told: its release begins with 2, or it has none, and neither the address nor the DOCTYPE
 // is of ONIX 3.
-fn looks_old(release: &Option<Bytes>, address: &[u8], told: &Told) -> bool {
+fn looks_old(release: &Option<Bytes>, address: &[u8], told: &RefusalHints) -> bool {
     match release {
         Some(release) => matches!(release.as_slice(), [b'2', ..]),
         None => names_no_third(address) && !told.is_third,
@@ -98,7 +98,7 @@ pub(crate) fn push_release(
     line: &mut String,
     release: &Option<Bytes>,
     address: &[u8],
-    told: &Told,
+    told: &RefusalHints,
 ) -> Result<(), AllocError> {
     match release {
         None => line.push_str("no release")?,

@@ -9,8 +9,8 @@ ghost use Rattle.feed_outline.specs.private.Bounded.{bounded, first_bounded, end
 ghost use Rattle.feed_outline.specs.private.Feed.{feed};
 ghost use Rattle.feed_outline.specs.private.Finishing.{stopped};
 
+use crate::message_reading::{Fault, Stopped};
 use crate::outliner::{Outliner, Taker};
-use crate::reading::{Fault, Stopped};
 use feed_xml::{Attributes, Piece, Position, Sink, Token};
 use std::alloc::{AllocError, Global};
 use std::marker::Model;

@@ -13,10 +13,10 @@ ghost use Rattle.feed_outline.specs.Views.{line_views};
 use crate::dialect::{Dialect, Wrong, format_of};
 use crate::grower::Grower;
 use crate::line::Line;
+use crate::message_reading::{Fault, Stopped};
 use crate::names::{Naming, Word, stranger};
 use crate::namespaces::bindings_of;
-use crate::reading::{Fault, Stopped};
-use crate::told::Told;
+use crate::refusal_hints::RefusalHints;
 use feed_xml::{Attributes, Bytes, Piece, Position, Sink, Token, push_reference};
 use std::alloc::{AllocError, Global};
 use std::marker::Model;
@@ -53,7 +53,7 @@ pub struct Outliner<T> {
     child: Grower,
     known: bool,
     place: Position,
-    told: Told,
+    told: RefusalHints,
 }
 
 impl<T> Model for Outliner<T> {
@@ -111,7 +111,7 @@ impl<T: Taker + Drop> Outliner<T> {
             child: Grower::new(alloc),
             known: true,
             place: Position::first(),
-            told: Told::new(),
+            told: RefusalHints::new(),
         }
     }
 

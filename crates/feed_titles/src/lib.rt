@@ -5,12 +5,12 @@
 mod contributors;
 mod elements;
 mod isbns;
-mod reading;
 mod rows;
 mod taker;
 mod target;
 mod texts;
+mod title_reading;
 mod vocabulary;
 
-pub use reading::read_titles;
 pub use target::TitleTarget;
+pub use title_reading::read_titles;

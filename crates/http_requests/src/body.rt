@@ -8,9 +8,9 @@ ghost use Rattle.http_requests.specs.HeadRead.{IsHeadOf};
 ghost use Rattle.http_requests.specs.Steps.{Gives, RefusesNothing};
 ghost use Rattle.http_requests.specs.Posted.{most_posted, records_behind, records_in, records_posted};
 
+use crate::buffer_filling::read_once;
 use crate::fault::InputFault;
 use crate::parts::Head;
-use crate::reading::read_once;
 use crate::refusal::Refusal;
 use csv_records::buffer::RecordBuffer;
 use csv_records::reading::{RecordFault, read_records};

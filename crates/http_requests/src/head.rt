@@ -12,10 +12,10 @@ ghost use Rattle.http_requests.specs.Steps.{IfRefused};
 ghost use Rattle.http_requests.specs.Posted.{size_asked};
 ghost use Rattle.http_requests.specs.HeadRead.{head_text, IsHeadOf};
 
+use crate::buffer_filling::read_once;
 use crate::fault::InputFault;
 use crate::fields::{body_size, only_value};
 use crate::parts::Head;
-use crate::reading::read_once;
 use crate::refusal::Refusal;
 use crate::scan::{has_empty_line, refusal_of_full, skip_line_ends};
 use httparse::Status;

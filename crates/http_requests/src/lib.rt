@@ -8,10 +8,10 @@
 #![tactic(auto)]
 
 pub mod body;
+mod buffer_filling;
 pub mod fault;
 mod fields;
 pub mod head;
 pub mod parts;
-mod reading;
 pub mod refusal;
 mod scan;

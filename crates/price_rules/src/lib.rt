@@ -17,4 +17,4 @@ pub mod day_by_day;
 pub mod laws;
 pub mod offer;
 pub mod precedence;
-mod rules_file;
+mod toml_rules;

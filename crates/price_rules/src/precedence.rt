@@ -2,7 +2,7 @@
 
 ghost use Rattle.std.specs.Prelude.{◌≡◌, ◌≤◌, length, []};
 
-use crate::rules_file::read_rules;
+use crate::toml_rules::read_rules;
 use onix_terms::amount::Amount;
 use onix_terms::code::Code2;
 use onix_terms::items::Items;

@@ -6,5 +6,5 @@
 pub mod database;
 pub mod databases;
 pub mod files;
-pub mod migration;
+pub mod migrate_command;
 pub mod paths;

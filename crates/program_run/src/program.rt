@@ -19,7 +19,7 @@ use program_commands::sending;
 use program_commands::task::{port_of, run_task};
 use program_databases::databases::{Databases, open_database};
 use program_databases::files::{FilesLeft, fault_of};
-use program_databases::migration::migrate;
+use program_databases::migrate_command::migrate;
 use program_files::NamedFiles;
 use program_lines::fault::{Fault, report};
 use program_rules::checking;

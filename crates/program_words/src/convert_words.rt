@@ -10,7 +10,7 @@ ghost use Rattle.feed_conversion.specs.declared.options.Allowed.TheVariants.{Few
 ghost use Rattle.program_words.specs.ConvertWords.{AreOptions, AsksFor, AsksNothing, IsOf, IsUnread, allowed_of, asked_view, files_named, has_input, identifier_of, is_value, word_as, word_or};
 ghost use Rattle.program_words.specs.Words.{words_in};
 
-use crate::words::{text_in, texts_in};
+use crate::arguments::{text_in, texts_in};
 use clap::ArgMatches;
 use feed_conversion::{Allowed, Options};
 use feed_files::{Run, STANDARD_INPUT};

@@ -6,9 +6,9 @@ ghost use Rattle.clap.specs.Walk.{Row, Text};
 ghost use Rattle.program_words.specs.Asked.{IsDatabase, IsListing, IsTask, Reads, ReadsAs, ReadsWords};
 ghost use Rattle.program_words.specs.Words.{number_in, text_in, words_in};
 
+use crate::arguments::{has_flag, text_in, texts_in};
 use crate::commands::program;
 use crate::convert_words::{Conversion, conversion_of};
-use crate::words::{has_flag, text_in, texts_in};
 use clap::error::ErrorKind;
 use clap::{ArgMatches, Error};
 use std::alloc::{AllocError, Global};

@@ -3,8 +3,8 @@
 //! `onixdesk`.
 #![tactic(auto)]
 
+mod arguments;
 pub mod commands;
 pub mod convert_words;
 pub mod invocation;
 pub mod laws;
-mod words;

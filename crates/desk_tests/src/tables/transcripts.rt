@@ -3,8 +3,8 @@
 
 use crate::asking::{End, end_of_fault, end_of_line};
 use crate::tables::changes::change;
+use crate::tables::line_terms::name;
 use crate::tables::queries::ask;
-use crate::tables::words::name;
 use desk_tables::tables::Tables;
 use desk_tables::work::Work;
 use onix_message::StoreFault;

@@ -1,12 +1,12 @@
 -- The state of a conversion, without where it lies in memory.
 use Rattle.feed_conversion.specs.declared.options.Options.{Options as Lent}
-use Rattle.feed_conversion.specs.declared.packing.Begun.{Begun as LentBegun}
+use Rattle.feed_conversion.specs.declared.packing.OpenParts.{OpenParts as LentBegun}
 use Rattle.feed_conversion.specs.declared.packing.Stage.{Stage as LentStage}
 use Rattle.feed_conversion.specs.declared.packing.Stage.TheVariants as stage
-use Rattle.feed_conversion.specs.private.Stages.{Begun, Stage, State, unbegun, refused, within}
+use Rattle.feed_conversion.specs.private.Stages.{OpenParts, Stage, State, unbegun, refused, within}
 use Rattle.feed_conversion.specs.Views.{options_view}
 
-abbrev pub begun_view : LentBegun → Begun
+abbrev pub begun_view : LentBegun → OpenParts
 begun_view b = record {
   front = b.front;
   back = b.back;

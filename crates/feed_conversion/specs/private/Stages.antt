@@ -30,7 +30,7 @@ use Rattle.feed_conversion.specs.declared.tally.Tally.{Tally}
 -- the parts of a message: the fields of their first records before and behind the number, the
 -- number of the first part, what its record says, how many parts are full, how many records the
 -- next one has so far, their text, and the place of the first product for which there is no part
-pub record Begun : Type 0 where
+pub record OpenParts : Type 0 where
   pub front : List (List ℕ)
   pub back : List (List ℕ)
   pub number : ℕ
@@ -53,18 +53,18 @@ taken parts notes wrong = record { parts = parts; notes = notes; wrong = wrong }
 
 -- the parts of a message, with what the target has made of those that it has taken
 pub record Stored (P N : Type 0) : Type 0 where
-  pub begun : Begun
+  pub begun : OpenParts
   pub parts : P
   pub notes : N
 
-abbrev pub stored : {P N : Type 0} → Begun → P → N → Stored P N
+abbrev pub stored : {P N : Type 0} → OpenParts → P → N → Stored P N
 stored begun parts notes = record { begun = begun; parts = parts; notes = notes }
 
 -- where a message is: before its Header, refused, or in its parts
 pub data Stage : Type 0 where
   unbegun : Stage
   refused : Refusal → Stage
-  within : Begun → Stage
+  within : OpenParts → Stage
 
 -- a message that is being converted, with what the target has made of what it has taken
 pub record State (P N : Type 0) : Type 0 where
@@ -80,7 +80,7 @@ first_state o parts notes = record { options = o; parts = parts; notes = notes; 
 -- ---- parts
 
 -- the first record of the part behind so many
-abbrev pub numbered : Begun → ℕ → List (List ℕ)
+abbrev pub numbered : OpenParts → ℕ → List (List ℕ)
 numbered b before = b.front ++ (decimal (b.number + before) ∷ b.back)
 
 -- the text of the record that ends a message, behind so many
@@ -88,7 +88,7 @@ abbrev pub end_text : ℕ → List ℕ
 end_text before = records_text (end_record before ∷ [])
 
 -- the text with which the part behind so many begins
-abbrev pub first_text : Begun → ℕ → List ℕ
+abbrev pub first_text : OpenParts → ℕ → List ℕ
 first_text b before = records_text (numbered b before ∷ [])
 
 -- a part of so many records and bytes has room for so many more
@@ -98,11 +98,11 @@ has_room count size more bytes =
     && nat_le (size + bytes + length (end_text (count + more))) limit
 
 -- with so many more records, of this text, in the part that was begun
-abbrev pub grown : Begun → ℕ → List ℕ → Begun
+abbrev pub grown : OpenParts → ℕ → List ℕ → OpenParts
 grown b more text = record b { count = b.count + more; text = b.text ++ text }
 
 -- with so many records, of this text, of a product at this place in the next part
-abbrev pub in_next_part : ℕ → Begun → Position → ℕ → List ℕ → Begun
+abbrev pub in_next_part : ℕ → OpenParts → Position → ℕ → List ℕ → OpenParts
 in_next_part most b place more text = record {
   front = b.front;
   back = b.back;
@@ -173,7 +173,7 @@ first_fields h header =
     codes "Message" ∷ message_fields h.sender h.addressee (decimal h.number) header
 
 -- the parts of a message of this heading, before the first product
-abbrev pub first_begun : Heading → Nodes → Begun
+abbrev pub first_begun : Heading → Nodes → OpenParts
 first_begun h header = record {
   front = take 6 (first_fields h header);
   back = drop 7 (first_fields h header);
@@ -232,7 +232,7 @@ after_nodes k s (node name tag text below rest) = after_element k s (composite n
 -- ---- the end
 
 -- so many messages without products, the first of which is the part behind so many
-abbrev pub empty_parts : Begun → ℕ → ℕ → List (List ℕ)
+abbrev pub empty_parts : OpenParts → ℕ → ℕ → List (List ℕ)
 empty_parts b before zero = []
 empty_parts b before (suc more) =
     (first_text b before ++ end_text 1) ∷ empty_parts b (suc before) more

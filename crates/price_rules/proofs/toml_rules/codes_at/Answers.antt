@@ -1,0 +1,12 @@
+use Rattle.std.proofs.Common.{◌≡◌, ◌<◌, length, IfOk, subst, arith}
+use Rattle.std.proofs.lemmas.Grind.{common_steps}
+use Rattle.toml.specs.View.{view}
+use Rattle.price_rules.proofs.TomlTables.{codes_at_array}
+use Rattle.price_rules.proofs.toml_rules.codes_at.Goals as goal
+
+pub returns : goal.returns
+returns c =
+    let values = c.as_slice.result.now in
+    let some : 0 < length values = grind (arith, common_steps) in
+    let is = codes_at_array _ (view c.in-Some.value.now) values c.in-Some.ensures (rw c.as_slice.ensures.value c.in-Some-as_array.ensures) some in
+    subst (λ z. IfOk c.read_codes.result (λ found. found ≡ z)) is c.read_codes.ensures

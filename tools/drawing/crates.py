@@ -7,14 +7,9 @@ from tools.root import ROOT
 
 # The layers, highest first, each with what it is for and its crates.
 LAYERS = {
-    "Ways in": (
-        "batches, HTTP, program",
+    "Program": (
+        "commands, files, sockets",
         [
-            "desk_texts",
-            "desk_batch",
-            "desk_export",
-            "http_requests",
-            "desk_http",
             "program_words",
             "program_lines",
             "program_clients",
@@ -23,13 +18,15 @@ LAYERS = {
             "program_databases",
             "program_run",
             "onixdesk",
-            "desk_tests",
         ],
+    ),
+    "Ways in": (
+        "batches, HTTP, export",
+        ["desk_texts", "desk_batch", "desk_export", "http_requests", "desk_http", "desk_tests"],
     ),
     "Feeds": (
         "from XML to messages",
         [
-            "program_files",
             "feed_xml",
             "feed_outline",
             "feed_mapping",
@@ -45,9 +42,9 @@ LAYERS = {
     ),
     "Rules": (
         "what is answered",
-        ["price_rules", "catalogue_rules", "series_rules", "desk_listing", "desk_memory"],
+        ["price_rules", "catalogue_rules", "series_rules", "desk_memory"],
     ),
-    "Words": ("what a message says", ["csv_records", "onix_terms", "onix_records", "onix_message"]),
+    "Base": ("what a message says, files by name", ["csv_records", "program_files", "onix_terms", "onix_records", "onix_message"]),
 }
 
 

@@ -16,7 +16,7 @@ use Rattle.series_rules.specs.Agreements.{agreements_of}
 use Rattle.series_rules.specs.Offers.{by_name}
 use Rattle.series_rules.specs.declared.requests.Request.{Request}
 use Rattle.series_rules.specs.declared.requests.Request.TheVariants.{Agree}
-use Rattle.desk_listing.specs.Listing.{agreements_by_name}
+use Rattle.series_rules.specs.Listing.{agreements_by_name}
 use Rattle.desk_export.specs.Exporting.{TakesAll, texts_of}
 use Rattle.desk_export.specs.Exports.{export_of, series_requests}
 use Rattle.desk_export.specs.ListTexts.{listed_text, listed_texts, report_text}

@@ -22,7 +22,7 @@ use Rattle.series_rules.specs.Views.{DeskKind, Stays, Tells, View}
 use Rattle.series_rules.specs.declared.answers.GapReport.{GapReport}
 use Rattle.series_rules.specs.declared.requests.Request.{Request}
 use Rattle.series_rules.specs.declared.requests.Request.TheVariants.{Agree}
-use Rattle.desk_listing.specs.Listing.{agreements_by_name}
+use Rattle.series_rules.specs.Listing.{agreements_by_name}
 use Rattle.desk_export.specs.Exporting.{IsTaken, TakesAll, end_after, requests_between, texts_of}
 use Rattle.desk_export.specs.Exports.{requests_at, requests_from, series_requests}
 use Rattle.desk_export.specs.RequestRecords.{request_text}

@@ -10,7 +10,7 @@ use Rattle.onix_records.specs.declared.parts.Product.{Product}
 use Rattle.series_rules.specs.declared.requests.Request.TheVariants.{Waive}
 use Rattle.series_rules.specs.declared.requests.Standing.{Standing}
 use Rattle.series_rules.specs.declared.requests.Standing.TheVariants.{Message, Waived}
-use Rattle.desk_listing.specs.Listing.{standing_text}
+use Rattle.series_rules.specs.Listing.{standing_text}
 use Rattle.desk_export.specs.Exports.{request_for}
 use Rattle.desk_export.specs.MessageRecords.{message_records}
 use Rattle.desk_export.specs.RequestRecords.{request_text}

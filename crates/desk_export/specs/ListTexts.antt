@@ -2,7 +2,7 @@
 use Rattle.std.specs.Prelude.{ℕ, List, [], ◌∷◌, map}
 use Rattle.std.specs.List.{flat_map}
 use Rattle.desk_texts.specs.AnswerText.{text_of}
-use Rattle.desk_listing.specs.Listing.{agreements_by_name}
+use Rattle.series_rules.specs.Listing.{agreements_by_name}
 use Rattle.onix_records.specs.declared.agreements.Agreement.{Agreement}
 use Rattle.series_rules.specs.Gaps.{gaps_of}
 use Rattle.series_rules.specs.declared.answers.Answer.TheVariants.{Gaps}

@@ -11,12 +11,12 @@ ghost use Rattle.series_rules.specs.declared.requests.Request.{Request};
 use crate::request_text::{write_agreement, write_standing};
 use crate::taking::TakesTexts;
 use csv_records::reading::LIMIT;
-use desk_listing::listing::ListedDesk;
 use onix_records::{Agreement, StoreFault};
 use onix_terms::number::Number;
 use onix_terms::series_name::SeriesName;
 use series_rules::answers::GapReport;
 use series_rules::laws::gaps_are_true;
+use series_rules::listing::ListedDesk;
 use std::alloc::{AllocError, Global};
 
 /// Why a desk was not listed to its end.

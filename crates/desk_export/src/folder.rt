@@ -11,8 +11,8 @@ ghost use Rattle.desk_export.specs.PartTexts.{AreCut, AreInFolder, MayBeInFolder
 use crate::export::ExportFault;
 use crate::list_text::{Listed, list_desk};
 use crate::part_texts::PartTexts;
-use desk_listing::listing::ListedDesk;
 use program_files::{FileFault, MadeFiles, NamedFiles};
+use series_rules::listing::ListedDesk;
 use std::alloc::Global;
 
 // Makes the file of the last part.

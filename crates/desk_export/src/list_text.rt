@@ -11,10 +11,10 @@ ghost use Rattle.desk_export.specs.ListTexts.{listed_text, listed_texts, report_
 use crate::export::{ExportFault, export_series, take_agreement, take_text};
 use crate::taking::TakesTexts;
 use csv_records::streams::WriteFault;
-use desk_listing::listing::ListedDesk;
 use desk_texts::answer_text::write_answer;
 use onix_records::{Agreement, StoreFault};
 use series_rules::answers::Answer;
+use series_rules::listing::ListedDesk;
 use std::alloc::Global;
 use std::io::Write;
 

@@ -5,7 +5,7 @@ ghost use Rattle.std.specs.Str.{bytes_eq};
 ghost use Rattle.std.specs.String.{string_bytes};
 ghost use Rattle.series_rules.specs.declared.requests.Request.{Request};
 ghost use Rattle.series_rules.specs.declared.requests.Standing.{Standing};
-ghost use Rattle.desk_listing.specs.Listing.{standing_text};
+ghost use Rattle.series_rules.specs.Listing.{standing_text};
 ghost use Rattle.desk_export.specs.Exports.{request_for};
 ghost use Rattle.desk_export.specs.RequestRecords.{agree_record, request_text, waive_record};
 

@@ -23,7 +23,7 @@ use Rattle.series_rules.specs.Offers.{by_name}
 use Rattle.series_rules.specs.declared.requests.Request.{Request}
 use Rattle.desk_rows.specs.Desks.{OnlyAnswers}
 use Rattle.desk_rows.specs.Listing.{NamesRise}
-use Rattle.desk_listing.specs.Listing.{agreements_by_name, text_after}
+use Rattle.series_rules.specs.Listing.{agreements_by_name, text_after}
 use Rattle.desk_rows.specs.Stands.{StandsFor, stored_text}
 use Rattle.desk_rows.specs.declared.answers_at.Stored.{Stored}
 use Rattle.desk_rows.proofs.Agreed.{none_under}

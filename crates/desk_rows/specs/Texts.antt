@@ -1,7 +1,7 @@
 -- What the tables keep of what stands at a number.
 use Rattle.std.specs.Prelude.{◌≡◌, ◌≤◌, ℕ, Option, None, IfSome, ⊤}
 use Rattle.onix_records.specs.ContentsText.{IsContents}
-pub use Rattle.desk_listing.specs.Listing.{standing_text}
+pub use Rattle.series_rules.specs.Listing.{standing_text}
 use Rattle.series_rules.specs.declared.requests.Standing.{Standing}
 use Rattle.series_rules.specs.declared.requests.Standing.TheVariants.{Message, Waived}
 

@@ -4,7 +4,7 @@ ghost use Rattle.std.specs.Prelude.{◌≡◌, IfOk, IsTrue, map};
 ghost use Rattle.sqlite.specs.Held.{state};
 ghost use Rattle.desk_catalogue.specs.Achieves.{Does};
 ghost use Rattle.desk_rows.specs.Desks.{OnlyAnswers};
-ghost use Rattle.desk_listing.specs.Listing.{agreements_by_name, text_after};
+ghost use Rattle.series_rules.specs.Listing.{agreements_by_name, text_after};
 ghost use Rattle.desk_rows.specs.Listing.{NamesRise};
 ghost use Rattle.desk_rows.specs.Seen.{seen_in};
 ghost use Rattle.series_rules.specs.Views.{Tells};

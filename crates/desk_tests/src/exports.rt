@@ -3,9 +3,9 @@
 use crate::asking::run;
 use crate::cases::{expect, expect_bytes, made};
 use desk_export::list_text::{Listed, write_list};
-use desk_listing::listing::ListedDesk;
 use desk_store::DeskStore;
 use price_rules::precedence::Precedence;
+use series_rules::listing::ListedDesk;
 use std::alloc::Global;
 use std::process::Abort;
 

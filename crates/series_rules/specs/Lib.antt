@@ -7,6 +7,7 @@ pub mod Offers
 pub mod PriceAnswers
 pub mod Answers
 pub mod Content
+pub mod Listing
 pub mod Changes
 pub mod Views
 pub mod Traces

@@ -3,7 +3,7 @@ use Rattle.std.specs.List.{flat_map}
 use Rattle.series_rules.specs.declared.requests.Request.{Request}
 use Rattle.desk_export.proofs.TakenTexts.{IsDone}
 use Rattle.desk_export.specs.ListTexts.{series_texts}
-use Rattle.desk_listing.specs.Listing.{agreements_by_name}
+use Rattle.series_rules.specs.Listing.{agreements_by_name}
 use Rattle.desk_export.proofs.list_text.list_desk.Given as goal
 
 -- the series before this one were listed

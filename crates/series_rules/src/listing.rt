@@ -1,14 +1,14 @@
 //! Desks whose content can be listed.
 
-ghost use Rattle.desk_listing.specs.Listing.{agreements_by_name, text_after};
+ghost use Rattle.series_rules.specs.Listing.{agreements_by_name, text_after};
 ghost use Rattle.series_rules.specs.Views.{Tells};
 
+use crate::desk::Desk;
 use onix_records::{Agreement, StoreFault};
 use onix_terms::items::Items;
 use onix_terms::number::Number;
 use onix_terms::series_name::SeriesName;
 use onix_terms::text::Text;
-use series_rules::desk::Desk;
 
 /// A desk that tells what it stands for. Both calls are questions.
 pub trait ListedDesk: Desk {

@@ -14,7 +14,7 @@ from tests.program.databases import DATABASE, batch
 from tests.program.room import Ran, Room
 from tests.program.rules_files import files, said_by_desk
 from tests.running import Outcome
-from tools.root import ROOT
+from tools.root import PACKAGES, ROOT
 from tools.words import Word
 
 PROGRAM = ROOT / "bin/desk-follow"
@@ -190,8 +190,8 @@ def refused(room: Room) -> Iterator[Outcome]:
     yield Outcome("desk-follow: no words", follow(room).status, 2)
     yield Outcome("desk-follow: another word", follow(room, "--schema", "other", DATABASE).status, 2)
     # No packages are looked for then.
-    calling = "import sys; sys.path.insert(0, sys.argv.pop(1)); from desk_follow.command_line import main; sys.exit(main())"
-    came = room.call([sys.executable, "-I", "-S", "-B", "-c", calling, ROOT / "lib", DATABASE])
+    calling = "import sys; sys.path[:0] = sys.argv.pop(1).split(':'); from desk_follow.command_line import main; sys.exit(main())"
+    came = room.call([sys.executable, "-I", "-S", "-B", "-c", calling, ":".join(PACKAGES), DATABASE])
     line = b"desk-follow: no psycopg2; apt-get install python3-psycopg2\n"
     yield Outcome("desk-follow: no psycopg2", came, Ran(3, b"", line))
     room.write("rules.toml", b"rule = 1\n")

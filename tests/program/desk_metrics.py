@@ -24,7 +24,7 @@ from tools.root import ROOT
 from tools.words import Word
 
 PROGRAM = ROOT / "bin/desk-metrics"
-EXAMPLES = ROOT / "examples/metrics"
+EXAMPLES = ROOT / "programs/desk-metrics"
 PAGE = ROOT / "docs/METRICS.md"
 CASES = ROOT / "tests/metrics"
 
@@ -96,7 +96,7 @@ def of_inboxes(room: Room) -> Iterator[Outcome]:
         os.symlink(inbox.incoming, room.path("incoming/north"))
         os.symlink(inbox.state, room.path("state/north"))
         shutil.copy(room.path("settings.conf"), room.path("settings/north.conf"))
-        shutil.copy(ROOT / "examples/inbox/example.conf", room.path("settings/example.conf"))
+        shutil.copy(ROOT / "programs/onixdesk-inbox/example.conf", room.path("settings/example.conf"))
         inbox.put({"1.csv": bare(2), "2.csv": MALFORMED, "3.csv": bare(7), "4.txt": b"?", "5.csv.part": b"", "6.txt": b"?"})
         yield Outcome("metrics: an inbox that has not run", write(room), Ran(0))
         names = ("inbox_waiting_files", "inbox_refused_files", "inbox_last_taken_timestamp_seconds")

@@ -11,11 +11,11 @@ from tests.running import Outcome
 from tools.root import ROOT
 from tools.words import sought
 
-FOLDER = ROOT / "examples/inbox"
+FOLDER = ROOT / "programs/onixdesk-inbox"
 UNITS = {
-    "the desk": ROOT / "examples/onixdesk.service",
+    "the desk": ROOT / "programs/onixdesk/onixdesk.service",
     "an inbox": FOLDER / "onixdesk-inbox@.service",
-    "the metrics": ROOT / "examples/metrics/onixdesk-metrics.service",
+    "the metrics": ROOT / "programs/desk-metrics/onixdesk-metrics.service",
 }
 
 # What none of them needs, by the names that systemd.exec(5) and systemd.resource-control(5) have for it.
@@ -126,10 +126,10 @@ def version(room: Room) -> Iterator[Outcome]:
     source = ROOT.joinpath("crates/program_words/src/commands.rt").read_text(encoding="utf-8")
     number = sought(VERSION, source)
     yield Outcome("the version of the program", room.run("--version").output, f"onixdesk {number}\n".encode())
-    package = [*ROOT.joinpath("packaging").glob("*.1"), *ROOT.glob("packaging/debian/*"), *ROOT.glob("bin/*")]
+    package = [*ROOT.glob("programs/*/*.1"), *ROOT.glob("packaging/debian/*"), *ROOT.glob("bin/*")]
     named = [path.name for path in package if path.is_file() and f"{number} " in path.read_text(encoding="utf-8")]
     yield Outcome("the version of the package", named, [])
     for name in ("onixdesk.1", "onix-to-csv.1", "desk-copy.1", "desk-restore.1", "desk-follow.1", "desk-metrics.1"):
-        page = ROOT.joinpath("packaging", name).read_text(encoding="utf-8")
+        page = ROOT.joinpath("programs", name.removesuffix(".1"), name).read_text(encoding="utf-8")
         # The line that packaging/build gives the version.
         yield Outcome(f"the version of {name}", page.splitlines().count(".Os"), 1)

@@ -10,10 +10,10 @@ from tests.program.converter_runs import feed_of
 from tests.program.databases import DATABASE
 from tests.program.room import SECONDS, Ran, Room
 from tests.program.serving import Serving
-from tools.root import ROOT
+from tools.root import PACKAGES, ROOT
 from tools.words import Word
 
-PROGRAM = ROOT / "lib/onixdesk-inbox"
+PROGRAM = ROOT / "bin/onixdesk-inbox"
 
 WORDS = ["--db", DATABASE]
 AGREEMENT = b"Agree,north,06,S,,,1\n"
@@ -61,7 +61,7 @@ def files_in(folder: Path) -> dict[str, bytes]:
 
 def within(text: str, *words: Word) -> list[Word]:
     """The words by which a text of Python runs, which may import what ships and run a program of it."""
-    return ["env", f"PYTHONPATH={ROOT / 'lib'}", sys.executable, "-P", "-s", "-S", "-B", "-c", text, *words]
+    return ["env", f"PYTHONPATH={':'.join(PACKAGES)}", sys.executable, "-P", "-s", "-S", "-B", "-c", text, *words]
 
 
 class Inbox:

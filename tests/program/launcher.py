@@ -179,7 +179,7 @@ def a_built_program(room: Room) -> Iterator[Outcome]:
     yield Outcome("tools/build sources: of others", command(room, "tools/build", "sources"), Ran(1, b"", told(NOT_OF_THESE)))
     yield Outcome("launcher: an old program, a batch", launch(room, "batch"), answered(CHANGED))
     yield Outcome("launcher: an old program, a question", launch(room, "gaps", "north"), wanting(CHANGED))
-    for name in ("tests", "bench", "lib"):
+    for name in ("tests", "bench", "programs"):
         room.path(name).symlink_to(ROOT / name)
     yield Outcome("tests/run: an old program", refused(room), (2, True))
     yield Outcome("tools/build: it proves once", calls(room, "ci"), ["rt ci"])

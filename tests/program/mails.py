@@ -11,8 +11,8 @@ from tests.program.room import SECONDS, Ran, Room
 from tests.running import Outcome
 from tools.root import ROOT
 
-MAIL = ROOT / "examples/mail/mail.sh"
-SERVE = ROOT / "examples/serve.sh"
+MAIL = ROOT / "programs/onixdesk-mail/mail.sh"
+SERVE = ROOT / "programs/onixdesk/serve.sh"
 
 
 def make_room(room: Room) -> None:

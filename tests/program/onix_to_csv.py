@@ -39,7 +39,7 @@ def make_shop(room: Room) -> None:
     """The folder `shop`, as docs/INBOX.md has it made: the program, and what stands beside it."""
     room.path("shop").mkdir()
     room.path("shop/onixdesk").symlink_to(room.program)
-    for name in ("bin", "lib"):
+    for name in ("bin", "programs"):
         shutil.copytree(ROOT / name, room.path("shop") / name, ignore=shutil.ignore_patterns("__pycache__"))
     room.path("shop/bin/onixdesk").unlink()
     room.path("shop/bin/onixdesk").symlink_to("../onixdesk")

@@ -12,13 +12,13 @@ from tools.root import ROOT
 
 # What each package may import beside the standard library and itself.
 MAY_IMPORT: dict[str, set[str]] = {
-    "lib/command_lines": set(),
-    "lib/desk_copy": {"command_lines"},
-    "lib/desk_restore": {"command_lines", "desk_copy"},
-    "lib/desk_follow": {"command_lines", "desk_copy", "psycopg2"},
-    "lib/onixdesk_inbox": {"command_lines"},
-    "lib/desk_metrics": {"command_lines", "onixdesk_inbox"},
-    "lib/onixdesk_titles": {"command_lines", "onixdesk_inbox"},
+    "programs/shared/command_lines": set(),
+    "programs/desk-copy/desk_copy": {"command_lines"},
+    "programs/desk-restore/desk_restore": {"command_lines", "desk_copy"},
+    "programs/desk-follow/desk_follow": {"command_lines", "desk_copy", "psycopg2"},
+    "programs/onixdesk-inbox/onixdesk_inbox": {"command_lines"},
+    "programs/desk-metrics/desk_metrics": {"command_lines", "onixdesk_inbox"},
+    "programs/onixdesk-titles/onixdesk_titles": {"command_lines", "onixdesk_inbox"},
     "tools": set(),
     "bench": {"tools"},
     # The tests of the page drive a browser.

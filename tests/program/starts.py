@@ -1,4 +1,4 @@
-"""The start of a service: examples/wait-for-desk.sh waits until a desk answers, and the unit has it so."""
+"""The start of a service: programs/onixdesk/wait-for-desk.sh waits until a desk answers, and the unit has it so."""
 
 import os
 import socket
@@ -12,7 +12,7 @@ from tests.program.serving import HOST, free_port
 from tests.running import Outcome
 from tools.root import ROOT
 
-SCRIPT = ROOT / "examples/wait-for-desk.sh"
+SCRIPT = ROOT / "programs/onixdesk/wait-for-desk.sh"
 AGREEMENT = b"Agree,north,06,S,,,1\n"
 
 
@@ -89,7 +89,7 @@ def in_vain(room: Room) -> Iterator[Outcome]:
 
 
 def unit(_room: Room) -> Iterator[Outcome]:
-    lines = (ROOT / "examples/onixdesk.service").read_text(encoding="utf-8").splitlines()
+    lines = (ROOT / "programs/onixdesk/onixdesk.service").read_text(encoding="utf-8").splitlines()
     wanted = [
         "Before=nginx.service",
         "ExecStartPost=/opt/onixdesk/wait-for-desk.sh 8080 /var/lib/onixdesk/shop.db",

@@ -22,7 +22,7 @@ from tools.words import Word
 
 PROGRAM = ROOT / "bin/onixdesk-titles"
 CASES = ROOT / "tests/titles"
-UNITS = ROOT / "examples/titles"
+UNITS = ROOT / "programs/onixdesk-titles"
 
 # A feed of these cases is the number of its message in a line, and the rows of its titles.
 CONVERTER = """\
@@ -338,7 +338,7 @@ def turned_on(room: Room) -> Iterator[Outcome]:
     """The line of the documents by which an inbox hands titles over, once and again."""
     line, _ = block("docs/INBOX.md", "sed -i -e '$aTITLES=")
     # Settings that say nothing of titles, and those that the package brings.
-    for lines in ["SENDER=06,4012345000009"], lines_of(ROOT / "examples/inbox/example.conf"):
+    for lines in ["SENDER=06,4012345000009"], lines_of(ROOT / "programs/onixdesk-inbox/example.conf"):
         wanted = [*(each for each in lines if each != "TITLES="), "TITLES=/var/lib/onixdesk-title-rows"]
         room.write("north.conf", "".join(f"{each}\n" for each in lines).encode())
         for turn in "once", "again":
@@ -352,7 +352,7 @@ def turned_on(room: Room) -> Iterator[Outcome]:
 def units(_room: Room) -> Iterator[Outcome]:
     """The unit reaches no network and no folder but its own two, and the places are the program's."""
     service = lines_of(UNITS / "onixdesk-titles.service")
-    copies = lines_of(ROOT / "examples/copies/onixdesk-copy.service")
+    copies = lines_of(ROOT / "programs/desk-copy/onixdesk-copy.service")
     sealed = copies[copies.index("PrivateNetwork=yes"):]
     yield Outcome("titles: what is forbidden to the unit", [line for line in sealed if line not in service], [])
     rows, user = "/var/lib/onixdesk-title-rows", "onixdesk-titles"
@@ -362,7 +362,7 @@ def units(_room: Room) -> Iterator[Outcome]:
             "StateDirectoryMode=0755", f"ReadWritePaths={rows}",
         ],
         UNITS / "tmpfiles.conf": [f"d {rows} 2770 onixdesk-inbox {user} -"],
-        ROOT / "examples/inbox/onixdesk-inbox@.service": [f"ReadWritePaths=-{rows}"],
+        ROOT / "programs/onixdesk-inbox/onixdesk-inbox@.service": [f"ReadWritePaths=-{rows}"],
         ROOT / "examples/page/nginx.conf": [f"        root /var/lib/{user};"],
     }.items():
         yield Outcome(f"titles: the places in {path.name}", [line for line in wanted if line not in lines_of(path)], [])

@@ -16,8 +16,8 @@ BLOCKS = [
     ("docs/HTTP.md", "useradd "),
     ("docs/INBOX.md", "adduser --system --group --no-create-home --home /nonexistent onixdesk-inbox"),
     ("docs/INBOX.md", "adduser --system --group --no-create-home --home /nonexistent onixdesk-titles"),
-    ("docs/RELIABILITY.md", "install -m 755 examples/mail/mail.sh"),
-    ("docs/METRICS.md", "install -m 644 examples/metrics/"),
+    ("docs/RELIABILITY.md", "install -m 755 programs/onixdesk-mail/mail.sh"),
+    ("docs/METRICS.md", "install -m 644 programs/desk-metrics/"),
 ]
 
 # Those where a sentence does.

@@ -9,3 +9,4 @@ pub mod FirstRecords
 pub mod Utf8Texts
 pub mod Utf8Records
 pub mod TakenLaws
+pub mod RoomLaws

@@ -1,25 +1,27 @@
 -- The products of a message stand in its parts, one after the other, each in its right form.
-use Rattle.std.proofs.Common.{◌≡◌, ℕ, ◌+◌, ◌*◌, Bool, true, false, ltb, subst, List, [], ◌∷◌, ◌++◌, length, length-append, map, refl, sym, ap, ◌∙◌, append-nil, append_assoc, arith, inl, inr}
+use Rattle.std.proofs.Common.{◌≡◌, ◌≤◌, ℕ, ◌+◌, ◌*◌, Bool, cond, count_by, true, false, ltb, subst, List, [], ◌∷◌, ◌++◌, length, length-append, map, refl, sym, ap, ◌∙◌, append-nil, append_assoc, arith, inl, inr}
 use Rattle.std.specs.Prelude.{Option, Some, None, Result, Ok, Err, codes, ⊤}
 use Rattle.std.specs.List.{AllByRecursion, flat_map}
-use Rattle.std.proofs.lemmas.Bool.{ltb-false}
+use Rattle.std.proofs.lemmas.Bool.{ltb-false, ltb-true}
 use Rattle.std.proofs.lemmas.Grind.{flat_map-append}
+use Rattle.std.proofs.lemmas.List.Sums.{sum_by_push}
 use Rattle.feed_xml.specs.declared.position.Position.{Position}
 use Rattle.feed_outline.specs.Composites.{text_in}
 use Rattle.feed_outline.specs.Nodes.{Nodes}
 use Rattle.feed_mapping.specs.Elements.{Composite}
 use Rattle.feed_mapping.specs.Header.{◌>>=◌, Choices, Heading, added, addressee_pair, first_number, heading_in, number_in, given_or, sender_in}
 use Rattle.feed_mapping.specs.Notes.{note, wrong}
-use Rattle.feed_mapping.specs.ProductRecords.{Variant, variants}
+use Rattle.feed_mapping.specs.ProductRecords.{Variant, has_wrong, variants}
 use Rattle.feed_mapping.specs.declared.header.HeaderRefusal.{HeaderRefusal}
 use Rattle.feed_mapping.specs.declared.header.HeaderRefusal.TheVariants as denied
 use Rattle.feed_mapping.specs.declared.notes.Wrong.TheVariants.{TooLarge}
 use Rattle.feed_conversion.specs.declared.refusal.Refusal.{Refusal}
 use Rattle.feed_conversion.specs.Messages.{fits, message_text}
 use Rattle.feed_conversion.specs.Packing.{Converted, ProductNote, Settings, Packing, after_product, after_products, all_parts, beyond_at, ended, noted, in_next_part, with_variants, with_part, with_begun}
-use Rattle.feed_conversion.specs.Parts.{AreFull, Placing, IsFirst, IsFull, IsRight, Placed, placing_notes, part_texts, placed, placed_records, placed_of}
+use Rattle.feed_conversion.specs.Parts.{AreFull, Placing, IsFirst, IsFull, IsRight, Placed, is_placed_wrong, notes_by, placing_notes, part_texts, placed, placed_records, placed_of}
 use Rattle.feed_conversion.proofs.Endings.{converted, ended_at, ended_by, joined}
-use Rattle.feed_conversion.specs.Tallies.{place_of, refused_for}
+use Rattle.feed_conversion.specs.Tallies.{place_of, refused_for, tallied}
+use Rattle.feed_conversion.specs.declared.tally.Tally.{Tally}
 
 -- ---- texts of parts
 
@@ -96,6 +98,7 @@ pub record Holds (t : Settings) (w : Packing) (placings : List Placing) : Type 0
   pub full : AreFull t 0 (parts ++ begun ∷ [])
   pub fit : AreFit t 0 (parts ++ begun ∷ [])
   pub notes : flat_map placing_notes placings ≡ w.notes
+  pub wrong : count_by is_placed_wrong placings ≡ w.tally.wrong
   pub right : AllByRecursion (IsRight t) placings
 
 abbrev placing : Composite → Option Variant → Placing
@@ -106,6 +109,14 @@ one_more_note : (placings : List Placing) (f : Placing) (notes : List ProductNot
 one_more_note placings f notes is =
     flat_map-append placing_notes placings (f ∷ []) ∙ ap (λ (ns : List ProductNote). ns ++ (placing_notes f ++ [])) is
     ∙ ap (λ (ns : List ProductNote). notes ++ ns) (append-nil (placing_notes f))
+
+one_more_wrong : (placings : List Placing) (c : Composite) (variant : Option Variant) (t : Tally) → count_by is_placed_wrong placings ≡ t.wrong
+    → count_by is_placed_wrong (placings ++ placing c variant ∷ []) ≡ (tallied t c (notes_by variant c)).wrong
+one_more_wrong placings c variant t is = sum_by_push (λ f. cond (is_placed_wrong f) 1 0) placings (placing c variant) ∙ go (has_wrong (notes_by variant c)) refl
+  where
+    go : (b : Bool) → has_wrong (notes_by variant c) ≡ b → count_by is_placed_wrong placings + cond (has_wrong (notes_by variant c)) 1 0 ≡ (tallied t c (notes_by variant c)).wrong
+    go true e = rw e (omega (arith, is))
+    go false e = rw e (omega (arith, is))
 
 one_more_right : (t : Settings) (placings : List Placing) (f : Placing) → AllByRecursion (IsRight t) placings → IsRight t f → AllByRecursion (IsRight t) (placings ++ f ∷ [])
 one_more_right t [] f all is = (is, tt)
@@ -133,6 +144,7 @@ left_holds t w placings c h is = record {
   full = h.full;
   fit = h.fit;
   notes = one_more_note placings (placing c None) w.notes h.notes;
+  wrong = one_more_wrong placings c None w.tally h.wrong;
   right = one_more_right t placings (placing c None) h.right is;
 }
 
@@ -157,6 +169,7 @@ joined_holds t w placings c f room h is = record {
       (let there : 0 + length h.parts ≡ w.full = omega (arith, h.count) in
       ap (λ (n : ℕ). fits (t.first n) (placed_records (h.begun ++ placed c f ∷ []))) there ∙ ap (λ (k : List (List (List ℕ))). fits (t.first w.full) k) (joined_records t w placings h c f) ∙ room);
   notes = one_more_note placings (placing c (Some f)) w.notes h.notes;
+  wrong = one_more_wrong placings c (Some f) w.tally h.wrong;
   right = one_more_right t placings (placing c (Some f)) h.right is;
 }
 
@@ -194,6 +207,7 @@ turned_holds t w placings c f less lacks room h is = record {
       (let there : 0 + length (h.parts ++ h.begun ∷ []) ≡ w.full + 1 = omega (arith, written_count t w placings h) in
       ap (λ (n : ℕ). fits (t.first n) (placed_records (placed c f ∷ []))) there ∙ ap (λ (k : List (List (List ℕ))). fits (t.first (w.full + 1)) k) (one_record (placed c f)) ∙ room);
   notes = one_more_note placings (placing c (Some f)) w.notes h.notes;
+  wrong = one_more_wrong placings c (Some f) w.tally h.wrong;
   right = one_more_right t placings (placing c (Some f)) h.right is;
 }
 
@@ -218,34 +232,37 @@ pub record Step (t : Settings) (w : Packing) (c : Composite) (v : Packing) (plac
 
 -- where the forms so far are too large for the next part, one of the others is the first that is not
 forms_step : (t : Settings) (w : Packing) (c : Composite) (placings : List Placing) (fs : List Variant)
-    → ((f : Option Variant) → IsFirst t (w.full + 1) f fs → IsRight t (placing c f)) → (with_variants t w c fs).beyond ≡ None → Step t w c (with_variants t w c fs) placings
+    → ((f : Option Variant) → IsFirst t (w.full + 1) f fs → ltb w.full t.most ≡ true → IsRight t (placing c f)) → (with_variants t w c fs).beyond ≡ None → Step t w c (with_variants t w c fs) placings
 forms_step t w c placings [] right none = record {
   none = none;
-  holds = λ h. (placing c None, refl, left_holds t w placings c h (right None refl));
+  holds = λ h. (placing c None, refl, left_holds t w placings c h (right None refl h.more));
 }
 forms_step t w c placings (f ∷ fs) right none =
     go (fits (t.first w.full) (w.begun ++ f.records)) refl (fits (t.first (w.full + 1)) f.records) refl none (forms_step t w c placings fs)
   where
-    own : IsRight t (placing c (Some f))
+    own : ltb w.full t.most ≡ true → IsRight t (placing c (Some f))
     own = right (Some f) (inl refl)
 
     go : (a : Bool) → fits (t.first w.full) (w.begun ++ f.records) ≡ a → (b : Bool) → fits (t.first (w.full + 1)) f.records ≡ b
         → (with_variants t w c (f ∷ fs)).beyond ≡ None
-        → (((g : Option Variant) → IsFirst t (w.full + 1) g fs → IsRight t (placing c g)) → (with_variants t w c fs).beyond ≡ None → Step t w c (with_variants t w c fs) placings)
+        → (((g : Option Variant) → IsFirst t (w.full + 1) g fs → ltb w.full t.most ≡ true → IsRight t (placing c g)) → (with_variants t w c fs).beyond ≡ None → Step t w c (with_variants t w c fs) placings)
         → Step t w c (with_variants t w c (f ∷ fs)) placings
     go true here b next last later =
         let before : w.beyond ≡ None = rw here at last in
-        rw here (record { none = before; holds = λ h. (placing c (Some f), refl, joined_holds t w placings c f here h own) })
+        rw here (record { none = before; holds = λ h. (placing c (Some f), refl, joined_holds t w placings c f here h (own h.more)) })
     go false here true next last later =
         let now : beyond_at t.most (w.full + 1) w.beyond (place_of c) ≡ None = rw (here, next) at last in
         let before = beyond_none t.most (w.full + 1) w.beyond (place_of c) now in
-        rw (here, next) (record { none = before.0; holds = λ h. (placing c (Some f), refl, turned_holds t w placings c f before.1 here next h own) })
+        rw (here, next) (record { none = before.0; holds = λ h. (placing c (Some f), refl, turned_holds t w placings c f before.1 here next h (own h.more)) })
     go false here false next last later =
         let now : (with_variants t w c fs).beyond ≡ None = rw (here, next) at last in
-        rw (here, next) (later (λ g is. right g (inr (next, is))) now)
+        rw (here, next) (later (λ g is more. right g (inr (next, is)) more) now)
 
 product_step : (t : Settings) (w : Packing) (c : Composite) (placings : List Placing) → (after_product t w c).beyond ≡ None → Step t w c (after_product t w c) placings
-product_step t w c placings none = forms_step t w c placings (variants t.opening t.preferred c) (λ f is. (w.full + 1, is)) none
+product_step t w c placings none = forms_step t w c placings (variants t.opening t.preferred c) (λ f is more. (w.full + 1, within more, is)) none
+  where
+    within : ltb w.full t.most ≡ true → w.full + 1 ≤ t.most
+    within more = omega (arith, ltb-true w.full t.most more)
 
 -- with no product beyond at the end, there was none before, and it has become of all what it has
 pub record Walk (t : Settings) (w : Packing) (cs : List Composite) (z : Packing) : Type 0 where

@@ -125,7 +125,7 @@ fate_own l t c (Some f) before is = (first_own t before f (variants t.opening t.
 
 fates_own : (l : Laws) (t : Settings) (placings : List Placing) → AllByRecursion (IsRight t) placings → AllByRecursion (IsOwn t) (flat_map placed_of placings)
 fates_own l t [] right = tt
-fates_own l t (f ∷ placings) right = all_append (IsOwn t) (placed_of f) (flat_map placed_of placings) (fate_own l t f.product f.variant right.0.0 right.0.1) (fates_own l t placings right.1)
+fates_own l t (f ∷ placings) right = all_append (IsOwn t) (placed_of f) (flat_map placed_of placings) (fate_own l t f.product f.variant right.0.0 right.0.2) (fates_own l t placings right.1)
 
 -- the products of a part are the rows of its records
 part_own : (l : Laws) (t : Settings) (part : List Placed) → AllByRecursion (IsOwn t) part → AreOf t.opening (placed_records part) (references_in part)
@@ -178,6 +178,7 @@ whole l o nodes made header h counts says z walked none is =
       full = tt;
       fit = (firsts.fits_alone 0 (ltb-true 0 o.choices.parts there), tt);
       notes = refl;
+      wrong = refl;
       right = tt;
     } in
     let all = (walk t (products_in nodes) no_packing (ap (λ (w : Packing). w.beyond) walked ∙ none)).holds [] start in
@@ -200,6 +201,7 @@ whole l o nodes made header h counts says z walked none is =
       all = all.1;
       right = held.right;
       notes = held.notes ∙ ap (λ (c : Converted). c.notes) is;
+      wrong = held.wrong ∙ ap (λ (c : Converted). c.wrong) is;
       parts = parts;
       stand = held.stand;
       full = held.full;

@@ -1,12 +1,12 @@
 -- The parts that come of a message, and what has become of each of its products.
-use Rattle.std.specs.Prelude.{◌≡◌, ◌⊎◌, ℕ, ◌+◌, ◌-◌, true, false, List, [], ◌∷◌, ◌++◌, ⊤, Option}
-use Rattle.std.specs.Prelude.{Some, None, Ok, map, length}
-use Rattle.std.specs.List.{AllByRecursion, flat_map}
+use Rattle.std.specs.Prelude.{◌≡◌, ◌⊎◌, ◌≤◌, ℕ, ◌+◌, ◌-◌, Bool, true, false, List, [], ◌∷◌, ◌++◌, ⊤}
+use Rattle.std.specs.Prelude.{Option, Some, None, Ok, count_by, map, length}
+use Rattle.std.specs.List.{AllByRecursion, Contains, flat_map}
 use Rattle.feed_outline.specs.Nodes.{Nodes}
 use Rattle.feed_mapping.specs.Elements.{Composite}
 use Rattle.feed_mapping.specs.Header.{Heading, heading_in}
 use Rattle.feed_mapping.specs.Notes.{Note, note, wrong}
-use Rattle.feed_mapping.specs.ProductRecords.{Variant, variants}
+use Rattle.feed_mapping.specs.ProductRecords.{Variant, has_wrong, variants}
 use Rattle.feed_mapping.specs.Products.{reference_in}
 use Rattle.feed_mapping.specs.Rows.{references_of}
 use Rattle.feed_mapping.specs.declared.notes.Wrong.TheVariants.{TooLarge}
@@ -51,9 +51,21 @@ IsFirst t before variant (f ∷ more) =
     (variant ≡ Some f)
     ⊎ ((fits (t.first before) f.records ≡ false) × IsFirst t before variant more)
 
--- a product stands in the first of its variants that is not too large for a part
+-- a product stands in the first of its variants that is not too large for a part that can be
 abbrev pub IsRight : Settings → Placing → Type 0
-IsRight t f = (before : ℕ) × IsFirst t before f.variant (variants t.opening t.preferred f.product)
+IsRight t f =
+    (before : ℕ) × (before ≤ t.most)
+    × IsFirst t before f.variant (variants t.opening t.preferred f.product)
+
+-- one of the variants of a product is not too large for any part that can be
+abbrev pub HasRoom : Settings → Composite → Type 0
+HasRoom t c =
+    (v : Variant) × Contains (variants t.opening t.preferred c) v
+    × ((before : ℕ) → before ≤ t.most → fits (t.first before) v.records ≡ true)
+
+-- a product is wrong as it is placed: one of its notes says so
+abbrev pub is_placed_wrong : Placing → Bool
+is_placed_wrong f = has_wrong (notes_by f.variant f.product)
 
 -- the records of a part behind its first one
 abbrev pub placed_records : List Placed → List (List (List ℕ))
@@ -84,8 +96,9 @@ references_in part = flat_map (λ p. references_of p.product.below) part
 
 -- What came of the elements of a message: its products, each once and in order, stand in its parts,
 -- one after the other and as many as there is room for, each in its right variant with the notes of
--- that. The parts that are left over have none. The desk takes each part, the first as the message
--- of the number in the heading and each later one as that of the next, with just its products.
+-- that, and as many of them are wrong as are counted. The parts that are left over have none. The
+-- desk takes each part, the first as the message of the number in the heading and each later one as
+-- that of the next, with just its products.
 pub record AreParts (o : Options) (nodes : Nodes) (made : Converted) : Type 0 where
   pub header : Composite
   pub counts : header_in nodes ≡ Some header
@@ -95,6 +108,7 @@ pub record AreParts (o : Options) (nodes : Nodes) (made : Converted) : Type 0 wh
   pub all : map (λ f. f.product) placings ≡ products_in nodes
   pub right : AllByRecursion (IsRight (settings o heading header.below)) placings
   pub notes : flat_map placing_notes placings ≡ made.notes
+  pub wrong : count_by is_placed_wrong placings ≡ made.wrong
   pub parts : List (List Placed)
   pub stand : flat_map (λ p. p) parts ≡ flat_map placed_of placings
   pub full : AreFull (settings o heading header.below) 0 parts

@@ -1,11 +1,12 @@
 //! What the definitions of the conversion come to. Each law is the contract of a function that does
 //! nothing.
 
-ghost use Rattle.std.specs.Prelude.{◌≡◌, Ok};
+ghost use Rattle.std.specs.Prelude.{◌≡◌, Ok, map};
+ghost use Rattle.std.specs.List.{AllByRecursion, flat_map};
 ghost use Rattle.feed_outline.specs.Nodes.{Nodes};
-ghost use Rattle.feed_conversion.specs.Conversion.{Options, conversion};
+ghost use Rattle.feed_conversion.specs.Conversion.{Options, conversion, products_in, settings};
 ghost use Rattle.feed_conversion.specs.Packing.{Converted};
-ghost use Rattle.feed_conversion.specs.Parts.{AreParts};
+ghost use Rattle.feed_conversion.specs.Parts.{AreParts, HasRoom};
 
 use csv_records::laws::one_text;
 use feed_mapping::laws::{parts_say_the_same, records_are_products};
@@ -23,3 +24,11 @@ pub fn products_stand_in_parts()
     parts_say_the_same();
     records_are_products();
 }
+
+/// Parts of a message that leave out a product which has room are not right: where each product has
+/// a variant that is not too large for any part that can be, all of them stand in the parts.
+pub fn what_has_room_is_placed()
+    ensures { (o : Options) (nodes : Nodes) (made : Converted) (are : AreParts o nodes made)
+        → AllByRecursion (HasRoom (settings o are.heading are.header.below)) (products_in nodes)
+        → map (λ p. p.product) (flat_map (λ p. p) are.parts) ≡ products_in nodes }
+{}

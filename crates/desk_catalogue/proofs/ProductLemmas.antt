@@ -18,8 +18,8 @@ use Rattle.desk_catalogue.specs.Holding.{Became, HoldsCatalogue, HoldsEntry}
 use Rattle.desk_catalogue.specs.Storable.{AreStorable, IsStorableProduct}
 use Rattle.desk_catalogue.specs.AppliedProducts.{IsChanged, IsProductApplied}
 use Rattle.desk_catalogue.specs.ReadRows.{Finds, has_same_identifiers, has_same_supplies, is_there}
-use Rattle.desk_catalogue.specs.declared.reading.FoundRecord.{FoundRecord}
-use Rattle.desk_catalogue.specs.declared.reading.FoundRecord.TheVariants.{Absent, Present}
+use Rattle.desk_catalogue.specs.declared.record_rows.FoundRecord.{FoundRecord}
+use Rattle.desk_catalogue.specs.declared.record_rows.FoundRecord.TheVariants.{Absent, Present}
 use Rattle.desk_catalogue.proofs.HoldingLemmas.{became_itself, catalogue_became, catalogues_kept, record_stays, supplies_stay}
 
 some_not_false : true ≡ false → ⊥

@@ -20,7 +20,7 @@ use Rattle.desk_catalogue.proofs.HeldPriceLemmas.{held_prices}
 use Rattle.desk_catalogue.specs.Holding.{HoldsEntry}
 use Rattle.desk_catalogue.specs.Storable.{IsStorable}
 use Rattle.desk_catalogue.specs.ReadRows.{AreReadAs, Finds, HasIdentifierRows, HasPricesOf, HasSupplyRows, HoldsSupplies, IsReadAs, TellsIdentifiers, TellsRecord}
-use Rattle.desk_catalogue.specs.declared.reading.FoundRecord.TheVariants.{Present}
+use Rattle.desk_catalogue.specs.declared.record_rows.FoundRecord.TheVariants.{Present}
 use Rattle.desk_catalogue.proofs.Additions.{take_push}
 use Rattle.std.proofs.lemmas.List.Elements.{All-map}
 use Rattle.desk_tables.specs.RecordChanges.{has_minimums_of}

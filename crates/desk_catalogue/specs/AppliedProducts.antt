@@ -13,7 +13,7 @@ use Rattle.desk_catalogue.specs.Holding.{Became, HoldsCatalogue, HoldsEntry, oth
 use Rattle.desk_catalogue.specs.Storable.{IsStorableProduct}
 use Rattle.desk_catalogue.specs.ReadRows.{IsFound}
 use Rattle.desk_catalogue.specs.Minimums.{HasNoMinimums}
-use Rattle.desk_catalogue.specs.declared.reading.FoundRecord.{FoundRecord}
+use Rattle.desk_catalogue.specs.declared.record_rows.FoundRecord.{FoundRecord}
 
 -- the record, of which that was found, became what the product asks for
 abbrev pub IsChanged : Change → RecordRow → Product → FoundRecord → DeskRows → DeskRows → Type 0

@@ -17,7 +17,7 @@ use Rattle.desk_catalogue.specs.AppliedProducts.{IsChanged}
 use Rattle.desk_catalogue.specs.Holding.{Became, HoldsCatalogue, HoldsEntry, IsApplied}
 use Rattle.desk_catalogue.specs.ReadRows.{AreReadAs, Finds, HasPricesOf, HoldsSupplies, IsReadAs}
 use Rattle.desk_catalogue.specs.Storable.{AreStorable}
-use Rattle.desk_catalogue.specs.declared.reading.FoundRecord.{FoundRecord}
+use Rattle.desk_catalogue.specs.declared.record_rows.FoundRecord.{FoundRecord}
 
 -- the rows stay, and the answer is true of them
 abbrev pub KeepsRows : {A : Type 0} → (DeskRows → A → Type 0) → DeskRows → A → DeskRows → Type 0

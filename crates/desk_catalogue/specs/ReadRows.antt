@@ -13,8 +13,8 @@ use Rattle.desk_tables.specs.declared.offers.OfferRow as typed
 use Rattle.desk_tables.specs.declared.records.RecordRow.{RecordRow}
 use Rattle.desk_catalogue.specs.EntryRows.{article_rows, offer_rows_of, price_rows_of, ids_of, supplies_of}
 use Rattle.desk_catalogue.specs.Holding.{HoldsEntry}
-use Rattle.desk_catalogue.specs.declared.reading.FoundRecord.{FoundRecord}
-use Rattle.desk_catalogue.specs.declared.reading.FoundRecord.TheVariants.{Absent, Present}
+use Rattle.desk_catalogue.specs.declared.record_rows.FoundRecord.{FoundRecord}
+use Rattle.desk_catalogue.specs.declared.record_rows.FoundRecord.TheVariants.{Absent, Present}
 use Rattle.std.specs.List.{All}
 
 -- the prices are those of that offer

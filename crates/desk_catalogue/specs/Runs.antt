@@ -16,7 +16,7 @@ use Rattle.desk_catalogue.specs.EntryRows.{record_row}
 use Rattle.desk_catalogue.specs.Holding.{HoldsCatalogue, other_catalogues}
 use Rattle.desk_catalogue.specs.ReadRows.{Finds}
 use Rattle.desk_catalogue.specs.Storable.{IsStorableProduct}
-use Rattle.desk_catalogue.specs.declared.reading.FoundRecord.{FoundRecord}
+use Rattle.desk_catalogue.specs.declared.record_rows.FoundRecord.{FoundRecord}
 use Rattle.desk_catalogue.specs.declared.runs.Step.{Step}
 
 -- ---- new records

@@ -8,7 +8,7 @@ ghost use Rattle.desk_catalogue.specs.Achieves.{Does};
 ghost use Rattle.desk_catalogue.specs.Calls.{KeepsRows, Rewrites, CarriesOut, AppliesMessage};
 ghost use Rattle.desk_catalogue.specs.Runs.{AppliesFound, AppliesSome, IsStep};
 ghost use Rattle.desk_catalogue.specs.Minimums.{products_have_minimums};
-ghost use Rattle.desk_catalogue.specs.declared.reading.FoundRecord.{FoundRecord};
+ghost use Rattle.desk_catalogue.specs.declared.record_rows.FoundRecord.{FoundRecord};
 ghost use Rattle.desk_tables.specs.RecordAnswers.{has_minimums};
 
 use crate::minimums::products_have_minimums;

@@ -27,7 +27,7 @@ use Rattle.series_rules.specs.declared.requests.Request.{Request}
 use Rattle.desk_rows.specs.Desks.{AreRowsOf, HoldsSecond, KeepsRequests, StoresRequests}
 use Rattle.desk_versions.specs.Migrations.{AreFilesOfEither, AreMigrated, IsBroughtToTwo, IsOfRequests, IsTrueAnswer, MakesSecond}
 use Rattle.desk_versions.specs.Openings.{AreEmptyFiles, AreFilesOf, AreFilesWith, AreFoundAs, AreItsTrees, AreTreesOf, HasNoMeta, HoldRowsOf, HoldSuch, HoldsAny, IsFoundFor, IsReady, KeepsFiles, KeepsStore, LeavesOne, MakesIndex, MayBecomeDesk, ShowsOnly, Spares, SparesFiles, TakesFound, TellNoVersion, TellsFiles, TellsFound}
-use Rattle.desk_versions.specs.declared.migration.MigrateAnswer.{MigrateAnswer}
+use Rattle.desk_versions.specs.declared.version_two.MigrateAnswer.{MigrateAnswer}
 use Rattle.desk_versions.specs.declared.opening.OpenFault.{OpenFault}
 use Rattle.desk_rows.proofs.ComesTo.{stored}
 use Rattle.desk_versions.proofs.EmptyFiles.{bare_is_emptied, nothing_found}

@@ -12,7 +12,7 @@ use Rattle.series_rules.specs.declared.requests.Request.{Request}
 use Rattle.desk_rows.specs.Desks.{AreRowsOf, HoldsSecond, StoresRequests}
 use Rattle.desk_versions.specs.Migrations.{HoldsFirstRequests, IsMigrated, IsMigrateFaultFor, IsOfRequests, MakesSecond}
 use Rattle.desk_versions.specs.Openings.{AreTreesOf, CouldLeave, HasNoMeta, HoldsAny, IsCreated, IsFoundFor, IsReady, IsVersionRead, MakesAll, ShowsOnly, Spares, StaysShown}
-use Rattle.desk_versions.specs.declared.migration.MigrateAnswer.TheVariants.{Migrated, AlreadyTwo}
+use Rattle.desk_versions.specs.declared.version_two.MigrateAnswer.TheVariants.{Migrated, AlreadyTwo}
 use Rattle.desk_versions.specs.declared.opening.OpenFault.TheVariants.{Store, OtherVersion}
 use Rattle.desk_versions.proofs.EmptyFiles.{first_stand}
 use Rattle.desk_versions.proofs.FoundTables.{IsSettled, any_has_meta, alone_here, no_meta, no_rows_here, spares_created, spares_read, tells_other, tells_store}

@@ -13,8 +13,8 @@ use Rattle.series_rules.specs.declared.requests.Request.{Request}
 use Rattle.desk_rows.specs.Desks.{AreRowsOf, StoresRequests}
 use Rattle.desk_versions.specs.Openings.{AreFilesOf, AreFoundAs, CouldLeave, HasNoMeta, HoldsAny, IsFoundFor, ShowsOnly, Spares, StaysShown, TellsFound}
 use Rattle.desk_rows.specs.Stands.{StandsForIn}
-use Rattle.desk_versions.specs.declared.migration.MigrateAnswer.{MigrateAnswer}
-use Rattle.desk_versions.specs.declared.migration.MigrateAnswer.TheVariants.{Migrated, AlreadyTwo}
+use Rattle.desk_versions.specs.declared.version_two.MigrateAnswer.{MigrateAnswer}
+use Rattle.desk_versions.specs.declared.version_two.MigrateAnswer.TheVariants.{Migrated, AlreadyTwo}
 use Rattle.desk_versions.specs.declared.opening.OpenFault.{OpenFault}
 use Rattle.desk_versions.specs.declared.opening.OpenFault.TheVariants.{Store, OtherVersion}
 

@@ -8,7 +8,7 @@ use Rattle.csv_records.specs.RecordTexts.{limit}
 use Rattle.program_files.specs.Holdings.{Holdings, MayName, NamedText, Names}
 use Rattle.program_files.specs.Names.{is_packed, name_of}
 use Rattle.program_files.specs.PartFiles.{files_of, place}
-use Rattle.feed_outline.specs.declared.reading.Fault.TheVariants as unread
+use Rattle.feed_outline.specs.declared.message_reading.Fault.TheVariants as unread
 use Rattle.feed_conversion.specs.Conversion.{Options}
 use Rattle.feed_conversion.specs.Outcomes.{ExplainsFault, Yields}
 use Rattle.feed_conversion.specs.Packing.{Converted}

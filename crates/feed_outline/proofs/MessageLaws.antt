@@ -16,9 +16,9 @@ use Rattle.feed_xml.specs.Limits.{BeginsWith, Bound, Meets, IsDeep, IsLarge, IsL
 use Rattle.feed_xml.specs.Tree.{Content}
 use Rattle.feed_xml.specs.Trees.{AreDocument, IsTree}
 use Rattle.feed_outline.specs.declared.dialect.Wrong.{Wrong}
-use Rattle.feed_outline.specs.declared.reading.Fault.{Fault}
-use Rattle.feed_outline.specs.declared.reading.Fault.TheVariants.{Document, Message, Reference, TooLarge, ManyPrefixes}
-use Rattle.feed_outline.specs.declared.reading.Stopped.{Stopped}
+use Rattle.feed_outline.specs.declared.message_reading.Fault.{Fault}
+use Rattle.feed_outline.specs.declared.message_reading.Fault.TheVariants.{Document, Message, Reference, TooLarge, ManyPrefixes}
+use Rattle.feed_outline.specs.declared.message_reading.Stopped.{Stopped}
 use Rattle.feed_outline.specs.Dialect.{Dialect}
 use Rattle.feed_outline.specs.Nodes.{is_known, nodes_in}
 use Rattle.feed_outline.specs.Outline.{Line, parts_of}

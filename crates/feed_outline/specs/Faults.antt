@@ -14,9 +14,9 @@ use Rattle.feed_xml.specs.Documents.{IsNoDocument, IsNoText}
 use Rattle.feed_xml.specs.Tree.{Content}
 use Rattle.feed_xml.specs.Trees.{IsTree}
 use Rattle.feed_outline.specs.declared.dialect.Wrong.{Wrong}
-use Rattle.feed_outline.specs.declared.reading.Fault.{Fault}
-use Rattle.feed_outline.specs.declared.reading.Fault.TheVariants.{Document, Message, Reference}
-use Rattle.feed_outline.specs.declared.reading.Fault.TheVariants.{TooLarge, ManyPrefixes}
+use Rattle.feed_outline.specs.declared.message_reading.Fault.{Fault}
+use Rattle.feed_outline.specs.declared.message_reading.Fault.TheVariants.{Document, Message, Reference}
+use Rattle.feed_outline.specs.declared.message_reading.Fault.TheVariants.{TooLarge, ManyPrefixes}
 use Rattle.feed_outline.specs.Dialect.{Dialect}
 use Rattle.feed_outline.specs.Names.{Word}
 use Rattle.feed_outline.specs.Nodes.{is_known, nodes_in}

@@ -9,8 +9,8 @@ use Rattle.series_rules.specs.declared.requests.Request.{Request}
 use Rattle.desk_store.specs.ClosedFiles.{HoldOneDatabase}
 use Rattle.desk_versions.specs.Migrations.{AreFilesOfEither, AreMigrated, IsTrueAnswer, MakesSecond}
 use Rattle.desk_versions.specs.Openings.{AreEmptyFiles, AreFilesWith, HoldRowsOf}
-use Rattle.desk_versions.specs.declared.migration.MigrateAnswer.{MigrateAnswer}
-use Rattle.desk_versions.specs.declared.migration.MigrateAnswer.TheVariants.{Migrated, AlreadyTwo}
+use Rattle.desk_versions.specs.declared.version_two.MigrateAnswer.{MigrateAnswer}
+use Rattle.desk_versions.specs.declared.version_two.MigrateAnswer.TheVariants.{Migrated, AlreadyTwo}
 use Rattle.program_databases.specs.Leftovers.{LeavesUndone}
 use Rattle.program_lines.specs.Printing.{PrintEnds}
 use Rattle.program_databases.specs.declared.files.FilesLeft.{FilesLeft}

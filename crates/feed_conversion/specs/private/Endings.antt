@@ -1,7 +1,7 @@
 -- How a conversion ends, by the state that it comes to.
 use Rattle.std.specs.Prelude.{◌≡◌, ℕ, Result, Ok, Err}
 use Rattle.feed_xml.specs.declared.position.Position.{Position}
-use Rattle.feed_outline.specs.declared.reading.Fault.{Fault as Unread}
+use Rattle.feed_outline.specs.declared.message_reading.Fault.{Fault as Unread}
 use Rattle.feed_conversion.specs.declared.refusal.Fault.{Fault}
 use Rattle.feed_conversion.specs.declared.refusal.Fault.TheVariants as fault
 use Rattle.feed_conversion.specs.declared.refusal.Refusal.{Refusal}

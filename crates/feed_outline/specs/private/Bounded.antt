@@ -5,8 +5,8 @@ use Rattle.std.specs.Option.{option_or}
 use Rattle.feed_xml.specs.declared.position.Position.{Position}
 use Rattle.feed_xml.specs.Grammar.{Attribute, Token, start, empty}
 use Rattle.feed_outline.specs.declared.dialect.Wrong.{Wrong}
-use Rattle.feed_outline.specs.declared.reading.Fault.TheVariants.{ManyPrefixes}
-use Rattle.feed_outline.specs.declared.reading.Stopped.{Stopped}
+use Rattle.feed_outline.specs.declared.message_reading.Fault.TheVariants.{ManyPrefixes}
+use Rattle.feed_outline.specs.declared.message_reading.Stopped.{Stopped}
 use Rattle.feed_outline.specs.Dialect.{Dialect}
 use Rattle.feed_outline.specs.Names.{Word}
 use Rattle.feed_outline.specs.Namespaces.{bindings_of}

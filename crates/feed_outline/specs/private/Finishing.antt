@@ -6,9 +6,9 @@ use Rattle.feed_xml.specs.declared.fault.Fault.TheVariants.{UnknownEncoding, Rea
 use Rattle.feed_xml.specs.declared.position.Position.{Position}
 use Rattle.feed_outline.specs.declared.dialect.Wrong.{Wrong}
 use Rattle.feed_outline.specs.declared.dialect.Wrong.TheVariants.{Root}
-use Rattle.feed_outline.specs.declared.reading.Fault.{Fault}
-use Rattle.feed_outline.specs.declared.reading.Fault.TheVariants.{Message, Reference, TooLarge}
-use Rattle.feed_outline.specs.declared.reading.Stopped.{Stopped}
+use Rattle.feed_outline.specs.declared.message_reading.Fault.{Fault}
+use Rattle.feed_outline.specs.declared.message_reading.Fault.TheVariants.{Message, Reference, TooLarge}
+use Rattle.feed_outline.specs.declared.message_reading.Stopped.{Stopped}
 use Rattle.feed_outline.specs.Dialect.{Dialect}
 use Rattle.feed_outline.specs.Outline.{Line}
 use Rattle.feed_outline.specs.private.Feed.{Feed, fits}

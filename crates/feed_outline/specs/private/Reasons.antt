@@ -11,9 +11,9 @@ use Rattle.feed_xml.specs.EncodingNames.{OfText, IsOfUnknown}
 use Rattle.feed_xml.specs.Positions.{first_position, position_past}
 use Rattle.feed_xml.specs.Limits.{BeginsWith, IsDeep, IsLarge, IsLong, NoneMayStand}
 use Rattle.feed_xml.specs.Documents.{IsNoDocument, IsNoText}
-use Rattle.feed_outline.specs.declared.reading.Fault.{Fault}
-use Rattle.feed_outline.specs.declared.reading.Fault.TheVariants.{Document, Message, Reference}
-use Rattle.feed_outline.specs.declared.reading.Fault.TheVariants.{TooLarge, ManyPrefixes}
+use Rattle.feed_outline.specs.declared.message_reading.Fault.{Fault}
+use Rattle.feed_outline.specs.declared.message_reading.Fault.TheVariants.{Document, Message, Reference}
+use Rattle.feed_outline.specs.declared.message_reading.Fault.TheVariants.{TooLarge, ManyPrefixes}
 use Rattle.feed_outline.specs.Names.{Word}
 use Rattle.feed_outline.specs.Nodes.{is_known}
 use Rattle.feed_outline.specs.Roots.{root_of}

@@ -1,5 +1,5 @@
 use Rattle.std.proofs.Common.{◌≡◌, ◌∙◌, true, false, Err, ap, fold, sym}
-use Rattle.feed_outline.specs.declared.reading.Fault.TheVariants.{Document}
+use Rattle.feed_outline.specs.declared.message_reading.Fault.TheVariants.{Document}
 use Rattle.feed_outline.specs.private.Bounded.{bound, ends, goes_on}
 use Rattle.feed_outline.specs.private.Finishing.{is_of_text}
 use Rattle.feed_outline.proofs.MessageLaws.{all_comes, all_explained, all_refuses, at_text, document_at, document_explained, explained, Reasons}

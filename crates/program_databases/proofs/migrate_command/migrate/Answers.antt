@@ -6,7 +6,7 @@ use Rattle.sqlite_disk.specs.declared.Disk.{Ghosts}
 use Rattle.sqlite_disk.specs.declared.Files.{Files}
 use Rattle.sqlite_wal.specs.Recovery.{Image}
 use Rattle.desk_versions.specs.Migrations.{MakesSecond}
-use Rattle.desk_versions.specs.declared.migration.MigrateAnswer.{MigrateAnswer}
+use Rattle.desk_versions.specs.declared.version_two.MigrateAnswer.{MigrateAnswer}
 use Rattle.program_databases.proofs.SettledLemmas.{spares_settled}
 use Rattle.program_databases.specs.Databases.{AreSettled}
 use Rattle.program_databases.specs.MigrationEnd.{IsMigrationDone, migration_line}

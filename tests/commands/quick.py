@@ -22,7 +22,13 @@ from collections.abc import Callable, Iterator, Sequence
 from functools import partial
 from pathlib import Path
 
-from tests.program import batches, convert_cases, groups_of, sample_feeds
+from tests.program import groups_of
+
+from tests.program.desk import batches
+
+from tests.program.feeds import sample_feeds
+
+from tests.program.feeds.convert import records_and_notes
 from tests.program.room import Group
 from tests.running import PROGRAM, Cases, Counted, Outcome, count_all, run_side_by_side
 from tests.unproved import ENDED, build, run_try
@@ -117,7 +123,7 @@ def parts() -> list[Part]:
         Part("the tests of feeds", [Step(TESTS_OF_FEEDS, tests_of_feeds)]),
         Part("the samples", groups_of(sample_feeds), program),
         Part("the batches", in_turn, program),
-        Part("the conversions", groups_of(convert_cases), program),
+        Part("the conversions", groups_of(records_and_notes), program),
     ]
 
 

@@ -5,7 +5,7 @@
 
 import sys
 
-from tests.program.seeded_feeds import MESSAGES, SERIES, made
+from tests.program.feeds.seeded_feeds import MESSAGES, SERIES, made
 
 
 def main(words: list[str]) -> int:

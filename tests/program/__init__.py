@@ -1,4 +1,4 @@
-"""Tests of the built program, a module for each subject.
+"""Tests of the built program and of what stands beside it, a folder for each room and a module for each subject.
 
 What a case wants is taken from the desk's written rules, never from what the program wrote.
 
@@ -35,8 +35,8 @@ def groups_of(module: Any) -> list[Cases]:
 
 
 def groups() -> list[Cases]:
-    """The groups of all modules here that have some."""
-    names = [module.name for module in pkgutil.iter_modules(__path__)]
-    names.sort(key=lambda name: (FIRST.index(name) if name in FIRST else len(FIRST), name))
-    modules: list[Any] = [importlib.import_module(f"{__name__}.{name}") for name in names]
+    """The groups of all modules below this one that have some."""
+    names = [module.name for module in pkgutil.walk_packages(__path__, f"{__name__}.") if not module.ispkg]
+    names.sort(key=lambda name: (FIRST.index(last) if (last := name.rpartition(".")[2]) in FIRST else len(FIRST), name))
+    modules: list[Any] = [importlib.import_module(name) for name in names]
     return [group for module in modules for group in groups_of(module)]

@@ -1,5 +1,5 @@
 //! Inputs that come one byte a read, whose reads are counted, and outputs that take part of what is written
-//! and then nothing. No run of the program shows either; tests/program/broken_streams.py has streams that fail.
+//! and then nothing. No run of the program shows either; tests/program/desk/broken_streams.py has streams that fail.
 
 use crate::asking::{run, serve};
 use crate::cases::{expect, expect_bytes, made};

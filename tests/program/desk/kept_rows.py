@@ -1,0 +1,85 @@
+"""A desk with rows that a run leaves as they were: one that ends with status 3 before anything is asked, or
+whose answer cannot be written. So it is with a migration whose line cannot be written."""
+
+import contextlib
+import socket
+from collections.abc import Iterator
+from functools import partial
+from typing import NamedTuple
+
+from tests.program.desk.commands import FIRST
+from tests.program.databases import DATABASE, all_rows, batch, complaints, execute
+from tests.program.messages import AGREEMENT
+from tests.program.desk.migrations import CASES, Case
+from tests.program.room import UNREADABLE, Group, Ran, Room
+from tests.program.serving import HOST, free_port
+from tests.running import Outcome
+
+
+class Fault(NamedTuple):
+    """The words of a command, whether its output takes nothing, and the line that says what went wrong."""
+
+    words: str
+    is_full: bool
+    line: bytes
+
+
+FAULTS = [
+    Fault("batch", False, b"onixdesk: input: read\n"),
+    Fault("deliver -", False, b"onixdesk: file: -\n"),
+    Fault("deliver absent.csv", False, b"onixdesk: file: absent.csv\n"),
+    Fault("gaps north", True, b"onixdesk: output\n"),
+    Fault("gaps nowhere", True, b"onixdesk: output\n"),
+]
+
+
+def stays(room: Room, name: str, ran: Ran, wanted: Ran, before: object) -> Iterator[Outcome]:
+    """The run ended so, and the rows are what they were."""
+    yield Outcome(name, ran, wanted)
+    yield Outcome(f"{name}: the rows", (complaints(room), all_rows(room)), ([], before))
+
+
+def after_a_fault(fault: Fault, room: Room) -> Iterator[Outcome]:
+    batch(room, AGREEMENT + FIRST)
+    before = all_rows(room)
+    words = "--db", DATABASE, *fault.words.split()
+    came = room.run(*words, given=UNREADABLE, is_full=fault.is_full)
+    yield from stays(room, fault.words, came, Ran(3, b"", fault.line), before)
+
+
+def behind_a_taken_port(room: Room) -> Iterator[Outcome]:
+    batch(room, AGREEMENT + FIRST)
+    before = all_rows(room)
+    with contextlib.closing(socket.socket()) as listener:
+        listener.bind((HOST, 0))
+        listener.listen()
+        port = listener.getsockname()[1]
+        came = room.run("--db", DATABASE, "serve", "--port", str(port), given=UNREADABLE)
+    wanted = Ran(3, b"", b"onixdesk: port %d\n" % port)
+    yield from stays(room, "a port that is taken", came, wanted, before)
+
+
+def behind_a_file_in_the_way(room: Room) -> Iterator[Outcome]:
+    """Another file than a socket is not taken away."""
+    batch(room, AGREEMENT + FIRST)
+    before = all_rows(room)
+    room.write("desk.socket", b"")
+    words = "serve", "--port", str(free_port()), "--batches", "desk.socket"
+    came = room.run("--db", DATABASE, *words, given=UNREADABLE)
+    yield from stays(room, "a socket in the way", came, Ran(3, b"", b"onixdesk: socket\n"), before)
+
+
+def migrated_unwritten(case: Case, room: Room) -> Iterator[Outcome]:
+    """The file is migrated, and what stood in it stands in version 2."""
+    execute(room, case.made)
+    kept = all_rows(room) | {"meta": [("version", 2)], "price_minimum": []}
+    for name in "unwritten", "unwritten again":
+        came = room.run("--db", DATABASE, "migrate", given=UNREADABLE, is_full=True)
+        wanted = Ran(3, b"", b"onixdesk: output\n")
+        yield from stays(room, f"migrate, {name}: {case.name}", came, wanted, kept)
+
+
+GROUPS = [
+    *(Group(f"rows behind {it.words}", partial(after_a_fault, it)) for it in FAULTS),
+    *(Group(f"rows behind migrate: {it.name}", partial(migrated_unwritten, it)) for it in CASES),
+]

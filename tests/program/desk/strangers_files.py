@@ -1,0 +1,93 @@
+"""Files that are no desk and no database: each command refuses them, and leaves them byte for byte as they
+were. So it does with a desk of which a page is damaged, which is to be restored and not begun anew."""
+
+import random
+from collections.abc import Callable, Iterator
+from functools import partial
+
+from tests.program.desk.commands import FIRST
+from tests.program.databases import DATABASE
+from tests.program.messages import AGREED, AGREEMENT
+from tests.program.room import Group, Ran, Room
+from tests.running import Outcome
+
+# How many bytes a page of a desk's file has.
+PAGE = 4096
+
+MESSAGE = "message.csv"
+
+COMMANDS = ["batch", f"deliver {MESSAGE}", "gaps north", "serve --port 1 --requests 1", "migrate"]
+
+
+def random_bytes(room: Room) -> bytes:
+    return random.Random(52).randbytes(20_000)
+
+
+def letter(room: Room) -> bytes:
+    return b"Dear bookseller,\n\nour prices for the spring are enclosed.\n\nNorth Books\n"
+
+
+def one_byte(room: Room) -> bytes:
+    return b"\n"
+
+
+def zero_byte(room: Room) -> bytes:
+    """The making of a database begins with this byte, behind its log."""
+    return b"\0"
+
+
+def desk_without_page(number: int, room: Room) -> bytes:
+    """A desk with an agreement and a message, and zeros for the page of that number, from 1 on."""
+    room.run("--db", "whole.db", "batch", given=AGREEMENT + FIRST)
+    whole = room.path("whole.db").read_bytes()
+    return whole[: (number - 1) * PAGE] + bytes(PAGE) + whole[number * PAGE :]
+
+
+# What each file holds. The first page of a database has its header; the second is one of a table.
+FILES = {
+    "random bytes": random_bytes,
+    "a letter": letter,
+    "one byte": one_byte,
+    "a zero": zero_byte,
+    "a desk without its first page": partial(desk_without_page, 1),
+    "a desk without its second page": partial(desk_without_page, 2),
+}
+
+
+def is_refused(name: str, contents: Callable[[Room], bytes], room: Room) -> Iterator[Outcome]:
+    held = contents(room)
+    room.write(DATABASE, held)
+    room.write(MESSAGE, FIRST)
+    for command in COMMANDS:
+        came = room.run("--db", DATABASE, *command.split(), given=AGREEMENT)
+        yield Outcome(f"{name}: {command}", (came.status, came.output), (3, b""))
+        is_same = room.path(DATABASE).read_bytes() == held
+        yield Outcome(f"{name}: the file after {command} is as it was", is_same, True)
+
+
+def is_one_byte(room: Room) -> Iterator[Outcome]:
+    """`--existing` takes it for no desk either, nor does an empty log beside it or a link to it."""
+    room.write(DATABASE, b"\n")
+    room.write(MESSAGE, FIRST)
+    room.path("link.db").symlink_to(DATABASE)
+    for log in False, True:
+        if log:
+            room.write(f"{DATABASE}-wal", b"")
+        for words in ["--db", DATABASE, "--existing"], ["--db", "link.db"]:
+            for command in COMMANDS:
+                came = room.run(*words, *command.split(), given=AGREEMENT)
+                name = f"one byte: {' '.join(words)} {command}, {'an empty log' if log else 'no log'}"
+                yield Outcome(name, came, Ran(3, b"", b"onixdesk: storage: unusable\n"))
+    yield Outcome("one byte: the file then", room.path(DATABASE).read_bytes(), b"\n")
+
+
+def is_begun(room: Room) -> Iterator[Outcome]:
+    """Beside the log of an opening that was stopped one byte is a desk that is not made yet."""
+    room.run("--db", "other.db", "batch")
+    room.write(DATABASE, b"\0")
+    room.write(f"{DATABASE}-wal", room.path("other.db-wal").read_bytes())
+    came = room.run("--db", DATABASE, "--existing", "batch", given=AGREEMENT)
+    yield Outcome("one byte beside a log", came, Ran(0, AGREED))
+
+
+GROUPS = [Group(f"no database: {name}", partial(is_refused, name, contents)) for name, contents in FILES.items()]

@@ -1,0 +1,1 @@
+"""Tests of feeds: what `onixdesk convert` makes of them."""

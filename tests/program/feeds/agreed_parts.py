@@ -1,0 +1,105 @@
+"""The number of parts is a part of the agreement on a series: what another one does, and how docs/ONIX.md
+says that it is changed."""
+
+from collections.abc import Iterator
+from functools import partial
+from typing import NamedTuple
+
+from tests.program.feeds.convert.case_files import FRAMES
+from tests.program.feeds.convert.running import convert
+from tests.program.feeds.convert.wanted_runs import PRODUCT
+from tests.program.room import Group, Ran, Room
+from tests.running import Outcome
+from tools.root import ROOT
+
+ONIX = ROOT / "docs/ONIX.md"
+
+FRAME = FRAMES["products"]
+
+AGREEMENT = "Agree,north,06,S,,,1\n"
+
+
+class Change(NamedTuple):
+    """From so many parts to others, behind a message."""
+
+    before: int
+    after: int
+    message: int
+
+    def offset(self) -> int:
+        """The least that takes the next message behind the numbers that are given."""
+        offset = 0
+        while (self.message + offset) * self.after < self.message * self.before:
+            offset += 1
+        return offset
+
+    def waived(self) -> range:
+        first = self.message * self.before + 1
+        return range(first, (self.message + self.offset()) * self.after + 1)
+
+
+def message(number: int, room: Room, *words: str) -> bytes:
+    feed = FRAME.before.replace("<MessageNumber>1<", f"<MessageNumber>{number}<")
+    room.write("feed.xml", (feed + PRODUCT.format(f"R{number}") + FRAME.behind).encode())
+    return convert(room, *words, "feed.xml").output
+
+
+def applied(first: int, count: int) -> str:
+    """The answers to the parts of a message, whose first has its product."""
+    effects = ["replaced=1", *["replaced=0"] * (count - 1)]
+    rest = "updated=0,deleted=0,unknown=0,ignored=0"
+    return "".join(f"applied,north,{first + part},{effect},{rest}\n" for part, effect in enumerate(effects))
+
+
+def answers_before(change: Change) -> str:
+    firsts = [number * change.before + 1 for number in range(change.message)]
+    return "agreed,north,1\n" + "".join(applied(first, change.before) for first in firsts)
+
+
+def requests_before(change: Change, room: Room) -> bytes:
+    words = ["--parts", str(change.before)]
+    messages = [message(number, room, *words) for number in range(1, change.message + 1)]
+    return AGREEMENT.encode() + b"".join(messages)
+
+
+def changed(change: Change, room: Room) -> Iterator[Outcome]:
+    """As the document says."""
+    words = ["--parts", str(change.after)]
+    if change.offset():
+        words += ["--number-offset", str(change.offset())]
+    waivers = "".join(f"Waive,north,{number}\n" for number in change.waived())
+    following = message(change.message + 1, room, *words)
+    given = requests_before(change, room) + waivers.encode() + following + b"AskGaps,north\n"
+    first = change.waived().stop
+    last = first + change.after - 1
+    wanted = answers_before(change)
+    wanted += "".join(f"waived,north,{number}\n" for number in change.waived())
+    wanted += applied(first, change.after)
+    wanted += f"gaps,north,first=1,next={last + 1},greatest={last},held=0,missing=0\n"
+    yield Outcome(f"{change}", room.run("batch", given=given), Ran(0, wanted.encode()))
+
+
+def blocked(room: Room) -> Iterator[Outcome]:
+    """A greater number of parts without waivers."""
+    change = Change(2, 3, 2)
+    given = requests_before(change, room) + message(3, room, "--parts", "3") + b"AskGaps,north\n"
+    held = "".join(f"held,north,{number},waiting-for=5\n" for number in (7, 8, 9))
+    gaps = "gaps,north,first=1,next=5,greatest=9,held=3,missing=1\nmissing,5,6\n"
+    wanted = answers_before(change) + held + gaps
+    yield Outcome("more parts and no waivers", room.run("batch", given=given), Ran(0, wanted.encode()))
+
+
+def documented(room: Room) -> Iterator[Outcome]:
+    """The numbers of the examples in the document."""
+    more, fewer = Change(51, 60, 300), Change(60, 25, 7)
+    first, last = more.waived()[0], more.waived()[-1]
+    waivers = f"seq -f 'Waive,north,%.0f' {first} {last} | "
+    yield Outcome("the waivers for more parts", waivers in ONIX.read_text(encoding="utf-8"), True)
+    sentence = f"From 60 to 25 parts after message 7, K is {fewer.offset()}, and"
+    sentence += f" {fewer.waived()[0]} to {fewer.waived()[-1]} are waived."
+    yield Outcome("the offset for fewer parts", sentence in ONIX.read_text(encoding="utf-8"), True)
+
+
+CHANGES = [Change(2, 3, 3), Change(1, 2, 1), Change(3, 2, 3), Change(4, 2, 2), Change(5, 3, 2)]
+
+GROUPS = [Group(f"{change}", partial(changed, change)) for change in CHANGES]

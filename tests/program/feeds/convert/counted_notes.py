@@ -1,0 +1,157 @@
+"""How many notes `onixdesk convert` writes and counts, and fields too long for the files of tests/conversions."""
+
+from collections.abc import Iterator
+from itertools import product
+from string import ascii_uppercase
+
+from tests.program.feeds.convert.case_files import FRAMES, SUPPLIER, said
+from tests.program.feeds.convert.running import FEED, convert, refused_lines
+from tests.program.room import Ran, Room
+from tests.running import Outcome
+
+# The most lines of notes on a file, and the most bytes of a field.
+LINES = 1_000
+FIELD_BYTES = 1_024
+
+PRICE = "<Price><PriceQualifier>{}</PriceQualifier><PriceAmount>1</PriceAmount></Price>\n"
+
+# Two letters each, but those that are read as another country.
+COUNTRIES = [code for code in map("".join, product(ascii_uppercase, repeat=2)) if code not in ("EL", "UK")]
+
+
+def feed_of(place: str, xml: str) -> bytes:
+    """A feed with that at the place, from its second line on."""
+    return f"{FRAMES[place].before}\n{xml}{FRAMES[place].behind}".encode()
+
+
+def message_of(place: str, records: str = "") -> bytes:
+    text = FRAMES[place].records + records
+    return f"{text}EndMessage,{text.count(chr(10))}\n".encode()
+
+
+def prices(count: int, qualifier: str) -> bytes:
+    """A feed of so many Prices that are left out, each on a line of its own."""
+    return feed_of("prices", PRICE.format(qualifier) * count)
+
+
+def notes_on(file: str, count: int, qualifier: str) -> list[str]:
+    first = 2
+    return [
+        f"{file}:{line}:1: R1: Price left out: PriceQualifier {qualifier}"
+        for line in range(first, first + count)
+    ]
+
+
+def bounded(room: Room) -> Iterator[Outcome]:
+    """Each file has its lines, and the summary counts the notes of all."""
+    room.write("a.xml", prices(LINES, "05"))
+    room.write("b.xml", prices(LINES + 1, "05"))
+    room.write("c.xml", prices(LINES + 500, "07"))
+    came = convert(room, "-o", ".", "a.xml", "b.xml", "c.xml")
+    summary = ["Price left out: PriceQualifier 05: 2001", "Price left out: PriceQualifier 07: 1500", "3501 notes"]
+    lines = notes_on("a.xml", LINES, "05") + notes_on("b.xml", LINES, "05") + notes_on("c.xml", LINES, "07")
+    found = came.status, came.errors.decode().splitlines()
+    yield Outcome("files of many notes", found, (0, said(lines + summary).decode().splitlines()))
+
+
+def products_besides(room: Room) -> Iterator[Outcome]:
+    """Lines on products that are left out or emptied have a bound of their own, behind a thousand others too."""
+    frame = FRAMES["prices"]
+    others = PRICE.format("05") * (LINES + 200)
+    wrong = "<Product><RecordReference>W{}</RecordReference></Product>\n"
+    products = "".join(wrong.format(number) for number in range(LINES + 2))
+    text = f"{frame.before}\n{others}{frame.behind}".replace("</ONIXMessage>", f"\n{products}</ONIXMessage>")
+    room.write(FEED, text.encode())
+    came = convert(room, "--wrong", "all", FEED)
+    lines = came.errors.decode().splitlines()
+    found = [sum(what in line for line in lines) for what in (": Price left out: ", ": Product emptied: ")]
+    # The summary has a line of each too.
+    yield Outcome("lines on products besides others", (came.status, found), (1, [LINES + 1] * 2))
+    count = f"onixdesk: {2 * LINES + 202} notes, {LINES + 2} products wrong"
+    yield Outcome("lines on products besides others, counted", lines[-1], count)
+
+
+def refused(room: Room) -> Iterator[Outcome]:
+    """Of a file that is refused there is one line, and nothing is counted."""
+    bad = prices(3, "05").replace(b"</ONIXMessage>", b"</Product>")
+    room.write("a.xml", bad)
+    room.write("b.xml", prices(1, "07"))
+    came = convert(room, "-o", ".", "a.xml", "b.xml")
+    errors = came.errors.decode().splitlines()
+    found = came.status, refused_lines(came), errors[1:]
+    told = [*notes_on("b.xml", 1, "07"), "Price left out: PriceQualifier 07: 1", "1 note"]
+    wanted = 1, [("a.xml", 5)], said(told).decode().splitlines()
+    yield Outcome("a refused file of notes, and another", found, wanted)
+
+
+def regions(room: Room) -> Iterator[Outcome]:
+    """Regions are read whole, however long their field is, and each of them is counted."""
+    many = "GB-NIR " * 2_500
+    territory = f"<Territory><RegionsIncluded>{many}WORLD</RegionsIncluded></Territory>"
+    room.write(FEED, feed_of("market", territory))
+    came = convert(room, FEED)
+    line = f"{FEED}:2:1: R1: region of RegionsIncluded left out: GB-NIR beside a country or WORLD"
+    kind = "region of RegionsIncluded left out: .. beside a country or WORLD: 2500"
+    wanted = Ran(
+        0,
+        message_of("market", "ProductSupply,,WORLD,\nSupplyDetail,04,,,North,21,\n"),
+        said([line] * LINES + [kind, "2500 notes"]),
+    )
+    yield Outcome("the world behind 2,500 regions", came, wanted)
+
+    long = "A" * (FIELD_BYTES + 1)
+    territory = f"<Territory><RegionsExcluded>CA-{long} ECZ</RegionsExcluded></Territory>"
+    room.write(FEED, feed_of("price", territory))
+    came = convert(room, FEED)
+    why = "Price left out: RegionsExcluded {}, which is no part of a country"
+    at = FRAMES["price"].before.index("<Price>") + 1
+    told = [f"{FEED}:1:{at}: R1: {why.format('ECZ')}", f"{why.format('..')}: 1", "1 note"]
+    yield Outcome("a region behind a long one", came, Ran(0, message_of("price"), said(told)))
+
+
+def markets_of(*territories: list[str]) -> bytes:
+    """A feed with a Market of each of these lists of countries."""
+    markets = "".join(
+        f"<Market><Territory><CountriesIncluded>{' '.join(countries)}</CountriesIncluded></Territory></Market>"
+        for countries in territories
+    )
+    return feed_of("supply", f"{markets}<SupplyDetail>{SUPPLIER}</SupplyDetail>")
+
+
+def unions(room: Room) -> Iterator[Outcome]:
+    """A union has room for as many countries as a field has bytes for, and no more."""
+    most = (FIELD_BYTES + 1) // 3
+    room.write(FEED, markets_of(COUNTRIES[:200], COUNTRIES[100:most]))
+    came = convert(room, FEED)
+    records = f"ProductSupply,{' '.join(COUNTRIES[:most])},,\nSupplyDetail,04,,,North,21,\n"
+    yield Outcome(f"Markets of {most} countries", came, Ran(0, message_of("supply", records)))
+
+    room.write(FEED, markets_of(COUNTRIES[:200], COUNTRIES[100 : most + 1]))
+    came = convert(room, FEED)
+    records = FRAMES["product"].records + "EndMessage,2\n"
+    found = came.status, came.output.decode(), came.errors.decode().splitlines()[-1]
+    yield Outcome(f"Markets of {most + 1} countries", found, (0, records, "onixdesk: 2 notes"))
+
+
+def long_prices(room: Room) -> Iterator[Outcome]:
+    """A Price with a field that is too long is left out."""
+    long = " ".join(COUNTRIES[:400])
+    territory = f"<Territory><CountriesIncluded>{long}</CountriesIncluded></Territory>"
+    room.write(FEED, feed_of("price", territory))
+    came = convert(room, FEED)
+    at = FRAMES["price"].before.index("<Price>") + 1
+    first, *_, last = came.errors.decode().splitlines()
+    found = came.status, came.output, first.startswith(f"onixdesk: {FEED}:1:{at}: R1: Price left out: "), last
+    last_line = "onixdesk: 1 note, 1 product wrong"
+    yield Outcome("a Price with a long field", found, (1, message_of("price"), True, last_line))
+
+
+def old_elements(room: Room) -> Iterator[Outcome]:
+    """The summary names the elements of ONIX 2.1, which are no texts of a feed."""
+    names = ["CountryCode", "PriceEffectiveFrom", "PriceEffectiveUntil", "PriceTypeCode"]
+    price = "<Price><{0}>GB</{0}><PriceAmount>1</PriceAmount></Price>"
+    room.write(FEED, feed_of("prices", "\n".join(price.format(name) for name in [*names, names[0]])))
+    came = convert(room, FEED)
+    counts = [f"Price left out: {name} of ONIX 2.1: {1 + (name == names[0])}" for name in names]
+    summary = said([*counts, "5 notes, 1 product wrong"]).decode().splitlines()
+    yield Outcome("elements of ONIX 2.1 in the summary", (came.status, came.errors.decode().splitlines()[5:]), (1, summary))

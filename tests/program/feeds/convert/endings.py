@@ -1,0 +1,286 @@
+"""What `onixdesk convert` says of a feed that is no message, how far it is, and what an ended run leaves."""
+
+import codecs
+import contextlib
+import os
+import pty
+import signal
+import subprocess
+import time
+from collections.abc import Iterator
+from functools import partial
+from pathlib import Path
+from typing import NamedTuple
+
+from tests.program.feeds.convert.case_files import in_short_tags
+from tests.program.feeds.convert.words_and_statuses import LARGE, large_part
+from tests.program.feeds.convert.running import FEED
+from tests.program.feeds.convert.wanted_runs import FRAME, ONE, PRODUCT, TWO, message_of
+from tests.program.feeds.convert.argument_grammar import HEADER, SENDER
+from tests.program.feeds.convert.argument_grammar import feed_of as message_with
+from tests.program.room import SECONDS, Group, Ran, Room
+from tests.program.written_cases import TESTS, read_file, repeated, unescaped
+from tests.running import Outcome
+
+CUT = "the file ends before </ONIXMessage>"
+NO_XML = "no well-formed XML"
+
+# Longer than what is kept of the beginning of a feed, and than what is read of it at once.
+LONG = f"<!--{' ' * 70_000}-->"
+
+
+class Case(NamedTuple):
+    """A feed that is refused, words, and why it is."""
+
+    name: str
+    feed: bytes
+    why: str
+    words: list[str] = []
+
+
+def in_utf16(text: str) -> bytes:
+    return codecs.BOM_UTF16_LE + text.encode("utf-16-le")
+
+
+def numbered(number: str, why: str, *words: str) -> Case:
+    header = HEADER.format(SENDER).replace("<MessageNumber>1<", f"<MessageNumber>{number}<")
+    return Case(f"the number {number[:12]} {' '.join(words)}", message_with(header), why, [*words])
+
+
+def feeds() -> Iterator[Case]:
+    """Those of tests/refusals/feeds.txt: the name of a case says why its feeds are refused, which have escapes."""
+    for case in read_file(TESTS / "refusals/feeds.txt"):
+        for text in case.text.removesuffix("\n").splitlines():
+            yield Case(f"the feed {text}", unescaped(repeated(text)), case.name)
+
+
+# Of as many bytes a feed is that is begun: fewer than tell its encoding, as many as are kept of it, and so on.
+SIZES = [512, 1_023, 1_024, 2_000, 65_535, 65_536, 65_537, 200_000]
+
+BEGUN = FRAME.before + PRODUCT.format("R1")
+
+
+def begun(size: int) -> str:
+    """A feed of that many bytes whose root is open."""
+    comment = "<!---->"
+    return f"{BEGUN}<!--{' ' * (size - len(BEGUN) - len(comment))}-->"
+
+
+ENDS = [
+    Case("a prolog", b'<?xml version="1.0"?>\n<!-- a message\n', "the file ends before its root element"),
+    Case("white space", b" \n", "the file ends before its root element"),
+    Case("short tags", in_short_tags(BEGUN).encode(), "the file ends before </ONIXmessage>"),
+    Case("UTF-16", in_utf16(BEGUN), CUT),
+    Case("a prolog that is long", f"{LONG}<!--".encode(), "the file ends before its root element"),
+    *(
+        Case(f"{size} bytes and {behind!r}", f"{begun(size)}{behind}".encode(), why)
+        for size in SIZES
+        for behind, why in [
+            ("", CUT),
+            ("<Product><Record", CUT),
+            ("<Product>R", CUT),
+            ("<!-- ", CUT),
+            ("</Other>", NO_XML),
+            (f"{FRAME.behind}</Other>", NO_XML),
+        ]
+    ),
+]
+
+NUMBER = "is not a number of 1 to 9 digits, not all zero; --number N gives one"
+
+NUMBERS = [
+    numbered("0", f"MessageNumber 0 {NUMBER}"),
+    numbered("0", f"MessageNumber 0 {NUMBER}", "--number-offset", "5"),
+    numbered("0000000070", f"MessageNumber 0000000070 {NUMBER}"),
+    numbered("٧", f"MessageNumber ٧ {NUMBER}"),
+    numbered("7" * 200, f"MessageNumber {'7' * 100}.. {NUMBER}"),
+    numbered(
+        "2",
+        "MessageNumber 2 with --number-offset 999999998 is 1000000000, above 999999999",
+        "--number-offset",
+        "999999998",
+    ),
+    numbered(
+        "1",
+        "message 500000000 in 2 parts would end with number 1000000000, above 999999999",
+        "--number-offset",
+        "499999999",
+        "--parts",
+        "2",
+    ),
+    numbered(
+        "1",
+        "message 999999999 in 2 parts would end with number 1999999998, above 999999999",
+        "--number",
+        "999999999",
+        "--parts",
+        "2",
+    ),
+]
+NUMBERS += [
+    Case("a Header in short tags", in_short_tags(NUMBERS[0].feed.decode()).encode(), NUMBERS[0].why),
+    Case(
+        "a Header behind a long comment",
+        NUMBERS[0].feed.replace(b"<Header>", f"{LONG}<Header>".encode()),
+        NUMBERS[0].why,
+    ),
+]
+
+
+def refused(cases: list[Case], room: Room) -> Iterator[Outcome]:
+    """Why each is refused, as a file and by standard input."""
+    for case in cases:
+        room.write(FEED, case.feed)
+        for name, came in [
+            (FEED, room.run("convert", *case.words, FEED)),
+            ("-", room.run("convert", *case.words, given=case.feed)),
+        ]:
+            head, between, why = came.errors.decode().partition(": refused: ")
+            found = came.status, came.output, head.startswith(f"onixdesk: {name}:"), between, why
+            wanted = 1, b"", True, ": refused: ", f"{case.why}\n"
+            yield Outcome(f"convert: {case.name}, {name}", found, wanted)
+
+
+def unread(room: Room) -> Iterator[Outcome]:
+    """What cannot be read is a fault with its reason."""
+    came = room.run("convert", ".")
+    yield Outcome("convert: a folder", came, Ran(3, b"", b"onixdesk: .: Is a directory\n"))
+    came = room.run("convert", given=None)
+    yield Outcome("convert: a folder as standard input", came, Ran(3, b"", b"onixdesk: -: Is a directory\n"))
+
+
+def all_of(terminal: int) -> bytes:
+    """What was written to a terminal that nobody has open any more, whose end is a fault."""
+    found = b""
+    with contextlib.suppress(OSError):
+        while piece := os.read(terminal, 65_536):
+            found += piece
+    return found
+
+
+def terminal(room: Room) -> Iterator[Outcome]:
+    """On a terminal a line shows how far a feed is, and is taken away at the end."""
+    os.mkfifo(room.path("pipe.xml"))
+    runs: list[tuple[str, list[str]]] = [("-", []), ("pipe.xml", ["pipe.xml"])]
+    for name, words in runs:
+        ours, theirs = pty.openpty()
+        process = subprocess.Popen(
+            [room.program, "convert", *words],
+            cwd=room.folder,
+            stdin=subprocess.PIPE,
+            stdout=subprocess.PIPE,
+            stderr=theirs,
+        )
+        os.close(theirs)
+        assert process.stdin
+        with open(room.path("pipe.xml"), "wb") if words else process.stdin as feed:
+            feed.write(FRAME.before.encode())
+            for _ in range(4):
+                feed.write(b"<Note/>" * 30_000)
+                feed.flush()
+                time.sleep(0.25)
+            feed.write(FRAME.behind.encode())
+        assert process.stdout
+        output = process.stdout.read()
+        status = process.wait(SECONDS)
+        shown = all_of(ours).decode()
+        os.close(ours)
+        yield Outcome(f"convert: a terminal, {name}: the records", (status, output), (0, message_of()))
+        lines = shown.split("\r\033[K")
+        is_so = all(line.startswith(f"{name}: 0.") and line.endswith(" MB") for line in lines[1:-1])
+        yield Outcome(f"convert: a terminal, {name}", (len(lines) > 2, is_so, lines[-1]), (True, True, ""))
+
+
+PARTS = {"message.part-01.csv": large_part(1, "R1"), "message.part-02.csv": large_part(2, "R2")}
+INTO = ["convert", "--parts", "2", "-o", "out"]
+
+
+def names(folder: Path) -> list[str]:
+    return sorted(path.name for path in folder.iterdir())
+
+
+def contents(folder: Path) -> dict[str, bytes]:
+    return {path.name: path.read_bytes() for path in folder.iterdir()}
+
+
+# What a run is given once it has made its first part.
+REST = b"</ONIXmessage>"
+
+
+def first_parts(folder: Path) -> dict[str, int]:
+    """The hidden files of first parts that are whole, and when each was written."""
+    size = len(PARTS["message.part-01.csv"])
+    states = {path.name: path.stat() for path in folder.glob(".message.onixdesk.*.1")}
+    return {name: state.st_mtime_ns for name, state in states.items() if state.st_size == size}
+
+
+def started(room: Room) -> subprocess.Popen[bytes]:
+    """A run that has made its first part."""
+    room.path("out").mkdir(exist_ok=True)
+    before = first_parts(room.path("out"))
+    process = room.start(*INTO, stdin=subprocess.PIPE)
+    assert process.stdin
+    process.stdin.write(LARGE.removesuffix(REST))
+    process.stdin.flush()
+    for _ in range(SECONDS * 10):
+        if first_parts(room.path("out")) != before:
+            break
+        time.sleep(0.1)
+    return process
+
+
+def stopped(number: signal.Signals, room: Room) -> Iterator[Outcome]:
+    """What a run leaves that a signal has ended, the next one of the same NAME takes anew."""
+    for turn in (1, 2):
+        process = started(room)
+        process.send_signal(number)
+        process.communicate(timeout=SECONDS)
+        left = names(room.path("out"))
+        is_hidden = all(name.startswith(".message.onixdesk.0") for name in left)
+        found = process.returncode, len(left), is_hidden
+        yield Outcome(f"convert: {number.name}, {turn}: what is left", found, (-number, 2, True))
+    came = room.run(*INTO, given=LARGE)
+    yield Outcome(f"convert: {number.name}: the next run", (came, contents(room.path("out"))), (Ran(0), PARTS))
+
+
+def together(room: Room) -> Iterator[Outcome]:
+    """A run takes nothing of another one that lives, and both come to their end."""
+    process = started(room)
+    living = contents(room.path("out"))
+    came = room.run(*INTO, given=LARGE)
+    found = came, contents(room.path("out"))
+    yield Outcome("convert: beside a run that lives", found, (Ran(0), living | PARTS))
+    _, errors = process.communicate(REST, timeout=SECONDS)
+    found_then = process.returncode, errors, contents(room.path("out"))
+    yield Outcome("convert: a run beside which another one was", found_then, (0, b"", PARTS))
+
+
+def strangers(room: Room) -> Iterator[Outcome]:
+    """What has a hidden name and is no file of a run is neither followed nor written over."""
+    room.write("precious", b"precious")
+    room.path("out").mkdir()
+    room.path("out/.feed.onixdesk.0").symlink_to(room.path("precious"))
+    os.mkfifo(room.path("out/.feed.onixdesk.1"))
+    room.path("out/.feed.onixdesk.2").mkdir()
+    room.write(FEED, ONE)
+    came = room.run("convert", "-o", "out", FEED)
+    found = came, names(room.path("out")), room.path("precious").read_bytes()
+    hidden = [f".feed.onixdesk.{number}" for number in range(3)]
+    yield Outcome("convert: strangers with hidden names", found, (Ran(0), [*hidden, "feed.csv"], b"precious"))
+    room.write("a.xml", TWO)
+    room.path("out/.a.onixdesk.0.1").symlink_to(room.path("precious"))
+    came = room.run("convert", "-o", "out", "a.xml")
+    found = came, names(room.path("out")), room.path("precious").read_bytes()
+    wanted = Ran(0), [*hidden, "a.csv", "feed.csv"], b"precious"
+    yield Outcome("convert: a link in the place of a part", found, wanted)
+
+
+GROUPS = [
+    Group("convert: files that are no message", partial(refused, [*feeds()])),
+    Group("convert: files that end too early", partial(refused, ENDS)),
+    Group("convert: numbers that are refused", partial(refused, NUMBERS)),
+    *(
+        Group(f"convert: {number.name}", partial(stopped, number))
+        for number in (signal.SIGTERM, signal.SIGINT, signal.SIGKILL)
+    ),
+]

@@ -1,0 +1,183 @@
+"""What `onixdesk convert` makes of messages up to the desk's limits of 20,000 records and 4,194,304 bytes, beyond them,
+and in parts."""
+
+from collections.abc import Iterator
+
+from tests.program.feeds.convert.case_files import FRAMES, said
+from tests.program.feeds.convert.running import FEED, convert
+from tests.program.feeds.convert.wanted_runs import DETAIL, ISBN, PRICE, PRODUCT, feed_of, message_of, supplied
+from tests.program.room import Ran, Room
+from tests.running import Outcome
+
+RECORDS = 20_000
+BYTES = 4_194_304
+
+# The most products of one record each beside Message and EndMessage.
+MOST = RECORDS - 2
+
+FRAME = FRAMES["products"]
+
+# What is said of parts to the person who has to act.
+AGREED = (
+    "the number of parts is a part of the agreement on the series, and with another one its numbers no"
+    " longer follow each other (ONIX.md)"
+)
+
+
+def references(count: int) -> list[str]:
+    return [f"R{number:05}" for number in range(count)]
+
+
+def records(room: Room) -> Iterator[Outcome]:
+    names = references(MOST + 1)
+    room.write(FEED, feed_of(*names[:MOST]))
+    came = convert(room, FEED)
+    yield Outcome("as many records as a message may have", came, Ran(0, message_of(*names[:MOST])))
+
+    room.write(FEED, feed_of(*names))
+    came = convert(room, FEED)
+    line = MOST + 2
+    wanted = f"{FEED}:{line}:1: refused: the message needs 2 parts, not 1; {AGREED}"
+    yield Outcome("one record more", came, Ran(1, b"", said([wanted])))
+    came = convert(room, "--parts", "2", FEED)
+    wanted = message_of(*names[:MOST], number=1) + message_of(names[MOST], number=2)
+    yield Outcome("one record more, in two parts", came, Ran(0, wanted))
+
+    names = references(2 * MOST + 1)
+    room.write(FEED, feed_of(*names))
+    came = convert(room, "--parts", "2", FEED)
+    line = 2 * MOST + 2
+    wanted = f"{FEED}:{line}:1: refused: the message needs 3 parts, not 2; {AGREED}"
+    yield Outcome("more records than two parts may have", came, Ran(1, b"", said([wanted])))
+
+
+def long_references(size: int) -> list[str]:
+    """References of products whose message has that many bytes."""
+    count = size // 1_024
+    names = [f"R{number:04}".ljust(990, "x") for number in range(count)]
+    missing = size - len(message_of(*names))
+    last, missing = min(missing, 25), missing - min(missing, 25)
+    names[0] += "y" * last
+    for number in range(1, count):
+        more = min(missing, 25)
+        names[number] += "y" * more
+        missing -= more
+    assert len(message_of(*names)) == size
+    return names
+
+
+def size(room: Room) -> Iterator[Outcome]:
+    names = long_references(BYTES)
+    room.write(FEED, feed_of(*names))
+    came = convert(room, FEED)
+    yield Outcome("as many bytes as a message may have", came, Ran(0, message_of(*names)))
+    room.write("message.csv", came.output)
+    # Without agreements this is the answer to what is a message.
+    came = room.run("deliver", "message.csv")
+    wanted = Ran(1, b"refused,unknown-series\n")
+    yield Outcome("as many bytes as a message may have, delivered", came, wanted)
+
+    names = long_references(BYTES + 1)
+    room.write(FEED, feed_of(*names))
+    came = convert(room, "--parts", "2", "-o", ".", FEED)
+    parts = [room.path(f"feed.part-0{part}.csv").read_bytes() for part in (1, 2)]
+    wanted = [message_of(*names[:-1], number=1), message_of(names[-1], number=2)]
+    yield Outcome("one byte more, in two parts", (came, parts), (Ran(0), wanted))
+
+
+def product_of(details: int, prices: int) -> str:
+    """A product of 2 records, one for each supply detail, and so many prices of the first."""
+    supply = DETAIL.format(PRICE * prices) + DETAIL.format("") * (details - 1)
+    return supplied("R1", supply)
+
+
+def between_others(product: str) -> bytes:
+    """A feed of three products, of which that is the second."""
+    return f"{FRAME.before}{PRODUCT.format('R0')}\n{product}\n{PRODUCT.format('R2')}{FRAME.behind}".encode()
+
+
+def one_product(room: Room) -> Iterator[Outcome]:
+    """A product with as many prices as it may have, and with one more."""
+    why = "a Product too large for a message of 20000 records and 4194304 bytes"
+    prices = MOST - 3
+    whole = (
+        f"{FRAME.records}Product,R1,03,15,{ISBN}\nProductSupply,,,\nSupplyDetail,04,,,North,21,\n"
+        + "Price,,1,,,,,,\n" * prices
+        + "EndMessage,19999\n"
+    )
+    room.write(FEED, (FRAME.before + product_of(1, prices) + FRAME.behind).encode())
+    came = convert(room, FEED)
+    yield Outcome("a product of 19,998 records", came, Ran(0, whole.encode()))
+
+    room.write(FEED, between_others(product_of(1, prices + 1)))
+    emptied = f"Product emptied: {why}"
+    said_of = said([f"{FEED}:2:1: R1: {emptied}", f"{emptied}: 1", "1 note, 1 product wrong"])
+    came = convert(room, FEED)
+    yield Outcome("a product of 19,999 records", came, Ran(1, message_of("R0", "R1", "R2"), said_of))
+
+
+def many_identifiers(room: Room) -> Iterator[Outcome]:
+    """A product that is too large even without its supplies has its reference for an identifier."""
+    pair = f"<ProductIdentifier><ProductIDType>01</ProductIDType><IDValue>{'&quot;' * 1_024}</IDValue></ProductIdentifier>"
+    product = PRODUCT.format("R1").replace("</Product>", f"{pair * 2_500}</Product>")
+    room.write(FEED, between_others(product))
+    came = convert(room, FEED)
+    wanted = message_of("R0", "R1", "R2").replace(f"Product,R1,03,15,{ISBN}".encode(), b"Product,R1,03,01,R1")
+    found = came.status, came.output, came.errors.count(b"\n")
+    yield Outcome("a product of 2,500 identifiers that are quoted", found, (1, wanted, 3))
+
+
+def large_product(room: Room) -> Iterator[Outcome]:
+    """A product of elements of more than 4,194,304 bytes, each 64 beside its text, is refused before it is looked at."""
+    room.write(FEED, between_others(product_of(MOST - 2, 0)))
+    said_of = said([f"{FEED}:2:1: refused: a Header or a Product of more than 4,194,304 bytes"])
+    for option in (), ("--wrong", "all"):
+        came = convert(room, *option, FEED)
+        yield Outcome(f"a product of 19,998 supply details {option}", came, Ran(1, b"", said_of))
+
+
+def declared(prefixes: range) -> str:
+    """Declarations by which these stand for the namespace of the root."""
+    return "".join(f' xmlns:p{number}="urn:root"' for number in prefixes)
+
+
+def prefixes_of(root: range, product: range, name: range) -> bytes:
+    """A feed whose root, Product and RecordReference declare these, beside the name without a prefix."""
+    before = FRAME.before.replace("<ONIXMessage ", f'<ONIXMessage xmlns="urn:root"{declared(root)} ')
+    within = PRODUCT.format("R1").replace("<Product>", f"<Product{declared(product)}>")
+    within = within.replace("<RecordReference>", f"<RecordReference{declared(name)}>")
+    return f"{before}\n{within}{FRAME.behind}".encode()
+
+
+def prefixes(room: Room) -> Iterator[Outcome]:
+    """At most 64 prefixes, the empty one among them, stand for the namespace of the root at one place."""
+    why = "refused: more than 64 prefixes stand for the namespace of the root here"
+    room.write(FEED, prefixes_of(range(40), range(40, 63), range(0)))
+    yield Outcome("as many prefixes as may stand for the root's namespace", convert(room, FEED), Ran(0, message_of("R1")))
+
+    room.write(FEED, prefixes_of(range(40), range(20, 63), range(63)))
+    yield Outcome("as many prefixes, declared again", convert(room, FEED), Ran(0, message_of("R1")))
+
+    room.write(FEED, prefixes_of(range(40), range(40, 64), range(0)))
+    came = convert(room, FEED)
+    yield Outcome("one prefix more, at a Product", came, Ran(1, b"", said([f"{FEED}:2:1: {why}"])))
+
+    feed = prefixes_of(range(40), range(40, 63), range(63, 64))
+    column = feed.splitlines()[1].index(b"<RecordReference") + 1
+    room.write(FEED, feed)
+    came = convert(room, FEED)
+    yield Outcome("one prefix more, within a Product", came, Ran(1, b"", said([f"{FEED}:2:{column}: {why}"])))
+
+
+def a_whole_product_in_the_next_part(room: Room) -> Iterator[Outcome]:
+    """A product that does not fit into what is left of a part begins the next."""
+    names = references(MOST - 1)
+    feed = feed_of(*names).replace(FRAME.behind.encode(), (product_of(1, 0) + FRAME.behind).encode())
+    room.write(FEED, feed)
+    came = convert(room, "--parts", "2", FEED)
+    second = (
+        FRAME.records.replace(",1,", ",2,")
+        + f"Product,R1,03,15,{ISBN}\nProductSupply,,,\nSupplyDetail,04,,,North,21,\nEndMessage,4\n"
+    )
+    wanted = Ran(0, message_of(*names, number=1) + second.encode())
+    yield Outcome("a whole product in the next part", came, wanted)

@@ -1,0 +1,148 @@
+"""The cases of tests/conversions over `onixdesk convert`: their records, statuses, places, notes and reasons."""
+
+import re
+from collections.abc import Iterator
+from functools import partial
+from typing import NamedTuple
+
+from tests.program.feeds.convert.case_files import ANYWHERE, FOLDER, PLACE, Case, Converted, Feed, read_cases
+from tests.program.feeds.feed_notes import count_line
+from tests.program.room import Group, Room
+from tests.running import Outcome
+
+LINE = re.compile(r"([0-9]+)\.xml:([0-9]+:[0-9]+): (refused: )?(.*)")
+COUNTED = re.compile("(.*): ([0-9]+)")
+
+# What is counted in the summary, and is no note.
+NOT_READ = ", not read"
+
+
+class Noted(NamedTuple):
+    """A note, in the order of lines and columns."""
+
+    line: int
+    column: int
+    what: str
+
+
+class Came(NamedTuple):
+    """What comes of a feed: its records, None where it is refused, the notes, and the refusal as far as it is compared:
+    its place, and a part of why, which stands alone where the line has it."""
+
+    records: bytes | None
+    notes: list[Noted]
+    refused: tuple[str, str] | None
+
+
+PART = re.compile("<(?:[Hh]eader|[Pp]roduct)>")
+
+
+def of_part(place: str, data: bytes) -> str:
+    """The place of the start tag of the Header or the Product in which a place of a feed is, from that tag on."""
+    text = data.decode()
+    lines = text.split("\n")
+    line, column = map(int, place.split(":"))
+    until = sum(len(each) + 1 for each in lines[: line - 1]) + column - 1
+    starts = [found.start() for found in PART.finditer(text) if found.start() <= until]
+    if not starts:
+        return place
+    before = text[: starts[-1]]
+    return f"{before.count(chr(10)) + 1}:{len(before) - before.rfind(chr(10))}"
+
+
+def noted(line: str) -> Noted:
+    found = PLACE.fullmatch(line)
+    assert found
+    return Noted(int(found[1]), int(found[2]), found[4].removeprefix(": "))
+
+
+def refusal(wanted: Converted) -> tuple[str, str] | None:
+    place, _, why = wanted.refused.partition(" ")
+    return (place, why) if place else None
+
+
+def wanted(feed: Feed) -> Came:
+    notes = sorted(map(noted, feed.wanted.notes + feed.wanted.wrong))
+    return Came(feed.wanted.records, notes, refusal(feed.wanted))
+
+
+def came_as(said: list[tuple[str, str, str]], records: bytes | None, feed: Feed) -> Came:
+    """What came, with as much of a refusal as is compared."""
+    notes = [noted(f"{place}: {what}") for place, is_refused, what in said if not is_refused]
+    refused = [(place, what) for place, is_refused, what in said if is_refused]
+    if len(refused) != 1:
+        return Came(records, sorted(notes), ("", str(refused)) if refused else None)
+    (place, what), (hoped, why) = refused[0], refusal(feed.wanted) or ("", "")
+    # What is wrong with a Header or a Product is told at it, or where it is in that.
+    is_there = hoped == ANYWHERE or hoped != "" and place in (hoped, of_part(hoped, feed.data))
+    return Came(records, sorted(notes), (hoped if is_there else place, why if why in what else what))
+
+
+def read_lines(errors: bytes) -> tuple[dict[int, list[tuple[str, str, str]]], list[str]]:
+    """The lines about each feed, by its number: the place, whether it is refused and what is said; and the summary behind
+    them."""
+    of_feeds: dict[int, list[tuple[str, str, str]]] = {}
+    summary = []
+    for text in errors.decode().splitlines():
+        line = text.removeprefix("onixdesk: ")
+        if found := LINE.fullmatch(line):
+            of_feeds.setdefault(int(found[1]), []).append((found[2], found[3] or "", found[4]))
+        else:
+            summary.append(line)
+    return of_feeds, summary
+
+
+def check(words: list[str], feeds: list[Feed], room: Room) -> Iterator[Outcome]:
+    """Converts the feeds in one run, each into a file of its own."""
+    room.path("out").mkdir()
+    for number, feed in enumerate(feeds):
+        room.write(f"{number}.xml", feed.data)
+    ran = room.run("convert", *words, "-o", "out", *(f"{number}.xml" for number in range(len(feeds))))
+    of_feeds, summary = read_lines(ran.errors)
+    for number, feed in enumerate(feeds):
+        path = room.path(f"out/{number}.csv")
+        records = path.read_bytes() if path.exists() else None
+        yield Outcome(feed.name, came_as(of_feeds.get(number, []), records, feed), wanted(feed))
+    name = f"{feeds[0].name} {' '.join(words)}"
+    yield Outcome(f"{name}: the status", ran.status, max(feed.wanted.status() for feed in feeds))
+    yield from summed(name, feeds, summary)
+
+
+def summed(name: str, feeds: list[Feed], summary: list[str]) -> Iterator[Outcome]:
+    """The lines behind the notes come to the count of all; some cases say each of them."""
+    written = [feed.wanted for feed in feeds if feed.wanted.records is not None]
+    notes = sum(len(each.notes) + len(each.wrong) for each in written)
+    last = count_line(notes, sum(each.wrong_products() for each in written))
+    counts = [found for found in map(COUNTED.fullmatch, summary) if found and not found[1].endswith(NOT_READ)]
+    lines = [line for line in summary if NOT_READ not in line]
+    found = sum(int(each[2]) for each in counts), len(counts), lines[-1:]
+    yield Outcome(f"{name}: the summary", found, (notes, len(lines[:-1]), [last] if last else []))
+    if feeds[0].summary is not None:
+        yield Outcome(f"{name}: the lines of the summary", summary, feeds[0].summary)
+
+
+# How many are converted together at most.
+AT_ONCE = 30
+
+
+def groups(cases: list[Case]) -> Iterator[Group]:
+    """Those with the same words are converted together, but for one with a summary of its own; --number is for one file
+    alone."""
+    together: dict[tuple[str, ...], list[list[Feed]]] = {}
+    for case in cases:
+        for feed in case.feeds():
+            runs = together.setdefault(tuple(case.words), [[]])
+            if feed.summary is not None:
+                runs.insert(0, [feed])
+                continue
+            if len(runs[-1]) == AT_ONCE or "--number" in case.words and runs[-1]:
+                runs.append([])
+            runs[-1].append(feed)
+    for words, runs in together.items():
+        for feeds in filter(None, runs):
+            yield Group(f"convert: {feeds[0].name}", partial(check, list(words), feeds))
+
+
+CASES = [case for path in sorted(FOLDER.glob("*.txt")) for case in read_cases(path)]
+
+GROUPS = [*groups(CASES)]

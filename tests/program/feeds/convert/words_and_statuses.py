@@ -1,0 +1,168 @@
+"""The words, files and statuses of `onixdesk convert`."""
+
+import codecs
+import gzip
+import re
+from collections.abc import Iterator
+from functools import partial
+
+from tests.program.feeds.convert import argument_grammar, wanted_runs
+from tests.program.feeds.convert.case_files import in_short_tags
+from tests.program.feeds.convert.running import FEED
+from tests.program.feeds.convert.wanted_runs import (
+    BAD, DETAIL, FRAME, ISBN, ONE, PRICE, TWO, WRONG, Case, encoded, message_of, supplied,
+)
+from tests.program.feeds.convert.argument_grammar import HEADER, SENDER
+from tests.program.room import Group, Ran, Room
+from tests.running import Outcome
+
+NAMES = {"a.xml": "a", "b.c.onix": "b.c", "d": "d", "j.gz.xml": "j.gz"}
+
+# Two products that have together more records than a message may have.
+PRICES = 10_000
+PRODUCTS = [supplied(reference, DETAIL.format(PRICE * PRICES)) for reference in ("R1", "R2")]
+LARGE = in_short_tags("\n".join([FRAME.before, *PRODUCTS, FRAME.behind])).encode()
+
+
+def large_part(number: int, *references: str) -> bytes:
+    """The message of that part, with these of the two products."""
+    begin = FRAME.records.replace(",1,", f",{number},")
+    supply = "ProductSupply,,,\nSupplyDetail,04,,,North,21,\n" + "Price,,1,,,,,,\n" * PRICES
+    records = begin + "".join(f"Product,{each},03,15,{ISBN}\n{supply}" for each in references)
+    return f"{records}EndMessage,{records.count(chr(10))}\n".encode()
+
+
+LARGE_PARTS = {1: large_part(1, "R1"), 2: large_part(2, "R2"), 3: large_part(3)}
+
+CASES = [
+    *wanted_runs.CASES,
+    Case(
+        "names of files",
+        {name: ONE for name in NAMES},
+        ["-o", ".", *NAMES],
+        Ran(0),
+        {f"{name}.csv": message_of("R1") for name in NAMES.values()},
+    ),
+    Case(
+        "a message that needs more parts",
+        {FEED: LARGE},
+        ["-o", ".", FEED],
+        Ran(1, b"", b"onixdesk: feed.xml:3:1: refused\n"),
+    ),
+    Case(
+        "a message that needs two parts and has three",
+        {FEED: LARGE},
+        ["--parts", "3", "-o", ".", FEED],
+        Ran(0),
+        {f"feed.part-0{part}.csv": records for part, records in LARGE_PARTS.items()},
+    ),
+    *(
+        Case(
+            f"a file that is packed by its name, {name}",
+            {name: gzip.compress(ONE), "b.xml": ONE},
+            ["-o", ".", name, "b.xml"],
+            Ran(1, b"", f"onixdesk: {name}:1:1: refused\n".encode()),
+            {"b.csv": message_of("R1")},
+        )
+        for name in ["a.xml.gz", "A.GZ", "a.zip", "A.Zip"]
+    ),
+    Case("a packed file by standard input", {}, [], Ran(1, b"", b"onixdesk: -:1:1: refused\n"), given=gzip.compress(ONE)),
+    Case("a file of nothing", {FEED: b""}, ["-o", ".", FEED], Ran(1, b"", b"onixdesk: feed.xml:1:1: refused\n")),
+]
+
+# What a line begins with: a FILE, and perhaps a place and that it is refused.
+HEAD = re.compile(r"onixdesk: ([^ :]+)((?::[0-9]+:[0-9]+)?)(: refused\b)?")
+
+
+def heads(errors: bytes) -> list[tuple[str, ...]]:
+    """The lines about files, without why; not the summary."""
+    found = map(HEAD.match, errors.decode().splitlines())
+    return [each.groups("") for each in found if each]
+
+
+def check(case: Case, room: Room) -> Iterator[Outcome]:
+    for name, data in case.files.items():
+        room.write(name, data)
+    came = room.run("convert", *case.words, given=case.given)
+    left = {path.name: path.read_bytes() for path in room.folder.iterdir()}
+    found = came.status, came.output, heads(came.errors), left
+    wanted = case.wanted.status, case.wanted.output, heads(case.wanted.errors), case.files | case.made
+    yield Outcome(f"convert: {case.name}", found, wanted)
+
+
+def bad_words(room: Room) -> Iterator[Outcome]:
+    files = {"a.xml": ONE, "b.xml": TWO, FEED: argument_grammar.feed_of(HEADER.format(SENDER))}
+    for name, data in files.items():
+        room.write(name, data)
+    for words in argument_grammar.bad():
+        came = room.run("convert", *words, *([] if b"a.xml" in words or words == [b"-o"] else [FEED]))
+        yield Outcome(f"convert {words}", (came.status, came.output, came.errors != b""), (2, b"", True))
+    left = {path.name: path.read_bytes() for path in room.folder.iterdir()}
+    yield Outcome("convert: nothing is written on bad words", left, files)
+
+
+def good_words(room: Room) -> Iterator[Outcome]:
+    room.write(FEED, argument_grammar.feed_of(HEADER.format("<Sender><SenderName>North</SenderName></Sender>")))
+    for words, sender, number in argument_grammar.GOOD:
+        came = room.run("convert", *words, FEED)
+        records = f"Message,2,{sender},,,{number},,,,\nEndMessage,1\n"
+        yield Outcome(f"convert {words}", came, Ran(0, records.encode()))
+
+
+# Names of the encodings that are read, and their codecs. A mark outweighs what is declared.
+ENCODINGS = [
+    *(encoded(name, "utf-8") for name in ("utf-8", "UTF-8", "utf8", "Utf_8")),
+    *(encoded(name, "utf-8", codecs.BOM_UTF8) for name in ("UTF-8", "utf8", "ISO-8859-1", "UTF-16")),
+    *(encoded(name, "utf-16-le", codecs.BOM_UTF16_LE) for name in ("UTF-16", "utf16", "UTF-8")),
+    *(encoded(name, "utf-16-be", codecs.BOM_UTF16_BE) for name in ("UTF-16", "utf_16", "windows-1252")),
+    # As some libraries write it.
+    *(encoded(name, "utf-8") for name in ("UTF-16", "utf-16")),
+]
+LATIN = [
+    *(encoded(name, "latin-1", sender="é") for name in ("ISO-8859-1", "iso8859_1", "ISO88591", "latin1", "Latin-1")),
+    *(encoded(name, "cp1252", sender="é") for name in ("windows-1252", "Windows1252", "cp1252", "CP-1252")),
+    *(encoded(name, "ascii", sender="&#233;") for name in ("US-ASCII", "usascii", "ascii", "ASCII")),
+]
+
+# The eight characters by which ISO-8859-15 is another than ISO-8859-1.
+EURO = "€ŠšŽžŒœŸ"
+EUROPEAN = [encoded(name, "iso8859-15", sender=EURO) for name in ("ISO-8859-15", "iso_8859_15", "iso885915")]
+
+OTHERS = [encoded("windows-1250", "cp1250"), encoded("ISO-8859-2", "iso8859-2"), encoded("x", "utf-8")]
+
+
+def encodings(room: Room) -> Iterator[Outcome]:
+    for sender, feeds in [(wanted_runs.SENDER, ENCODINGS), ("é", LATIN), (EURO, EUROPEAN)]:
+        records = message_of("R1").replace(b",S,", f",{sender},".encode())
+        for feed in feeds:
+            yield Outcome(f"convert: encoding {feed[:50]!r}", room.run("convert", given=feed), Ran(0, records))
+    for feed in OTHERS:
+        came = room.run("convert", given=feed)
+        yield Outcome(f"convert: another encoding {feed[:50]!r}", (came.status, came.output), (1, b""))
+
+
+def streams(room: Room) -> Iterator[Outcome]:
+    """An output that takes nothing, an input that cannot be read, and a refusal beside what is missing."""
+    room.write(FEED, ONE)
+    came = room.run("convert", FEED, is_full=True)
+    yield Outcome("convert: an output that takes nothing", (came.status, came.errors != b""), (3, True))
+    came = room.run("convert", given=None)
+    yield Outcome("convert: an input that cannot be read", (came.status, came.output), (3, b""))
+    room.write("b.xml", BAD)
+    room.write("w.xml", WRONG)
+    runs = [
+        ([FEED], 0),
+        (["b.xml", FEED], 1),
+        (["w.xml", FEED], 1),
+        (["absent.xml", "b.xml", FEED], 3),
+        (["w.xml", "absent.xml", FEED], 3),
+    ]
+    for number, (words, status) in enumerate(runs):
+        folder = str(number)
+        room.path(folder).mkdir()
+        came = room.run("convert", "-o", folder, *words)
+        is_made = room.path(f"{folder}/feed.csv").exists()
+        yield Outcome(f"convert: {words}", (came.status, is_made), (status, True))
+
+
+GROUPS = [Group(f"convert: {case.name}", partial(check, case)) for case in CASES]

@@ -1,0 +1,120 @@
+"""What `onixdesk convert` says of its files on standard error, compared with what is wanted."""
+
+import re
+from collections.abc import Iterable
+from typing import NamedTuple
+
+from tests.program.feeds.feed_oracle import Note
+from tests.program.feeds.feed_writing import Place
+
+# So many lines of notes a file has at most, and besides so many of products that are left out or emptied.
+MOST_LINES = 1000
+
+
+class Said(NamedTuple):
+    """A line about a place of a file; the column is None where none is named."""
+
+    place: tuple[int, int | None]
+    what: str
+
+
+class Errors(NamedTuple):
+    """The lines about each file, in their order, and those behind them all."""
+
+    of_files: dict[str, list[Said]]
+    summary: list[str]
+
+
+def read_errors(errors: bytes) -> Errors:
+    of_files: dict[str, list[Said]] = {}
+    summary: list[str] = []
+    for line in errors.decode().splitlines():
+        found = re.fullmatch(r"onixdesk: ([^ :]+):([0-9]+)(?::([0-9]+))?: (.*)", line)
+        if found:
+            column = int(found[3]) if found[3] else None
+            of_files.setdefault(found[1], []).append(Said((int(found[2]), column), found[4]))
+        else:
+            summary.append(line.removeprefix("onixdesk: "))
+    return Errors(of_files, summary)
+
+
+def is_named(name: str, text: str) -> bool:
+    """Whether a text has the name, as a word of its own."""
+    return name == "" or re.search(rf"(?<![\w-]){re.escape(name)}(?![\w-])", text) is not None
+
+
+def tells(said: Said, note: Note) -> bool:
+    """Whether a line says what the note says: the reference, one of the reasons, and one of the names."""
+    is_plain = note.reference.isprintable() and len(note.reference) < 100
+    return (
+        (not is_plain or note.reference in said.what)
+        and any(reason.lower() in said.what.lower() for reason in note.reasons)
+        and any(is_named(name, said.what) for name in note.names)
+    )
+
+
+class Compared(NamedTuple):
+    """What is wanted and was not said, and what was said and is not wanted."""
+
+    missing: list[tuple[Place, Note]]
+    surplus: list[Said]
+
+
+def lines_of(notes: list[Note]) -> int:
+    """How many lines there are to be on them."""
+    of_products = sum(note.is_of_product for note in notes)
+    return min(of_products, MOST_LINES) + min(len(notes) - of_products, MOST_LINES)
+
+
+def compared(wanted: list[Note], starts: dict[object, Place], said: Iterable[Said]) -> Compared:
+    """Each line is one note, whatever their order. Of more notes than there are lines some may be missing."""
+    missing = [(starts[note.about], note) for note in wanted]
+    surplus = []
+    for line in said:
+        for at, (place, note) in enumerate(missing):
+            if line.place == place and tells(line, note):
+                del missing[at]
+                break
+        else:
+            surplus.append(line)
+    if len(wanted) - len(missing) == lines_of(wanted) < len(wanted):
+        missing = [(place, note) for place, note in missing if note.is_of_product]
+    return Compared(missing, surplus)
+
+
+class Summary(NamedTuple):
+    """How often each reason was given, and the last line, which counts all notes and wrong products, where there are
+    some."""
+
+    reasons: dict[str, int]
+    last: str
+
+
+def read_summary(lines: list[str]) -> Summary:
+    reasons: dict[str, int] = {}
+    has_count = lines and re.fullmatch("[0-9]+ notes?(, [0-9]+ products? wrong)?", lines[-1])
+    for line in lines[:-1] if has_count else lines:
+        reason, _, count = line.rpartition(": ")
+        reasons[reason] = int(count)
+    return Summary(reasons, lines[-1] if has_count else "")
+
+
+def counted(count: int, thing: str) -> str:
+    return f"{count} {thing}" if count == 1 else f"{count} {thing}s"
+
+
+def count_line(notes: int, wrong_products: int = 0) -> str:
+    """The line that counts all notes, and products that are wrong."""
+    wrong = f", {counted(wrong_products, 'product')} wrong" if wrong_products else ""
+    return counted(notes, "note") + wrong if notes else ""
+
+
+def miscounted(notes: list[Note], reasons: dict[str, int]) -> list[str]:
+    """The reasons that are counted less often than there are notes for them alone."""
+    found = []
+    for reason in sorted({reason for note in notes for reason in note.reasons}):
+        count = sum(count for line, count in reasons.items() if reason.lower() in line.lower())
+        alone = sum(note.reasons == (reason,) for note in notes)
+        if count < alone:
+            found.append(f"{reason}: {count} of {alone}")
+    return found

@@ -1,0 +1,489 @@
+"""What is to become of a message, read off its tree: the messages that are written, and the notes; or that
+it is refused."""
+
+import re
+from dataclasses import dataclass, field
+
+from tests.program.feeds.feed_prices import REGION, foreign_reasons, gives_nothing, price_record, wrong_reasons
+from tests.program.feeds.feed_terms import is_code, is_currency, is_empty_or, is_field, is_filled, is_number, is_repeat, matches
+from tests.program.feeds.feed_territories import (
+    are_taken, read_as_others, regions_in_the_way, regions_left_out, territory_fields, union_fields,
+)
+from tests.program.feeds.feed_trees import Detail, Identifier, Market, Message, Price, Product, Supply, Territory, Words
+
+GLN = "06"
+GREATEST_NUMBER = 999_999_999
+MOST_RECORDS = 20_000
+MOST_BYTES = 4_194_304
+
+DELETION, BLOCK, UPDATE = "05", "03", "04"
+KNOWN_TYPES = ("01", "02", "03", "04", "05")
+
+# Types of identifiers by which the desk finds an article, and what is taken out of their values where thirteen digits
+# are left then.
+ARTICLES = ("03", "15")
+HYPHENS = "-\u00ad\u2010\u2011\u2012\u2013\u2014\u2015\u2212"
+SPACES = " \u00a0\u2009\u202f"
+
+Record = list[str]
+
+
+# A reason where any will do.
+ANY = ("",)
+
+
+@dataclass(frozen=True)
+class Note:
+    """A note on a composite. It tells one of the reasons, and names one of the names. `is_wrong` where the desk would
+    not take the composite, `is_of_product` where the note says that a product is left out or emptied."""
+
+    about: object
+    reference: str
+    reasons: tuple[str, ...]
+    names: tuple[str, ...] = ANY
+    is_wrong: bool = False
+    is_of_product: bool = False
+
+
+class Refused(Exception):
+    """The message is refused, for what stands in this composite, or in none, and names each of these; before it stand
+    these notes."""
+
+    def __init__(self, about: object = None, names: tuple[str, ...] = (), notes: list[Note] | None = None) -> None:
+        self.about = about
+        self.names = names
+        self.notes = notes or []
+
+
+@dataclass(frozen=True)
+class Wrong:
+    """The desk would not take a composite, for reasons of which the note on it names one."""
+
+    reasons: tuple[str, ...]
+
+
+@dataclass
+class Part:
+    """One of the messages that are written."""
+
+    number: int
+    records: list[Record]
+    size: int
+
+    def text(self) -> bytes:
+        return records_text(self.records)
+
+    def products(self) -> list[tuple[str, str]]:
+        """The reference and the NotificationType of each product."""
+        return [(record[1], record[2]) for record in self.records if record[0] == "Product"]
+
+    def has_room(self, records: list[Record]) -> bool:
+        """For these records, and an end behind them."""
+        count = len(self.records) + len(records)
+        size = self.size + size_of(records) + size_of([["EndMessage", str(count)]])
+        return count + 1 <= MOST_RECORDS and size <= MOST_BYTES
+
+
+@dataclass
+class Verdict:
+    parts: list[Part] = field(default_factory=list)
+    notes: list[Note] = field(default_factory=list)
+    wrong_products: int = 0
+    discounts: list[str] = field(default_factory=list)
+    refusal: Refused | None = None
+
+
+def quoted(text: str) -> str:
+    return '"' + text.replace('"', '""') + '"' if "," in text or '"' in text else text
+
+
+def records_text(records: list[Record]) -> bytes:
+    return "".join(",".join(map(quoted, record)) + "\n" for record in records).encode()
+
+
+def is_identifier(id_type: str, value: str) -> bool:
+    return is_code(id_type) and is_filled(value)
+
+
+def those_there(identifiers: list[Identifier]) -> list[Identifier]:
+    """One with neither type nor value is as none."""
+    return [each for each in identifiers if each.id_type or each.value]
+
+
+def chosen(every: list[Identifier], words: Words) -> list[str] | None:
+    """The identifier that is written of several, chosen by its type alone; two empty fields where there is
+    none; None where the one that is chosen is no identifier."""
+    identifiers = those_there(every)
+    if not identifiers:
+        return ["", ""]
+    wanted = words.id_type or GLN
+    found = ([each for each in identifiers if each.id_type == wanted] or identifiers)[0]
+    return [found.id_type, found.value] if is_identifier(found.id_type, found.value) else None
+
+
+# The header.
+
+
+def sender_of(message: Message, words: Words) -> list[str]:
+    identifiers = message.sender or []
+    if words.sender and not any(each.id_type and each.value for each in identifiers):
+        return list(words.sender)
+    sender = chosen(identifiers, words)
+    if not sender or sender == ["", ""]:
+        raise Refused
+    return sender
+
+
+def addressee_of(message: Message, words: Words) -> list[str]:
+    addressees = message.addressees
+    if len(addressees) > 1:
+        wanted = words.addressee
+        addressees = [each for each in addressees if wanted in [(one.id_type, one.value) for one in each]]
+        if not addressees:
+            raise Refused
+    addressee = chosen(addressees[0] if addressees else [], words)
+    if addressee is None:
+        raise Refused
+    return addressee
+
+
+def number_of(message: Message, words: Words) -> int:
+    """The number of the first of the messages that are written."""
+    text = words.number or message.number
+    if not is_number(text):
+        raise Refused
+    number = int(text) + int(words.offset or "0")
+    if number * words.parts > GREATEST_NUMBER:
+        raise Refused
+    return (number - 1) * words.parts + 1
+
+
+def opening_of(message: Message, words: Words) -> tuple[int, list[str], list[str]]:
+    """The number of the first message that is written, and what stands before and behind it."""
+    if message.stranger or message.has_two_headers or not message.is_header_first:
+        raise Refused
+    sender, addressee = sender_of(message, words), addressee_of(message, words)
+    number = number_of(message, words)
+    if not (
+        is_empty_or(is_repeat, message.repeat)
+        and is_field(message.sent)
+        and is_empty_or(is_code, message.price_type)
+        and is_empty_or(is_currency, message.currency)
+    ):
+        raise Refused
+    behind = [message.repeat, message.sent, message.price_type, message.currency]
+    return number, ["Message", "2", *sender, *addressee], behind
+
+
+# Products.
+
+
+def as_article(identifier: Identifier) -> Identifier:
+    """One by which the desk finds an article, as its thirteen digits alone; another one as it is."""
+    digits = re.sub(f"[{HYPHENS}{SPACES}]", "", identifier.value)
+    if identifier.id_type in ARTICLES and matches("[0-9]{13}", digits):
+        return Identifier(identifier.id_type, digits)
+    return identifier
+
+
+def finds_article(identifier: Identifier) -> bool:
+    return identifier.id_type in ARTICLES and matches("[0-9]{13}", identifier.value)
+
+
+def has_stranger(product: Product) -> bool:
+    """Whether an element that would count is in another namespace; of a deletion what stands beside and in its
+    identifiers alone is looked at."""
+    stranger = product.stranger
+    if stranger is None or product.notification != DELETION:
+        return stranger is not None
+    return stranger.within in ("Product", "ProductIdentifier")
+
+
+class Judge:
+    """Reads one product of a message."""
+
+    def __init__(self, message: Message, words: Words, product: Product) -> None:
+        self.message = message
+        self.words = words
+        self.product = product
+        self.notes: list[Note] = []
+        # What is counted without a note: the discounts of the prices that are written.
+        self.discounts: list[str] = []
+        # What is written of it where it is emptied.
+        self.emptied: list[Record] = []
+        self.is_emptied = False
+
+    def note(
+        self, about: object, *reasons: str, names: tuple[str, ...] = ANY, is_wrong: bool = False, of_product: bool = False
+    ) -> None:
+        self.notes.append(Note(about, self.product.reference, reasons or ANY, names, is_wrong, of_product))
+
+    def note_territory(self, territory: Territory | None) -> None:
+        """What of a territory that is written is left out or read as something else."""
+        for region in regions_left_out(territory) if territory else []:
+            self.note(territory, REGION, names=(region,))
+        for country in read_as_others(territory) if territory else []:
+            self.note(territory, "country", names=(country,))
+
+    def empty(self, *reasons: str, is_wrong: bool = True) -> list[Record]:
+        self.is_emptied = True
+        self.note(self.product, *reasons, is_wrong=is_wrong, of_product=True)
+        return self.emptied
+
+    def records(self) -> list[Record] | None:
+        """What is written of it in a message that has room for all of it; None where it is left out."""
+        product = self.product
+        if not is_filled(product.reference):
+            self.note(product, "RecordReference", is_wrong=True, of_product=True)
+            return None
+        identifiers = self.identifiers()
+        self.emptied = [self.record(self.type_of_emptied(), identifiers)]
+        if not is_code(product.notification):
+            return self.empty("NotificationType")
+        if not identifiers and product.notification != DELETION:
+            return self.empty("Identifier")
+        if has_stranger(product):
+            return self.empty("namespace")
+        own = self.record(product.notification, identifiers)
+        if product.notification == DELETION:
+            return [own]
+        return self.with_supplies(own, identifiers)
+
+    def with_supplies(self, own: Record, identifiers: list[Identifier]) -> list[Record]:
+        supplied = [(supply, self.supply(supply)) for supply in self.product.supplies]
+        records = [record for _, records in supplied for record in records]
+        lost = [supply for supply, _ in supplied if supply.details]
+        if lost and not records:
+            kinds = [note.is_wrong for note in self.notes if note.about is lost[0]]
+            return self.empty("Supply", is_wrong=kinds[0])
+        if not any(map(finds_article, identifiers)):
+            self.note(self.product, "ISBN")
+        if self.product.notification not in KNOWN_TYPES:
+            self.note(self.product, "NotificationType", names=(self.product.notification,))
+        return [own, *records]
+
+    def records_too_large(self, parts: "Filling") -> list[Record]:
+        """What is written of it where no message has room for all of it."""
+        of_identifiers = [note for note in self.notes if isinstance(note.about, Identifier)]
+        if not self.is_emptied:
+            self.notes, self.discounts = of_identifiers, []
+            self.empty("large")
+        if parts.have_room(self.emptied):
+            return self.emptied
+        return [self.record(self.type_of_emptied(), [])]
+
+    def type_of_emptied(self) -> str:
+        notification = self.product.notification
+        return BLOCK if notification == UPDATE or not is_code(notification) else notification
+
+    def record(self, notification: str, identifiers: list[Identifier]) -> Record:
+        """Its own record, where the reference stands for identifiers that are not there."""
+        reference = self.product.reference
+        return ["Product", reference, notification, *pairs(identifiers or [Identifier("01", reference)])]
+
+    def identifiers(self) -> list[Identifier]:
+        kept = []
+        for each in those_there(self.product.identifiers):
+            article = as_article(each)
+            if is_identifier(article.id_type, article.value):
+                kept.append(article)
+            else:
+                self.note(each, "IDType", "IDValue", is_wrong=True)
+        return kept
+
+    def supply(self, supply: Supply) -> list[Record]:
+        if not supply.details:
+            self.note(supply, "SupplyDetail")
+            return []
+        found = [(market, market_fields(market)) for market in supply.markets]
+        kept = [fields for _, fields in found if isinstance(fields, list)]
+        if found and not kept:
+            is_wrong = all(isinstance(fields, Wrong) for _, fields in found)
+            self.note(supply, "Market", is_wrong=is_wrong)
+            return []
+        market = union_fields(kept or [["", "", ""]])
+        if not all(map(is_field, market)):
+            self.note(supply, "Market")
+            return []
+        details = [(detail, self.detail_record(detail)) for detail in supply.details]
+        if all(isinstance(record, Wrong) for _, record in details):
+            self.note(supply, "SupplyDetail", is_wrong=True)
+            return []
+        for each, fields in found:
+            self.note_market(each, fields)
+        return [["ProductSupply", *market], *(record for one, its in details for record in self.detail(one, its))]
+
+    def note_market(self, market: Market, fields: list[str] | Wrong | None) -> None:
+        if isinstance(fields, Wrong):
+            self.note(market, *fields.reasons, is_wrong=True)
+        elif fields is None:
+            self.note(market, REGION, names=tuple(regions_in_the_way(market.territory or Territory())))
+        else:
+            self.note_territory(market.territory)
+
+    def detail_record(self, detail: Detail) -> Record | Wrong:
+        role = "" if detail.identifiers is None else detail.role
+        name = "" if detail.identifiers is None else detail.name
+        supplier = chosen(detail.identifiers or [], self.words)
+        codes = [price.unpriced for price in detail.prices if price.amount == "" and price.unpriced]
+        unpriced = detail.unpriced or (codes + [""])[0]
+        found = {
+            "SupplierRole": not is_code(role),
+            "SupplierIDType": supplier is None,
+            "IDValue": supplier is None,
+            "Supplier": supplier == ["", ""] and name == "",
+            "SupplierName": not is_field(name),
+            "ProductAvailability": not is_code(detail.availability),
+            "UnpricedItemType": not is_empty_or(is_code, unpriced),
+        }
+        if any(found.values()):
+            return Wrong(tuple(reason for reason, is_so in found.items() if is_so))
+        return ["SupplyDetail", role, *(supplier or []), name, detail.availability, unpriced]
+
+    def detail(self, detail: Detail, record: Record | Wrong) -> list[Record]:
+        if isinstance(record, Wrong):
+            self.note(detail, *record.reasons, is_wrong=True)
+            return []
+        unpriced = record[-1]
+        priced = [price for price in detail.prices if not gives_nothing(price, unpriced)]
+        return [record, *(one for price in priced for one in self.price(price, detail))]
+
+    def price(self, price: Price, detail: Detail) -> list[Record]:
+        foreign = foreign_reasons(price)
+        if foreign:
+            names: tuple[str, ...] = ANY
+            if price.territory and foreign == [REGION]:
+                names = tuple(regions_in_the_way(price.territory))
+            self.note(price, *foreign, names=names)
+            return []
+        if wrong := wrong_reasons(price, self.message):
+            self.note(price, *wrong, is_wrong=True)
+            return []
+        self.note_territory(price.territory)
+        self.discounts += price.discounts
+        return [price_record(price, detail)]
+
+
+def market_fields(market: Market) -> list[str] | Wrong | None:
+    """Its fields, None where the desk has none for it."""
+    if regions_in_the_way(market.territory or Territory()):
+        return None
+    fields = territory_fields(market.territory)
+    return fields if are_taken(fields) else Wrong(("CountriesIncluded", "CountriesExcluded"))
+
+
+def pairs(identifiers: list[Identifier]) -> Record:
+    return [text for each in identifiers for text in (each.id_type, each.value)]
+
+
+# Messages.
+
+
+def size_of(records: list[Record]) -> int:
+    return len(records_text(records))
+
+
+class Filling:
+    """Messages that are filled with products one after the other."""
+
+    def __init__(self, number: int, before: Record, behind: Record) -> None:
+        self.number = number
+        self.before = before
+        self.behind = behind
+        self.parts = [self.begun(0)]
+
+    def begun(self, place: int) -> Part:
+        opening = [*self.before, str(self.number + place), *self.behind]
+        return Part(self.number + place, [opening], size_of([opening]))
+
+    def following(self) -> Part:
+        return self.begun(len(self.parts))
+
+    def have_room(self, records: list[Record]) -> bool:
+        """The last one, or the next."""
+        return self.parts[-1].has_room(records) or self.following().has_room(records)
+
+    def add(self, records: list[Record]) -> None:
+        if not self.parts[-1].has_room(records):
+            self.parts.append(self.following())
+        part = self.parts[-1]
+        part.records += records
+        part.size += size_of(records)
+
+    def end(self, count: int) -> list[Part]:
+        if len(self.parts) > count:
+            raise Refused(names=(str(len(self.parts)),))
+        self.parts += [self.begun(place) for place in range(len(self.parts), count)]
+        for part in self.parts:
+            part.records.append(["EndMessage", str(len(part.records))])
+        return self.parts
+
+
+@dataclass
+class Judged:
+    """What was found of the products of a message: those that are wrong, the notes on each, and the discounts that are
+    counted."""
+
+    wrong: list[Product] = field(default_factory=list)
+    notes: dict[Product, list[Note]] = field(default_factory=dict)
+    discounts: list[str] = field(default_factory=list)
+
+    def put(self, one: Judge, filling: Filling) -> None:
+        """Adds a product to the messages."""
+        records = one.records()
+        if records is not None:
+            filling.add(records if filling.have_room(records) else one.records_too_large(filling))
+        self.notes[one.product] = one.notes
+        self.discounts += one.discounts
+        if any(note.is_wrong for note in one.notes):
+            self.wrong.append(one.product)
+
+    def is_let_through(self, wrong: str) -> bool:
+        """Whether there are no more wrong products than that word of the command line lets through."""
+        count, products = len(self.wrong), len(self.notes)
+        if wrong == "all" or count == 0:
+            return True
+        is_many = count > 10 and count * 100 > products or count >= 2 and count * 2 > products
+        return wrong != "none" and not is_many
+
+    def refusal(self) -> Refused:
+        first = self.wrong[0]
+        notes = [note for product in self.wrong for note in self.notes[product]]
+        reference = first.reference if first.reference.isprintable() and len(first.reference) < 100 else ""
+        return Refused(first, (str(len(self.wrong)), str(len(self.notes)), reference), notes)
+
+
+def judge(message: Message, words: Words) -> Verdict:
+    """What is to become of a message."""
+    judged = Judged()
+    try:
+        filling = Filling(*opening_of(message, words))
+        for product in message.products:
+            judged.put(Judge(message, words, product), filling)
+        if not judged.is_let_through(words.wrong):
+            raise judged.refusal()
+        parts = filling.end(words.parts)
+    except Refused as refusal:
+        return Verdict(refusal=refusal)
+    notes = [note for found in judged.notes.values() for note in found]
+    return Verdict(parts, notes, len(judged.wrong), judged.discounts)
+
+
+def effect(products: list[tuple[str, str]], catalogue: set[str]) -> str:
+    """What the desk answers of a message's effect on the references that it has, which is done."""
+    counts = dict.fromkeys(["replaced", "updated", "deleted", "unknown", "ignored"], 0)
+    for reference, notification in products:
+        is_there = reference in catalogue
+        if notification in ("01", "02", "03"):
+            counts["replaced"] += 1
+            catalogue.add(reference)
+        elif notification not in ("04", "05"):
+            counts["ignored"] += 1
+        elif not is_there:
+            counts["unknown"] += 1
+        elif notification == "04":
+            counts["updated"] += 1
+        else:
+            counts["deleted"] += 1
+            catalogue.remove(reference)
+    return ",".join(f"{name}={count}" for name, count in counts.items())

@@ -1,0 +1,137 @@
+"""Prices of the trees: which are left out and why, and the records of the others."""
+
+import calendar
+import re
+
+from tests.program.feeds.feed_terms import is_amount, is_code, is_currency, is_day, is_empty_or, is_quantity, matches
+from tests.program.feeds.feed_territories import are_taken, regions_in_the_way, territory_fields
+from tests.program.feeds.feed_trees import Detail, Message, Price, PriceDate
+
+# The reason where a region is in the way.
+REGION = "Region"
+
+# What of a Price is not read and would make another one.
+DISCOUNTS = ["Discount", "DiscountCoded"]
+
+FIRST, LAST, BOTH = "14", "15", "24"
+
+# The formats of a day, with a time behind it or without, of a month and of a year.
+DAYS, MONTH, YEAR = ("00", "13", "14"), "01", "05"
+
+# The formats that a Date may have in each role that counts.
+FORMATS = {FIRST: (*DAYS, MONTH, YEAR), LAST: (*DAYS, MONTH, YEAR), BOTH: ("06",)}
+
+# From what to what a Date says, in the form of its format: a year, a month and a day of it.
+FORMS = {
+    **dict.fromkeys(DAYS, r"([0-9]{4})([0-9]{2})([0-9]{2})(?:T.*)?|([0-9]{4})-([0-9]{2})-([0-9]{2})(?:T.*)?"),
+    MONTH: r"([0-9]{4})([0-9]{2})|([0-9]{4})-([0-9]{2})",
+    YEAR: r"([0-9]{4})",
+}
+
+
+def is_unusual(code: str) -> bool:
+    return code not in ("", "00")
+
+
+def format_of(date: PriceDate) -> str:
+    return date.attribute or date.element or "00"
+
+
+def days_between(date_format: str, text: str) -> tuple[str, str]:
+    """The first day and the last one of a day, a month or a year; two empty texts where it is none."""
+    found = re.fullmatch(FORMS[date_format], text, re.ASCII)
+    if not found:
+        return "", ""
+    year, month, day = ([each for each in found.groups() if each] + ["", ""])[:3]
+    if not month:
+        return f"{year}0101", f"{year}1231"
+    if not day and 1 <= int(month) <= 12:
+        return f"{year}{month}01", f"{year}{month}{calendar.monthrange(int(year) or 4, int(month))[1]:02}"
+    return year + month + day, year + month + day
+
+
+def days_of_date(date: PriceDate) -> dict[str, str]:
+    """The days that a Date of its format gives, by the role of one; an empty text where it has not that form."""
+    if date.role == BOTH:
+        return {FIRST: date.text[:8], LAST: date.text[8:] if len(date.text) == 16 else ""}
+    return {date.role: days_between(format_of(date), date.text)[date.role == LAST]}
+
+
+def days_of(price: Price) -> list[str]:
+    """The first day and the last one, of dates in formats that count: of several the first."""
+    days = {FIRST: "", LAST: ""}
+    for date in reversed(dates_of(price)):
+        days |= days_of_date(date)
+    return [days[FIRST], days[LAST]]
+
+
+def dates_of(price: Price) -> list[PriceDate]:
+    return [date for date in price.dates if date.role in FORMATS]
+
+
+def has_other_format(date: PriceDate) -> bool:
+    return format_of(date) not in FORMATS[date.role]
+
+
+def is_dated(price: Price) -> bool:
+    """Whether each of its dates has the form of its format."""
+    return all(is_day(day) for date in dates_of(price) for day in days_of_date(date).values())
+
+
+def amount_of(price: Price) -> str:
+    """Without the zeros behind the third decimal."""
+    found = re.fullmatch(r"([0-9]+\.[0-9]{3})0+", price.amount, re.ASCII)
+    return found[1] if found else price.amount
+
+
+def own_quantity(price: Price) -> str:
+    """One of zeros alone is as absent."""
+    return "" if set(price.quantity) <= {"0"} else price.quantity
+
+
+def quantity_of(price: Price, detail: Detail) -> str:
+    return own_quantity(price) or (detail.minimum if is_quantity(detail.minimum) else "")
+
+
+def gives_nothing(price: Price, unpriced: str) -> bool:
+    """Whether it says that there is no price, by itself or by the UnpricedItemType of its SupplyDetail."""
+    return price.amount == "" and not price.is_coded and (price.unpriced or unpriced) != ""
+
+
+def foreign_reasons(price: Price) -> list[str]:
+    """What of it the desk has no field for."""
+    found = {
+        "PriceQualifier": is_unusual(price.qualifier),
+        "PricePer": is_unusual(price.per),
+        "PriceCondition": any(each != "00" for each in price.conditions),
+        "PriceConstraint": any(each != "00" for each in price.constraints),
+        "PriceCoded": price.is_coded,
+        "EpubLicense": price.is_licensed,
+        "CurrencyZone": price.zone != "",
+        "Date": any(map(has_other_format, dates_of(price))),
+        "decimals": matches(r"[0-9]+\.[0-9]{4,}", amount_of(price)),
+        "PriceAmount": is_amount(amount_of(price)) and float(price.amount) == 0,
+        REGION: price.territory is not None and regions_in_the_way(price.territory) != [],
+    }
+    return [reason for reason, is_so in found.items() if is_so]
+
+
+def wrong_reasons(price: Price, message: Message) -> list[str]:
+    """What of it the desk would not take, where it has a field for all of it."""
+    included, _world, excluded = territory_fields(price.territory)
+    found = {
+        "PriceType": not is_code(price.price_type or message.price_type),
+        "PriceAmount": not is_amount(amount_of(price)),
+        "CurrencyCode": not is_currency(price.currency or message.currency),
+        "MinimumOrderQuantity": not is_empty_or(is_quantity, own_quantity(price)),
+        "CountriesIncluded": not are_taken([included, "", ""]),
+        "CountriesExcluded": not are_taken(["", "", excluded]),
+        "Date": not is_dated(price),
+    }
+    return [reason for reason, is_so in found.items() if is_so] + list(price.old)
+
+
+def price_record(price: Price, detail: Detail) -> list[str]:
+    quantity = quantity_of(price, detail)
+    first = ["Price", price.price_type, amount_of(price), price.currency]
+    return [*first, *territory_fields(price.territory), *days_of(price), *([quantity] if quantity else [])]

@@ -1,0 +1,268 @@
+"""Feeds in XML read by expat as trees, of which `feed_oracle` says what is to come: a reader that shares nothing with that
+of the program, for feeds that nobody made as a tree.
+
+It reads UTF-8 without a mark and without a DOCTYPE, as `is_read` asks.
+"""
+
+import codecs
+import re
+from bisect import bisect_right
+from dataclasses import dataclass, field
+from html.entities import html5
+from typing import NamedTuple, TypeVar
+from xml.parsers import expat
+
+from tests.program.feeds.convert.case_files import SHORT_TAGS
+from tests.program.feeds.feed_prices import DISCOUNTS
+from tests.program.feeds.feed_trees import (
+    Detail, Identifier, Market, Message, Price, PriceDate, Product, Stranger, Supply, Territory,
+)
+from tests.program.feeds.feed_writing import COUNTED, Place
+
+DECLARED = re.compile(r"""<\?xml\s+version\s*=\s*["']1\.0["'](?:\s+encoding\s*=\s*["']([A-Za-z][\w.-]*)["'])?""")
+
+# With it expat refuses the names of HTML, which are declared outside of the document.
+ALONE = re.compile(rb"""<\?xml\s[^>]*\bstandalone\s*=\s*["']yes""")
+
+# A name with two colons, which Namespaces in XML has not.
+TWO_COLONS = re.compile(rb"</?[^<>\s/:]*:[^<>\s/:]*:|</?:|<[^<>\s/]*:[\s/>]")
+
+REFERENCE_NAMES = {tag: name for name, tag in SHORT_TAGS.items()}
+
+OLD = ["PriceTypeCode", "PriceEffectiveFrom", "PriceEffectiveUntil", "CountryCode"]
+
+OF_XML = "http://www.w3.org/XML/1998/namespace"
+
+
+class Malformed(Exception):
+    """It is no well-formed XML."""
+
+
+class NoMessage(Exception):
+    """Its root is not that of a message, or it has a name that nobody knows."""
+
+
+class Read(NamedTuple):
+    """A message, and the places where its composites begin."""
+
+    message: Message
+    starts: dict[object, Place]
+
+
+def is_read(data: bytes) -> bool:
+    """Whether a feed is one that is read here."""
+    declared = DECLARED.match(data.decode("latin-1"))
+    encoding = (declared[1] if declared else None) or "UTF-8"
+    is_marked = data.startswith((codecs.BOM_UTF8, codecs.BOM_UTF16_LE, codecs.BOM_UTF16_BE))
+    is_plain = encoding.upper() == "UTF-8" and not is_marked and b"<!D" not in data
+    return is_plain and not ALONE.match(data) and not TWO_COLONS.search(data)
+
+
+def declarations(data: bytes) -> str:
+    """Declarations of the names of HTML that a feed has, but for those of XML."""
+    found = {name.decode() for name in re.findall(rb"&([A-Za-z0-9]+);", data)} - {"amp", "lt", "gt", "apos", "quot"}
+    texts = {name: html5[f"{name};"] for name in sorted(found) if f"{name};" in html5}
+    return "".join(
+        f'<!ENTITY {name} "{"".join(f"&#38;#{ord(letter)};" for letter in text)}">' for name, text in texts.items()
+    )
+
+
+@dataclass(eq=False)
+class Element:
+    """An element: its reference name, empty where it does not count, where it begins, and what stands in it."""
+
+    name: str
+    start: int
+    date_format: str
+    texts: list[str] = field(default_factory=list)
+    below: list["Element"] = field(default_factory=list)
+    strangers: list[Stranger] = field(default_factory=list)
+
+    def all(self, name: str) -> list["Element"]:
+        return [each for each in self.below if each.name == name]
+
+    def first(self, name: str) -> "Element | None":
+        return next(iter(self.all(name)), None)
+
+    def own_text(self) -> str:
+        return " ".join(filter(None, re.split("[ \t\r\n]+", "".join(self.texts))))
+
+    def text(self, name: str) -> str:
+        """That of the first of this name that has one."""
+        return next(filter(None, (each.own_text() for each in self.all(name))), "")
+
+    def all_strangers(self) -> list[Stranger]:
+        return self.strangers + [stranger for each in self.below for stranger in each.all_strangers()]
+
+
+class Elements:
+    """Reads the elements of a document, those that count by their namespace."""
+
+    def __init__(self) -> None:
+        self.root: Element | None = None
+        self.address = ""
+        self.around: list[Element] = []
+        self.bound: list[dict[str, str]] = [{"": "", "xml": OF_XML}]
+        self.release = ""
+        self.is_short = False
+        self.has_unknown_name = False
+
+    def read(self, data: bytes) -> Element:
+        parser = expat.ParserCreate()
+        parser.UseForeignDTD(True)
+        parser.SetParamEntityParsing(expat.XML_PARAM_ENTITY_PARSING_ALWAYS)
+
+        def names(context: str, *_: object) -> int:
+            outside = parser.ExternalEntityParserCreate(context)
+            outside.DefaultHandlerExpand = None
+            outside.Parse(declarations(data), True)
+            return 1
+
+        def other(text: str) -> None:
+            self.has_unknown_name |= re.fullmatch("&[^;#]+;", text) is not None
+
+        parser.ExternalEntityRefHandler = names
+        parser.StartElementHandler = lambda name, attributes: self.begin(name, attributes, parser.CurrentByteIndex)
+        parser.EndElementHandler = lambda _name: self.end()
+        parser.CharacterDataHandler = lambda text: self.around[-1].texts.append(text)
+        parser.DefaultHandlerExpand = other
+        # What is no text, and is not looked at.
+        parser.CommentHandler = lambda _text: None
+        parser.ProcessingInstructionHandler = lambda _target, _text: None
+        try:
+            parser.Parse(data, True)
+        except expat.ExpatError as error:
+            raise Malformed(str(error)) from None
+        if self.has_unknown_name or self.root is None or self.release not in ("3.0", "3.1"):
+            raise NoMessage
+        return self.root
+
+    def begin(self, name: str, attributes: dict[str, str], start: int) -> None:
+        declared = {key[6:]: value for key, value in attributes.items() if key == "xmlns" or key.startswith("xmlns:")}
+        self.bound.append(self.bound[-1] | declared)
+        prefix, _, local = name.rpartition(":")
+        address = self.bound[-1].get(prefix, "")
+        if not self.around:
+            self.begin_root(local, address, attributes)
+        element = Element(self.counted(local, address), start, attributes.get("dateformat", ""))
+        if self.around and element.name:
+            self.around[-1].below.append(element)
+        self.root = self.root or element
+        self.around.append(element)
+
+    def begin_root(self, local: str, address: str, attributes: dict[str, str]) -> None:
+        if local not in ("ONIXMessage", "ONIXmessage"):
+            self.has_unknown_name = True
+        self.is_short = local == "ONIXmessage"
+        self.address = address
+        self.release = attributes.get("release", "")
+
+    def counted(self, local: str, address: str) -> str:
+        """The reference name of an element, empty where it does not count; a stranger is told to what is around it."""
+        if not self.around:
+            return "ONIXMessage"
+        name = REFERENCE_NAMES.get(local, "") if self.is_short else local
+        parent = self.around[-1]
+        if name not in COUNTED.get(parent.name, "").split():
+            return ""
+        if address != self.address:
+            parent.strangers.append(Stranger(parent.name, name))
+            return ""
+        return name
+
+    def end(self) -> None:
+        self.around.pop()
+        self.bound.pop()
+
+
+Made = TypeVar("Made")
+
+
+class Trees:
+    """Makes the trees of elements, and keeps where each composite begins."""
+
+    def __init__(self, data: bytes) -> None:
+        self.data = data
+        self.lines = [0, *(found.end() for found in re.finditer(b"\n", data))]
+        self.starts: dict[object, Place] = {}
+
+    def at(self, element: Element, made: Made) -> Made:
+        line = bisect_right(self.lines, element.start)
+        before = self.data[self.lines[line - 1] : element.start]
+        self.starts[made] = Place(line, len(before.decode()) + 1)
+        return made
+
+    def identifiers(self, of: Element | None, name: str) -> list[Identifier]:
+        found = of.all(f"{name}Identifier") if of else []
+        return [self.at(each, Identifier(each.text(f"{name}IDType"), each.text("IDValue"))) for each in found]
+
+    def territory(self, of: Element) -> Territory | None:
+        found = of.first("Territory")
+        names = "CountriesIncluded", "RegionsIncluded", "CountriesExcluded", "RegionsExcluded"
+        return self.at(found, Territory(*map(found.text, names))) if found else None
+
+    def price(self, of: Element) -> Price:
+        price = Price(of.text("PriceType"), of.text("PriceAmount"), of.text("CurrencyCode"))
+        price.quantity, price.unpriced = of.text("MinimumOrderQuantity"), of.text("UnpricedItemType")
+        price.qualifier, price.per, price.zone = map(of.text, ("PriceQualifier", "PricePer", "CurrencyZone"))
+        price.territory = self.territory(of)
+        price.dates = [date_of(each) for each in of.all("PriceDate")]
+        price.conditions = [each.text("PriceConditionType") for each in of.all("PriceCondition")]
+        price.constraints = [each.text("PriceConstraintType") for each in of.all("PriceConstraint")]
+        price.is_coded, price.is_licensed = bool(of.all("PriceCoded")), bool(of.all("EpubLicense"))
+        price.old = {name: of.text(name) for name in OLD if of.text(name)}
+        price.discounts = [name for name in DISCOUNTS for _ in of.all(name)]
+        return self.at(of, price)
+
+    def detail(self, of: Element) -> Detail:
+        supplier = of.first("Supplier")
+        role, name = (supplier.text(each) if supplier else "" for each in ("SupplierRole", "SupplierName"))
+        identifiers = self.identifiers(supplier, "Supplier") if supplier else None
+        prices = [self.price(each) for each in of.all("Price")]
+        availability, unpriced = map(of.text, ("ProductAvailability", "UnpricedItemType"))
+        minimum = of.text("OrderQuantityMinimum")
+        return self.at(of, Detail(role, identifiers, name, availability, unpriced, prices, minimum))
+
+    def supply(self, of: Element) -> Supply:
+        markets = [self.at(each, Market(self.territory(each))) for each in of.all("Market")]
+        return self.at(of, Supply(markets, [self.detail(each) for each in of.all("SupplyDetail")]))
+
+    def product(self, of: Element) -> Product:
+        supplies = [self.supply(each) for each in of.all("ProductSupply")]
+        identifiers = self.identifiers(of, "Product")
+        product = Product(of.text("RecordReference"), of.text("NotificationType"), identifiers, supplies)
+        # Of a deletion those count that stand before others.
+        own = sorted(of.all_strangers(), key=lambda each: each.within not in ("Product", "ProductIdentifier"))
+        product.stranger = next(iter(own), None)
+        return self.at(of, product)
+
+    def message(self, root: Element) -> Message:
+        header = root.first("Header")
+        names = "MessageNumber", "MessageRepeat", "SentDateTime", "DefaultPriceType", "DefaultCurrencyCode"
+        number, repeat, sent, price_type, currency = (header.text(name) if header else "" for name in names)
+        sender = header.first("Sender") if header else None
+        addressees = [self.identifiers(each, "Addressee") for each in header.all("Addressee")] if header else []
+        identifiers = self.identifiers(sender, "Sender")
+        message = Message(identifiers, addressees, number, repeat, sent, price_type, currency)
+        message.is_header_first = bool(root.below) and root.below[0].name == "Header"
+        message.has_two_headers = len(root.all("Header")) > 1
+        strangers = root.strangers + (header.all_strangers() if header else [])
+        message.stranger = next(iter(strangers), None)
+        message.products = [self.product(each) for each in root.all("Product")]
+        return message
+
+
+def date_of(element: Element) -> PriceDate:
+    dates = [each for each in element.all("Date") if each.own_text()]
+    return PriceDate(
+        element.text("PriceDateRole"),
+        element.text("Date"),
+        dates[0].date_format if dates else "",
+        element.text("DateFormat"),
+    )
+
+
+def read(data: bytes) -> Read:
+    """The message of a feed. Malformed, or NoMessage, where it is none."""
+    trees = Trees(data)
+    return Read(trees.message(Elements().read(data)), trees.starts)

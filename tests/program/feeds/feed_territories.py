@@ -1,0 +1,79 @@
+"""Territories of the trees: which the desk can hold, what is left out of them, and what several are
+together."""
+
+from tests.program.feeds.feed_terms import are_countries, is_country, matches
+from tests.program.feeds.feed_trees import Territory
+
+WORLD = "WORLD"
+
+# All that could be a code of a country, and one place that has none, so that the world can be told from
+# any list of countries.
+LETTERS = "ABCDEFGHIJKLMNOPQRSTUVWXYZ"
+EVERY_COUNTRY = {first + second for first in LETTERS for second in LETTERS}
+ELSEWHERE = "elsewhere"
+
+# Countries that are read as others.
+READ_AS = {"UK": "GB", "EL": "GR"}
+
+
+def regions_of(text: str) -> list[str]:
+    return text.split(" ") if text else []
+
+
+def is_part_of_a_country(region: str) -> bool:
+    country, hyphen, part = region.partition("-")
+    return is_country(country) and hyphen == "-" and matches("[A-Z0-9]+", part)
+
+
+def regions_in_the_way(territory: Territory) -> list[str]:
+    """The regions for which the desk cannot hold a territory."""
+    included = regions_of(territory.regions)
+    alone = included if territory.included == "" and WORLD not in included else []
+    excluded = regions_of(territory.excluded_regions)
+    return alone + [region for region in excluded if not is_part_of_a_country(region)]
+
+
+def regions_left_out(territory: Territory) -> list[str]:
+    """The regions of a territory that is written all the same, as often as they stand."""
+    included = [region for region in regions_of(territory.regions) if region != WORLD]
+    return included + regions_of(territory.excluded_regions)
+
+
+def read_as_others(territory: Territory) -> list[str]:
+    """The countries of a territory that are read as others, as often as they stand."""
+    countries = f"{territory.included} {territory.excluded}".split(" ")
+    return [country for country in countries if country in READ_AS]
+
+
+def countries_of(text: str) -> str:
+    return " ".join(READ_AS.get(country, country) for country in text.split(" "))
+
+
+def territory_fields(territory: Territory | None) -> list[str]:
+    """A territory as it stands, but for countries that are read as others."""
+    if territory is None:
+        return ["", "", ""]
+    world = WORLD if WORLD in regions_of(territory.regions) else ""
+    return [countries_of(territory.included), world, countries_of(territory.excluded)]
+
+
+def are_taken(fields: list[str]) -> bool:
+    """Whether the desk takes these fields of a territory."""
+    included, _world, excluded = fields
+    return all(text == "" or are_countries(text) for text in (included, excluded))
+
+
+def places_of(fields: list[str]) -> set[str]:
+    included, world, excluded = (text.split() for text in fields)
+    places = set(included) if included and not world else EVERY_COUNTRY | {ELSEWHERE}
+    return places - set(excluded)
+
+
+def union_fields(territories: list[list[str]]) -> list[str]:
+    """The fields of the territory that these are together."""
+    if len(territories) == 1:
+        return territories[0]
+    places = set().union(*map(places_of, territories))
+    if ELSEWHERE in places:
+        return ["", WORLD, " ".join(sorted(EVERY_COUNTRY - places))]
+    return [" ".join(sorted(places)), "", ""] if places else territories[0]

@@ -1,0 +1,108 @@
+"""Feeds with namespaces that are made to harm: `onixdesk convert` takes each within a bound on memory."""
+
+from collections.abc import Iterator
+from functools import partial
+
+from tests.program.feeds.convert.wanted_runs import PRODUCT
+from tests.program.feeds.hostile_feeds import FRAME, Case, check
+from tests.program.room import SECONDS, Group
+
+ROOT = "urn:root"
+OTHER = "urn:other"
+
+# The most attributes that a tag may have, declarations of namespaces too.
+MOST = 64
+
+# An address, or a prefix, that nearly fills a tag.
+LONG = "x" * 60_000
+
+# Fewer elements within one another than there may be.
+DEEP = 990
+
+
+def declared(prefixes: range, address: str, form: str = "p{}") -> str:
+    return "".join(f' xmlns:{form.format(number)}="{address}"' for number in prefixes)
+
+
+def feed(declarations: str, *within: str, root: str = ROOT) -> Iterator[bytes]:
+    """A feed whose root has the namespace without a prefix, with these declarations, and this in it."""
+    before = FRAME.before.replace("<ONIXMessage ", f'<ONIXMessage xmlns="{root}"{declarations} ')
+    for text in (before, *within, FRAME.behind):
+        yield text.encode()
+
+
+def element(declarations: str, within: str = "") -> str:
+    return f"<x{declarations}>{within}</x>"
+
+
+def nested(declarations: list[str], within: str) -> Iterator[str]:
+    """Elements within one another, whose declarations are these in turn."""
+    for number in range(DEEP):
+        yield f"<x{declarations[number % len(declarations)]}>"
+    yield within + "</x>" * DEEP
+
+
+# A few less than a tag may have, with the one that has no prefix.
+AS_MANY = declared(range(1, 60), ROOT)
+
+CASES = [
+    Case(
+        "many prefixes of the root's namespace",
+        lambda: feed(AS_MANY, element(declared(range(60, MOST), ROOT)), PRODUCT.format("R1")),
+        taken=["R1"],
+    ),
+    Case(
+        "one prefix more of the root's namespace",
+        lambda: feed(AS_MANY, "\n", element(declared(range(60, MOST + 1), ROOT)), PRODUCT.format("R1")),
+    ),
+    Case(
+        "one prefix more in what is passed over",
+        lambda: feed(
+            AS_MANY, element(declared(range(60, MOST), ROOT), element(' xmlns:more="urn:root"')), PRODUCT.format("R1")
+        ),
+        taken=["R1"],
+    ),
+    Case(
+        "more prefixes, of which some stand for something else there",
+        lambda: feed(
+            AS_MANY, element(declared(range(1, 9), OTHER) + declared(range(60, MOST + 8), ROOT)), PRODUCT.format("R1")
+        ),
+        taken=["R1"],
+    ),
+    Case(
+        "more prefixes beside one another",
+        lambda: feed(AS_MANY, *(element(declared(range(60, MOST), ROOT, f"q{number}x{{}}")) for number in range(100))),
+        taken=[],
+    ),
+    Case(
+        "many prefixes of another namespace",
+        lambda: feed(AS_MANY, *nested([declared(range(60), OTHER, "q{}")], element("")), PRODUCT.format("R1")),
+        taken=["R1"],
+    ),
+    Case(
+        "prefixes that stand for something else at each depth",
+        lambda: feed(
+            AS_MANY,
+            *nested([declared(range(1, 60), OTHER), declared(range(1, 60), ROOT)], element("")),
+            PRODUCT.format("R1"),
+        ),
+        taken=["R1"],
+    ),
+    Case(
+        "a namespace that is declared anew at each depth",
+        lambda: feed("", *nested([f' xmlns="{OTHER}"', f' xmlns="{ROOT}"', ' xmlns=""'], ""), PRODUCT.format("R1")),
+        taken=["R1"],
+    ),
+    Case(
+        "a long address at each depth",
+        lambda: feed("", *nested([f' xmlns="{LONG}"', f' xmlns="{LONG[1:]}"'], ""), PRODUCT.format("R1"), root=LONG),
+        taken=["R1"],
+    ),
+    Case(
+        "long prefixes",
+        lambda: feed("", *(f'<x xmlns:{LONG}{number}="{ROOT}">' for number in range(MOST - 1)), "</x>" * (MOST - 1)),
+        taken=[],
+    ),
+]
+
+GROUPS = [Group(f"namespaces: {case.name}", partial(check, case, SECONDS)) for case in CASES]

@@ -13,6 +13,7 @@ PICTURE = ROOT / "docs/crates.svg"
 
 # For each layer the colour behind it, and that of its boxes' edges and of the arrows that begin there.
 COLOURS = [
+    ("#f3f1e6", "#6b6114"),
     ("#eef3fb", "#3b62a8"),
     ("#fbeef2", "#a83b5c"),
     ("#f6effa", "#7a4a9c"),
@@ -25,7 +26,7 @@ LINE = 28
 
 HEAD = """\
 digraph crates {
-    graph [tooltip="The crates in five layers, each with arrows to those that it stands on",
+    graph [tooltip="The crates in six layers, each with arrows to those that it stands on",
         fontname="DejaVu Sans,Verdana,sans-serif", fontsize=16, labeljust=l, style=filled, pencolor=transparent,
         newrank=true, ranksep=0.45, nodesep=0.25]
     node [fontname="DejaVu Sans,Verdana,sans-serif", fontsize=10.5, shape=box, style="filled,rounded", fillcolor=white]

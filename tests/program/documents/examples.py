@@ -153,16 +153,16 @@ def page_of_http(room: Room) -> Iterator[Outcome]:
 
 def script(room: Room, name: str, *words: str) -> Ran:
     """How a script of the examples ends that runs the program of the room."""
-    return room.call([ROOT / "examples" / name, *words], environment={**os.environ, "ONIXDESK": str(room.program)})
+    return room.call([ROOT / name, *words], environment={**os.environ, "ONIXDESK": str(room.program)})
 
 
 def gaps_script(room: Room, *words: str) -> Ran:
-    return script(room, "gaps.sh", *words)
+    return script(room, "programs/onixdesk/gaps.sh", *words)
 
 
 def script_of_http(room: Room) -> Iterator[Outcome]:
     """The script compares each reply with the one that is written in it."""
-    yield Outcome("http.sh: its replies", script(room, "http.sh", str(free_port())), Ran(0))
+    yield Outcome("http.sh: its replies", script(room, "examples/http.sh", str(free_port())), Ran(0))
 
 
 def gaps_without_words(room: Room) -> Iterator[Outcome]:

@@ -20,11 +20,10 @@ quick: ## in minutes and without any proof: the lints, all batches and conversio
 test: ## the gate: all that is proved and tested, but the buyers' page
 	@tests/gate
 
-check: lint ## in minutes: the lints, what nothing names, and the tests of the built program
-	@tools/unnamed
+check: lint ## in minutes: the lints, and the tests of the built program
 	@tests/run
 
-lint: ## looks over the Python, the shell and the JavaScript
+lint: ## looks over the Python, the shell, the JavaScript, and the Rattle as far as that needs no proof
 	@tools/lint
 
 docs: definitions ## writes docs/DEFINITIONS.md, which git does not keep, and docs/crates.svg anew

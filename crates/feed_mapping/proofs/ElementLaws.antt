@@ -1,7 +1,7 @@
 -- What is made of one element more.
 use Rattle.std.proofs.Common.{◌≡◌, List, ◌∷◌, ◌++◌, Bool, true, false, Option, Some, None, map, refl, sym, ap, ◌∙◌, append_assoc}
 use Rattle.std.specs.Prelude.{◌||◌}
-use Rattle.std.specs.List.{flat_map, list_any}
+use Rattle.std.specs.List.{flat_map}
 use Rattle.std.specs.Option.{option_or}
 use Rattle.feed_mapping.specs.Records.{first_some}
 use Rattle.feed_mapping.specs.Elements.{Composite}
@@ -22,16 +22,6 @@ pub first-more : {A : Type 0} (gives : Composite → Option A) (old new all : Op
 first-more gives old new all c whole others parts made before =
     ap (λ k. option_or k (first_some (map gives others))) made ∙ or_or old (gives c) (first_some (map gives others))
     ∙ ap (λ k. option_or old (first_some (map gives k))) (sym parts) ∙ before
-
-either : (a b c : Bool) → ((a || b) || c) ≡ (a || (b || c))
-either true b c = refl
-either false b c = refl
-
--- one more of these elements was tried
-pub any-more : (holds : Composite → Bool) (old new all : Bool) (c : Composite) (whole others : List Composite) → whole ≡ c ∷ others → new ≡ (old || holds c)
-    → (old || list_any holds whole) ≡ all → (new || list_any holds others) ≡ all
-any-more holds old new all c whole others parts made before =
-    ap (λ k. k || list_any holds others) made ∙ either old (holds c) (list_any holds others) ∙ ap (λ k. old || list_any holds k) (sym parts) ∙ before
 
 pub or-none : {A : Type 0} (x : Option A) → option_or x None ≡ x
 or-none None = refl

@@ -38,8 +38,3 @@ known context nodes e = last_counts (early_reasons nodes) (record_reason context
 -- a Price is left out for an earlier reason, whatever the desk says of it
 pub early : (context : PriceContext) (nodes : Nodes) (kind : Reason) → Some kind ≡ first_some (early_reasons nodes) → first_some (price_reasons context nodes) ≡ Some kind
 early context nodes kind e = earlier_counts (early_reasons nodes) (record_reason context nodes ∷ []) kind e
-
--- a Price that the desk takes is written
-pub taken-record : (context : PriceContext) (nodes : Nodes) (made : List (List ℕ)) → is_some (parsed (price_of context.opening) (price_fields context nodes)) ≡ true → made ≡ codes "Price" ∷ price_fields context nodes
-    → outcome_records (outcome_of (record_reason context nodes) context nodes) ≡ made ∷ []
-taken-record context nodes made is same = rw is (ap (λ (k : List (List ℕ)). k ∷ []) (sym same))

@@ -31,10 +31,6 @@ take_drop (suc i) (x ∷ xs) = ap (λ rest. x ∷ rest) (take_drop i xs)
 contains_take : {A : Type 0} (i : ℕ) (xs : List A) (x : A) → Contains (take i xs) x → Contains xs x
 contains_take i xs x has = subst (λ all. Contains all x) (take_drop i xs) (Contains-append_left (take i xs) (drop i xs) x has)
 
--- of a name that was never given nothing is taken
-pub takes_none : (holds : Holdings) → TakesAllAway [] holds holds
-takes_none holds = record { adds_none = λ name text has. has; others = λ name text has. inl has }
-
 -- one name more is taken away
 pub takes_more : (names : List (List ℕ)) (name : List ℕ) (before mid after : Holdings)
     → TakesAllAway names before mid → TakesAway name mid after → TakesAllAway (names ++ name ∷ []) before after
@@ -48,10 +44,6 @@ takes_more names name before mid after all one = record {
     | inr among ↦ inr (Contains-append_left names (name ∷ []) q among)
   ];
 }
-
--- no file has its name yet
-pub names_none : (holds : Holdings) → Names [] holds holds
-names_none holds = record { placed = All-nil _; may = record { kept = λ name text has. has; alone = λ name text has. inl has } }
 
 -- one file more has its name
 pub names_more : (files : List NamedText) (file : NamedText) (is_new : Bool) (before mid after : Holdings)

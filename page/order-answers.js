@@ -1,6 +1,6 @@
 // What the desk answered about a book of an order list, what is ordered of it, and why a person should look.
 
-import { isNothing } from "./amounts.js";
+import { compareAmounts, isNothing, times } from "./amounts.js";
 import { plusDays } from "./days.js";
 import { keyOf } from "./offers.js";
 import { holdsUntil } from "./spans.js";
@@ -56,11 +56,22 @@ function withoutOrder({ offers, copies = [] }) {
   return copies.some((answer) => answer.offers.some(isPriced)) ? "onlyMore" : "unpriced";
 }
 
+/** Whether an order of a book is of more copies or more money than a shop mostly orders of one. */
+function isMany({ copies }, { amount }, { copies: mostCopies = Infinity, money } = {}) {
+  return copies > mostCopies || (money !== undefined && compareAmounts(times(amount, copies), money) > 0);
+}
+
+/** What a buyer says is right of a book: a reason why a person should look, for those copies of that offer. */
+export function rightKey(need, { copies }, offer) {
+  return JSON.stringify([need, copies, keyOf(offer), offer.amount]);
+}
+
 /**
  * What stands at a book of a list: `offer`, which is ordered, `isByHand`, and `need`, the reason why a
- * person should look at it, or none.
+ * person should look at it, or none; what a buyer said is `right` is none. `many` has the most `copies` and the most
+ * `money` that need nobody.
  */
-export function stateOf({ wrong, answer, isUnsure, change }, hand) {
+export function stateOf({ wrong, answer, isUnsure, change, right = [], ...book }, hand, many) {
   if (wrong !== undefined) return { need: wrong };
   if (answer === undefined) return {};
   if (answer.refusal !== undefined) return { need: "refused" };
@@ -71,8 +82,9 @@ export function stateOf({ wrong, answer, isUnsure, change }, hand) {
     lost: isLost,
     free: isNothing(offer.amount),
     unsure: isUnsure,
+    many: isMany(book, offer, many),
   };
-  const need = Object.keys(needs).find((reason) => needs[reason]);
+  const need = Object.keys(needs).find((reason) => needs[reason] && !right.includes(rightKey(reason, book, offer)));
   return { offer, isByHand, need };
 }
 

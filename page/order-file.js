@@ -39,7 +39,7 @@ export function csvOf(rows) {
   return MARK + lines.map((line) => line + LINE_END).join("");
 }
 
-/** An order as lines of ISBN and copies, with a tabulator between them. */
+/** An order as lines of ISBN, copies and, where there is one, a remark, with a tabulator between them. */
 export function linesToPaste(rows) {
-  return rows.map(({ isbn, copies }) => `${isbn}\t${copies}\n`).join("");
+  return rows.map(({ isbn, copies, remark }) => `${[isbn, copies, ...(remark ? [remark] : [])].join("\t")}\n`).join("");
 }

@@ -1,105 +1,86 @@
-// The lines of an order list as a buyer pastes them: an ISBN, how many copies, and whatever stands behind.
+// The lines of an order list as a buyer pastes them: a table with columns, or lines of an ISBN and a number.
 
 import { bookIn, numbersIn, plain } from "./isbn-in-text.js";
+import { columnsOf } from "./list-columns.js";
+import { fieldsOf, filledRows, separatorOf } from "./list-rows.js";
 
 /** The most lines that a list may have, and the most copies of a book. */
-export const MOST_LINES = 500;
+export const MOST_LINES = 1000;
 const MOST_COPIES = 999_999;
 
-const LINE_END = /\r\n|[\n\r\v\f\u0085\u2028\u2029]/;
 // What may stand right before and behind an ISBN: quotes, and marks that are not seen.
 const QUOTES = "\"'\u2018\u2019\u201c-\u201e\u00ab\u00bb\u200b-\u200f\u202a-\u202e\u2060-\u2069\ufeff";
-const SEPARATOR = /^[ ]*([\t;,|])/;
-const WORDS = "x|\u00d7|copy|copies|pcs?|ex|expl|exemplare?|st|stk|st\u00fcck|mal";
+const UNITS = "copy|copies|pcs?|ex|expl|exemplare?|st|stk|st\u00fcck|mal";
 
-// Copies as a field of their own, or at the start of words.
-const COPIES = new RegExp(String.raw`^(?:[x\u00d7*] ?)?(\d+)(?: ?(?:${WORDS})\.?)?(?=$|[\s;|)]|,(?!\d))`, "iu");
-const COPIES_BEFORE = new RegExp(String.raw`^[\s${QUOTES}]*(\d+) ?(?:${WORDS})\.?[\s;,|]*$`, "iu");
-const IS_NUMBER = /^[-+]?\d[\d.,]*$/;
+// Copies by themselves, with a sign of multiplication or none; in a column of copies, also with a word for them.
+const NUMBER = /^(?:[x\u00d7*] ?)?([-+]?\d[\d.,]*)(?: ?[x\u00d7*])?$/i;
+const COUNTED = new RegExp(String.raw`^(\d+) ?(?:${UNITS})\.?$`, "iu");
+const TIMES_BEFORE = /^([-+]?\d[\d.,]*) ?[x\u00d7*]$/i;
 
-const LABEL = /[(]?(?:e-?)?(?:isbn|ean|gtin)(?:[- ]?1[034])?[)]?[ ]*[:=#.]?[ ]*$/i;
+// What may be copies in words: a number of the shop's languages, or a word for copies.
+const SPELLED = [
+  "two", "three", "four", "five", "six", "seven", "eight", "nine", "ten", "twelve", "dozen", "zwei", "drei", "vier",
+  "f\u00fcnf", "sechs", "sieben", "acht", "neun", "zehn", "zw\u00f6lf", "dutzend", "qty", "quantity", "menge", "anzahl",
+];
+const IN_WORDS = new RegExp(String.raw`\d|(?<!\p{L})(?:${SPELLED.join("|")}|${UNITS})(?!\p{L})`, "iu");
+
+// `(01)` stands before the number in a bar code of two dimensions.
+const LABEL = /(?:[(]?(?:e-?)?(?:isbn|ean|gtin)(?:[- ]?1[034])?[)]?[ ]*[:=#.]?[ ]*|[(]01[)])$/i;
 const ADDRESS = /(?:\S+:\/\/|www\.)[^\s"]*$/i;
-const NUMBERING = /^[\s(]*\d{1,4}[.):]?[\s;,|]*$/;
-
-/** The fields of a row, where quotes may hold a separator. */
-function fieldsOf(text, separator) {
-  const fields = [];
-  for (let rest = text; ; ) {
-    const quoted = /^\s*"((?:[^"]|"")*)"\s*/.exec(rest);
-    const isWhole = quoted !== null && ["", separator].includes(rest.charAt(quoted[0].length));
-    const end = isWhole ? quoted[0].length : rest.indexOf(separator);
-    const field = end < 0 ? rest : rest.slice(0, end);
-    fields.push((isWhole ? quoted[1].replaceAll('""', '"') : field).trim());
-    if (end < 0 || end === rest.length) return fields;
-    rest = rest.slice(end + 1);
-  }
-}
+const AROUND = new RegExp(`^[\\s${QUOTES}]+|[\\s${QUOTES}]+$`, "gu");
 
 const joined = (texts) => texts.filter((text) => text !== "").join(", ");
+const bare = (text) => text.replace(AROUND, "").replace(/^[\s:;,|]+|[\s;,|]+$/g, "").replace(AROUND, "");
 
-/** What stands before an ISBN, without its label, its quote, its address or the number of a row. */
+/** What stands before an ISBN, without its label, its quote and its address. */
 function beforeIsbn(text) {
   const end = new RegExp(`[\\s${QUOTES}(]*$`, "u");
-  const bare = text.replace(ADDRESS, "").replace(end, "").replace(LABEL, "").replace(end, "");
-  const isNumbering = NUMBERING.test(bare);
-  return {
-    copies: COPIES_BEFORE.exec(plain(bare))?.[1],
-    isNumber: isNumbering && !/[.):]\s*$/.test(bare),
-    words: isNumbering || COPIES_BEFORE.test(plain(bare)) ? "" : bare.replace(/[\s;,|:]+$/, "").trim(),
-  };
-}
-
-/** What stands behind an ISBN: the text of its copies, if there is one, and the rest. */
-function behindIsbn(text) {
-  const separator = SEPARATOR.exec(text)?.[1];
-  if (separator === undefined) {
-    const rest = text.replace(/^[\s:]+/, "");
-    const match = COPIES.exec(plain(rest));
-    const [first] = rest.split(/[\s;]/);
-    const isNumber = match === null && IS_NUMBER.test(plain(first));
-    const copies = isNumber ? first : match?.[1];
-    const length = isNumber ? first.length : (match?.[0].length ?? 0);
-    return { copies, others: [rest.slice(length).replace(/^[\s;,|]+/, "").trim()] };
-  }
-  const [first, ...others] = fieldsOf(text.replace(SEPARATOR, ""), separator);
-  const match = COPIES.exec(plain(first));
-  if (match !== null && (separator === "," || match[0].length === first.length)) {
-    return { copies: match[1], others: [first.slice(match[0].length).trim(), ...others] };
-  }
-  if (IS_NUMBER.test(plain(first))) return { copies: first, others };
-  return { copies: undefined, others: [first, ...others] };
-}
-
-/** Reads the copies of a line: as text, which is wrong where it is no number from 1 to 999999. */
-function readCopies(text) {
-  if (text === undefined) return { copies: 1 };
-  const isRight = /^\d{1,6}$/.test(text) && Number(text) > 0;
-  return isRight ? { copies: Number(text) } : { copies: undefined, wrong: "copies" };
+  return bare(text.replace(ADDRESS, "").replace(end, "").replace(LABEL, ""));
 }
 
 /** What stands behind the closing quote or the rest of an address, and behind the same ISBN once more. */
-function behind(line, number, isAddress) {
+function behindIsbn(line, number) {
+  const isAddress = ADDRESS.test(line.slice(0, number.start));
   const closed = line.slice(number.end).replace(isAddress ? /^[^\s;,"|]*/ : "", "");
   const rest = closed.replace(new RegExp(`^[${QUOTES})\\]]+`, "u"), "");
   const again = numbersIn(rest).find(({ isbn }) => isbn !== undefined);
   const isSame = again !== undefined && again.isbn === number.isbn;
   const isNext = isSame && /^[\s;,|"(]*$/.test(rest.slice(0, again.start));
-  return isNext ? rest.slice(again.end).replace(/^[")]+/, "") : rest;
+  return bare(isNext ? rest.slice(again.end).replace(/^[")]+/, "") : rest);
 }
 
+/** The copies of a text, which are wrong where it is no number from 1 to 999999. */
+function readCopies(text) {
+  const isRight = /^\d{1,6}$/.test(text) && Number(text) > 0;
+  return isRight ? { copies: Number(text) } : { copies: undefined, wrong: "copies" };
+}
+
+/** The book of a text: its `isbn` or what is `wrong` of it, and how it is `written`. */
+function bookOf(text, number) {
+  if (number === undefined) return { written: text.trim(), copies: undefined, wrong: "none", note: "" };
+  const written = text.slice(number.start, number.end);
+  if (number.kind === "shortened") return { written, wrong: "shortened" };
+  return { isbn: number.isbn, written, ...(number.isbn === undefined ? { wrong: "isbn" } : {}) };
+}
+
+/** The number that stands beside an ISBN with nothing else, as a text; `undefined` where something else does. */
+function copiesBeside(before, rest) {
+  if (before === "" && rest === "") return "1";
+  if (before === "") return NUMBER.exec(plain(rest))?.[1];
+  return rest === "" ? TIMES_BEFORE.exec(plain(before))?.[1] : undefined;
+}
+
+/** A line of free text: an ISBN and at most one number. With anything else a person has to say how many copies. */
 function pieceOf(line, number) {
-  const before = line.slice(0, number.start);
-  const start = beforeIsbn(before);
-  const { copies, others } = behindIsbn(behind(line, number, ADDRESS.test(before)));
-  const read = readCopies(copies ?? start.copies);
-  const isOpen = copies === undefined && start.copies === undefined;
-  const isNumbered = others.some((text) => /^\d{1,6}(?= |$)/.test(plain(text)));
-  const isUnsure = isOpen && (start.isNumber || isNumbered);
-  const note = joined([start.words, ...others]);
-  return { isbn: number.isbn, written: line.slice(number.start, number.end), ...read, isUnsure, note };
+  const book = bookOf(line, number);
+  if (book.wrong === "none") return book;
+  const [before, rest] = [beforeIsbn(line.slice(0, number.start)), behindIsbn(line, number)];
+  const copies = copiesBeside(before, rest);
+  if (copies === undefined) return { copies: 1, isUnsure: true, note: joined([before, rest]), ...book };
+  return { ...readCopies(copies), isUnsure: false, note: "", ...book };
 }
 
-/** Where a line has nothing but ISBNs and copies, it has a piece for each ISBN. */
+/** Where a line has nothing but ISBNs, each with a number at most, it has a piece for each of them. */
 function severalIn(line, numbers) {
   const books = numbers.filter(({ kind }) => kind !== "number");
   if (books.length < 2 || books.some(({ isbn }) => isbn === undefined)) return undefined;
@@ -113,15 +94,39 @@ function severalIn(line, numbers) {
   }));
 }
 
-function piecesOf(line) {
+/** The pieces of a line of free text. */
+function piecesOfLine(line) {
   const numbers = numbersIn(line);
-  const several = severalIn(line, numbers);
-  if (several !== undefined) return several;
-  const book = bookIn(numbers);
-  if (book === undefined) return [{ written: line.trim(), copies: undefined, wrong: "none", note: "" }];
-  const piece = pieceOf(line, book);
-  if (book.kind === "shortened") return [{ ...piece, wrong: "shortened" }];
-  return [book.isbn === undefined ? { ...piece, wrong: "isbn" } : piece];
+  return severalIn(line, numbers) ?? [pieceOf(line, bookIn(numbers))];
+}
+
+/** The copies of a field of the column that has them. */
+function copiesOfField(field) {
+  const text = plain(field).trim();
+  return readCopies(NUMBER.exec(text)?.[1] ?? COUNTED.exec(text)?.[1] ?? text);
+}
+
+/** Whether a field that is none of the columns which are known may say how many copies are meant. */
+function mayBeCopies(field, at, { isbn, kinds, isChosen }) {
+  return at !== isbn && !isChosen && kinds[at] === undefined && IN_WORDS.test(plain(field));
+}
+
+/** A row of a table: its ISBN and copies from their columns; all others are its note. */
+function pieceOfRow(fields, columns) {
+  const cell = fields[columns.isbn] ?? "";
+  const number = bookIn(numbersIn(cell));
+  const book = bookOf(cell, number);
+  const isSame = (field) => book.isbn !== undefined && bookIn(numbersIn(field))?.isbn === book.isbn;
+  const beside = number === undefined ? [] : [beforeIsbn(cell.slice(0, number.start)), behindIsbn(cell, number)];
+  const others = fields.filter((field, at) => at !== columns.isbn && at !== columns.copies && !isSame(field));
+  const note = joined([...beside, ...others]);
+  if (book.wrong === "none") return { ...book, note };
+  if (beside.some((text) => IN_WORDS.test(plain(text)))) return { copies: 1, isUnsure: true, note, ...book };
+  if (columns.copies !== null) {
+    return { ...copiesOfField(fields[columns.copies] ?? ""), isUnsure: false, note, ...book };
+  }
+  const isUnsure = fields.some((field, at) => !isSame(field) && mayBeCopies(field, at, columns));
+  return { copies: 1, isUnsure, note, ...book };
 }
 
 /** Adds the copies of each ISBN up; what is wrong stays by itself. */
@@ -148,21 +153,45 @@ function addedUp(pieces) {
   });
 }
 
+/** The columns of filled rows, where they are a table; and each row with the fields that it then has. */
+function tableOf(filled, chosenFor) {
+  const separator = separatorOf(filled);
+  if (separator === undefined || (filled.length === 1 && severalIn(filled[0].row, numbersIn(filled[0].row)))) return {};
+  const rows = filled.map((row) => ({ ...row, fields: fieldsOf(row.row, separator) }));
+  return { rows, columns: columnsOf(rows, chosenFor) };
+}
+
+function piecesOf(filled, { rows, columns }) {
+  const lines = columns === undefined ? filled : rows.filter((row) => row !== columns.heading);
+  return lines.flatMap(({ row, fields = [], line }) => {
+    const pieces = fields.length > 1 ? [pieceOfRow(fields, columns)] : piecesOfLine(row);
+    return pieces.map((piece) => ({ ...piece, line }));
+  });
+}
+
+/** Rows without a first one that has no number, as one that names what stands below. */
+function withoutHeading(filled) {
+  const isHeading = filled.length > 1 && !/\p{Nd}/u.test(filled[0].row.replace(/1[03]/, ""));
+  return isHeading ? filled.slice(1) : filled;
+}
+
 /**
  * Reads a list. Gives its `books`, each with its `isbn`, the `copies` of all its `lines` (`parts` has
  * those of each) and its `note`, or with what is `wrong` of it: `isbn`, `shortened` by a spreadsheet,
- * `none` where no ISBN is there, `copies`; `isUnsure` where one copy is taken though another number
- * stands there. `count` is how many lines say something, of which too many have no books, and `heading` a
- * first one that names columns.
+ * `none` where no ISBN is there, `copies`; `isUnsure` where one copy is taken though the line has something
+ * else, so that a person has to say how many. `count` is how many lines say something, of which too many have
+ * no books. `columns` are those of a table, as `columnsOf` has them: while they are open there are no books.
+ * `chosenFor` gives which columns somebody chose for a table with such names.
  */
-export function readList(text) {
-  const rows = text.split(LINE_END).map((row, at) => ({ row, line: at + 1 }));
-  const filled = rows.filter(({ row }) => /[\p{L}\p{N}]/u.test(row));
-  const isHeading = filled.length > 1 && !/\p{Nd}/u.test(filled[0].row.replace(/1[03]/, ""));
-  const heading = isHeading ? filled.shift().row.trim() : undefined;
-  if (filled.length > MOST_LINES) return { books: [], count: filled.length, heading };
-  const pieces = filled.flatMap(({ row, line }) => piecesOf(row).map((piece) => ({ ...piece, line })));
-  return { books: addedUp(pieces), count: pieces.length, heading };
+export function readList(text, chosenFor) {
+  const filled = filledRows(text);
+  const table = tableOf(filled, chosenFor);
+  const { columns } = table;
+  const lines = columns === undefined ? withoutHeading(filled) : filled;
+  const count = lines.length - (columns?.heading === undefined ? 0 : 1);
+  if (count > MOST_LINES || columns?.isOpen) return { books: [], count, columns };
+  const pieces = piecesOf(lines, table);
+  return { books: addedUp(pieces), count: pieces.length, columns };
 }
 
 const UTF_16 = [[0xff, 0xfe, "utf-16le"], [0xfe, 0xff, "utf-16be"]];

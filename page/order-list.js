@@ -1,7 +1,8 @@
 // An order list that was looked up: its books with their answers, and what a buyer chose by hand.
 
 import { keyOf } from "./offers.js";
-import { stateOf } from "./order-answers.js";
+import { filledRows } from "./list-rows.js";
+import { rightKey, stateOf } from "./order-answers.js";
 
 export class OrderList {
   /** The text that was looked up, and the question (day, country, currency, type). */
@@ -9,14 +10,38 @@ export class OrderList {
   question;
   books = [];
   isAsking = false;
-  // By ISBN; a new look-up keeps it.
+  // By ISBN.
   #hands = new Map();
+  // When orders left the page, by series, that of all without one.
+  #saved = new Map();
+  #shop;
 
-  /** Begins with the books of a text, none of which has an answer. */
-  begin(text, question, books) {
+  /** `shop` has from how many copies (`manyCopies`) and what sum on (`manyMoney`, in `currency`) a person looks. */
+  constructor(shop = {}) {
+    this.#shop = shop;
+  }
+
+  /**
+   * Begins with the books of a text, none of which has an answer. What was chosen by hand belongs to the list for
+   * which it was; it stays where a buyer has edited that (`isSame`).
+   */
+  begin(text, question, books, isSame = false) {
     this.text = text;
     this.question = question;
     this.books = books.map((book, id) => ({ ...book, id }));
+    const isbns = books.map(({ isbn }) => isbn);
+    for (const isbn of this.#hands.keys()) if (!isSame || !isbns.includes(isbn)) this.#hands.delete(isbn);
+    this.#saved.clear();
+  }
+
+  /** How many choices by hand the list has. */
+  get hands() {
+    return this.#hands.size;
+  }
+
+  forgetHands() {
+    this.#hands.clear();
+    this.#saved.clear();
   }
 
   handOf({ isbn }) {
@@ -27,10 +52,49 @@ export class OrderList {
   choose({ isbn }, hand) {
     if (hand === undefined) this.#hands.delete(isbn);
     else this.#hands.set(isbn, hand);
+    this.#saved.clear();
+  }
+
+  /** Keeps that a buyer says that a book is right, for which a person should look. */
+  confirm(book) {
+    const { need, offer } = this.stateOf(book);
+    book.right = [...(book.right ?? []), rightKey(need, book, offer)];
   }
 
   stateOf(book) {
-    return stateOf(book, this.handOf(book));
+    const { manyCopies, manyMoney, currency } = this.#shop;
+    const money = this.question?.currency === currency ? manyMoney : undefined;
+    return stateOf(book, this.handOf(book), { copies: manyCopies, money });
+  }
+
+  /** Notes in which way and when the order of a series, or, with `undefined`, of all left the page. */
+  noteSaved(series, way, at) {
+    this.#saved.set(series, [...this.savedOf(series), { way, at }]);
+  }
+
+  /** The ways and times in which an order left the page since the list changed. */
+  savedOf(series) {
+    return this.#saved.get(series) ?? [];
+  }
+
+  /** The list is another one than what left the page. */
+  noteChange() {
+    this.#saved.clear();
+  }
+
+  /** Whether something of the list is ordered that has not left the page. */
+  isUnsaved() {
+    if (this.#saved.has(undefined)) return false;
+    return this.ordered().some(({ state: { offer } }) => !this.#saved.has(offer.series));
+  }
+
+  /** The lines of the text whose books are in no order, or are among those left out. */
+  rest(leftOut = []) {
+    const ordered = this.ordered().map(({ book }) => book).filter((book) => !leftOut.includes(book));
+    const books = this.books.filter((book) => !ordered.includes(book));
+    const lines = new Set(books.flatMap((book) => book.lines));
+    const rows = filledRows(this.text).filter(({ line }) => lines.has(line)).map(({ row }) => row);
+    return { count: books.length, rows };
   }
 
   /** The books with their states; those that need a person first, once all are answered. */

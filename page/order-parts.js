@@ -52,6 +52,14 @@ function carriageCell({ series, amount }, { settings, currency }) {
   return [element("strong", { class: "need" }, say("order.carriage", words))];
 }
 
+/** When an order left the page, which is marked until the list changes. */
+function savedMarks(saved) {
+  return saved.flatMap(({ way, at }) => {
+    const time = formatter(Intl.DateTimeFormat, { timeStyle: "medium" }).format(at);
+    return [" ", element("span", { class: "tag mark" }, say("order.savedAt", { way: say(`order.ways.${way}`), time }))];
+  });
+}
+
 function sumRow(name, { lines, copies, amount, series }, context) {
   const { currency, reports, save } = context;
   const marks = series === undefined ? [] : marksOf(series, reports);
@@ -61,7 +69,7 @@ function sumRow(name, { lines, copies, amount, series }, context) {
     [counted(copies)],
     [money(amount, currency)],
     ...(context.hasCarriage ? [carriageCell({ series, amount }, context)] : []),
-    buttonsFor(name, series, save),
+    [...buttonsFor(name, series, save), ...savedMarks(context.savedOf(series))],
   ];
   return { cells, className: series === undefined ? "all" : undefined };
 }

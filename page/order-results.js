@@ -53,6 +53,12 @@ export function showCopies(done, all) {
   found("list-copies").textContent = done === all ? "" : words;
 }
 
+/** Says how many choices by hand an edited list has kept. */
+export function showHands(count) {
+  found("list-hands").hidden = count === 0;
+  found("hands-words").textContent = count === 0 ? "" : sayCount("order.handsKept", count);
+}
+
 /** Dims what was looked up of other lines or for another question, which can no longer be ordered. */
 export function showAge(isOld) {
   found("list-old").hidden = !isOld;
@@ -89,6 +95,7 @@ export class OrderResults {
       settings: this.#settings,
       ...question,
       handOf: (book) => list.handOf(book),
+      savedOf: (series) => list.savedOf(series),
       reports: this.#reports,
       isAsking,
       isRetail: kindOf(question.type) === "retail",
@@ -124,6 +131,11 @@ export class OrderResults {
     const needs = list.rows().filter(({ state }) => state.need !== undefined);
     found("list-needs").replaceChildren(...needsList(needs, (book) => this.#goTo(book)));
     found("list-needs").hidden = needs.length === 0;
+    this.drawSums(list);
+  }
+
+  /** Draws the sums, and which of the orders have left the page. */
+  drawSums(list) {
     const ordered = list.ordered().map(({ book, state: { offer } }) => ({
       series: offer.series, copies: book.copies, amount: offer.amount,
     }));

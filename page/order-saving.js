@@ -8,7 +8,9 @@ import { wholesalerOf } from "./settings.js";
 import { titleTexts } from "./titles.js";
 import { say, wordsOfCode } from "./wording.js";
 
-const CELLS = ["isbn", "copies", "wholesaler", "price", "sum", "currency", "availability", "reference", "note", "title"];
+const CELLS = [
+  "isbn", "copies", "wholesaler", "price", "sum", "currency", "availability", "reference", "note", "remark", "title",
+];
 const UNPRINTED = "unprinted";
 
 // As long as a browser may take to begin with a file.
@@ -19,7 +21,11 @@ const found = (id) => document.getElementById(id);
 /** The names of the columns; that of titles, where the shop keeps some, is the last one. */
 const namesOf = ({ hasTitles }) => CELLS.filter((name) => name !== "title" || hasTitles);
 
-function cellsOf({ book, state: { offer } }, { settings, currency }) {
+/** What stands at a line whose wholesaler's messages are missing, so that its price may be old. */
+const remarkOf = ({ state: { offer } }, isOld) => (isOld(offer.series) ? say("order.mayBeOld") : "");
+
+function cellsOf(row, { settings, currency, isOld }) {
+  const { book, state: { offer } } = row;
   const cells = {
     isbn: book.isbn,
     copies: String(book.copies),
@@ -30,12 +36,13 @@ function cellsOf({ book, state: { offer } }, { settings, currency }) {
     availability: wordsOfCode("availabilities", offer.availability) ?? offer.availability,
     reference: offer.reference,
     note: book.note,
+    remark: remarkOf(row, isOld),
     title: titleTexts(book.title ?? {}).join(" · "),
   };
   return namesOf(settings).map((name) => cells[name]);
 }
 
-/** Hands the browser a file of an order; gives its name. */
+/** Hands the browser a file of an order; gives its name. `isOld` says of a series whether its prices may be old. */
 export function download(rows, { series, day, type, ...context }) {
   const name = say("order.fileName", { day, series: series === undefined ? "" : `-${series}` });
   const isRetail = kindOf(type) === "retail";
@@ -51,9 +58,8 @@ export function download(rows, { series, day, type, ...context }) {
   return name;
 }
 
-/** Copies the ISBNs and copies; where the browser does not let the page, shows them in a place. */
-export async function copyLines(rows, place) {
-  const text = linesToPaste(rows.map(({ book }) => book));
+/** Copies a text; where the browser does not let the page, shows it in a place, and gives false. */
+export async function copyText(text, place) {
   place.replaceChildren();
   try {
     await navigator.clipboard.writeText(text);
@@ -66,13 +72,21 @@ export async function copyLines(rows, place) {
   }
 }
 
-/** Prints what is ordered of a series, or the whole list. */
-export function printRows(series, name) {
-  const others = series === undefined
-    ? []
-    : [...document.querySelectorAll("#list tbody tr, #sums tbody tr")].filter(
-        (row) => row.dataset.series !== series,
-      );
+/** Copies the ISBNs and copies of rows, with a remark where a price may be old. */
+export function copyLines(rows, isOld, place) {
+  const lines = rows.map((row) => ({ ...row.book, remark: remarkOf(row, isOld) }));
+  return copyText(linesToPaste(lines), place);
+}
+
+/** Prints rows of a list, with the sums of those wholesalers of which all is printed. */
+export function printRows(rows, name) {
+  const ids = rows.map(({ book }) => String(book.id));
+  const listed = [...document.querySelectorAll("#list tbody tr")];
+  const sums = [...document.querySelectorAll("#sums tbody tr")];
+  const isLeftOut = ({ dataset: { book } }) => !ids.includes(book);
+  const left = listed.filter(isLeftOut).flatMap(({ dataset }) => dataset.series ?? []);
+  const isPart = ({ dataset: { series } }) => (series === undefined ? left.length > 0 : left.includes(series));
+  const others = [...listed.filter(isLeftOut), ...sums.filter(isPart)];
   found("paper-heading").textContent = say("order.paper", { name });
   others.forEach((row) => row.classList.add(UNPRINTED));
   const restore = () => others.forEach((row) => row.classList.remove(UNPRINTED));

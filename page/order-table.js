@@ -84,14 +84,18 @@ function handField(book, state, hand, context) {
 }
 
 /** Why a book needs a person, in words. */
-export function needInWords(need, { answer, written, note, change }, { settings, currency, type }) {
+export function needInWords({ need, offer }, { answer, written, note, change, copies }, { settings, currency, type }) {
   if (need === "onlyMore") return onlyMoreInWords(answer.offers, answer.copies, currency, settings).join(" ");
   if (need === "refused") {
     const { kind, words, reason } = answer.refusal;
     if (kind === "fault") return `${words} ${say("order.notAgain")}`;
     return kind === "refused" ? say("wrong.refused", { reason }) : words;
   }
-  if (need !== "changed") return say(`order.needs.${need}`, { written, note, type });
+  if (need !== "changed") {
+    const sum = offer === undefined ? "" : money(times(offer.amount, copies), currency);
+    const many = formatter(Intl.NumberFormat).format(copies ?? 0);
+    return say(`order.needs.${need}`, { written, note, type, sum, copies: many });
+  }
   const { series, amount } = change;
   return say("order.needs.changed", {
     wholesaler: wholesalerOf(settings, series),
@@ -116,12 +120,25 @@ export function otherCopies({ answer, copies }, offer, { currency }) {
   return isAsked && answer.copies !== undefined ? betterInWords(changesOf(offer, answer.copies), copies, currency) : [];
 }
 
+// What a buyer may look at and say that it is right.
+const LOOKED_AT = ["changed", "lost", "free", "unsure", "many"];
+
+/** The button by which a buyer says that a book is right. */
+function rightButton(book, need, context) {
+  if (!LOOKED_AT.includes(need)) return [];
+  const button = element("button", { type: "button", class: "small right" }, say("order.isRight"));
+  button.setAttribute("aria-label", say("order.isRightOf", { isbn: book.isbn }));
+  button.addEventListener("click", () => context.confirm(book));
+  return [" ", button];
+}
+
 function noteCell(book, state, context) {
   const { offer, isByHand, need } = state;
   const words = [...addedUp(book)];
   if (offer !== undefined) {
     if (need !== undefined) {
-      words.unshift(element("strong", { class: "need" }, needInWords(need, book, context)));
+      const told = element("strong", { class: "need" }, needInWords(state, book, context));
+      words.unshift(element("span", {}, told, ...rightButton(book, need, context)));
     }
     if (isByHand) words.push(say("order.byHand"));
     if (offer.change !== undefined) words.push(changeAhead(offer.change, context.currency));
@@ -136,11 +153,12 @@ function noteCell(book, state, context) {
 /** What stands in place of a wholesaler: why there is none, or that the desk has not answered yet. */
 function withoutOffer(book, state, context) {
   if (state.need !== undefined) {
-    const need = element("strong", { class: "need" }, needInWords(state.need, book, context));
+    const need = element("strong", { class: "need" }, needInWords(state, book, context));
     if (state.need !== "noOffers") return [need];
     return [need, " ", ...catalogueLink(book.isbn, say("order.inCatalogue"), context.settings)];
   }
-  return [book.answer === undefined ? say(context.isAsking ? "order.waiting" : "order.notAsked") : say("order.leftOut")];
+  if (book.answer !== undefined) return [say("order.leftOut")];
+  return [say(context.isAsking ? "order.waiting" : "order.notAsked")];
 }
 
 function wholesalerCell(book, state, context) {

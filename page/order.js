@@ -1,56 +1,62 @@
 // The view of an order list: its lines, what the desk answers about each book, and the orders of it.
 
 import { isAbandoned } from "./desk.js";
-import { isbnsIn } from "./isbn-in-text.js";
 import { eachOf, OrderAsking } from "./order-asking.js";
-import { MOST_LINES, readList, textOf } from "./order-lines.js";
+import { OrderInput } from "./order-input.js";
 import { OrderList } from "./order-list.js";
 import { OrderQuestion } from "./order-question.js";
-import { OrderResults, showAge, showChecking, showCopies, showProgress, summaryOf } from "./order-results.js";
-import { copyLines, download, printRows } from "./order-saving.js";
+import {
+  OrderResults, showAge, showChecking, showCopies, showHands, showProgress, summaryOf,
+} from "./order-results.js";
+import { copyLines, copyText, download, printRows } from "./order-saving.js";
+import { askToSave, endQuestion, offerRest, restInWords } from "./save-question.js";
 import { wholesalerOf } from "./settings.js";
 import { fileOf, titlesOf } from "./titles.js";
 import { say, sayCount } from "./wording.js";
 
-const MOST_BYTES = 1_000_000;
-
 const found = (id) => document.getElementById(id);
-
-/** Says what is wrong with the lines, or, with the empty text, that nothing is. */
-function tellWrong(words) {
-  found("lines-wrong").textContent = words;
-  if (words === "") found("lines").removeAttribute("aria-invalid");
-  else found("lines").setAttribute("aria-invalid", "true");
-}
-
-/** What is wrong with a list of so many lines as a whole, or the empty text. */
-function wrongOf(count) {
-  if (count === 0) return say("order.wrong.empty");
-  return count > MOST_LINES ? sayCount("order.wrong.tooMany", count, { most: String(MOST_LINES) }) : "";
-}
 
 /** Says something in the live region. */
 function tell(words) {
   found("list-status").textContent = words;
 }
 
+/** Says at the buttons what became of an order. */
+function tellSaved(words) {
+  found("saved-status").textContent = words;
+}
+
+/** Nothing is said any longer of an order that left the page. */
+function forgetSaved() {
+  endQuestion();
+  tellSaved("");
+  offerRest({ count: 0, rows: [] });
+  found("saved").replaceChildren();
+}
+
 /** The view, over the settings and the reports on messages; `watch` is told when the desk is down and up. */
 export class Order {
   #settings;
+  #reports;
   #watch;
   #question;
   #results;
-  #list = new OrderList();
+  #input;
+  #list;
   #asking = new AbortController();
   // A list that was pasted elsewhere is looked up once the view is shown.
   #isTaken = false;
 
   constructor(settings, reports, watch) {
     this.#settings = settings;
+    this.#reports = reports;
     this.#watch = watch;
+    this.#list = new OrderList(settings);
     this.#question = new OrderQuestion(settings, () => this.#noteChanges());
+    this.#input = new OrderInput({ changed: () => this.#noteChanges(), lookUp: () => this.#lookUp() });
     this.#results = new OrderResults(settings, reports, {
       choose: (book, hand) => this.#choose(book, hand),
+      confirm: (book) => this.#confirm(book),
       save: (way, series) => this.#save(way, series),
     });
     reports.subscribe((series) => {
@@ -65,9 +71,14 @@ export class Order {
       this.#goOn();
       found("stop").focus();
     });
-    this.#readLines();
-    this.#readFiles();
-    this.#takeFrom(found("isbn"));
+    found("forget-hands").addEventListener("click", () => this.#forgetHands());
+    this.#input.takeFrom(found("isbn"), () => {
+      this.#isTaken = true;
+      location.hash = "#order";
+    });
+    window.addEventListener("beforeunload", (event) => {
+      if (this.#isUnsaved()) event.preventDefault();
+    });
   }
 
   show() {
@@ -94,84 +105,49 @@ export class Order {
     return say("order.view");
   }
 
-  #readLines() {
-    found("lines").addEventListener("input", () => this.#noteChanges());
-    found("lines").addEventListener("keydown", (event) => {
-      if (event.key === "Enter" && (event.ctrlKey || event.metaKey)) found("list-form").requestSubmit();
-    });
-    found("list-form").addEventListener("submit", (event) => {
-      event.preventDefault();
-      this.#lookUp();
-    });
-  }
-
-  #readFiles() {
-    found("open-file").addEventListener("click", () => found("lines-file").click());
-    found("lines-file").addEventListener("change", () => {
-      const [file] = found("lines-file").files;
-      if (file !== undefined) this.#readFile(file);
-    });
-    found("lines").addEventListener("drop", (event) => {
-      const [file] = event.dataTransfer.files;
-      if (file === undefined) return;
-      event.preventDefault();
-      this.#readFile(file);
-    });
-  }
-
-  async #readFile(file) {
-    const isLarge = file.size > MOST_BYTES;
-    const text = isLarge ? undefined : textOf(new Uint8Array(await file.arrayBuffer()));
-    // The same file can be opened once more.
-    found("lines-file").value = "";
-    if (text === undefined) {
-      tellWrong(say(isLarge ? "order.wrong.tooLarge" : "order.wrong.noText", { name: file.name }));
-      return;
-    }
-    found("lines").value = text;
-    this.#noteChanges();
-    found("look-up").focus();
-  }
-
-  /** Where several ISBNs are put into a field for one, they are a list. */
-  #takeFrom(field) {
-    const take = (event, data) => {
-      const text = data?.getData("text") ?? "";
-      if (isbnsIn(text).length < 2) return;
-      event.preventDefault();
-      found("lines").value = text;
-      this.#isTaken = true;
-      location.hash = "#order";
-    };
-    field.addEventListener("paste", (event) => take(event, event.clipboardData));
-    field.addEventListener("drop", (event) => take(event, event.dataTransfer));
+  /** Whether there are lines that are in no order yet. */
+  #isUnsaved() {
+    const { text } = this.#input;
+    return text.trim() !== "" && (text !== this.#list.text || this.#list.isUnsaved());
   }
 
   /** Counts the lines, and dims what was looked up of others. */
   #noteChanges() {
-    const text = found("lines").value;
-    const { count } = readList(text);
+    const { count, columns } = this.#input.read();
     found("look-up").textContent = count === 0 ? say("order.lookUpNone") : sayCount("order.lookUp", count);
     found("list-asked").replaceChildren(...this.#question.inWords());
-    tellWrong("");
-    const { books, question } = this.#list;
-    showAge(books.length > 0 && (text !== this.#list.text || !this.#question.is(question)));
+    const { books, question, text } = this.#list;
+    const isOld = text !== this.#input.text || this.#columnsOf(columns) !== this.#list.columns;
+    showAge(books.length > 0 && (isOld || !this.#question.is(question)));
+  }
+
+  /** What the columns of a list are, as a text, by which another choice is known. */
+  #columnsOf(columns) {
+    return JSON.stringify([columns?.isbn, columns?.copies]);
   }
 
   #lookUp() {
     this.#isTaken = false;
-    const text = found("lines").value;
-    const { books, count, heading } = readList(text);
-    const wrong = wrongOf(count);
     const question = this.#question.read();
+    const taken = this.#input.take();
     this.#noteChanges();
-    tellWrong(wrong);
-    if (wrong !== "") found("lines").focus();
-    if (wrong !== "" || question === undefined) return;
-    this.#list.begin(text, question, books);
-    found("list-columns").textContent = heading === undefined ? "" : say("order.headingLine", { heading });
+    if (taken === undefined || question === undefined) return;
+    const { books, text, columns, isSame } = taken;
+    this.#list.begin(text, question, books, isSame);
+    this.#list.columns = this.#columnsOf(columns);
+    showHands(this.#list.hands);
     this.#noteChanges();
     this.#goOn();
+  }
+
+  #forgetHands() {
+    const list = this.#list;
+    list.forgetHands();
+    forgetSaved();
+    showHands(0);
+    this.#show();
+    this.#askShort();
+    found("look-up").focus();
   }
 
   /** Asks for the books that have no answer yet. */
@@ -179,7 +155,7 @@ export class Order {
     const list = this.#list;
     return this.#ask(async (asking) => {
       list.isAsking = true;
-      found("saved").replaceChildren();
+      forgetSaved();
       tell(say("article.asking"));
       this.#show();
       await this.#askEach(asking, list.open());
@@ -261,7 +237,14 @@ export class Order {
   #choose(book, hand) {
     const list = this.#list;
     list.choose(book, hand);
+    forgetSaved();
     this.#results.drawBook(list, book);
+    this.#askShort();
+  }
+
+  /** Asks for what the answers do not say of what is ordered now. */
+  #askShort() {
+    const list = this.#list;
     if (list.isAsking || list.short().length === 0) return;
     this.#ask(async (asking) => {
       // An order that was to be saved is another one now.
@@ -272,21 +255,46 @@ export class Order {
     });
   }
 
+  /** A buyer says that a book is right, for which a person should look. */
+  #confirm(book) {
+    this.#list.confirm(book);
+    endQuestion();
+    this.#results.drawBook(this.#list, book);
+    if (!this.#list.isAsking) tell(summaryOf(this.#list));
+  }
+
+  /** The rows of an order that leave the page, as a buyer says where something speaks against it. */
+  async #rowsToSave(series) {
+    const rows = this.#list.ordered(series);
+    const needs = rows.filter(({ state }) => state.need !== undefined);
+    const old = rows.filter(({ state: { offer } }) => this.#reports.stateOf(offer.series).count > 0);
+    const given = await askToSave(rows.length, { needs: needs.length, old: old.length });
+    if (given === "none") return [];
+    return given === "all" ? rows : rows.filter((row) => !needs.includes(row));
+  }
+
   /** Asks once more for what is ordered of a series, or of all, and lets it go where nothing has changed. */
-  #save(way, series) {
+  async #save(way, series) {
     const list = this.#list;
-    const rows = list.ordered(series);
+    const held = document.activeElement;
+    forgetSaved();
+    const rows = await this.#rowsToSave(series);
+    held?.focus();
+    if (rows.length === 0) return undefined;
     return this.#ask(async (asking) => {
-      tell(say("order.askingOnceMore"));
+      tellSaved(say("order.askingOnceMore"));
       if (!this.#question.is(list.question)) {
         this.#noteChanges();
-        return tell(say("order.old"));
+        return tellSaved(say("order.old"));
       }
       const changed = await this.#changedOf(rows, asking);
+      if (changed.length > 0) list.noteChange();
       this.#show();
-      if (changed.length > 0) return tell(sayCount("order.changed", changed.length));
+      if (changed.length > 0) return tellSaved(sayCount("order.changed", changed.length));
       for (const { book } of rows) book.change = undefined;
-      return this.#letGo(way, series, rows);
+      await this.#letGo(way, series, rows);
+      list.noteSaved(series, way, Date.now());
+      return this.#results.drawSums(list);
     });
   }
 
@@ -310,18 +318,26 @@ export class Order {
   }
 
   async #letGo(way, series, rows) {
-    const { day, currency, type } = this.#list.question;
+    const list = this.#list;
+    const { day, currency, type } = list.question;
     const name = series === undefined ? say("order.all") : wholesalerOf(this.#settings, series);
     const lines = sayCount("order.lines", rows.length);
+    const chosen = rows.map(({ book }) => book);
+    const rest = list.rest(list.ordered(series).map(({ book }) => book).filter((book) => !chosen.includes(book)));
+    const told = restInWords(rest.count);
+    const isOld = (found) => this.#reports.stateOf(found).count > 0;
     if (way === "csv") {
-      const file = download(rows, { settings: this.#settings, series, day, currency, type });
-      tell(say("order.saved", { file, lines }));
+      const file = download(rows, { settings: this.#settings, isOld, series, day, currency, type });
+      tellSaved(say("order.saved", { file, lines }) + told);
     } else if (way === "copy") {
-      const isCopied = await copyLines(rows, found("saved"));
-      tell(isCopied ? say("order.copied", { name, lines }) : say("missing.copyByHand"));
+      const isCopied = await copyLines(rows, isOld, found("saved"));
+      tellSaved(isCopied ? say("order.copied", { name, lines }) + told : say("missing.copyByHand"));
     } else {
-      printRows(series, name);
-      tell(say("order.printed", { name, lines }));
+      printRows(rows, name);
+      tellSaved(say("order.printed", { name, lines }) + told);
     }
+    offerRest(rest, async (text) => {
+      if (await copyText(text, found("saved"))) tellSaved(sayCount("order.restCopied", rest.count));
+    });
   }
 }

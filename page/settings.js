@@ -14,7 +14,9 @@ const WORDS = "words.json";
 const RULES = "rules.toml";
 
 const NEEDED = ["series", "country", "currency", "price_type"];
-const KEYS = [...NEEDED, "shop", "language", "quantities", "minutes_to_usual", "catalogue"];
+const KEYS = [
+  ...NEEDED, "shop", "language", "quantities", "minutes_to_usual", "catalogue", "many_copies", "many_money",
+];
 const SERIES_KEYS = [
   "name", "words", "days_without_message", "parts", "number_offset", "sender", "addressee", "mail",
   "free_from",
@@ -22,6 +24,7 @@ const SERIES_KEYS = [
 const LANGUAGE = "en-GB";
 const MOST_QUANTITIES = 8;
 const MINUTES_TO_USUAL = 10;
+const MANY_COPIES = 50;
 const DAY = 1440;
 
 const isText = (value) => typeof value === "string";
@@ -152,6 +155,10 @@ function settingsOf(given, problems) {
       given, "minutes_to_usual", isMinutes, MINUTES_TO_USUAL, problems, "minutesToUsual",
     ),
     catalogue: read(given, "catalogue", isCatalogue, "", problems, "catalogue"),
+    manyCopies: read(
+      given, "many_copies", (value) => isCount(value, 999_999), MANY_COPIES, problems, "manyCopies",
+    ),
+    manyMoney: read(given, "many_money", isAmount, undefined, problems, "manyMoney"),
   };
 }
 

@@ -108,7 +108,7 @@ def of_a_list(site: Site, browser: Browser) -> Iterator[Outcome]:
     save_to(browser, folder)
     since = len(site.requests())
     open_list(browser)
-    look_up(browser, f"{ISBN} 2 Anna\n{OTHER}\n{HOSTILE_ISBN}\n{UNTITLED}\n{order_desk.NOBODYS}")
+    look_up(browser, f"{ISBN} 2\n{OTHER}\n{HOSTILE_ISBN}\n{UNTITLED}\n{order_desk.NOBODYS}")
     came = browser.wait(lambda: row_of(browser, UNTITLED)[2])
     yield Outcome("a book without a title", came, UNKNOWN)
     found = [row_of(browser, isbn)[2] for isbn in (ISBN, OTHER, HOSTILE_ISBN, order_desk.NOBODYS)]
@@ -131,7 +131,7 @@ def of_a_list(site: Site, browser: Browser) -> Iterator[Outcome]:
     browser.driver.execute_cdp_cmd("Emulation.setEmulatedMedia", {"media": ""})
     browser.one("#csv-all").click()
     rows = file_rows(saved(browser, folder))
-    yield Outcome("the columns of the file", [rows[0][0], *rows[0][-2:]], ["ISBN", "Note", HEAD])
+    yield Outcome("the columns of the file", [rows[0][0], *rows[0][-2:]], ["ISBN", "Remark", HEAD])
     wanted_rows = [(ISBN, WHOLE), (OTHER, "'=1+1"), (HOSTILE_ISBN, whole), (UNTITLED, "")]
     yield Outcome("the titles of the file", [(row[0], row[-1]) for row in rows[1:]], wanted_rows)
 

@@ -150,18 +150,84 @@ test("an answer whose other numbers of copies are not known yet is asked for the
   assert.deepEqual(list.withoutCopies().map(({ id }) => id), [0]);
 });
 
-test("what a hand chose stays through a new look-up, and is ordered from that wholesaler", () => {
+test("what a hand chose belongs to its list, and is ordered from that wholesaler", () => {
   const list = new OrderList();
   const answer = { choice: chosen(SOUTH), offers: [NORTH, SOUTH], ordered: SOUTH, copies: [] };
   list.begin("", {}, [BOOK]);
   list.books[0].answer = answer;
   list.choose(BOOK, NORTH);
   assert.deepEqual([list.ordered("north").length, list.ordered("south").length, list.ordered().length], [1, 0, 1]);
-  list.begin("", {}, [{ ...BOOK, copies: 5 }]);
+  list.begin("", {}, [{ ...BOOK, copies: 5 }], true);
   list.books[0].answer = answer;
-  assert.deepEqual(list.ordered()[0].state.offer, NORTH);
+  assert.deepEqual([list.ordered()[0].state.offer, list.hands], [NORTH, 1]);
   list.choose(BOOK, undefined);
   assert.deepEqual(list.ordered()[0].state.offer, SOUTH);
   list.choose(BOOK, LEFT_OUT);
   assert.deepEqual(list.ordered(), []);
+  list.begin("", {}, [{ ...BOOK, copies: 20 }]);
+  list.books[0].answer = answer;
+  assert.deepEqual([list.ordered().length, list.hands], [1, 0]);
+  list.choose(BOOK, NORTH);
+  list.begin("", {}, [{ ...BOOK, isbn: "2" }], true);
+  assert.equal(list.hands, 0);
+});
+
+const SHOP = { manyCopies: 50, manyMoney: "100.00", currency: "GBP" };
+
+/** A list of a shop, looked up in a currency, of one book that south has. */
+function listOf(book, currency = "GBP") {
+  const list = new OrderList(SHOP);
+  list.begin("", { currency }, [{ ...BOOK, ...book }]);
+  list.books[0].answer = { choice: chosen(SOUTH), offers: [SOUTH], ordered: SOUTH, copies: [], at: 1 };
+  return list;
+}
+
+test("many copies and much money need a person", () => {
+  const need = (copies, currency) => listOf({ copies }, currency).rows()[0].state.need;
+  // 11 times 8.660 is 95.260, 12 times 103.920.
+  assert.deepEqual([11, 12, 50, 51].map((copies) => need(copies)), [undefined, "many", "many", "many"]);
+  assert.deepEqual([12, 50, 51].map((copies) => need(copies, "EUR")), [undefined, undefined, "many"]);
+});
+
+test("what a person says is right needs nobody, for those copies at that price", () => {
+  const list = listOf({ copies: 60, isUnsure: true });
+  const need = () => list.stateOf(list.books[0]).need;
+  assert.equal(need(), "unsure");
+  list.confirm(list.books[0]);
+  assert.equal(need(), "many");
+  list.confirm(list.books[0]);
+  assert.equal(need(), undefined);
+  list.books[0].answer = { ...list.books[0].answer, choice: chosen({ ...SOUTH, amount: "9.500" }), offers: [{ ...SOUTH, amount: "9.500" }] };
+  assert.equal(need(), "unsure");
+});
+
+test("an order that left the page is marked until the list changes", () => {
+  const list = listOf({});
+  assert.equal(list.isUnsaved(), true);
+  list.noteSaved("north", "csv", 5);
+  assert.equal(list.isUnsaved(), true);
+  list.noteSaved("south", "csv", 6);
+  list.noteSaved("south", "print", 7);
+  assert.deepEqual(list.savedOf("south"), [{ way: "csv", at: 6 }, { way: "print", at: 7 }]);
+  assert.equal(list.isUnsaved(), false);
+  list.choose(BOOK, LEFT_OUT);
+  assert.deepEqual([list.savedOf("south"), list.isUnsaved()], [[], false]);
+  list.choose(BOOK, undefined);
+  assert.equal(list.isUnsaved(), true);
+  list.noteSaved(undefined, "csv", 8);
+  assert.equal(list.isUnsaved(), false);
+});
+
+test("what is in no order is told by its lines", () => {
+  const list = new OrderList();
+  list.begin("ISBN;Qty\n1;2\n\n2;0\n3;1\n1;4", {}, [
+    { ...BOOK, isbn: "1", lines: [2, 6] }, { ...BOOK, wrong: "copies", lines: [4] }, { ...BOOK, isbn: "3", lines: [5] },
+  ]);
+  const answer = { choice: chosen(SOUTH), offers: [SOUTH] };
+  list.books[0].answer = answer;
+  list.books[2].answer = answer;
+  assert.deepEqual(list.rest(), { count: 1, rows: ["2;0"] });
+  list.choose({ isbn: "3" }, LEFT_OUT);
+  assert.deepEqual(list.rest(), { count: 2, rows: ["2;0", "3;1"] });
+  assert.deepEqual(list.rest([list.books[0]]), { count: 3, rows: ["1;2", "2;0", "3;1", "1;4"] });
 });

@@ -31,6 +31,8 @@ test("what is not named is as the page has it", () => {
     quantities: [],
     minutesToUsual: 10,
     catalogue: "",
+    manyCopies: 50,
+    manyMoney: undefined,
   });
 });
 
@@ -50,6 +52,14 @@ test("quantities are whole numbers, each greater than the one before it, at most
   }
   for (const quantities of [[0], [1, 1], [10, 1], ["1"], [1.5], [1000000], 1, null, [1, 2, 3, 4, 5, 6, 7, 8, 9]]) {
     assert.equal(problemsOf({ ...RIGHT, quantities }).length, 1, JSON.stringify(quantities));
+  }
+});
+
+test("from how many copies and what sum on a person looks", () => {
+  const { settings, problems } = readSettings(JSON.stringify({ ...RIGHT, many_copies: 20, many_money: "250.50" }));
+  assert.deepEqual([settings.manyCopies, settings.manyMoney, problems], [20, "250.50", []]);
+  for (const wrong of [{ many_copies: 0 }, { many_copies: "20" }, { many_money: 250 }, { many_money: "1,5" }]) {
+    assert.equal(problemsOf({ ...RIGHT, ...wrong }).length, 1, JSON.stringify(wrong));
   }
 });
 

@@ -292,9 +292,10 @@ export class Order {
       this.#show();
       if (changed.length > 0) return tellSaved(sayCount("order.changed", changed.length));
       for (const { book } of rows) book.change = undefined;
-      await this.#letGo(way, series, rows);
+      // Before what is printed is on paper.
       list.noteSaved(series, way, Date.now());
-      return this.#results.drawSums(list);
+      this.#results.drawSums(list);
+      return this.#letGo(way, series, rows);
     });
   }
 

@@ -23,7 +23,7 @@ def shown(site: Site, browser: Browser) -> Iterator[Outcome]:
             border = browser.call("leastBorder")
             yield Outcome(f"order list: contrast of fields, {scheme}, {border}", border >= LEAST_BORDER, True)
     yield from accessible(browser, "order list")
-    yield Outcome("order list: headings", browser.call("headings"), [1, 2, 2])
+    yield Outcome("order list: headings", browser.call("headings"), [1, 2, 2, 2])
     yield Outcome("order list: the roles of tables are written out", len(browser.all(BARE)), 0)
     live = browser.run("return document.getElementById('list-status').getAttribute('role')")
     yield Outcome("order list: the live region", live, "status")

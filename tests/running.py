@@ -2,6 +2,7 @@
 
 import argparse
 import os
+import sys
 import traceback
 from collections.abc import Callable, Iterable, Iterator
 from concurrent.futures import ThreadPoolExecutor
@@ -24,6 +25,13 @@ class Outcome(NamedTuple):
     name: str
     came: Any
     wanted: Any
+
+
+def left_out(why: str) -> Outcome:
+    """What a group yields in place of cases that cannot be tried here, for that reason. It is told, and it fails where
+    NOTHING_LEFT_OUT is set, as .ci/run has it."""
+    print(f"left out: {why}", file=sys.stderr, flush=True)
+    return Outcome(f"left out: {why}", bool(os.environ.get("NOTHING_LEFT_OUT")), False)
 
 
 class Cases:
@@ -100,14 +108,18 @@ def choice(given: argparse.Namespace) -> Chosen:
 
 
 def count_all(groups: Iterable[Cases], case: str = "") -> Counted:
-    """Tries groups one after the other, of which the cases count whose name has a text. One that ends by an exception
-    is a case that failed."""
+    """Tries groups one after the other, of which the cases count whose name has a text. One that ends by an exception,
+    or that has no case, is a case that failed."""
     counted = Counted()
     for group in groups:
         try:
+            is_empty = True
             for name, came, wanted in group.outcomes():
+                is_empty = False
                 if case in name:
                     counted.add(name, None if came == wanted else f"wanted {shown(wanted)}, came {shown(came)}")
+            if is_empty:
+                counted.add(group.id(), "wanted a case, came none")
         except Exception:
             counted.add(group.id(), f"wanted its cases to run, came {traceback.format_exc().strip()}")
     return counted

@@ -8,7 +8,7 @@ over files with the rows of their tables, and to a migration.
 PROGRAM is that of the tests of the libraries, crates/desk_tests/out/desk_tests_tests where none is
 named, and is then refused where a source has changed since it was built. The second tries what takes too long for
 the gate. With -k only the tests are tried that have the text in their names. The last line is
-`memory: N requests refused, M runs failed`. Status 0; 1 where a run failed; 2 where there is no such program.
+`memory: N requests refused, M runs failed`. Status 0; 1 where a run failed; 2 where there is no such program or test.
 """
 
 import argparse
@@ -69,7 +69,11 @@ def main() -> int:
     if not given.program and is_stale(program):
         print(f"tests/refused-memory: a source has changed since {program} was built", file=sys.stderr)
         return 2
-    return report(program, [sweep for sweep in (LONGER if given.longer else SWEEPS) if given.text in sweep.name()])
+    chosen = [sweep for sweep in (LONGER if given.longer else SWEEPS) if given.text in sweep.name()]
+    if not chosen:
+        print(f"tests/refused-memory: no test has {given.text} in its name", file=sys.stderr)
+        return 2
+    return report(program, chosen)
 
 
 if __name__ == "__main__":

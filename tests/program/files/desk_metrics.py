@@ -5,7 +5,6 @@ import os
 import re
 import shutil
 import socket
-import sys
 import threading
 import time
 from collections.abc import Iterator
@@ -19,7 +18,7 @@ from tests.program.inbox.inboxes import CONNECTIONS, MALFORMED, WORDS, Inbox
 from tests.program.messages import AGREEMENT, bare
 from tests.program.room import Ran, Room
 from tests.program.serving import HOST, Serving, StandIn, free_port, posted, serving, standing_in
-from tests.running import Outcome
+from tests.running import Outcome, left_out
 from tools.root import ROOT
 from tools.words import Word
 
@@ -195,7 +194,7 @@ def no_desk(room: Room) -> Iterator[Outcome]:
     yield Outcome("no desk: where no series is watched", {*read(room)}, wanted)
 
 
-def left_out(room: Room) -> Iterator[Outcome]:
+def what_is_left_out(room: Room) -> Iterator[Outcome]:
     """What is not to be had is told, and all else is written."""
     with desk_with_gaps(room) as desk:
         came = write(room, "--desk", at(desk), "north", "west")
@@ -326,17 +325,10 @@ def names(_room: Room) -> Iterator[Outcome]:
     yield Outcome("the rules: their metrics", (named - set(METRICS), bool(named)), (set(), True))
 
 
-def has_promtool() -> bool:
-    """Whether promtool is here; where it is not, that is said."""
-    if shutil.which("promtool"):
-        return True
-    print("tests/run: no promtool here, which Debian's prometheus has; nothing is tried by it", file=sys.stderr)
-    return False
-
-
 def by_promtool(room: Room) -> Iterator[Outcome]:
     """Prometheus' own tool finds nothing wrong with what is written, nor with the rules; these fire when they are to."""
-    if not has_promtool():
+    if not shutil.which("promtool"):
+        yield left_out("promtool, which Debian's prometheus has")
         return
     with desk_with_gaps(room) as desk:
         room.path("incoming").mkdir()

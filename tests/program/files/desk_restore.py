@@ -16,7 +16,7 @@ from tests.program.inbox.inbox_numbers import CONVERTER, unwritten
 from tests.program.inbox.inboxes import AGREEMENT, CONNECTIONS, WORDS, Inbox, gaps_of, script, within
 from tests.program.room import Ran, Room
 from tests.program.serving import serving
-from tests.running import Outcome
+from tests.running import Outcome, left_out
 from tools.root import ROOT
 from tools.words import Word
 
@@ -189,6 +189,7 @@ def of_another_user(room: Room) -> Iterator[Outcome]:
     the tests are run by another user, or their folders cannot be reached by one."""
     readable = all(path.stat().st_mode & 0o001 for path in [*room.program.parents, *Path(__file__).resolve().parents])
     if os.geteuid() != 0 or not readable:
+        yield left_out("a desk of another user, since that user cannot be become, or cannot reach this checkout")
         return
     batch(room, AGREEMENT)
     name = taken_copy(room)

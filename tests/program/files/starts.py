@@ -97,11 +97,11 @@ def unit(_room: Room) -> Iterator[Outcome]:
     ]
     yield Outcome("the unit of the desk waits for it", [line for line in wanted if line not in lines], [])
     names = [
-        "inbox/onixdesk-inbox@.service",
-        "copies/onixdesk-copy.service",
-        "follow/onixdesk-follow.service",
-        "metrics/onixdesk-metrics.service",
+        "onixdesk-inbox/onixdesk-inbox@.service",
+        "desk-copy/onixdesk-copy.service",
+        "desk-follow/onixdesk-follow.service",
+        "desk-metrics/onixdesk-metrics.service",
     ]
     for name in names:
-        text = (ROOT / "examples" / name).read_text(encoding="utf-8")
+        text = (ROOT / "programs" / name).read_text(encoding="utf-8")
         yield Outcome(f"{name} waits for the desk", "\nAfter=onixdesk.service" in text, True)

@@ -16,7 +16,7 @@ from tests.program.inbox.inbox import NOBODY
 from tests.program.inbox.inboxes import AGREEMENT, CONNECTIONS, WORDS, Inbox, ended, of_series, said, taken, within
 from tests.program.room import Group, Room
 from tests.program.serving import serving
-from tests.running import Outcome
+from tests.running import Outcome, left_out
 
 
 def files_that_programs_read(room: Room) -> Iterator[Outcome]:
@@ -239,6 +239,7 @@ def as_another_user(room: Room) -> Iterator[Outcome]:
     another user, or their folders cannot be reached by one."""
     readable = all(path.stat().st_mode & 0o001 for path in Path(__file__).resolve().parents)
     if os.geteuid() != 0 or not readable or not usable_python():
+        yield left_out("an inbox of another user, since that user cannot be become, or cannot reach this checkout")
         return
     inbox = Inbox(room, 1)
     inbox.put({"a.csv": b"x"})

@@ -1,33 +1,34 @@
 """The runner of these tests, and the check of the edits that the prover must refuse: both see what tests nothing."""
 
 import os
-from collections.abc import Iterator
+from collections.abc import Callable, Iterator
 from unittest.mock import patch
 
-from tests.program.room import Group, Room
-from tests.running import Outcome, count_all, left_out
+from tests.program.room import Room
+from tests.running import Cases, Outcome, count_all, left_out
 from tools.edits import why_not
 
 
-def no_cases(_room: Room) -> Iterator[Outcome]:
-    yield from ()
+class Given(Cases):
+    """A group of these cases."""
+
+    def __init__(self, *given: Callable[[], Outcome]) -> None:
+        super().__init__("given", __name__)
+        self.given = given
+
+    def outcomes(self) -> Iterator[Outcome]:
+        yield from (each() for each in self.given)
+
+    def failed(self) -> int:
+        return len(count_all([self]).lines)
 
 
-def cannot_be_tried(_room: Room) -> Iterator[Outcome]:
-    yield left_out("a tool of these tests")
-
-
-def failed_of(group: Group) -> int:
-    return len(count_all([group]).lines)
-
-
-def groups_without_cases(room: Room) -> Iterator[Outcome]:
+def groups_without_cases(_room: Room) -> Iterator[Outcome]:
     """Such a group fails, unless it names why it was left out; where nothing may be left out, then too."""
-    Group.program = room.program
-    yield Outcome("runner: a group without cases", failed_of(Group("of no case", no_cases)), 1)
+    yield Outcome("runner: a group without cases", Given().failed(), 1)
     for value, wanted in [("", 0), ("1", 1)]:
         with patch.dict(os.environ, NOTHING_LEFT_OUT=value):
-            came = failed_of(Group("left out", cannot_be_tried))
+            came = Given(lambda: left_out("a tool of this test")).failed()
         yield Outcome(f"runner: a group that is left out, NOTHING_LEFT_OUT={value}", came, wanted)
 
 

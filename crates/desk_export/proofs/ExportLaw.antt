@@ -56,14 +56,14 @@ record Came (L : List Request) (s : List ℕ) (n : ℕ) (c : List Product) : Typ
   sender : agreement.sender ≡ header.sender
   addressee : agreement.addressee ≡ header.addressee
 
-record Put (o : Option Agreement) (k : ℕ) (h : Standing) (s : List ℕ) (n : ℕ) (g : Standing) : Type 0 where
-  agreement : Agreement
-  found : o ≡ Some agreement
-  name : agreement.name ≡ s
-  number : k ≡ n
-  standing : h ≡ g
+pub record Put (o : Option Agreement) (k : ℕ) (h : Standing) (s : List ℕ) (n : ℕ) (g : Standing) : Type 0 where
+  pub agreement : Agreement
+  pub found : o ≡ Some agreement
+  pub name : agreement.name ≡ s
+  pub number : k ≡ n
+  pub standing : h ≡ g
 
-put_some : (o : Option Agreement) (k : ℕ) (h : Standing) (s : List ℕ) (n : ℕ) (g : Standing) → put_at (admitted_at o k h) s n ≡ Some g → Put o k h s n g
+pub put_some : (o : Option Agreement) (k : ℕ) (h : Standing) (s : List ℕ) (n : ℕ) (g : Standing) → put_at (admitted_at o k h) s n ≡ Some g → Put o k h s n g
 put_some None k h s n g e = absurd cc
 put_some (Some a) k h s n g e = by (nat_lt k a.first) e
   where
@@ -162,7 +162,7 @@ put_named L (AskGaps x) s n g e = absurd cc
 put_named L (AskCatalogue x) s n g e = absurd cc
 put_named L (Malformed x) s n g e = absurd cc
 
-stands_named : (L : List Request) (s : List ℕ) (n : ℕ) (g : Standing) → first_at L s n ≡ Some g → (a : Agreement) × (named (agreements_of L) s ≡ Some a)
+pub stands_named : (L : List Request) (s : List ℕ) (n : ℕ) (g : Standing) → first_at L s n ≡ Some g → (a : Agreement) × (named (agreements_of L) s ≡ Some a)
 stands_named [] s n g e = absurd cc
 stands_named (r ∷ L) s n g e = by (λ h is. stands_named L s n h is) (first_at L s n) refl e
   where
@@ -179,7 +179,7 @@ none_under L s n none = by (first_at L s n) refl
     by (Some g) e = let a = stands_named L s n g e in let both = sym none ∙ a.1 in absurd cc
 
 -- so it is read again from the records that are written of it
-read_again : ReadsBack → (L : List Request) (a : Agreement) (n : ℕ) (c : List Product) → named (agreements_of L) a.name ≡ Some a → first_at L a.name n ≡ Some (Message c)
+pub read_again : ReadsBack → (L : List Request) (a : Agreement) (n : ℕ) (c : List Product) → named (agreements_of L) a.name ≡ Some a → first_at L a.name n ≡ Some (Message c)
     → message_of (message_records a.sender a.addressee n c) ≡ Some (numbered_header a.sender a.addressee n, c)
 read_again law L a n c own e =
     let k = came L a.name n c e in
@@ -205,14 +205,14 @@ module _ (law : ReadsBack) (L : List Request) (a : Agreement) (own : named (agre
       ap (λ (x : Option Agreement). admitted_at x from h) is
       ∙ ap (λ b. cond b None (Some (record { series = a.name; number = from; standing = h }))) not_below
 
-  admits : (as' : List Agreement) (from : ℕ) (h : Standing) → a.first ≤ from → named as' a.name ≡ Some a → between as' a.sender a.addressee ≡ Some a → first_at L a.name from ≡ Some h
+  pub admits : (as' : List Agreement) (from : ℕ) (h : Standing) → a.first ≤ from → named as' a.name ≡ Some a → between as' a.sender a.addressee ≡ Some a → first_at L a.name from ≡ Some h
       → admitted as' (request_for a from h) ≡ Some (record { series = a.name; number = from; standing = h })
   admits as' from Waived low by_name by_parties stands = admits_at from Waived (named as' a.name) low by_name
   admits as' from (Message c) low by_name by_parties stands =
       ap (admitted_message as') (read_again law L a from c own stands)
       ∙ admits_at from (Message c) (between as' a.sender a.addressee) low by_parties
 
-  agrees_not : (M : List Request) (n : ℕ) (h : Standing) → agreements_of (request_for a n h ∷ M) ≡ agreements_of M
+  pub agrees_not : (M : List Request) (n : ℕ) (h : Standing) → agreements_of (request_for a n h ∷ M) ≡ agreements_of M
   agrees_not M n (Message c) = refl
   agrees_not M n Waived = refl
 
@@ -282,7 +282,7 @@ record Made (L : List Request) (done : List Agreement) (M : List Request) : Type
   firsts : (s : List ℕ) (n : ℕ) → first_at M s n ≡ among (named done s) (first_at L s n)
 
 -- nothing stands from there on
-none_after : (f : ℕ → Option Standing) (from : ℕ) (g : Option ℕ) → IsGreatest f g → (n : ℕ) → from + numbers_up_to from g ≤ n → f n ≡ None
+pub none_after : (f : ℕ → Option Standing) (from : ℕ) (g : Option ℕ) → IsGreatest f g → (n : ℕ) → from + numbers_up_to from g ≤ n → f n ≡ None
 none_after f from None is n le = is n
 none_after f from (Some g) is n le = is.1 n (omega (arith, le))
 
@@ -352,10 +352,10 @@ module _ (law : ReadsBack) (L : List Request) where
 
 -- ---- the agreements in order of name
 
-abbrev agreement_of : List ℕ × Agreement → Agreement
+abbrev pub agreement_of : List ℕ × Agreement → Agreement
 agreement_of e = e.1
 
-followed_append : (M xs ys : List Request) → followed_by M (xs ++ ys) ≡ followed_by (followed_by M xs) ys
+pub followed_append : (M xs ys : List Request) → followed_by M (xs ++ ys) ≡ followed_by (followed_by M xs) ys
 followed_append M [] ys = refl
 followed_append M (x ∷ xs) ys = followed_append (x ∷ M) xs ys
 
@@ -385,7 +385,7 @@ in_more (y ∷ xs) a x (inr m) = later (in_more xs a x m)
 
 module _ (law : ReadsBack) (L : List Request) where
   -- each is the agreement of its name
-  abbrev AllAgreed : List (List ℕ × Agreement) → Type 0
+  abbrev pub AllAgreed : List (List ℕ × Agreement) → Type 0
   AllAgreed es = (e : List ℕ × Agreement) → In e es → named (agreements_of L) e.0 ≡ Some e.1
 
   -- those that are made stand before those that are not
@@ -445,7 +445,7 @@ module _ (law : ReadsBack) (L : List Request) where
       subst (λ x. Made L x (followed_by M (flat_map (λ s. series_requests L s.1) (e ∷ es)))) (append_assoc done (e.1 ∷ []) (map agreement_of es))
       (subst (Made L ((done ++ e.1 ∷ []) ++ map agreement_of es)) (sym (followed_append M (series_requests L e.1) (flat_map (λ s. series_requests L s.1) es))) rest)
 
-  agreed_entries : AllAgreed (entries (by_name (agreements_of L)))
+  pub agreed_entries : AllAgreed (entries (by_name (agreements_of L)))
   agreed_entries e m = sym (get-by_name (agreements_of L) e.0) ∙ get_in (by_name (agreements_of L)) e.0 e.1 m
 
   export_made : Made L (map agreement_of (entries (by_name (agreements_of L)))) (exported L)
@@ -462,7 +462,7 @@ module _ (law : ReadsBack) (L : List Request) where
       let name = named_has_name (agreements_of L) e.0 e.1 (agreed e (inl refl)) in
       λ i. (name i, e.1) ∷ names_again es (λ f m. agreed f (inr m)) i
 
-  found_alike : (name : List ℕ) → named (map agreement_of (entries (by_name (agreements_of L)))) name ≡ named (agreements_of L) name
+  pub found_alike : (name : List ℕ) → named (map agreement_of (entries (by_name (agreements_of L)))) name ≡ named (agreements_of L) name
   found_alike name =
       sym (find_named (map agreement_of (entries (by_name (agreements_of L)))) name)
       ∙ ap (fin.find (slice_cmp nat_cmp) name) (names_again (entries (by_name (agreements_of L))) agreed_entries)

@@ -11,3 +11,4 @@ pub mod AskedDesks
 pub mod AppendedTexts
 pub mod PartLemmas
 pub mod FolderLemmas
+pub mod ResumedLoads

@@ -6,3 +6,4 @@ pub mod Exporting
 pub mod Asking
 pub mod ListTexts
 pub mod PartTexts
+pub mod Resuming

@@ -8,6 +8,7 @@ ghost use Rattle.onix_records.specs.declared.parts.Product.{Product};
 ghost use Rattle.desk_texts.specs.Requests.{requests_of};
 ghost use Rattle.desk_export.specs.Exports.{ExportIsTrue};
 ghost use Rattle.desk_export.specs.MessageRecords.{message_records, numbered_header};
+ghost use Rattle.desk_export.specs.Resuming.{LoadsAreResumed};
 ghost use Rattle.desk_export.specs.RequestTexts.{CanBeWritten, ExportIsRead};
 
 use csv_records::laws::one_text;
@@ -47,6 +48,14 @@ pub fn export_is_read()
 {
     one_text();
     export_is_true();
+}
+
+/// A desk that has a part of what was exported, as one into which a load was broken off, stands for
+/// the same as the list behind a whole load, and behind a part of one still for a part of the list.
+pub fn loads_are_resumed()
+    ensures { LoadsAreResumed }
+{
+    messages_read_back();
 }
 
 /// Each request that is read from a batch can be written.

@@ -1,22 +1,29 @@
 """What a run of the gate weighs, by its parts.
 
-    bench/weight [--file FILE] [COMMAND..]
+    bench/weight [--file FILE] [--ends] [COMMAND..]
+    bench/weight --log FILE
 
 It runs COMMAND ('make test') and looks at the processes below it twice a second. At the end it prints their processor
 time, as a multiple of what the proofs of csv_records and onix_terms took in the same run: a line for each kind of part
 (the proofs of crates, their must-fail edits, their tests with the builds, what the two compilers make of programs, and
-all else), and all together. Machines differ, and so do runs beside other work: multiples of one run compare.
+all else), and all together; the processor time of the whole; the most memory that a part took; and a table of what was
+proved, by the log of `rt ci`, which is the same on every machine. Machines differ, and so do runs beside other work:
+multiples of one run compare, if nothing ran beside it. With --ends csv_records is proved from nothing before and after
+COMMAND: where the two differ much, something did. With --log only that table is printed, of a log that was kept.
 With --file what there is so far is written there every half minute. The status is that of COMMAND.
 """
 
 import argparse
 import os
+import resource
 import subprocess
 import sys
+import threading
 import time
 from collections import defaultdict
 from pathlib import Path
 
+from bench.figures.proved import Log, table
 from tools.root import ROOT
 
 # A kind of part of the gate, and what it is of.
@@ -50,6 +57,8 @@ class Sampler:
     def __init__(self, root: int) -> None:
         self.root = str(root)
         self.found: dict[tuple[str, str], tuple[Part, float]] = {}
+        # The most bytes that a process of a part has had in memory.
+        self.memory: dict[Part, int] = defaultdict(int)
 
     def look(self) -> None:
         """Takes down what the processes have used so far."""
@@ -73,6 +82,9 @@ class Sampler:
             folder = Path("/proc", process[0])
             words = (folder / "cmdline").read_bytes().decode(errors="replace").split("\0")
             part = part_named(words, os.readlink(folder / "cwd"))
+            status = (folder / "status").read_text()
+            kilobytes = int(status.partition("VmHWM:")[2].partition("kB")[0] or 0)
+            self.memory[part] = max(self.memory[part], 1024 * kilobytes)
         except OSError:
             part = ELSE
         # A process that has begun as another, or that is about to end, has no words of its own.
@@ -94,28 +106,75 @@ class Sampler:
             told = ", ".join(f"{crate} {weight(seconds)}" for seconds, crate in parts)
             lines.append(f"{kind}: {weight(sum(seconds for seconds, _ in parts))} = {told}")
         lines.append(f"all: {weight(sum(sums.values()))} times the proofs of csv_records and onix_terms")
-        return "\n".join([*lines, f"these took {base / 60:.1f} min, and all {passed / 60:.1f} min on the clock"]) + "\n"
+        lines.append(f"these took {base / 60:.1f} min, and all {passed / 60:.1f} min on the clock")
+        most = sorted(((size, kind, crate) for (kind, crate), size in self.memory.items()), reverse=True)[:5]
+        lines.append("most memory: " + ", ".join(f"{kind} {crate} {size / 1e9:.1f} GB" for size, kind, crate in most))
+        return "\n".join(lines) + "\n"
+
+
+def processor_minutes() -> float:
+    """Of all processes that this one has waited for, by users and by the system."""
+    used = resource.getrusage(resource.RUSAGE_CHILDREN)
+    return (used.ru_utime + used.ru_stime) / 60
+
+
+def prove_unit() -> str:
+    """Proves csv_records from nothing, and says how long that took."""
+    before, began = processor_minutes(), time.monotonic()
+    subprocess.run(["rt", "ci", "--anew", "csv_records"], cwd=ROOT, stdout=subprocess.DEVNULL, check=True)
+    passed = (time.monotonic() - began) / 60
+    return f"csv_records from nothing: {processor_minutes() - before:.1f} processor min, {passed:.1f} on the clock"
+
+
+def copy_lines(run: subprocess.Popen[str], log: Log) -> None:
+    """Hands on what the run writes, and counts what it proves."""
+    assert run.stdout
+    for line in run.stdout:
+        print(line, end="", flush=True)
+        log.take(line.rstrip("\n"))
+
+
+def weigh(command: list[str], file: Path | None) -> tuple[int, list[str]]:
+    """Runs the command, and gives its status and the lines on it."""
+    began = told = time.monotonic()
+    before = processor_minutes()
+    run = subprocess.Popen(command, cwd=ROOT, stdout=subprocess.PIPE, text=True, errors="replace")
+    sampler, log = Sampler(run.pid), Log()
+    copying = threading.Thread(target=copy_lines, args=(run, log))
+    copying.start()
+    while run.poll() is None:
+        sampler.look()
+        if file and time.monotonic() >= told + 30:
+            told = time.monotonic()
+            file.write_text(sampler.report(told - began))
+        time.sleep(0.5)
+    copying.join()
+    lines = sampler.report(time.monotonic() - began).splitlines()
+    lines.append(f"processor time of the whole: {processor_minutes() - before:.1f} min")
+    return run.returncode, [*lines, *(table(log) if log.functions else [])]
 
 
 def main() -> int:
     parser = argparse.ArgumentParser("bench/weight", description=__doc__, formatter_class=argparse.RawDescriptionHelpFormatter)
     parser.add_argument("--file", type=Path, metavar="FILE")
+    parser.add_argument("--ends", action="store_true")
+    parser.add_argument("--log", type=Path, metavar="FILE")
     parser.add_argument("command", metavar="COMMAND", nargs=argparse.REMAINDER)
     given = parser.parse_args()
-    began = told = time.monotonic()
-    run = subprocess.Popen(given.command or ["make", "test"], cwd=ROOT)
-    sampler = Sampler(run.pid)
-    while run.poll() is None:
-        sampler.look()
-        if given.file and time.monotonic() >= told + 30:
-            told = time.monotonic()
-            given.file.write_text(sampler.report(told - began))
-        time.sleep(0.5)
-    report = sampler.report(time.monotonic() - began)
+    if given.log:
+        log = Log()
+        for line in given.log.read_text(encoding="utf-8", errors="replace").splitlines():
+            log.take(line)
+        print("\n".join(table(log)))
+        return 0
+    first = [prove_unit()] if given.ends else []
+    status, lines = weigh(given.command or ["make", "test"], given.file)
+    last = [prove_unit()] if given.ends else []
+    report = "\n".join([*first, *lines, *last]) + "\n"
     if given.file:
         given.file.write_text(report)
     print(report, end="")
-    return run.returncode
+    return status
 
 
 if __name__ == "__main__":

@@ -3,6 +3,7 @@
 from collections.abc import Iterator
 
 from bench.commands.weight import part_named
+from bench.figures.proved import Log, rows, table
 from tests.program.room import Room
 from tests.running import Outcome
 from tools.root import ROOT
@@ -21,6 +22,32 @@ PARTS = [
 
 # A run that takes some of the processor's time.
 BUSY = ["python3", "-c", "import time\nwhile time.process_time() < 1.5: pass\nraise SystemExit(3)"]
+
+
+# As `rt ci` writes it: of a crate once more below its tests, and of one that is kept.
+LOG = """\
+== csv_records
+statements core: modules loaded=7 checked=0
+statements std: modules loaded=30 checked=0
+logic=proved functions=3 sum=x
+rt: csv_records proved
+rt: onix_terms is kept: an earlier run on this machine proved the same files over the same libraries
+== csv_records
+statements core: modules loaded=7 checked=0
+logic=proved functions=5 sum=x
+"""
+
+
+def counts(room: Room) -> Iterator[Outcome]:
+    log = Log()
+    for line in LOG.splitlines():
+        log.take(line)
+    found = dict(log.functions), dict(log.modules), log.kept
+    yield Outcome("bench/weight: what a log has", found, ({"csv_records": 3}, {"csv_records": 37}, {"onix_terms"}))
+    yield Outcome("bench/weight: no layer but that one", [row.layer for row in rows(log) if row.functions], ["Base", "all"])
+    room.write("log", LOG.encode())
+    came = room.call([ROOT / "bench/weight", "--log", "log"])
+    yield Outcome("bench/weight --log", (came.status, came.output.decode().splitlines()), (0, table(log)))
 
 
 def parts(room: Room) -> Iterator[Outcome]:

@@ -1,0 +1,93 @@
+"""Proves a crate over the libraries that a run of `rt ci` has proved, and waits for no other check.
+
+    bench/check [--from CLONE] CRATE [FLAG..]
+
+`rt check` builds each library below the crate that no check in this clone has built, also where `rt ci` has, and waits
+for whoever builds one of them. This takes those of CLONE (this clone where none is named) that were made from the
+same files, and has the prover read the others as sources. FLAG.. are the prover's, as `--only PATH` or
+`--allow-holes`. What it proves counts for nothing at the gate.
+
+The status is the prover's; 2 where there is no such crate, or no toolchain.
+"""
+
+import argparse
+import importlib.util
+import os
+import subprocess
+import sys
+from pathlib import Path
+from types import ModuleType
+from typing import Any
+
+from tools.root import ROOT
+
+
+def toolchain() -> ModuleType | None:
+    """The module of the toolchain that knows how `rt` calls the prover; none where there is no `rt`."""
+    try:
+        page = subprocess.run(["rt", "doc"], stdout=subprocess.PIPE, text=True, check=True).stdout.strip()
+    except (OSError, subprocess.CalledProcessError):
+        return None
+    spec = importlib.util.spec_from_file_location("rtlib", Path(page).parent / "bin/rtlib.py")
+    if spec is None or spec.loader is None:
+        return None
+    module = importlib.util.module_from_spec(spec)
+    spec.loader.exec_module(module)
+    return module
+
+
+def take_libraries(crate: Any, others: dict[str, Any]) -> set[str]:
+    """The libraries below the crate that are built, each linked from the other clone where only that one has it."""
+    built = set()
+    for library in crate.below():
+        other = others.get(library.name)
+        if not library.is_built() and other and os.path.isdir(other.rlib) and other.stamp() == library.stamp():
+            folder = Path(library.rlib).parent
+            subprocess.run(["rm", "-rf", folder], check=True)
+            folder.mkdir(parents=True)
+            subprocess.run(["cp", "-al", other.rlib, library.rlib], check=True)
+            folder.joinpath("stamp").write_text(library.stamp(), encoding="utf-8")
+        if library.is_built():
+            built.add(library.name)
+    return built
+
+
+def words_over(crate: Any, built: set[str], flags: list[str]) -> list[str]:
+    """The prover's words for the crate, with these libraries as they are built and the others as sources."""
+    below = {library.name: library for library in crate.below()}
+    words = list(crate.words(["--jobs", "1", *flags], as_source=True, keeps=False))
+    found: list[str] = []
+    while words:
+        word = words.pop(0)
+        name = words[0].partition("=")[0].partition(":")[0] if word == "--lib" else ""
+        if name not in built:
+            found.append(word)
+            continue
+        words.pop(0)
+        library = below[name].rlib
+        found += ["--extern", f"{name}={library}", "-L", f"dependency={os.path.dirname(library)}"]
+    return found
+
+
+def main() -> int:
+    parser = argparse.ArgumentParser("bench/check", description=__doc__, formatter_class=argparse.RawDescriptionHelpFormatter)
+    parser.add_argument("--from", dest="clone", metavar="CLONE", type=Path, default=ROOT)
+    parser.add_argument("crate", metavar="CRATE")
+    given, flags = parser.parse_known_args()
+    rt = toolchain()
+    folder = ROOT / "crates" / given.crate
+    if rt is None or not folder.is_dir():
+        print(f"bench/check: no {'toolchain' if rt is None else folder}", file=sys.stderr)
+        return 2
+    crate = rt.Crate(str(folder), str(ROOT), {})
+    known: dict[str, Any] = {}
+    clone = given.clone.resolve()
+    others = {each.name: each for each in rt.Crate(f"{clone}/crates/{given.crate}", str(clone), known).below()}
+    built = take_libraries(crate, others)
+    sources = [library.name for library in crate.below() if library.name not in built]
+    print(f"bench/check: {len(built)} libraries are built; as sources: {' '.join(sources) or 'none'}", file=sys.stderr)
+    return subprocess.run([rt.RATTLE, "check", *words_over(crate, built, flags)], cwd=folder).returncode
+
+
+if __name__ == "__main__":
+    sys.exit(main())

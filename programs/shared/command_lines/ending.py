@@ -17,6 +17,12 @@ class Fault(Exception):
     status = FAULT
 
 
+class BadCall(Fault):
+    """Words or settings that a program does not take."""
+
+    status = BAD_CALL
+
+
 def status_of(work: Callable[[], int], tell: Callable[[str], None], place: Path) -> int:
     """The status of a program's work; what ends it is told, a fault in a line, a mistake of the program itself with its
     traceback. `place` stands for the file where the system names none."""

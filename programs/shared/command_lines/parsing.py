@@ -1,6 +1,7 @@
 """The words of a command line."""
 
 import argparse
+import re
 
 
 def parser_of(program: str, description: str, statuses: str) -> argparse.ArgumentParser:
@@ -19,3 +20,9 @@ def count(word: str) -> int:
     if not 1 <= number <= 1_000_000:
         raise argparse.ArgumentTypeError(f"{ascii(word)} is not 1 to 1000000")
     return number
+
+
+def day(word: str) -> str:
+    if not re.fullmatch("[0-9]{8}", word):
+        raise argparse.ArgumentTypeError(f"{ascii(word)} is no day YYYYMMDD")
+    return word

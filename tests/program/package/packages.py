@@ -13,18 +13,20 @@ from tools.root import ROOT
 # What each package may import beside the standard library and itself.
 MAY_IMPORT: dict[str, set[str]] = {
     "programs/shared/command_lines": set(),
+    "programs/shared/message_records": set(),
     "programs/desk-copy/desk_copy": {"command_lines"},
     "programs/desk-restore/desk_restore": {"command_lines", "desk_copy"},
     "programs/desk-follow/desk_follow": {"command_lines", "desk_copy", "psycopg2"},
     "programs/onixdesk-inbox/onixdesk_inbox": {"command_lines"},
     "programs/desk-metrics/desk_metrics": {"command_lines", "onixdesk_inbox"},
+    "programs/onixdesk-look/onixdesk_look": {"command_lines", "message_records", "onixdesk_inbox"},
     "programs/onixdesk-titles/onixdesk_titles": {"command_lines", "onixdesk_inbox"},
     "tools": set(),
     "bench": {"tools"},
     # The tests of the page drive a browser.
     "tests": {
-        "bench", "command_lines", "desk_copy", "desk_follow", "desk_metrics", "desk_restore", "onixdesk_inbox",
-        "onixdesk_titles", "psycopg2", "selenium", "tools",
+        "bench", "command_lines", "desk_copy", "desk_follow", "desk_metrics", "desk_restore", "message_records",
+        "onixdesk_inbox", "onixdesk_look", "onixdesk_titles", "psycopg2", "selenium", "tools",
     },
 }
 

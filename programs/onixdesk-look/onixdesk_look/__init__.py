@@ -1,0 +1,1 @@
+"""Says of a wholesaler's feed whether it fits a desk, before anything is agreed."""

@@ -1,0 +1,133 @@
+"""The command line of onixdesk-look."""
+
+import argparse
+import json
+import sys
+import tempfile
+import time
+from collections import Counter
+from functools import partial
+from pathlib import Path
+
+from command_lines.ending import FAULT, BadCall, end_orderly, status_of, teller
+from command_lines.parsing import day, parser_of
+from message_records.offers import Question
+from message_records.products import products_of, read_header
+from onixdesk_inbox.command_line import series
+from onixdesk_inbox.settings import words
+from onixdesk_look import letter, page
+from onixdesk_look.asking import Desk
+from onixdesk_look.converting import Converter, Feed
+from onixdesk_look.counting import Counts, lines_to_paste, series_of
+
+PROGRAM = "onixdesk-look"
+
+# The settings of the buyers' page in the package.
+LIKE = Path("/etc/onixdesk/page/desk.json")
+
+DESCRIPTION = """\
+Says whether a feed of a wholesaler fits the desk, before anything is agreed: what the converter takes of it, of how
+many of its articles the desk would give a price today, why it gives none of the others, and what to paste into an
+agreement and the settings of an inbox. Each FILE is looked at by itself, at a desk of its own that is removed again;
+no desk of the shop is asked or changed."""
+
+STATUSES = """\
+Status 0; 1 where a FILE is refused or products of it are wrong; 2 for a bad command line; 3 where a file cannot be read
+or written. docs/ONIX.md has what to ask a wholesaler for."""
+
+
+def command_line() -> argparse.ArgumentParser:
+    parser = parser_of(PROGRAM, DESCRIPTION, STATUSES)
+    add = parser.add_argument
+    add("--like", metavar="FILE", type=Path, help="the desk.json of the buyers' page, which has the shop's country,"
+        f" currency and type of price; {LIKE} without it, or the one beside this program")
+    add("--day", metavar="DAY", type=day, help="the day of the prices, as 20261127; today without it")
+    add("--series", metavar="NAME", type=series, help="the name for the agreement; after the FILE's name without it")
+    add("--words", metavar="WORDS", type=words, default=(), help="words for onixdesk convert, as in WORDS of an inbox")
+    add("--csv", action="store_true", help="write the page as a table: FILE, section, item, value")
+    add("--notes", metavar="CSV", type=Path, help="write the converter's notes into this file; for a single FILE")
+    add("--mail", choices=letter.LANGUAGES, help="write a text to the wholesaler that goes with the notes in place of"
+        " the page; for a single FILE")
+    add("--program", metavar="PROGRAM", type=Path, help="onixdesk beside this program without it")
+    add("files", metavar="FILE", type=Path, nargs="+", help="a feed in XML")
+    return parser
+
+
+def show(text: str) -> None:
+    """Puts a text into the line of a terminal, in place of the one before."""
+    if sys.stderr.isatty():
+        sys.stderr.write(f"\r\x1b[K{text}")
+        sys.stderr.flush()
+
+
+def question_of(options: argparse.Namespace, programs: Path) -> Question:
+    """What the shop asks, by the settings of its page."""
+    file = options.like or (LIKE if LIKE.exists() else programs.parent / "page/desk.json")
+    try:
+        like = json.loads(file.read_text(encoding="utf-8"))
+        today = options.day or time.strftime("%Y%m%d")
+        return Question(today, str(like["country"]), str(like["currency"]), str(like["price_type"]))
+    except (ValueError, KeyError, TypeError) as error:
+        raise BadCall(f"{file}: no settings of a page: {error!r}") from None
+
+
+def answer(feed: Feed, counts: Counts, desk: Desk, question: Question) -> page.Sections:
+    """Of how many articles a desk gives a price, and why of none of the others."""
+    desk.take(read_header(feed.messages[0]), feed.messages)
+    priced = desk.priced(list(counts.why), question)
+    why_none = Counter(why or "the desk gives none" for article, why in counts.why.items() if article not in priced)
+    return page.of_answer(question, len(counts.why), len(priced), why_none)
+
+
+def sections_of(
+    options: argparse.Namespace, feed: Feed, counts: Counts, question: Question, folder: Path
+) -> page.Sections:
+    """What is said of a feed that was converted."""
+    if not feed.messages:
+        return {}
+    header = read_header(feed.messages[0])
+    answers = answer(feed, counts, Desk(options.program, folder / "desk.db", show), question)
+    lines = lines_to_paste(options.series or series_of(feed.file.name), header, feed, options.words)
+    return page.of_records(feed, header, counts) | answers | {"To paste": [(line, "") for line in lines]}
+
+
+def write_page(options: argparse.Namespace, feed: Feed, question: Question, folder: Path) -> None:
+    """Writes what is asked for of a feed that was converted or refused."""
+    counts = Counts({note.reference for note in feed.said.notes})
+    for message in feed.messages:
+        for product in products_of(message):
+            counts.add(product, question)
+    if options.notes:
+        options.notes.write_text(letter.table(feed.said, counts.isbns), encoding="utf-8")
+    if options.mail:
+        sys.stdout.write(letter.letter(options.mail, feed.file.name, feed.said, counts.isbns))
+    else:
+        sections = page.of_feed(feed) | sections_of(options, feed, counts, question, folder)
+        show("")
+        sys.stdout.write((page.table if options.csv else page.text)(feed.file.name, sections))
+
+
+def look(options: argparse.Namespace, question: Question, file: Path) -> int:
+    """Looks at a file, and gives its status."""
+    with tempfile.TemporaryDirectory(prefix=f"{PROGRAM}-") as folder:
+        messages = Path(folder, "messages")
+        messages.mkdir()
+        feed = Converter(options.program, options.words, show).convert(file, messages)
+        write_page(options, feed, question, Path(folder))
+    return feed.status
+
+
+def run(options: argparse.Namespace, programs: Path) -> int:
+    if len(options.files) > 1 and (options.notes or options.mail):
+        raise BadCall("--notes and --mail are for a single FILE")
+    options.program = (options.program or programs / "onixdesk").resolve()
+    question = question_of(options, programs)
+    # A file that cannot be read keeps none of the others from being looked at.
+    found = [status_of(partial(look, options, question, file), teller(PROGRAM), file) for file in options.files]
+    return FAULT if FAULT in found else max(found)
+
+
+def main(programs: Path) -> int:
+    """Looks at the files, and gives the status. `programs` is the folder of this one."""
+    end_orderly()
+    return status_of(partial(run, command_line().parse_args(), programs), teller(PROGRAM), Path())

@@ -1,0 +1,37 @@
+"""The notes on a feed for the wholesaler: a table of them, and a text that goes with it."""
+
+from pathlib import Path
+from string import Template
+
+from message_records.notes import Note, Said
+from message_records.rows import text_of
+
+LANGUAGES = "de", "en"
+EXAMPLES = 3
+COLUMNS = "reference", "ISBN", "line", "column", "note"
+
+
+def table(said: Said, isbns: dict[str, str]) -> str:
+    """The notes as CSV, and how many more there are."""
+    rows = [(note.reference, isbns.get(note.reference, ""), note.line, note.column, note.text) for note in said.notes]
+    rest = said.count - len(rows)
+    more = [("", "", "", "", f"and {rest} more notes, which are not written")] if rest > 0 else []
+    return text_of(COLUMNS, *rows, *more)
+
+
+def example(note: Note, isbns: dict[str, str]) -> str:
+    isbn = f" (ISBN {isbns[note.reference]})" if note.reference in isbns else ""
+    return f"  {note.reference}{isbn}, line {note.line}: {note.text}"
+
+
+def letter(language: str, name: str, said: Said, isbns: dict[str, str]) -> str:
+    """The text, whose examples are the first notes of different products."""
+    template = Path(__file__).with_name(f"letter.{language}.txt").read_text(encoding="utf-8")
+    examples = list({note.reference: note for note in reversed(said.notes)}.values())[::-1][:EXAMPLES]
+    return Template(template).substitute(
+        name=name,
+        count=said.count,
+        written=len(said.notes),
+        reasons="\n".join(f"  {number} x {reason}" for reason, number in said.reasons.most_common()),
+        examples="\n".join(example(note, isbns) for note in examples),
+    )

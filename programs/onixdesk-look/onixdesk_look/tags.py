@@ -1,0 +1,51 @@
+"""What a feed says of itself that the desk's records do not have: its release, its names or tags, and the codes of its
+discounts. It is read by expat, which passes over entities that it does not know."""
+
+from collections import Counter
+from collections.abc import Callable
+from pathlib import Path
+from xml.parsers import expat
+
+PIECE = 1 << 20
+
+# The root by which a message has reference names, and that of one with short tags.
+NAMES = {"ONIXMessage": "reference names", "ONIXmessage": "short tags"}
+DISCOUNT_CODES = {"DiscountCode", "j364"}
+
+
+class Tags:
+    """The tags of a file. `fault` says why it was not read to its end."""
+
+    def __init__(self, feed: Path, show: Callable[[str], None]) -> None:
+        self.release = self.names = self.fault = ""
+        self.discount_codes: Counter[str] = Counter()
+        self.text: list[str] = []
+        self.parser = expat.ParserCreate()
+        # With it a name of HTML that no DTD declares is passed over.
+        self.parser.UseForeignDTD(True)
+        self.parser.SetParamEntityParsing(expat.XML_PARAM_ENTITY_PARSING_ALWAYS)
+        self.parser.ExternalEntityRefHandler = lambda *_: 1
+        self.parser.StartElementHandler = self.begin
+        try:
+            with feed.open("rb") as file:
+                while piece := file.read(PIECE):
+                    self.parser.Parse(piece, False)
+                    show(f"{feed.name}: {file.tell() / 1e6:.0f} of {feed.stat().st_size / 1e6:.0f} MB read")
+                self.parser.Parse(b"", True)
+        except (expat.ExpatError, LookupError, ValueError) as error:
+            self.fault = str(error)
+
+    def begin(self, name: str, attributes: dict[str, str]) -> None:
+        self.release = attributes.get("release", "none")
+        self.names = NAMES.get(name.rpartition(":")[2], "names that are none of ONIX")
+        self.parser.StartElementHandler = self.start
+
+    def start(self, name: str, _attributes: dict[str, str]) -> None:
+        if name in DISCOUNT_CODES or name.rpartition(":")[2] in DISCOUNT_CODES:
+            self.text = []
+            self.parser.CharacterDataHandler = self.text.append
+            self.parser.EndElementHandler = self.end
+
+    def end(self, _name: str) -> None:
+        self.discount_codes[" ".join("".join(self.text).split())] += 1
+        self.parser.CharacterDataHandler = self.parser.EndElementHandler = None

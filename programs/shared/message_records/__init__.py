@@ -1,0 +1,1 @@
+"""The records of a message, as docs/FORMATS.md has them."""

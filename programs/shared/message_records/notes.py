@@ -1,0 +1,59 @@
+"""What `onixdesk convert` writes on standard error: notes, refusals and the summary."""
+
+import re
+from collections import Counter
+from collections.abc import Iterable
+from dataclasses import dataclass, field
+from typing import NamedTuple
+
+PROGRAM = "onixdesk: "
+
+PLACE = re.compile(r"([0-9]+):([0-9]+): (?:(.*?): )?(.*)")
+REFUSAL = re.compile(r"(?:[0-9]+:[0-9]+: )?refused: (.*)")
+COUNT = re.compile(r"(.*): ([0-9]+)")
+TOTAL = re.compile(r"([0-9]+) notes?(?:, ([0-9]+) products? wrong)?")
+
+
+class Note(NamedTuple):
+    line: int
+    column: int
+    reference: str
+    text: str
+
+
+@dataclass
+class Said:
+    """The notes, as many as are written, how often each reason was given, the number of all notes and of wrong
+    products, and why the file was refused or could not be read, where that is so."""
+
+    notes: list[Note] = field(default_factory=list)
+    reasons: Counter[str] = field(default_factory=Counter)
+    count: int = 0
+    wrong: int = 0
+    refusal: str = ""
+
+    def add(self, line: str, file: str) -> None:
+        """Adds a line on the file of that name, or of the summary."""
+        text = line.removesuffix("\n").removeprefix(PROGRAM)
+        of_file = text.removeprefix(f"{file}:").strip() if text.startswith(f"{file}:") else None
+        if of_file is None:
+            self.add_summary(text)
+        elif refused := REFUSAL.fullmatch(of_file):
+            self.refusal = refused[1]
+        elif place := PLACE.fullmatch(of_file):
+            self.notes.append(Note(int(place[1]), int(place[2]), place[3] or "", place[4]))
+        else:
+            self.refusal = of_file
+
+    def add_summary(self, text: str) -> None:
+        if total := TOTAL.fullmatch(text):
+            self.count, self.wrong = int(total[1]), int(total[2] or 0)
+        elif counted := COUNT.fullmatch(text):
+            self.reasons[counted[1]] += int(counted[2])
+
+
+def read_said(lines: Iterable[str], file: str) -> Said:
+    said = Said()
+    for line in lines:
+        said.add(line, file)
+    return said

@@ -6,7 +6,7 @@ _desk_restore() {
         --db | --inboxes) _filedir; return ;;
     esac
     case $cur in
-        -*) COMPREPLY=($(compgen -W "--db --inboxes --help" -- "$cur")) ;;
+        -*) COMPREPLY=($(compgen -W "--db --inboxes --fewer-series --help" -- "$cur")) ;;
         *) _filedir -d ;;
     esac
 } && complete -F _desk_restore desk-restore

@@ -72,11 +72,6 @@ def named(folder: Path, moment: int) -> Path:
     return folder / time.strftime(NAME, time.gmtime(moment // 1_000_000_000))
 
 
-def since_of(copy: Path) -> str:
-    """The second of a copy that is named by it, else `all`: the times of its files may be those of a later copy."""
-    return copy.name if is_name(copy.name) else "all"
-
-
 def keep_latest(folder: Path, count: int, newest: Path) -> None:
     """Removes all but the latest copies. The newest stays, also where a clock that was ahead has given others later
     names."""

@@ -6,17 +6,21 @@ from contextlib import closing
 from pathlib import Path
 
 from command_lines.ending import Fault
-from desk_copy.trying import Unsound, opened
+from desk_copy.copying import log_of
+from desk_copy.trying import Unsound, left_alone, opened
 from desk_restore.users import Owner, run_as
 
 
 def series_in(database: Path) -> list[str]:
-    """The names of the series that a database has. Unsound where it has no such table."""
-    with closing(opened(database)) as connection:
-        try:
+    """The names of the series that a database has, which nobody has open. Unsound where they cannot be read."""
+    has_log = log_of(database).exists()
+    try:
+        with closing(opened(database)) as connection:
             return [name for (name,) in connection.execute("SELECT name FROM series ORDER BY name")]
-        except sqlite3.Error as error:
-            raise Unsound(f"{database.name}: {error}") from None
+    except sqlite3.Error as error:
+        raise Unsound(f"{database.name}: {error}") from None
+    finally:
+        left_alone(database, has_log)
 
 
 def gaps_of(database: Path, series: list[str], owner: Owner, programs: Path) -> str:

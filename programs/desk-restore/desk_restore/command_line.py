@@ -7,8 +7,8 @@ from pathlib import Path
 
 from command_lines.ending import DONE, FAILED, end_orderly, status_of, teller
 from command_lines.parsing import parser_of
-from desk_copy.places import since_of, unfinished
-from desk_copy.trying import try_copy
+from desk_copy.places import unfinished
+from desk_copy.trying import Unsound, try_copy
 from desk_restore.asking import gaps_of, series_in
 from desk_restore.inboxes import Inbox, inboxes_in
 from desk_restore.placing import exchange, files_of, is_open, lay_out
@@ -24,13 +24,15 @@ DESCRIPTION = """\
 Puts COPY, a folder that desk-copy made, into the place of the desk. The copy is tried before anything else is done, by
 SQLite and by the desk itself, whose reports on gaps are written. Then what runs of onixdesk is stopped, the files that
 stood there get another name, the copy's get theirs, with the folder's owner, and the desk is started again. Each inbox
-takes again what it has taken since, before it goes on."""
+takes again what that desk lacks, before it goes on. A copy that lacks a series of the desk, or has none, is refused."""
 
 STATUSES = """\
-Status 0; 1 where the copy is no sound database of a desk, or an inbox could not take all again and stays stopped; 2
-for a bad command line; 3 where a file cannot be read or written, another program has the desk open, or a unit does not
-start. Where a line does not say that the copy is in place, the desk is as it was. The last line names what was stopped
-and does not run. docs/RELIABILITY.md says what comes after."""
+Status 0; 1 where the copy is no sound database of a desk or lacks a series, or an inbox could not take all again and
+stays stopped; 2 for a bad command line; 3 where a file cannot be read or written, another program has the desk open, or
+a unit does not start. Where a line does not say that the copy is in place, the desk is as it was. The last line names
+what was stopped and does not run. docs/RELIABILITY.md says what comes after."""
+
+TOLD = "with --fewer-series it is put into place all the same"
 
 tell = teller(PROGRAM)
 
@@ -41,8 +43,24 @@ def command_line() -> argparse.ArgumentParser:
     add("--db", metavar="FILE", type=Path, default=DESK, help=f"the database of the desk; {DESK} without it")
     add("--inboxes", metavar="FOLDER", type=Path, default=INBOXES,
         help=f"has a folder for each series, in which its inbox keeps what it took; {INBOXES} without it")
+    add("--fewer-series", action="store_true",
+        help="takes a copy also if it lacks a series of the desk that stands there, or has none")
     add("copy", metavar="COPY", type=Path, help="a folder with the two files of a desk, of the name of FILE")
     return parser
+
+
+def compare(series: list[str], database: Path, copy: Path) -> None:
+    """Unsound where the desk that stands there has a series that is none of these. Where it cannot be read, that is
+    told."""
+    if not database.exists():
+        return
+    try:
+        lacking = [name for name in series_in(database) if name not in series]
+    except Unsound as fault:
+        tell(f"the series of the desk that stands there are not compared: {fault}")
+        return
+    if lacking:
+        raise Unsound(f"{copy}: it lacks series of the desk: {', '.join(lacking)}; {TOLD}")
 
 
 def put_back(options: argparse.Namespace, programs: Path, units: Units) -> None:
@@ -52,34 +70,41 @@ def put_back(options: argparse.Namespace, programs: Path, units: Units) -> None:
         lay_out(files, new, owner)
         try_copy(new / database.name, options.copy / database.name)
         series = series_in(new / database.name)
+        if not series and not options.fewer_series:
+            raise Unsound(f"{options.copy}: it has no series; {TOLD}")
         with acting_as(oneself):
             reports = gaps_of(new / database.name, series, owner, programs)
             units.stop()
             is_open(database)
+        if not options.fewer_series:
+            compare(series, database, options.copy)
         before = exchange(new, database)
-    tell(f"{options.copy} is in place as {database}; what stood there is {before}")
+    stood = f"what stood there is {before}" if before else "nothing stood there"
+    tell(f"{options.copy} is in place as {database}; {stood}")
     print(reports, end="", flush=True)
     tell("agreements and waivers that were made since have to be made again")
 
 
-def take_again(inboxes: list[Inbox], since: str, programs: Path, units: Units) -> bool:
-    """Has each inbox take again what it took since, and starts those that could. Whether all could."""
+def take_again(inboxes: list[Inbox], programs: Path, units: Units) -> bool:
+    """Has each inbox take again what the desk lacks, and starts those that could. Whether all could."""
     all_could = True
     for inbox in inboxes:
-        if inbox.take_again(since, programs):
+        if inbox.take_again(programs):
             units.start_inbox(inbox.series)
         else:
             all_could = False
-            tell(f"the inbox of {inbox.series} has not taken all again; then: {inbox.by_hand(since, programs)}")
+            tell(f"the inbox of {inbox.series} has not taken all again; then: {inbox.by_hand(programs)}")
     return all_could
 
 
 def go_on(options: argparse.Namespace, programs: Path, units: Units, inboxes: list[Inbox]) -> int:
     """Starts the desk that is in place now, and all else."""
     if not units.start_desk():
-        tell("start the desk; then each inbox with the word --again, before it takes anything else")
+        tell("start the desk; then each inbox with --again lacking, before it takes anything else")
+        for inbox in inboxes:
+            tell(f"as by: {inbox.by_hand(programs)}")
         return DONE
-    all_could = take_again(inboxes, since_of(options.copy), programs, units)
+    all_could = take_again(inboxes, programs, units)
     units.start_rest([inbox.series for inbox in inboxes])
     return DONE if all_could else FAILED
 

@@ -17,17 +17,17 @@ class Inbox:
     def series(self) -> str:
         return self.folder.name
 
-    def words(self, since: str, programs: Path) -> list[str | Path]:
-        """The words of a run that takes again what was taken since."""
-        return [programs / "onixdesk-inbox", "--again", since, "--state", self.folder, "--", self.series]
+    def words(self, programs: Path) -> list[str | Path]:
+        """The words of a run that takes again what the desk lacks of it."""
+        return [programs / "onixdesk-inbox", "--again", "lacking", "--state", self.folder, "--", self.series]
 
-    def by_hand(self, since: str, programs: Path) -> str:
-        """How root has it take again what it took since."""
-        return f"runuser -u {self.folder.owner()} -- {shlex.join(map(str, self.words(since, programs)))}"
+    def by_hand(self, programs: Path) -> str:
+        """How root has it take that again."""
+        return f"runuser -u {self.folder.owner()} -- {shlex.join(map(str, self.words(programs)))}"
 
-    def take_again(self, since: str, programs: Path) -> bool:
-        """Has it take again what it took since, as its own user. Whether it could."""
-        ran = run_as(owner_of(self.folder), self.words(since, programs), cwd="/")
+    def take_again(self, programs: Path) -> bool:
+        """Has it take that again, as its own user. Whether it could."""
+        ran = run_as(owner_of(self.folder), self.words(programs), cwd="/")
         # With 1 a file was refused again, or something is amiss with one, and the line was written.
         return ran.returncode in (0, 1)
 

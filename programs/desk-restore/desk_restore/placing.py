@@ -51,9 +51,9 @@ def is_open(database: Path) -> None:
         raise Fault(f"{database}: another program has it open; stop it before") from None
 
 
-def exchange(new: Path, database: Path) -> Path:
+def exchange(new: Path, database: Path) -> Path | None:
     """Gives the files that stand there the name of the present second behind theirs, and the new ones their place. The
-    database comes last: until it is there, no desk starts. The name of what stood there is given."""
+    database comes last: until it is there, no desk starts. The name of what stood there is given, if anything did."""
     before = database.with_name(f"{database.name}.{time.strftime(NAME, time.gmtime())}")
     moves = [(database, before), (log_of(database), log_of(before))]
     moves += [(new / file.name, file) for file in (log_of(database), database)]
@@ -68,4 +68,4 @@ def exchange(new: Path, database: Path) -> Path:
         for old, to in reversed(made):
             os.rename(to, old)
         raise
-    return before
+    return before if before.exists() else None

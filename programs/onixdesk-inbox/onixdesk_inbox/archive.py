@@ -42,14 +42,26 @@ class Archive:
             self.names.setdefault(size, []).append(entry.name)
 
     def since(self, moment: float) -> list[str]:
-        """The names of the files whose answer was written at that time or later, the first one at the head."""
+        """The names of the files whose last answer was written at that time or later, in the order of their first."""
         found = []
         for name in itertools.chain.from_iterable(self.names.values()):
-            answer = self.folder / f"{name}{ANSWER}"
+            answer = self.answer(name)
             written = (answer if answer.exists() else self.folder / name).stat().st_mtime_ns
             if written >= moment * 1_000_000_000:
-                found.append((written, name))
+                found.append((self.answered(name), name))
         return [name for _, name in sorted(found)]
+
+    def answer(self, name: str) -> Path:
+        return self.folder / f"{name}{ANSWER}"
+
+    def answered(self, name: str) -> int:
+        """When a file was answered for the first time, in nanoseconds since 1970."""
+        return (self.folder / name).stat().st_mtime_ns
+
+    def remove(self, name: str) -> None:
+        """Removes a file and then its answer, without which nobody would know what it was refused for."""
+        (self.folder / name).unlink()
+        self.answer(name).unlink(missing_ok=True)
 
     def same(self, name: str, size: int, digest: str) -> str | None:
         """The name of a file that has these bytes and is of the kind of that name: as one of another kind they would
@@ -69,17 +81,18 @@ class Archive:
             number += 1
         return numbered(kept, number)
 
-    def put(self, name: str, source: Path, digest: str, answer: Path) -> str:
+    def put(self, name: str, source: Path, digest: str, answer: Path, answered: int | None = None) -> str:
         """Moves a file of that name and digest there, with its answer, and gives the name that it has there: that of
         one with the same bytes, where there is one. The answer goes first: until the file is there, it is taken
-        again. A file has the time of its first answer, and the answer that of the last one."""
+        again. A file has the time of its first answer, which is given where it got that elsewhere, and the answer that
+        of the last one."""
         size = source.stat().st_size
         found = self.same(name, size, digest)
         kept = found or self.new_name(name)
-        first = (self.folder / found if found else answer).stat().st_mtime_ns
+        first = self.answered(found) if found else answered or answer.stat().st_mtime_ns
         os.utime(source, ns=(first, first))
         room = room_of(answer.stat().st_size)
-        os.replace(answer, self.folder / f"{kept}{ANSWER}")
+        os.replace(answer, self.answer(kept))
         os.replace(source, self.folder / kept)
         sync_folder(self.folder)
         self.digests[kept] = digest

@@ -11,6 +11,7 @@ from pathlib import Path
 
 from command_lines.ending import DONE, FAILED, Fault, status_of
 from command_lines.parsing import parser_of
+from onixdesk_inbox.again import ALL, LACKING, Repeat, Since
 from onixdesk_inbox.incoming import Incoming
 from onixdesk_inbox.running import Run
 from onixdesk_inbox.settings import read_settings
@@ -33,6 +34,8 @@ Status 0, also where files wait; 1 where a file was refused, or has lain there f
 line or bad settings; 3 where a folder cannot be used, or the inbox itself fails. docs/INBOX.md has the settings."""
 
 
+SINCE = {"all": ALL, "lacking": LACKING}
+
 is_series = re.compile("[a-z0-9-]{1,32}").fullmatch
 
 
@@ -42,12 +45,16 @@ def series(word: str) -> str:
     return word
 
 
-def moment(word: str) -> float:
-    """The time that a copy of a desk is named by, in seconds since 1970; 0 for `all`."""
+def since(word: str) -> Since:
+    """What is taken again: `all`, what the desk is `lacking`, or what was answered since a time as copies of a desk are
+    named by."""
+    if word in SINCE:
+        return SINCE[word]
     try:
-        return 0 if word == "all" else calendar.timegm(time.strptime(word, "%Y-%m-%dT%H-%M-%SZ"))
+        return Since(calendar.timegm(time.strptime(word, "%Y-%m-%dT%H-%M-%SZ")))
     except ValueError:
-        raise argparse.ArgumentTypeError(f"{ascii(word)} is no time as 2026-11-27T02-30-00Z, and not all") from None
+        why = f"{ascii(word)} is no time as 2026-11-27T02-30-00Z, and neither all nor lacking"
+        raise argparse.ArgumentTypeError(why) from None
 
 
 def command_line() -> argparse.ArgumentParser:
@@ -58,9 +65,9 @@ def command_line() -> argparse.ArgumentParser:
     add("--state", metavar="FOLDER", type=Path,
         help=f"{STATE.format('SERIES')} without it; nobody else may write there")
     add("--converter", metavar="PROGRAM", type=Path, help="onix-to-csv beside this program without it")
-    add("--again", metavar="SINCE", type=moment,
-        help="take again what was done since then, as 2026-11-27T02-30-00Z of UTC, or `all` of it, and nothing new:"
-        " for a desk that was restored")
+    add("--again", metavar="SINCE", type=since,
+        help="take again what was done, and what was refused for a mistake that may be corrected, and nothing new: of"
+        " that `all`, what the desk is `lacking`, or what was answered since a time as 2026-11-27T02-30-00Z of UTC")
     add("series", metavar="SERIES", type=series, help="the name of the series that the desk has agreed")
     return parser
 
@@ -83,8 +90,10 @@ def run(options: argparse.Namespace, folder: Path, programs: Path, voice: Voice)
         raise Fault(f"{folder}: its unit makes it: systemctl start onixdesk-inbox@{name}")
     state = State(folder, settings.state_bytes)
     taker = Taker(name, settings, converter, state)
-    work = Run(Incoming(incoming, settings.unchanged_seconds), state, taker, voice)
-    is_failed = work.take_all() if options.again is None else work.take_again(options.again)
+    if options.again is not None:
+        is_failed = Repeat(state, taker, voice).take_again(options.again)
+    else:
+        is_failed = Run(Incoming(incoming, settings.unchanged_seconds), state, taker, voice).take_all()
     return FAILED if is_failed else DONE
 
 

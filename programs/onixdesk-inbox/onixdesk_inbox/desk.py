@@ -2,8 +2,11 @@
 
 import contextlib
 import json
+import re
+from collections.abc import Iterator
 from dataclasses import dataclass
 from http.client import HTTPConnection, HTTPException
+from pathlib import Path
 from typing import Any
 
 from command_lines.ending import Fault
@@ -22,6 +25,12 @@ LONGEST_REPLY = 16 << 20
 SECONDS = 3600
 
 OTHER_CONTENTS = "other-contents"
+
+# What an inbox refuses by its setting SENDER.
+OTHER_SENDER = "other-sender"
+
+# Why the same bytes are refused, until somebody corrects an agreement, a waiver or the settings.
+CORRECTABLE = frozenset({"unknown-series", "before-first", "waived", OTHER_CONTENTS, OTHER_SENDER})
 
 # What a refusal of the desk says to whoever reads the journal.
 REASONS = {
@@ -53,6 +62,17 @@ class Reply:
         return members if isinstance(members, dict) else {}
 
 
+is_reply = re.compile(r"([0-9]{3}) (\{.*\})\n?").fullmatch
+
+
+def replies_in(answer: Path) -> Iterator[Reply]:
+    """The desk's replies in the answer of a file."""
+    with answer.open(encoding="utf-8", errors="replace") as lines:
+        for line in lines:
+            if found := is_reply(line):
+                yield Reply(int(found[1]), found[2].encode())
+
+
 @dataclass(frozen=True)
 class Accepted:
     """That a message stands at its number in a series, where it waits for another number or does not."""
@@ -60,6 +80,21 @@ class Accepted:
     series: str
     number: int
     waiting_for: int | None
+
+
+@dataclass(frozen=True)
+class Report:
+    """What the desk's report on the gaps of a series says; of a series that it has not agreed, that it has nothing."""
+
+    members: dict[str, Any]
+
+    def has(self, number: int) -> bool:
+        """Whether a message or a waiver is recorded at that number."""
+        first, greatest = self.members.get("first"), self.members.get("greatest")
+        if not isinstance(first, int) or not isinstance(greatest, int):
+            return False
+        missing = self.members.get("missing", [])
+        return first <= number <= greatest and not any(low <= number <= high for low, high in missing)
 
 
 class Desk:
@@ -80,16 +115,21 @@ class Desk:
     def post(self, message: bytes) -> Reply:
         return self.ask("POST", "/messages", message)
 
-    def next_number(self, series: str) -> int:
-        """The least number of a series at which nothing stands."""
+    def report(self, series: str) -> Report:
+        """Its report on the gaps of a series."""
         reply = self.ask("GET", f"/series/{series}/gaps")
         members = reply.members()
-        number = members.get("next")
-        if reply.status == 200 and isinstance(number, int):
-            return number
+        if reply.status == 200 and isinstance(members.get("next"), int):
+            return Report(members)
         if reply.status == 404 and members.get("reason") == "unknown-series":
-            raise Fault(f"the desk has agreed no series {series}")
+            return Report({})
         raise Fault(f"the desk does not say the next number of {series}: {shown(str(reply))}")
+
+    def next_number(self, series: str) -> int:
+        """The least number of a series at which nothing stands."""
+        if (number := self.report(series).members.get("next")) is None:
+            raise Fault(f"the desk has agreed no series {series}")
+        return int(number)
 
 
 def why(error: Exception) -> str:

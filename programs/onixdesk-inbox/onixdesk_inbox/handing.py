@@ -11,7 +11,7 @@ from typing import NamedTuple
 
 from command_lines.ending import Fault
 from onixdesk_inbox.conversion import Converter
-from onixdesk_inbox.desk import Accepted, Reply, accepted
+from onixdesk_inbox.desk import Accepted, accepted, replies_in
 from onixdesk_inbox.feeding import unpack
 from onixdesk_inbox.names import PACKED, shown
 from onixdesk_inbox.settings import NEXT, Settings
@@ -21,7 +21,6 @@ from onixdesk_inbox.verdicts import Refusal
 # The most bytes of rows that wait, and of a packed feed, which is unpacked into a file for its titles.
 MOST_WAITING = MOST_UNPACKED = 1 << 30
 
-is_reply = re.compile(r"(20[02]) (\{.*\})\n?").fullmatch
 is_name = re.compile(r"([0-9]{10})-([0-9]{1,10})-([a-z0-9-]{1,32})\.csv").fullmatch
 
 
@@ -46,10 +45,9 @@ def messages_in(folder: Path) -> list[tuple[Path, Message]]:
 
 def stands(answer: Path) -> Accepted:
     """Where the first message of a feed stands, by the desk's replies in its answer."""
-    with answer.open(encoding="utf-8", errors="replace") as lines:
-        for line in lines:
-            if found := is_reply(line):
-                return accepted(Reply(int(found[1]), found[2].encode()))
+    for reply in replies_in(answer):
+        with contextlib.suppress(Refusal):
+            return accepted(reply)
     raise Fault("its answer has no number")
 
 

@@ -3,7 +3,7 @@
 from dataclasses import dataclass, field
 from pathlib import Path
 
-from onixdesk_inbox.desk import OTHER_CONTENTS, Accepted, Desk, accepted
+from onixdesk_inbox.desk import CORRECTABLE, OTHER_CONTENTS, Accepted, Desk, accepted
 from onixdesk_inbox.verdicts import Refusal, Taken
 
 
@@ -17,11 +17,12 @@ class Posted:
 
     stand: list[Accepted] = field(default_factory=list)
     refusals: list[str] = field(default_factory=list)
+    reasons: list[str] = field(default_factory=list)
 
     def taken(self, series: str) -> Taken:
         """What it is for an inbox of that series. Refusal, where nothing stands."""
         if not self.stand:
-            raise Refusal(self.why())
+            raise Refusal(self.why(), next(filter(CORRECTABLE.__contains__, self.reasons), ""))
         if self.refusals:
             return Taken(f"done in part: {told(self.stand)}; not applied: {self.why()}", is_amiss=True)
         if self.stand[0].series != series:
@@ -47,6 +48,7 @@ def post(desk: Desk, messages: list[Path], answer: Path, is_number_new: bool) ->
                 if is_number_new and message == messages[0] and refusal.reason == OTHER_CONTENTS:
                     raise Quicker from None
                 posted.refusals.append(str(refusal))
+                posted.reasons.append(refusal.reason)
     return posted
 
 

@@ -1,7 +1,5 @@
 """One run over the folder."""
 
-import shutil
-
 from command_lines.ending import Fault
 from onixdesk_inbox.incoming import Candidate, Incoming, copy, why_not_copied
 from onixdesk_inbox.numbers import digest_of
@@ -11,14 +9,42 @@ from onixdesk_inbox.telling import Told, Voice
 from onixdesk_inbox.verdicts import Gone, Left, Lies, Taken
 
 
-class Run:
-    def __init__(self, incoming: Incoming, state: State, taker: Taker, voice: Voice) -> None:
-        self.incoming = incoming
+class Resuming:
+    """A run, which begins with the file that the one before it was at."""
+
+    def __init__(self, state: State, taker: Taker, voice: Voice) -> None:
         self.state = state
         self.taker = taker
         self.voice = voice
-        self.left: dict[str, Left] = {}
         self.has_failed = False
+
+    def begun(self) -> Copied | None:
+        """The file that was given a number and is not at its end. It goes before all others, none of which may
+        be given that number; and it may no longer be in the folder."""
+        work = self.state.work
+        name = work.name()
+        if name is None or not (source := work.source(name)).is_file():
+            return None
+        copied = Copied(name, source, digest_of(source))
+        return copied if self.taker.numbers.of(copied.digest) else None
+
+    def resume(self) -> None:
+        if copied := self.begun():
+            self.state.work.begin_again()
+            self.say(copied.name, self.taker.take(copied))
+
+    def say(self, name: str, taken: Taken) -> None:
+        self.voice.taken(name, taken)
+        self.has_failed |= taken.is_refused or taken.is_amiss
+
+
+class Run(Resuming):
+    """One that takes what came in."""
+
+    def __init__(self, incoming: Incoming, state: State, taker: Taker, voice: Voice) -> None:
+        super().__init__(state, taker, voice)
+        self.incoming = incoming
+        self.left: dict[str, Left] = {}
 
     def take_all(self) -> bool:
         """Takes what can be taken, until nothing is left of it, since some may come meanwhile. Whether a file
@@ -38,35 +64,6 @@ class Run:
         has_long = told.tell(self.voice, self.left)
         told.keep()
         return self.has_failed or has_long
-
-    def take_again(self, moment: float) -> bool:
-        """Takes again what was done at that time or later, in the same order, and nothing that is new. Whether a file
-        was refused now, or something is amiss with one. Fault where one could not be taken."""
-        self.resume()
-        work = self.state.work
-        for name in self.state.done.since(moment):
-            source = work.source(name)
-            work.begin(name)
-            shutil.copyfile(self.state.done.folder / name, source)
-            work.sync()
-            self.say(name, self.taker.take(Copied(name, source, digest_of(source))))
-        work.clear()
-        return self.has_failed
-
-    def begun(self) -> Copied | None:
-        """The file that was given a number and is not at its end. It goes before all others, none of which may
-        be given that number; and it may no longer be in the folder."""
-        work = self.state.work
-        name = work.name()
-        if name is None or not (source := work.source(name)).is_file():
-            return None
-        copied = Copied(name, source, digest_of(source))
-        return copied if self.taker.numbers.of(copied.digest) else None
-
-    def resume(self) -> None:
-        if copied := self.begun():
-            self.state.work.begin_again()
-            self.say(copied.name, self.taker.take(copied))
 
     def take_those_there(self) -> bool:
         """Takes the files that are there, and tells whether one was taken."""
@@ -101,7 +98,3 @@ class Run:
         begun = self.begun()
         names = [candidate.name for candidate in candidates] + ([begun.name] if begun else [])
         self.left |= {name: Left(why, waits=True) for name in names}
-
-    def say(self, name: str, taken: Taken) -> None:
-        self.voice.taken(name, taken)
-        self.has_failed |= taken.is_refused or taken.is_amiss

@@ -111,15 +111,15 @@ class State:
         if self.done.room + self.refused.room + room_of(size) > self.most:
             raise Fault(f"done and refused in {self.path} are as full as STATE_BYTES={self.most} allows")
 
-    def keep_done(self, name: str, digest: str) -> str:
+    def keep_done(self, name: str, digest: str, answered: int | None = None) -> str:
         """Moves the file of that name and digest that is at its end to those that are done, and gives the name that
-        it has there."""
-        return self.done.put(name, self.work.source(name), digest, self.work.answer)
+        it has there. Where it was refused before, it has the time of that answer."""
+        return self.done.put(name, self.work.source(name), digest, self.work.answer, answered)
 
-    def keep_refused(self, name: str, digest: str) -> str:
-        """Moves it to those that are refused: of a large one its head."""
+    def keep_refused(self, name: str, digest: str, is_correctable: bool) -> str:
+        """Moves it to those that are refused: of a large one its head, unless it may be taken again as it is."""
         source = self.work.source(name)
-        if (size := source.stat().st_size) <= LARGEST_REFUSED:
+        if is_correctable or (size := source.stat().st_size) <= LARGEST_REFUSED:
             return self.refused.put(name, source, digest, self.work.answer)
         self.work.say(f"{size} bytes, SHA-256 {digest}; the first {HEAD} are kept")
         os.truncate(source, HEAD)

@@ -6,7 +6,7 @@ from pathlib import Path
 
 from command_lines.ending import Fault
 from onixdesk_inbox.conversion import NOTHING_SAID, Converter, Said
-from onixdesk_inbox.desk import LONGEST_MESSAGE, REASONS, Desk
+from onixdesk_inbox.desk import CORRECTABLE, LONGEST_MESSAGE, OTHER_SENDER, REASONS, Desk
 from onixdesk_inbox.handing import Handing
 from onixdesk_inbox.names import RECORDS, kept_name, shown
 from onixdesk_inbox.numbers import Numbers
@@ -22,12 +22,15 @@ TRIES = 20
 @dataclass(frozen=True)
 class Copied:
     """A file that was copied into the work folder, by its name there and the digest of its bytes; or its head, where
-    there is a reason why the whole file was not copied."""
+    there is a reason why the whole file was not copied. One that was answered before has the time of that, and may be
+    done."""
 
     name: str
     source: Path
     digest: str
     why_not_whole: str = ""
+    answered: int | None = None
+    is_done: bool = False
 
     @property
     def is_records(self) -> bool:
@@ -48,8 +51,8 @@ class Taker:
         try:
             taken = self.with_titles(copied, self.deliver(copied))
         except Refusal as refusal:
-            taken = Taken(str(refusal), is_refused=True)
-        kept = self.archive(copied, taken.is_refused)
+            taken = Taken(str(refusal), is_refused=True, is_correctable=refusal.reason in CORRECTABLE)
+        kept = self.archive(copied, taken)
         if kept != kept_name(copied.name):
             taken = replace(taken, said=f"{taken.said}; kept as {kept}")
         return taken
@@ -62,13 +65,16 @@ class Taker:
         handing = Handing(self.converter, self.settings, work.folder / "titles")
         return replace(taken, no_titles=handing.fault_of(copied.name, copied.source, work.answer, work.answer))
 
-    def archive(self, copied: Copied, is_refused: bool) -> str:
-        """Moves the file to those that are at their end, and gives the name that it has there."""
-        if not is_refused:
-            return self.state.keep_done(copied.name, copied.digest)
+    def archive(self, copied: Copied, taken: Taken) -> str:
+        """Moves the file to those that are at their end, and gives the name that it has there. One that was done stays
+        among those that are, so that it can be taken again once more."""
+        if not taken.is_refused:
+            return self.state.keep_done(copied.name, copied.digest, copied.answered)
+        if copied.is_done:
+            return kept_name(copied.name)
         if copied.why_not_whole:
             return self.state.keep_head(copied.name, copied.digest)
-        return self.state.keep_refused(copied.name, copied.digest)
+        return self.state.keep_refused(copied.name, copied.digest, taken.is_correctable)
 
     def deliver(self, copied: Copied) -> Taken:
         """Posts what a file comes to, and gives what there is to say of it."""
@@ -87,8 +93,7 @@ class Taker:
         """Posts it under one number. Quicker, where that was to be a new one, and is another's."""
         number = None if copied.is_records else self.number_of(copied)
         messages, lines = self.messages_of(copied, number)
-        for message in messages:
-            self.look_at(message)
+        self.look_at(copied, messages)
         came_before = self.numbers.of(copied.digest) is not None
         if number is not None:
             self.numbers.give(copied.digest, number)
@@ -131,15 +136,22 @@ class Taker:
             )
         return before + 1
 
-    def look_at(self, message: Path) -> None:
-        """Refusal of what the desk would not take, or not for this wholesaler."""
+    def look_at(self, copied: Copied, messages: list[Path]) -> None:
+        """Refusal of a file with messages that the desk would not take, or not for this wholesaler."""
+        for message in messages:
+            if refusal := self.refusal_of(message):
+                self.state.work.say(f"{shown(copied.name)}: refused: {refusal}")
+                raise refusal
+
+    def refusal_of(self, message: Path) -> Refusal | None:
         size = message.stat().st_size
         if not size:
-            raise Refusal("it is empty")
+            return Refusal("it is empty")
         if size > LONGEST_MESSAGE:
-            raise Refusal(REASONS["too-large"])
+            return Refusal(REASONS["too-large"])
         if self.settings.sender and sender(message) != list(self.settings.sender):
-            raise Refusal(f"its sender is not {','.join(self.settings.sender)}")
+            return Refusal(f"its sender is not {','.join(self.settings.sender)}", OTHER_SENDER)
+        return None
 
 
 def sender(message: Path) -> list[str]:

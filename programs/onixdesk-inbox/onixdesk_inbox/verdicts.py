@@ -6,11 +6,12 @@ from dataclasses import dataclass
 @dataclass(frozen=True)
 class Taken:
     """A file that is at its end, in `done` or, refused, in `refused`; what there is to say of it, and how many of its
-    products the converter found wrong. Of one that is done something may be amiss, as of one that is refused; and why its
-    titles were not handed over."""
+    products the converter found wrong. Of one that is done something may be amiss, as of one that is refused; and why
+    its titles were not handed over. What one is refused for may be correctable: by somebody, without other bytes."""
 
     said: str
     is_refused: bool = False
+    is_correctable: bool = False
     is_amiss: bool = False
     wrong_products: int = 0
     no_titles: str = ""
@@ -41,7 +42,7 @@ class Gone(Exception):
 
 
 class Refusal(Exception):
-    """A file that nobody takes, and why; with the desk's word for it, where the desk refuses it."""
+    """A file that nobody takes, and why; with a word for it, where the desk or the setting SENDER refuses it."""
 
     def __init__(self, why: str, reason: str = "") -> None:
         super().__init__(why)

@@ -96,7 +96,7 @@ def in_its_place(room: Room) -> Iterator[Outcome]:
     yield Outcome("restored: for the owner alone", modes, [0o600] * 2)
     listed, stopped, *others = calls(room)
     yield Outcome("restored: what is stopped", sorted(stopped.split()[1:]), sorted(NAMES))
-    again = f"onixdesk-inbox --again {name} --state {room.path('state/north')} -- north"
+    again = f"onixdesk-inbox --again lacking --state {room.path('state/north')} -- north"
     started = ["reset-failed onixdesk.service", "start onixdesk.service", again,
         "start onixdesk-inbox@north.path onixdesk-inbox@north.timer", "start onixdesk-copy.timer"]
     yield Outcome("restored: what is started", others, started)
@@ -132,6 +132,49 @@ def copies_that_are_refused(room: Room) -> Iterator[Outcome]:
         yield Outcome(f"a copy that is refused: {name}, the desk", found, wanted)
 
 
+def copies_that_lack_series(room: Room) -> Iterator[Outcome]:
+    """One that has no series, or not all of the desk that stands there, is refused unless that is said, and what was
+    stopped is started again. Where nothing stands there, no other name is told."""
+    room.path("none").mkdir()
+    room.run("--db", f"none/{DATABASE}", "batch")
+    name = taken_copy_of_one(room)
+    batch(room, b"Agree,south,06,T,,,1\nAgree,west,06,U,,,1\n")
+    told = "with --fewer-series it is put into place all the same\n"
+    rows = rows_in(room.path(DATABASE))
+    for copied, why, count in [
+        ("none", f"it has no series; {told}", 1),
+        (f"copies/{name}", f"it lacks series of the desk: south, west; {told}", 3),
+    ]:
+        came = restore(room, copied)
+        wanted = 1, f"desk-restore: {room.path(copied)}: {why}"
+        yield Outcome(f"series that lack: {why}", (came.status, came.errors.decode()), wanted)
+        begun = [call.split()[0] for call in calls(room)]
+        yield Outcome("series that lack: what is stopped is started", begun, ["list-units", "stop", "start"][:count])
+        yield Outcome("series that lack: the desk", rows_in(room.path(DATABASE)), rows)
+    came = restore(room, "--fewer-series", f"copies/{name}", units="")
+    yield Outcome("series that lack, as told", (came.status, agreed(room)), (0, ["north"]))
+    room.path(DATABASE).write_bytes(b"no database" * 1000)
+    came = restore(room, f"copies/{name}", units="")
+    line = f"the series of the desk that stands there are not compared: {DATABASE}: file is not a database\n"
+    yield Outcome("series of a damaged desk", (came.status, line in came.errors.decode()), (0, True))
+    for path in room.folder.glob(f"{DATABASE}*"):
+        path.unlink()
+    came = restore(room, "--fewer-series", "none", units="")
+    line = f"{room.path('none')} is in place as {room.path(DATABASE)}; nothing stood there\n"
+    yield Outcome("an empty folder", (came.status, line in came.errors.decode()), (0, True))
+
+
+def agreed(room: Room) -> list[str]:
+    lines = room.run("--db", DATABASE, "agreements").output.decode().splitlines()
+    return [line.split(",")[1] for line in lines]
+
+
+def taken_copy_of_one(room: Room) -> str:
+    """The name of a copy of a desk with one series."""
+    batch(room, AGREEMENT)
+    return taken_copy(room)
+
+
 def a_desk_that_is_open(room: Room) -> Iterator[Outcome]:
     """One that is of no unit stays as it is, and what was stopped is started again."""
     batch(room, AGREEMENT)
@@ -158,7 +201,7 @@ def what_does_not_start(room: Room) -> Iterator[Outcome]:
     yield Outcome("a desk that does not start", (came.status, [fault, last]), wanted)
     came = restore(room, f"copies/{name}", failing="--again")
     *_, fault, last = came.errors.decode().splitlines()
-    words = f"{room.path('programs/onixdesk-inbox')} --again {name} --state {room.path('state/north')} -- north"
+    words = f"{room.path('programs/onixdesk-inbox')} --again lacking --state {room.path('state/north')} -- north"
     user = room.path("state/north").owner()
     told = f"desk-restore: the inbox of north has not taken all again; then: runuser -u {user} -- {words}"
     wanted = 1, [told, f"{left} {of_inbox}"]
@@ -210,10 +253,15 @@ def without_systemd(room: Room) -> Iterator[Outcome]:
     batch(room, AGREEMENT)
     name = taken_copy(room)
     batch(room, message_of("R1"))
+    state = room.path("state/north")
+    state.joinpath("done").mkdir(parents=True)
     came = restore(room, f"copies/{name}", units="")
-    last = came.errors.decode().splitlines()[-1]
-    line = "desk-restore: start the desk; then each inbox with the word --again, before it takes anything else"
-    yield Outcome("without systemd", (came.status, last, len(calls(room))), (0, line, 1))
+    words = f"{room.path('programs/onixdesk-inbox')} --again lacking --state {state} -- north"
+    lines = [
+        "desk-restore: start the desk; then each inbox with --again lacking, before it takes anything else",
+        f"desk-restore: as by: runuser -u {state.owner()} -- {words}",
+    ]
+    yield Outcome("without systemd", (came.status, came.errors.decode().splitlines()[-2:], len(calls(room))), (0, lines, 1))
 
 
 def what_came_since(room: Room) -> Iterator[Outcome]:

@@ -1,5 +1,5 @@
-//! The desk over HTTP/1.1: one request and one reply for each connection. `serve::serve_one` reads
-//! a request, finds its route, asks a desk, and writes the reply; `serve::serve_routed` does so by
+//! The desk over HTTP/1.1: one request and one reply for each connection. `one_exchange::serve_one` reads
+//! a request, finds its route, asks a desk, and writes the reply; `one_exchange::serve_routed` does so by
 //! `Routes` that are made once for all connections. `answer_reply::reply_of` makes the reply to an
 //! answer.
 //!

@@ -3,7 +3,7 @@
 //!
 //! `specs/Openings` says what comes of opening files, `Migrations` of bringing them to version 2, and
 //! `FirstForm` which tables lists of messages of form 1 come to. `opening` finds the version and makes
-//! the tables, `migration` brings them to version 2, and `laws` has what these definitions come to.
+//! the tables, `version_two` brings them to version 2, and `laws` has what these definitions come to.
 #![tactic(auto)]
 
 pub mod laws;

@@ -238,17 +238,21 @@ def folders_that_take_nothing(room: Room) -> Iterator[Outcome]:
 
 
 def shell(room: Room, lines: list[str]) -> Ran:
-    """Runs lines of a page at the desk of the room."""
+    """Runs lines of a page at the desk of the room, as a shell does to which they are pasted."""
     text = "\n".join(lines).replace("/var/lib/onixdesk/shop.db", DATABASE).replace("/shop.db", f"/{DATABASE}")
     program, copy = shlex.quote(str(room.program)), shlex.quote(str(ROOT / "bin/desk-copy"))
     calls = f"onixdesk() {{ {program} \"$@\"; }}\ncopy() {{ {copy} \"$@\" >&2; }}\n"
-    return room.call(["sh", "-e", "-c", calls + text.replace("desk-copy ", "copy ")])
+    return room.call(["sh", "-c", calls + text.replace("desk-copy ", "copy ")])
 
 
 def moved(room: Room) -> Iterator[Outcome]:
     """What docs/RELIABILITY.md says of a desk as text."""
     batch(room, REQUESTS)
-    came = shell(room, block("docs/RELIABILITY.md", "  desk-copy /var/lib/onixdesk/shop.db friday"))
+    lines = block("docs/RELIABILITY.md", "  desk-copy /var/lib/onixdesk/shop.db friday")
+    came = shell(room, lines[1:3])
+    failed = came.status, came.output, room.path("new.db").exists()
+    yield Outcome("a desk is not moved where its export fails", failed, (3, b"", False))
+    came = shell(room, lines)
     yield Outcome("a desk is moved", (came.status, came.output), (0, AGAIN))
     yield Outcome("a desk that was moved", listed(room, "export", "new.db"), Ran(0, EXPORT))
     came = shell(room, block("docs/RELIABILITY.md", "  sed -n"))

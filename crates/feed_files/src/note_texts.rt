@@ -27,7 +27,8 @@ const LONG_MARKETS: &str = "its Markets together have more than 1024 bytes";
 
 const NO_IDENTIFIER: &str = "without thirteen digits of type 03 or 15: nobody finds it by an ISBN";
 
-const OTHER_NAMESPACE: &str = "an element below it is in another namespace";
+const OTHER_NAMESPACE: &str =
+    "an element below it is in another namespace, of the other kind of names, or in other letters than one that counts there";
 
 const LONG_SUPPLIER: &str =
     "a text of its Supplier has more than 1024 bytes or a control character";

@@ -6,7 +6,7 @@ use Rattle.feed_outline.specs.Names.{Word, vocabulary_of}
 unfoldable pub desk_vocabulary : List Word
 desk_vocabulary =
     vocabulary_of
-    ("ONIXMessage Header Product"
+    ("ONIXMessage Header Product NoProduct=x507"
     ∷ "Header Sender Addressee MessageNumber=m180 MessageRepeat=m181 SentDateTime=x307"
     ∷ "Header DefaultPriceType=x310 DefaultCurrencyCode=m186"
     ∷ "Sender SenderIdentifier"
@@ -27,7 +27,7 @@ desk_vocabulary =
     ∷ "Price MinimumOrderQuantity=j263 PriceCoded PriceAmount=j151 UnpricedItemType=j192"
     ∷ "Price CurrencyCode=j152 CurrencyZone=x475 EpubLicense PriceTypeCode=j148"
     ∷ "Price PriceEffectiveFrom=j161 PriceEffectiveUntil=j162 CountryCode=b251 Territory PriceDate"
-    ∷ "Price Discount DiscountCoded"
+    ∷ "Price Discount~ DiscountCoded~"
     ∷ "PriceCondition PriceConditionType=x463"
     ∷ "PriceConstraint PriceConstraintType=x529"
     ∷ "PriceDate PriceDateRole=x476 DateFormat=j260 Date=b306"

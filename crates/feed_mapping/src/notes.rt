@@ -119,8 +119,8 @@ pub enum Wrong {
     NotificationType,
     /// A Product of which no identifier is left.
     NoIdentifierLeft,
-    /// A Product with an element in another namespace, whose name, the text, is one that counts
-    /// there.
+    /// A Product with a stranger: an element that is called as one that counts there, and does not
+    /// count.
     OtherNamespace,
     /// A Product of which no ProductSupply is left: the first that had a SupplyDetail is wrong.
     NoSupplyLeft,

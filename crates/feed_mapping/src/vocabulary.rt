@@ -6,8 +6,8 @@ ghost use Rattle.feed_outline.specs.Views.{word_views};
 
 use feed_outline::{Word, words};
 
-static WORDS: [Word; 63] = words! {
-    b"ONIXMessage": b"Header" = b"header", b"Product" = b"product";
+static WORDS: [Word; 64] = words! {
+    b"ONIXMessage": b"Header" = b"header", b"Product" = b"product", b"NoProduct" = b"x507";
     b"Header": b"Sender" = b"sender", b"Addressee" = b"addressee", b"MessageNumber" = b"m180",
         b"MessageRepeat" = b"m181", b"SentDateTime" = b"x307", b"DefaultPriceType" = b"x310",
         b"DefaultCurrencyCode" = b"m186";
@@ -34,7 +34,7 @@ static WORDS: [Word; 63] = words! {
         b"EpubLicense" = b"epublicense", b"PriceTypeCode" = b"j148",
         b"PriceEffectiveFrom" = b"j161", b"PriceEffectiveUntil" = b"j162",
         b"CountryCode" = b"b251", b"Territory" = b"territory", b"PriceDate" = b"pricedate",
-        b"Discount" = b"discount", b"DiscountCoded" = b"discountcoded";
+        b"Discount" ~ b"discount", b"DiscountCoded" ~ b"discountcoded";
     b"PriceCondition": b"PriceConditionType" = b"x463";
     b"PriceConstraint": b"PriceConstraintType" = b"x529";
     b"PriceDate": b"PriceDateRole" = b"x476", b"DateFormat" = b"j260", b"Date" = b"b306";

@@ -7,7 +7,8 @@ use Rattle.feed_xml.specs.Values.{normalized_value_of}
 use Rattle.feed_outline.specs.declared.names.Naming.{Naming}
 use Rattle.feed_outline.specs.declared.dialect.Wrong.{Wrong}
 use Rattle.feed_outline.specs.declared.dialect.Wrong.TheVariants.{Root, Release}
-use Rattle.feed_outline.specs.Names.{Word, naming_of_root, name_among, root, stranger}
+use Rattle.feed_outline.specs.Names.{Word, is_called_among, naming_of_root, name_among}
+use Rattle.feed_outline.specs.Names.{root, stranger}
 use Rattle.feed_outline.specs.Namespaces.{Binding, Scope, scope, bindings_of, prefix_of, local_of}
 use Rattle.feed_outline.specs.Namespaces.{address_among, address_within, undeclared}
 use Rattle.feed_outline.specs.Spaces.{collapsed, filled}
@@ -56,19 +57,22 @@ abbrev pub composite_of : List Scope → List ℕ
 composite_of [] = root
 composite_of (s ∷ around) = s.name
 
-abbrev pub or_stranger : Bool → List ℕ → List ℕ
-or_stranger is_in_namespace reference = if is_in_namespace then reference else stranger
+-- the reference name of an element that counts, else a stranger's, if it is called as one
+abbrev pub or_stranger : Bool → Option (List ℕ) → Option (List ℕ)
+or_stranger is_called (Some reference) = Some reference
+or_stranger is_called None = if is_called then Some stranger else None
 
 -- The reference name of an element with this name and these declarations, where it counts: it is
 -- called as one that stands in the innermost of those around it, and is in the root's namespace.
--- In another namespace it is a stranger.
+-- One that does not count is a stranger, where it is called as one that does in any namespace, kind
+-- of names and case of letters.
 abbrev pub counted : List Word → Dialect → List Scope → List ℕ → List Binding
     → Option (List ℕ)
 counted vocabulary d around name bindings =
-    option_map
-    (or_stranger (bytes_eq
-    (address_of d (scope [] bindings ∷ around) (prefix_of name)) d.address))
-    (name_among d.naming vocabulary (composite_of around) (local_of name))
+    let address = address_of d (scope [] bindings ∷ around) (prefix_of name) in
+    or_stranger (is_called_among vocabulary (composite_of around) (local_of name))
+    (if bytes_eq address d.address
+    then name_among d.naming vocabulary (composite_of around) (local_of name) else None)
 
 -- the attribute `dateformat` of an element, where it has a text
 abbrev pub format_of : List Attribute → Option (List ℕ)

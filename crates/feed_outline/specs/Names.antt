@@ -1,19 +1,21 @@
 -- The names of ONIX for Books, release 3.0 and 3.1, as far as they are read.
 use Prim.Native.String.{String}
-use Rattle.std.specs.Prelude.{ℕ, ◌&&◌, List, [], ◌∷◌, Option}
+use Rattle.std.specs.Prelude.{ℕ, Bool, not, ◌&&◌, ◌||◌, List, [], ◌∷◌, Option}
 use Rattle.std.specs.Prelude.{◌==◌, if◌then◌else◌, codes, map, option_map}
-use Rattle.std.specs.List.{after_first, before_first, find, flat_map, slice_split}
-use Rattle.std.specs.Str.{bytes_eq, str_to_ascii_lowercase}
+use Rattle.std.specs.List.{after_first, before_first, find, flat_map, list_any, slice_split}
+use Rattle.std.specs.Str.{bytes_eq, str_eq_ignore_ascii_case, str_to_ascii_lowercase}
 use Rattle.feed_xml.specs.Grammar.{is_filled}
 use Rattle.feed_xml.specs.Tables.{entry}
 use Rattle.feed_outline.specs.declared.names.Naming.{Naming}
 use Rattle.feed_outline.specs.declared.names.Naming.TheVariants.{Reference, Short}
 
--- An element that counts: the composite that it stands in, its reference name and its short tag
+-- An element that counts: the composite that it stands in, its reference name and its short tag,
+-- and whether it is counted and nothing else
 pub record Word : Type 0 where
   pub composite : List ℕ
   pub reference : List ℕ
   pub short : List ℕ
+  pub is_counted_alone : Bool
 
 -- the name of the word in a message of this kind of names
 abbrev pub spelled : Naming → Word → List ℕ
@@ -26,14 +28,31 @@ name_among naming words composite name =
     option_map (λ w. w.reference)
     (find (λ w. bytes_eq (spelled naming w) name && bytes_eq w.composite composite) words)
 
+-- an element is called so by one of the names of a word, in whatever case of letters
+abbrev pub is_called : List ℕ → Word → Bool
+is_called name w =
+    str_eq_ignore_ascii_case w.reference name || str_eq_ignore_ascii_case w.short name
+
+-- an element of a composite that does not count is called as one that would, and not only be
+-- counted
+abbrev pub is_called_among : List Word → List ℕ → List ℕ → Bool
+is_called_among words composite name =
+    list_any
+    (λ w. bytes_eq w.composite composite && (not w.is_counted_alone && is_called name w)) words
+
 -- A word of a composite, by its reference name, and its short tag behind = where that is not the
--- name in small letters
+-- name in small letters; behind ~ that is so, and it is counted alone.
 abbrev pub word : List ℕ → List ℕ → Word
 word composite text =
     let tag = after_first (λ b. b == 61) text in
-    let reference = before_first (λ b. b == 61) text in
-    let short = if is_filled tag then tag else str_to_ascii_lowercase text in
-    record { composite = composite; reference = reference; short = short }
+    let reference = before_first (λ b. b == 61 || b == 126) text in
+    let short = if is_filled tag then tag else str_to_ascii_lowercase reference in
+    record {
+      composite = composite;
+      reference = reference;
+      short = short;
+      is_counted_alone = list_any (λ b. b == 126) text;
+    }
 
 -- the words of a composite, whose name goes before theirs
 abbrev pub children : List (List ℕ) → List Word
@@ -54,7 +73,8 @@ naming_of_root name =
     entry (λ key. bytes_eq name (codes key))
     (("ONIXMessage", Reference) ∷ ("ONIXmessage", Short) ∷ [])
 
--- The name of a stranger: an element that is called as one that counts where it stands, and is in
--- another namespace. No element of ONIX is called so.
+-- The name of a stranger: an element that is called as one that counts where it stands, and does
+-- not count: it is in another namespace, of the other kind of names, or in another case of letters.
+-- No element of ONIX is called so.
 abbrev pub stranger : List ℕ
 stranger = codes ":"

@@ -24,7 +24,12 @@ line_views lines = map line_view lines
 -- a word, as its texts
 abbrev pub word_view : Word → Spelled
 word_view w =
-    record { composite = w.composite.now; reference = w.reference.now; short = w.short.now }
+    record {
+      composite = w.composite.now;
+      reference = w.reference.now;
+      short = w.short.now;
+      is_counted_alone = w.is_counted_alone;
+    }
 
 -- words, as that
 abbrev pub word_views : List Word → List Spelled

@@ -117,7 +117,7 @@ pub fn text_in<'a>(name: &[u8], elements: &Elements<'a>) -> Option<&'a [u8]>
 }
 
 /// Whether one of the elements, or of those in them, is a stranger: it is called as one that counts
-/// where it stands, and is in another namespace.
+/// where it stands, and does not count.
 pub fn has_stranger(elements: &Elements<'_>) -> bool
     ensures { result ≡ has_stranger elements.now }
 {

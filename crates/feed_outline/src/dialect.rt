@@ -1,14 +1,16 @@
 //! How a message is written.
 
-ghost use Rattle.std.specs.Prelude.{◌≡◌, ◌∷◌, [], IfOk, option_map};
-ghost use Rattle.feed_outline.specs.Dialect.{address_of, counted, dialect_of, format_of, is_release, root_address};
+ghost use Rattle.std.specs.Prelude.{◌≡◌, ◌∷◌, [], None, IfOk, if◌then◌else◌, option_map};
+ghost use Rattle.std.specs.Str.{bytes_eq};
+ghost use Rattle.feed_outline.specs.Dialect.{address_of, composite_of, counted, or_stranger, dialect_of, format_of, is_release, root_address};
 ghost use Rattle.feed_outline.specs.private.Growing.{scopes_of};
-ghost use Rattle.feed_outline.specs.Namespaces.{scope};
+ghost use Rattle.feed_outline.specs.Names.{is_called_among, name_among};
+ghost use Rattle.feed_outline.specs.Namespaces.{local_of, prefix_of, scope};
 ghost use Rattle.feed_outline.specs.Prefixes.{has_many};
 ghost use Rattle.feed_outline.specs.Views.{binding_views, word_views};
 
 use crate::grower::Grower;
-use crate::names::{Naming, Word, name_among, naming_of_root, stranger};
+use crate::names::{Naming, Word, is_called_among, name_among, naming_of_root, stranger};
 use crate::namespaces::{Binding, address_among, bindings_of, split_name, undeclared};
 use crate::prefixes::are_many_at;
 use crate::spaces::fill;
@@ -80,6 +82,20 @@ fn other_release(release: Option<Vec<u8>>, address: Vec<u8>) -> Wrong
     }
 }
 
+// A stranger's name, where an element that does not count is called as one that does.
+fn called(vocabulary: &[Word], around: &Grower, name: &[u8]) -> Option<&'static [u8]>
+    ensures { option_map (λ n. n.now) result
+        ≡ or_stranger (is_called_among (word_views vocabulary.now)
+        (composite_of (scopes_of around.now.opens)) (local_of name.now)) None }
+{
+    let (_, local) = split_name(name);
+    if is_called_among(vocabulary, around.composite(), local) {
+        Some(stranger())
+    } else {
+        None
+    }
+}
+
 impl Dialect {
     /// How a message is written whose root has this tag.
     pub(crate) fn of_root(
@@ -132,8 +148,8 @@ impl Dialect {
     }
 
     /// The reference name of an element with this name and these declarations below what a grower
-    /// has open, where it counts by a vocabulary; a stranger's name, where it would in the
-    /// namespace of the root.
+    /// has open, where it counts by a vocabulary; a stranger's name, where it is called as one that
+    /// counts in any namespace, kind of names and case of letters.
     pub(crate) fn counted(
         &self,
         vocabulary: &[Word],
@@ -144,12 +160,31 @@ impl Dialect {
         ensures { option_map (λ n. n.now) result ≡ counted (word_views vocabulary.now) self.now
             (scopes_of around.now.opens) name.now (binding_views bindings.now) }
     {
+        match self.named(vocabulary, around, name, bindings) {
+            Some(reference) => Some(reference),
+            None => called(vocabulary, around, name),
+        }
+    }
+
+    // The reference name of an element that counts.
+    fn named(
+        &self,
+        vocabulary: &[Word],
+        around: &Grower,
+        name: &[u8],
+        bindings: &[Binding],
+    ) -> Option<&'static [u8]>
+        ensures { option_map (λ n. n.now) result
+            ≡ (if bytes_eq (address_of self.now (scope [] (binding_views bindings.now)
+            ∷ scopes_of around.now.opens) (prefix_of name.now)) self.now.address
+            then name_among self.now.naming (word_views vocabulary.now)
+            (composite_of (scopes_of around.now.opens)) (local_of name.now) else None) }
+    {
         let (prefix, local) = split_name(name);
-        let reference = name_among(self.naming, vocabulary, around.composite(), local)?;
         if self.address_of(around, prefix, bindings) == self.address.as_slice() {
-            Some(reference)
+            name_among(self.naming, vocabulary, around.composite(), local)
         } else {
-            Some(stranger())
+            None
         }
     }
 

@@ -1,7 +1,7 @@
 //! The names of elements.
 
 ghost use Rattle.std.specs.Prelude.{◌≡◌, option_map};
-ghost use Rattle.feed_outline.specs.Names.{name_among, naming_of_root, root, spelled, stranger};
+ghost use Rattle.feed_outline.specs.Names.{is_called, is_called_among, name_among, naming_of_root, root, spelled, stranger};
 ghost use Rattle.feed_outline.specs.Views.{word_view, word_views};
 
 /// The kinds of names that a message may be written in.
@@ -13,23 +13,38 @@ pub enum Naming {
     Short,
 }
 
-/// An element that counts: the composite that it stands in, its reference name and its short tag.
+/// An element that counts: the composite that it stands in, its reference name and its short tag,
+/// and whether it is counted and nothing else.
 #[derive(Clone, Copy, Debug)]
 pub struct Word {
     pub composite: &'static [u8],
     pub reference: &'static [u8],
     pub short: &'static [u8],
+    pub is_counted_alone: bool,
 }
 
-/// Words, by their composites: of each of its children the reference name and the short tag.
+/// Words, by their composites: of each of its children the reference name and the short tag, with
+/// `~` between them where it is counted alone.
 #[macro_export]
 macro_rules! words {
-    ($($composite:literal: $($reference:literal = $short:literal),+;)+) => {
+    ($($composite:literal: $($reference:literal $mark:tt $short:literal),+;)+) => {
         [$($($crate::Word {
             composite: $composite,
             reference: $reference,
             short: $short,
+            is_counted_alone: $crate::is_counted_alone!($mark),
         },)+)+]
+    };
+}
+
+/// Whether the mark is that of an element that is counted alone.
+#[macro_export]
+macro_rules! is_counted_alone {
+    (=) => {
+        false
+    };
+    (~) => {
+        true
     };
 }
 
@@ -63,6 +78,28 @@ pub(crate) fn name_among(
     None
 }
 
+// Whether an element is called so by one of the names of a word, in whatever case of letters.
+fn is_called(name: &[u8], word: &Word) -> bool
+    ensures { result ≡ is_called name.now (word_view word.now) }
+{
+    word.reference.eq_ignore_ascii_case(name) || word.short.eq_ignore_ascii_case(name)
+}
+
+/// Whether an element of a composite is called as one that counts in any namespace, kind of names
+/// and case of letters, and is not only counted.
+pub(crate) fn is_called_among(words: &[Word], composite: &[u8], name: &[u8]) -> bool
+    ensures { result ≡ is_called_among (word_views words.now) composite.now name.now }
+{
+    let mut rest = words;
+    while let [first, tail @ ..] = rest {
+        if first.composite == composite && !first.is_counted_alone && is_called(name, first) {
+            return true;
+        }
+        rest = tail;
+    }
+    false
+}
+
 /// The reference name of the root.
 pub(crate) fn root() -> &'static [u8]
     ensures { result.now ≡ root }
@@ -70,8 +107,8 @@ pub(crate) fn root() -> &'static [u8]
     b"ONIXMessage"
 }
 
-/// The name of an element that is called as one that counts where it stands, and is in another
-/// namespace. No element of ONIX is called so.
+/// The name of an element that is called as one that counts where it stands, and does not count.
+/// No element of ONIX is called so.
 pub(crate) fn stranger() -> &'static [u8]
     ensures { result.now ≡ stranger }
 {

@@ -161,14 +161,14 @@ class Elements:
         """The reference name of an element, empty where it does not count; a stranger is told to what is around it."""
         if not self.around:
             return "ONIXMessage"
-        name = REFERENCE_NAMES.get(local, "") if self.is_short else local
         parent = self.around[-1]
-        if name not in COUNTED.get(parent.name, "").split():
-            return ""
-        if address != self.address:
-            parent.strangers.append(Stranger(parent.name, name))
-            return ""
-        return name
+        counted = COUNTED.get(parent.name, "").split()
+        name = REFERENCE_NAMES.get(local, "") if self.is_short else local
+        if name in counted and address == self.address:
+            return name
+        called = [each for each in counted if local.lower() in (each.lower(), SHORT_TAGS[each].lower())]
+        parent.strangers += [Stranger(parent.name, each) for each in called if each not in DISCOUNTS]
+        return ""
 
     def end(self) -> None:
         self.around.pop()

@@ -79,8 +79,8 @@ class Detail:
 
 
 class Stranger(NamedTuple):
-    """An element of another namespace than the root's, in the first composite of that name, which has the name of one
-    that counts there."""
+    """An element in the first composite of that name which has the name of one that counts there, and does not count:
+    it is in another namespace than the root's, of the other kind of names, or in another case of letters."""
 
     within: str
     name: str

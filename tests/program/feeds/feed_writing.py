@@ -66,7 +66,7 @@ DECLARATIONS = [
 
 # The elements that count below each composite.
 COUNTED = {
-    "ONIXMessage": "Header Product",
+    "ONIXMessage": "Header Product NoProduct",
     "Header": "Sender Addressee MessageNumber MessageRepeat SentDateTime DefaultPriceType DefaultCurrencyCode",
     "Sender": "SenderIdentifier",
     "SenderIdentifier": "SenderIDType IDValue",
@@ -185,8 +185,8 @@ class Writer:
         return space + written + space
 
     def passed_over(self) -> str:
-        """An element that does not count: of no name that does, of the other kind of names, or of another
-        namespace and a name that counts elsewhere alone; with one in it that would count elsewhere."""
+        """An element that does not count: of no name that does, or of one that counts elsewhere alone, of the other kind
+        of names or of another namespace too; with one in it that would count elsewhere."""
         counted = COUNTED.get(self.around[-1], "").split()
         counting = self.random.choice([name for name in COUNTING if name not in counted])
         tag = self.name(counting)
@@ -210,10 +210,17 @@ class Writer:
             ways += [f"<{tag} xmlns=''>7</{tag}>", f"<nobody:{tag}>7</nobody:{tag}>"]
         return self.random.choice(ways)
 
+    def as_stranger(self, reference_name: str) -> str:
+        """An element of that name in another namespace, of the other kind of names, or in other letters."""
+        local, other = self.local(reference_name), SHORT_TAGS[reference_name] if not self.is_short else reference_name
+        odd = [name for name in (other, local.upper(), local.capitalize(), other.upper()) if name != local]
+        tag = self.names.prefixed(self.random.choice(odd))
+        return self.random.choice([f"<{tag}>7</{tag}>", self.in_another_namespace(reference_name)])
+
     def put_stranger(self) -> None:
         """The stranger, where it is one of the composite that is written."""
         if self.stranger and self.stranger.within == self.around[-1]:
-            self.append(self.in_another_namespace(self.stranger.name))
+            self.append(self.as_stranger(self.stranger.name))
             self.stranger = None
 
     def put(self, *pieces: str) -> None:

@@ -33,7 +33,7 @@ WHOLE_FILE = "file"
 SHORT_TAGS = dict(
     pair.split("=")
     for pair in """
-    ONIXMessage=ONIXmessage Header=header Sender=sender SenderIdentifier=senderidentifier
+    ONIXMessage=ONIXmessage NoProduct=x507 Header=header Sender=sender SenderIdentifier=senderidentifier
     SenderIDType=m379 IDValue=b244 Addressee=addressee AddresseeIdentifier=addresseeidentifier
     AddresseeIDType=m380 MessageNumber=m180 MessageRepeat=m181 SentDateTime=x307 DefaultPriceType=x310
     DefaultCurrencyCode=m186 Product=product RecordReference=a001 NotificationType=a002

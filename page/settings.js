@@ -17,6 +17,8 @@ const NEEDED = ["series", "country", "currency", "price_type"];
 const KEYS = [
   ...NEEDED, "shop", "language", "quantities", "minutes_to_usual", "catalogue", "many_copies", "many_money",
 ];
+// What the file of prices reads of desk.json.
+const OTHERS = ["recommended_type", "price_file"];
 const SERIES_KEYS = [
   "name", "words", "days_without_message", "parts", "number_offset", "sender", "addressee", "mail",
   "free_from",
@@ -171,7 +173,7 @@ export function readSettings(text) {
     if (!Object.hasOwn(given, key)) tell(problems, "lacks", { key });
   }
   if (Object.hasOwn(given, "rules")) tell(problems, "rules");
-  checkKeys(given, [...KEYS, "rules"], problems, "unknown");
+  checkKeys(given, [...KEYS, ...OTHERS, "rules"], problems, "unknown");
   return { settings: settingsOf(given, problems), problems };
 }
 

@@ -20,7 +20,8 @@ journal() {
         set -- --since=-1h "$@"
     fi
     journalctl --quiet --no-pager --output=short --unit=onixdesk.service --unit='onixdesk-inbox@*.service' \
-        --unit=onixdesk-copy.service --unit=onixdesk-follow.service --unit=onixdesk-titles.service "$@" >"$folder/journal" || return
+        --unit=onixdesk-copy.service --unit=onixdesk-follow.service --unit=onixdesk-titles.service \
+        --unit=onixdesk-prices.service --unit=onixdesk-prices-mail.service "$@" >"$folder/journal" || return
     [ -e "$folder/read" ] && [ "$(sed -n 1p "$folder/journal")" = "$(sed -n 2p "$folder/read")" ] &&
         sed -i 1d "$folder/journal"
     cat "$folder/journal"

@@ -5,6 +5,7 @@ import fcntl
 import os
 from collections.abc import Iterator
 from pathlib import Path
+from typing import TextIO
 
 
 def put(file: Path, text: str) -> None:
@@ -17,6 +18,21 @@ def put(file: Path, text: str) -> None:
             new.unlink()
         raise
     os.replace(new, file)
+
+
+@contextlib.contextmanager
+def put_whole(file: Path) -> Iterator[TextIO]:
+    """A file to write, under a hidden name; it gets its own name at the end, once it is on the disk, or none."""
+    new = file.with_name(f".{file.name}.new")
+    try:
+        with open(new, "w", encoding="utf-8", newline="") as opened:
+            yield opened
+            opened.flush()
+            os.fsync(opened.fileno())
+        os.replace(new, file)
+    except BaseException:
+        new.unlink(missing_ok=True)
+        raise
 
 
 @contextlib.contextmanager

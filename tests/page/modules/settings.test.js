@@ -18,6 +18,10 @@ test("the sample has nothing wrong in it", () => {
   assert.deepEqual(problems, []);
 });
 
+test("what the file of prices reads is not unknown", () => {
+  assert.deepEqual(problemsOf({ ...RIGHT, recommended_type: "02", price_file: {} }), []);
+});
+
 test("what is not named is as the page has it", () => {
   const { settings, problems } = readSettings(JSON.stringify(RIGHT));
   assert.deepEqual(problems, []);

@@ -76,7 +76,10 @@ def what_is_mailed(room: Room) -> Iterator[Outcome]:
     wanted = [*cut, "and 52 more"]
     yield Outcome("mails: what is in it", bodies(room), (wanted, wanted))
     called = room.path("calls").read_text().splitlines()
-    names = "onixdesk", "onixdesk-inbox@*", "onixdesk-copy", "onixdesk-follow", "onixdesk-titles"
+    names = [
+        "onixdesk", "onixdesk-inbox@*", "onixdesk-copy", "onixdesk-follow", "onixdesk-titles", "onixdesk-prices",
+        "onixdesk-prices-mail",
+    ]  # fmt: skip
     units = [f"--unit={name}.service" for name in names]
     yield Outcome("mails: of which units", [word for word in called[-1].split() if word.startswith("--unit")], units)
     yield Outcome("mails: at first of an hour", ["--since=-1h" in call for call in called], [True] * 2 + [False] * 2)

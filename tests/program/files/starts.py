@@ -101,6 +101,7 @@ def unit(_room: Room) -> Iterator[Outcome]:
         "desk-copy/onixdesk-copy.service",
         "desk-follow/onixdesk-follow.service",
         "desk-metrics/onixdesk-metrics.service",
+        "desk-prices/onixdesk-prices.service",
     ]
     for name in names:
         text = (ROOT / "programs" / name).read_text(encoding="utf-8")

@@ -14,9 +14,14 @@ from tools.root import ROOT
 MAY_IMPORT: dict[str, set[str]] = {
     "programs/shared/command_lines": set(),
     "programs/shared/message_records": set(),
+    "programs/shared/desk_batches": {"command_lines"},
+    "programs/shared/shop_files": {"command_lines"},
     "programs/desk-copy/desk_copy": {"command_lines"},
     "programs/desk-restore/desk_restore": {"command_lines", "desk_copy"},
     "programs/desk-follow/desk_follow": {"command_lines", "desk_copy", "psycopg2"},
+    "programs/desk-prices/desk_prices": {
+        "command_lines", "desk_batches", "desk_copy", "desk_follow", "onixdesk_titles", "shop_files",
+    },
     "programs/onixdesk-inbox/onixdesk_inbox": {"command_lines"},
     "programs/desk-metrics/desk_metrics": {"command_lines", "onixdesk_inbox"},
     "programs/onixdesk-look/onixdesk_look": {"command_lines", "message_records", "onixdesk_inbox"},
@@ -25,8 +30,9 @@ MAY_IMPORT: dict[str, set[str]] = {
     "bench": {"tools"},
     # The tests of the page drive a browser.
     "tests": {
-        "bench", "command_lines", "desk_copy", "desk_follow", "desk_metrics", "desk_restore", "message_records",
-        "onixdesk_inbox", "onixdesk_look", "onixdesk_titles", "psycopg2", "selenium", "tools",
+        "bench", "command_lines", "desk_copy", "desk_follow", "desk_metrics", "desk_prices", "desk_restore",
+        "message_records", "onixdesk_inbox", "onixdesk_look", "onixdesk_titles", "psycopg2", "selenium", "shop_files",
+        "tools",
     },
 }
 

@@ -18,6 +18,7 @@ BLOCKS = [
     ("docs/INBOX.md", "adduser --system --group --no-create-home --home /nonexistent onixdesk-titles"),
     ("docs/RELIABILITY.md", "install -m 755 programs/onixdesk-mail/mail.sh"),
     ("docs/METRICS.md", "install -m 644 programs/desk-metrics/"),
+    ("docs/PRICES.md", "install -m 755 programs/desk-prices/"),
 ]
 
 # Those where a sentence does.
@@ -63,7 +64,7 @@ def is_there(root: Path, name: str) -> bool:
 def enabled() -> set[str]:
     """The units that the documents say to enable."""
     found: set[str] = set()
-    for document in ("README.md", "docs/INBOX.md", "docs/METRICS.md", "docs/RELIABILITY.md", "docs/SCALE.md"):
+    for document in ("README.md", "docs/INBOX.md", "docs/METRICS.md", "docs/PRICES.md", "docs/RELIABILITY.md", "docs/SCALE.md"):
         for line in re.findall("systemctl enable --now ([^`\n]*)", ROOT.joinpath(document).read_text(encoding="utf-8")):
             found |= set(re.sub("@[a-z]+", "@", line).split())
     return {name if "." in name else f"{name}.service" for name in found}

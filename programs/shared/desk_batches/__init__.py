@@ -1,0 +1,1 @@
+"""Batches of requests to the desk's own program (docs/FORMATS.md)."""

@@ -1,0 +1,53 @@
+"""Batches that the program answers over a database, or an open desk at its socket."""
+
+import csv
+import socket
+import subprocess
+from collections.abc import Iterable, Iterator
+from pathlib import Path
+from typing import IO
+
+from command_lines.ending import Fault
+
+# The most that a batch may have.
+MOST_BYTES = 4_194_304
+
+# An answer is a record and those of these kinds behind it.
+BEHIND = ("offer", "span", "missing")
+
+Answer = list[list[str]]
+
+
+def answers_in(lines: Iterable[str]) -> Iterator[Answer]:
+    """The answers to questions about articles and gaps."""
+    answer: Answer = []
+    for record in csv.reader(lines):
+        if record[0] not in BEHIND and answer:
+            yield answer
+            answer = []
+        answer.append(record)
+    if answer:
+        yield answer
+
+
+def answers_of_program(words: list[str | Path], text: IO[str]) -> Iterator[Answer]:
+    """The answers of a run of the program to a batch, which is a file. Fault if it fails."""
+    with subprocess.Popen(words, stdin=text, stdout=subprocess.PIPE, stderr=subprocess.PIPE, encoding="utf-8") as ran:
+        assert ran.stdout and ran.stderr
+        yield from answers_in(ran.stdout)
+        said = ran.stderr.read().strip()
+    if ran.returncode > 1:
+        raise Fault(f"{words[0]}: {said}")
+
+
+def answers_of_desk(path: Path, text: str) -> list[Answer]:
+    """The answers of an open desk to a batch at its socket."""
+    try:
+        with socket.socket(socket.AF_UNIX) as peer:
+            peer.connect(str(path))
+            peer.sendall(text.encode())
+            peer.shutdown(socket.SHUT_WR)
+            with peer.makefile(encoding="utf-8", newline="") as lines:
+                return [*answers_in(lines)]
+    except OSError as error:
+        raise Fault(f"{path}: {error.strerror}") from None

@@ -128,6 +128,15 @@ def pages(room: Room) -> Iterator[Outcome]:
     yield Outcome("README.md: pages that it does not lead to", sorted(there - linked), [])
 
 
+def sources(room: Room) -> Iterator[Outcome]:
+    """The README of a crate names each of its sources, but the one that begins it, and none that is not there."""
+    for crate in sorted((ROOT / "crates").iterdir()):
+        files = {path.relative_to(crate).as_posix() for path in crate.glob("src/**/*.rt")}
+        named = set(re.findall(r"(?<![\w/])src/[\w/]+\.rt\b", (crate / "README.md").read_text(encoding="utf-8")))
+        wrong = sorted((files - {"src/lib.rt", "src/main.rt"}) ^ (named - {"src/lib.rt", "src/main.rt"}))
+        yield Outcome(f"{crate.name}/README.md: the sources", wrong, [])
+
+
 def sentences(text: str) -> list[str]:
     """The sentences of eight words or more of a page, a sentence a line: without headings, tables and code."""
     lines = [line for line in text.splitlines() if not line.startswith(("    ", "|", "#"))]

@@ -106,7 +106,7 @@ def lost_sources(text: str, home: str | None) -> list[str]:
     ]
 
 
-def sources(room: Room) -> Iterator[Outcome]:
+def sources_of_crates(room: Room) -> Iterator[Outcome]:
     pages = [ROOT / "README.md", ROOT / "CONTRIBUTING.md", *sorted((ROOT / "docs").glob("*.md"))]
     pages += [ROOT / "crates" / crate / "README.md" for crate in CRATES]
     yield Outcome("crates without a README", [str(page) for page in pages if not page.is_file()], [])

@@ -17,7 +17,7 @@ from onixdesk_inbox import telling
 from onixdesk_inbox.feeding import Feed, feed_of
 from onixdesk_inbox.names import PACKED, shown
 from onixdesk_inbox.packed import Damage
-from onixdesk_inbox.verdicts import Refusal
+from onixdesk_inbox.verdicts import Refusal, Unconverted
 
 CONVERTED, REFUSED = 0, 1
 
@@ -32,6 +32,22 @@ TEXT: dict[str, Any] = {"encoding": "utf-8", "errors": "backslashreplace"}
 PROGRAM = "onixdesk: "
 REFUSED_WORD = re.compile(r"\brefused: ")
 WRONG_PRODUCTS = re.compile(r"\b([0-9]+) products? wrong$")
+
+
+# What the converter proposes on a command line, and how an inbox has it in its settings.
+REMEDIES = {
+    "--number N gives one": "NUMBER=next gives one",
+    "--sender TYPE,VALUE gives one": "--sender TYPE,VALUE in WORDS gives one",
+    "--addressee TYPE,VALUE picks one": "--addressee TYPE,VALUE in WORDS picks one",
+    "--wrong all lets them through": "--wrong all in WORDS lets them through",
+}
+
+
+def in_settings(why: str) -> str:
+    """Why a feed is refused, with the remedies that an inbox has."""
+    for on_command_line, in_inbox in REMEDIES.items():
+        why = why.replace(on_command_line, in_inbox)
+    return why
 
 
 @dataclass(frozen=True)
@@ -101,7 +117,7 @@ class Converter:
             # With the second products were wrong, and the rest is converted.
             return lines
         if status == REFUSED:
-            raise Refusal(lines.last)
+            raise Unconverted(in_settings(lines.last))
         if status == -signal.SIGKILL:
             raise Refusal("its conversion was killed, as where it takes more memory than the unit allows")
         why = lines.first if status == BAD_CALL else lines.last

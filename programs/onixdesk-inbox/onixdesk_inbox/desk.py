@@ -41,7 +41,7 @@ REASONS = {
     "unknown-series": "no series of its sender and addressee is agreed",
     "before-first": "number {number} is below the first number of the series, {first}",
     "waived": "number {number} was waived",
-    OTHER_CONTENTS: "another message of number {number} was taken before",
+    OTHER_CONTENTS: "another message of number {number} was taken before; a correction needs a number of its own",
 }
 
 

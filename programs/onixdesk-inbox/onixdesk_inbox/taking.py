@@ -13,7 +13,11 @@ from onixdesk_inbox.numbers import Numbers
 from onixdesk_inbox.posting import Quicker, post
 from onixdesk_inbox.settings import NEXT, Settings
 from onixdesk_inbox.state import State
-from onixdesk_inbox.verdicts import Refusal, Taken
+from onixdesk_inbox.verdicts import Refusal, Taken, Unconverted
+
+# What a feed leaves that is not converted: one with a number of its own holds up its series.
+NOTHING_TAKEN = "nothing of it is taken"
+WAITING = f"{NOTHING_TAKEN}, and the messages behind its number wait"
 
 # How often a number is asked for that somebody else is quicker with.
 TRIES = 20
@@ -120,7 +124,10 @@ class Taker:
             work.answer.touch()
             return [copied.source], NOTHING_SAID
         of_feed = None if number is None else self.number_of_feed(number)
-        lines = self.converter.convert(copied.name, copied.source, of_feed, work.messages, work.answer)
+        try:
+            lines = self.converter.convert(copied.name, copied.source, of_feed, work.messages, work.answer)
+        except Unconverted as refusal:
+            raise Refusal(f"{refusal}; {NOTHING_TAKEN if of_feed else WAITING}") from None
         messages = sorted(work.messages.glob("*.csv"))
         if not messages:
             raise Fault("the converter wrote no message")

@@ -47,3 +47,7 @@ class Refusal(Exception):
     def __init__(self, why: str, reason: str = "") -> None:
         super().__init__(why)
         self.reason = reason
+
+
+class Unconverted(Refusal):
+    """A feed that the converter refuses."""

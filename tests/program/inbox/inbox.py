@@ -16,6 +16,7 @@ from tests.program.inbox.inboxes import (
     MALFORMED,
     OTHER,
     ROW_1,
+    WAITING,
     WORDS,
     Inbox,
     ended,
@@ -85,7 +86,7 @@ def what_the_converter_takes(room: Room) -> Iterator[Outcome]:
     inbox.put({name: packed(name, b"x%d" % place) for place, name in enumerate(feeds)})
     came = inbox.run("--converter", program)
     shown = [name.replace("\x07", "\\x07") for name in feeds]
-    wanted = said(*(f"{name}: refused: 3:7: 7 words" for name in shown), status=1)
+    wanted = said(*(f"{name}: refused: 3:7: 7 words{WAITING}" for name in shown), status=1)
     yield Outcome("inbox: what the converter is given", came, wanted)
     given = room.path("converter.given").read_text().splitlines()
     yield Outcome("inbox: the names that the converter is given", given, 
@@ -93,6 +94,25 @@ def what_the_converter_takes(room: Room) -> Iterator[Outcome]:
     lines = {f"refused/{name}.answer": f"onixdesk: {name}:3:7: refused: 7 words\n".encode() for name in shown}
     kept = {name: data for name, data in inbox.kept().items() if name.endswith(".answer")}
     yield Outcome("inbox: the names that are kept", kept, lines)
+
+
+def remedies(room: Room) -> Iterator[Outcome]:
+    """What the converter proposes on its command line is told as an inbox has it in its settings."""
+    told = {
+        "no MessageNumber; --number N gives one": "no MessageNumber; NUMBER=next gives one",
+        "no sender identifier; --sender TYPE,VALUE gives one":
+            "no sender identifier; --sender TYPE,VALUE in WORDS gives one",
+        "several addressees; --addressee TYPE,VALUE picks one":
+            "several addressees; --addressee TYPE,VALUE in WORDS picks one",
+        "2 of 3 products wrong, the first R1; the sender has to mend it, or --wrong all lets them through":
+            "2 of 3 products wrong, the first R1; the sender has to mend it, or --wrong all in WORDS lets them through",
+    }
+    inbox = Inbox(room, 1)
+    for place, (why, wanted) in enumerate(told.items()):
+        program = script(room, "converter", f"echo 'onixdesk: feed.xml:1:1: refused: {why}' >&2; exit 1")
+        inbox.put({f"{place}.xml": why.encode()})
+        came = inbox.run("--converter", program)
+        yield Outcome(f"inbox: {why}", came, said(f"{place}.xml: refused: 1:1: {wanted}{WAITING}", status=1))
 
 
 def a_feed_that_is_refused(room: Room) -> Iterator[Outcome]:
@@ -112,7 +132,7 @@ def names_that_come_again(room: Room) -> Iterator[Outcome]:
     """The same file again stands once; another of its name gets a number."""
     batch(room, AGREEMENT)
     one, two, other = feed_of("R1"), numbered(["R2"], 2), feed_of("R3")
-    refusal = "a.xml: refused: another message of number 1 was taken before"
+    refusal = "a.xml: refused: another message of number 1 was taken before; a correction needs a number of its own"
     with serving(room, WORDS, 4) as desk:
         inbox = Inbox(room, desk.port)
         for data, line in [
@@ -182,7 +202,7 @@ def wrong_products(room: Room) -> Iterator[Outcome]:
             f"{name}.xml: done{told}: number {number} applied; notes: {last}"
             for number, (name, (last, told)) in enumerate(zip(messages, WRONG.items(), strict=True), 1)
         ]
-        wanted = said(*lines, "none.xml: refused: 2:1: 2 of 3 products wrong", status=1)
+        wanted = said(*lines, f"none.xml: refused: 2:1: 2 of 3 products wrong{WAITING}", status=1)
         yield Outcome("inbox: products that are wrong", inbox.run("--converter", program), wanted)
         found = sorted(name for name in inbox.kept() if name.endswith(".xml"))
         wanted_files = [*(f"done/{name}.xml" for name in messages), "refused/none.xml"]

@@ -241,7 +241,7 @@ def numbers_that_others_took(room: Room) -> Iterator[Outcome]:
     yield Outcome("inbox: numbers that others take always", run_at(inbox, type("Desk", (Contested,), {"lost": 99})), wanted)
     (inbox.incoming / "b.xml").unlink()
     inbox.put({"c.xml": one})
-    refusal = "c.xml: refused: another message of number 3 was taken before"
+    refusal = "c.xml: refused: another message of number 3 was taken before; a correction needs a number of its own"
     wanted = said(refusal, status=1)
     yield Outcome("inbox: a number of before that is another's", run_at(inbox, type("Desk", (Contested,), {"lost": 99})), wanted)
 

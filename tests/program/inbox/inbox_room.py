@@ -8,7 +8,18 @@ from collections.abc import Iterator
 
 from tests.program.feeds.convert.wanted_runs import message_of
 from tests.program.databases import batch
-from tests.program.inbox.inboxes import AGREEMENT, CONNECTIONS, WORDS, Inbox, ended, of_series, said, script, taken
+from tests.program.inbox.inboxes import (
+    AGREEMENT,
+    CONNECTIONS,
+    WAITING,
+    WORDS,
+    Inbox,
+    ended,
+    of_series,
+    said,
+    script,
+    taken,
+)
 from tests.program.room import Room
 from tests.program.serving import serving
 from tests.running import Outcome
@@ -49,7 +60,7 @@ def large_and_refused(room: Room) -> Iterator[Outcome]:
     feed = bytes(range(256)) * 65_536 + b"."
     inbox.put({"a.xml": feed, "b.xml": feed[:-1]})
     program = script(room, "converter", 'echo "onixdesk: feed.xml: refused: never" >&2; exit 1')
-    lines = ["a.xml: refused: never; kept as a.xml.head", "b.xml: refused: never"]
+    lines = [f"a.xml: refused: never{WAITING}; kept as a.xml.head", f"b.xml: refused: never{WAITING}"]
     yield Outcome("inbox: large feeds", inbox.run("--converter", program), said(*lines, status=1))
     kept = inbox.kept()
     digest = hashlib.sha256(feed).hexdigest()

@@ -15,7 +15,19 @@ from onixdesk_inbox.packed import Damage, bounded
 from tests.program.feeds.convert.case_files import FRAMES
 from tests.program.feeds.convert.wanted_runs import BAD, FRAME, ONE, PRODUCT, zipped
 from tests.program.databases import batch
-from tests.program.inbox.inboxes import AGREEMENT, WORDS, Inbox, ended, files_in, numbered, of_series, said, script, taken
+from tests.program.inbox.inboxes import (
+    AGREEMENT,
+    WAITING,
+    WORDS,
+    Inbox,
+    ended,
+    files_in,
+    numbered,
+    of_series,
+    said,
+    script,
+    taken,
+)
 from tests.program.room import SECONDS, Group, Room
 from tests.program.serving import serving
 from tests.running import Outcome
@@ -216,7 +228,7 @@ def converters_that_stop(room: Room) -> Iterator[Outcome]:
     feed = b"".join([FRAME.before.encode(), *(PRODUCT.format(f"R{number}").encode() for number in range(200_000))])
     inbox = Inbox(room, 1)
     for seconds, step, why in [
-        (SECONDS, "echo 'onixdesk: -:1:9: refused: enough' >&2; exit 1", "1:9: enough"),
+        (SECONDS, "echo 'onixdesk: -:1:9: refused: enough' >&2; exit 1", f"1:9: enough{WAITING}"),
         (2, "exec sleep 60", "its conversion took more than 2 s"),
     ]:
         inbox.set(CONVERSION_SECONDS=seconds)

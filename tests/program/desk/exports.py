@@ -5,7 +5,6 @@ from collections.abc import Iterator
 
 from tests.program.feeds.convert.failing_files import small_disk
 from tests.program.databases import DATABASE, all_rows, batch, execute
-from tests.program.files.desk_restore import restore
 from tests.program.documents.examples import block
 from tests.program.room import UNREADABLE, Ran, Room
 from tests.program.written_cases import TESTS
@@ -262,27 +261,3 @@ def moved(room: Room) -> Iterator[Outcome]:
     came = shell(room, block("docs/RELIABILITY.md", "  mkdir parts"))
     yield Outcome("a desk is moved in parts", (came.status, came.output), (0, AGAIN))
     yield Outcome("a desk that was moved in parts", listed(room, "export", "new.db"), Ran(0, EXPORT))
-
-
-def corrected(room: Room) -> Iterator[Outcome]:
-    """What docs/MISTAKES.md says: a first number and a waiver are corrected in the text of the desk."""
-    batch(room, REQUESTS)
-    lines = block("docs/MISTAKES.md", "desk-copy /var/lib/onixdesk/shop.db before")
-    came = shell(room, lines[:-1])
-    answers = b"""\
-agreed,east,1
-waived,east,1
-agreed,north,1
-held,north,2,waiting-for=1
-held,north,4,waiting-for=1
-agreed,south,7
-"""
-    yield Outcome("a desk is corrected", (came.status, came.output), (0, answers))
-    yield Outcome("the text that was corrected", room.path("corrected.csv").read_bytes(), text_of("corrected"))
-    program, *words = lines[-1].split()
-    came = restore(room, *words, units="")
-    yield Outcome("a desk that was corrected is put into place", (program, came.status), ("desk-restore", 0))
-    yield Outcome("a desk that was corrected", listed(room, "export"), Ran(0, text_of("corrected")))
-    message = b"Message,2,06,4012345000009,06,5012345678900,5,1,,,\nEndMessage,1\n"
-    came = batch(room, message)
-    yield Outcome("a message whose waiver was taken out", came, Ran(0, b"held,north,5,waiting-for=1\n"))

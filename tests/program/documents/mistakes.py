@@ -1,132 +1,215 @@
-"""What docs/MISTAKES.md has for mistakes that were made, block by block, at a desk where they were."""
+"""What docs/MISTAKES.md has for mistakes that were made: each of its blocks is run as it is, at a desk and an inbox where
+they were made, and prices are compared before and behind it."""
 
 from collections.abc import Iterator
 
-from tests.program.databases import DATABASE, batch, gaps
-from tests.program.files.desk_restore import restore, taken_copy
-from tests.program.documents.examples import block, written
-from tests.program.inbox.inbox_numbers import CONVERTER, unwritten
-from tests.program.inbox.inboxes import AGREEMENT as INBOX_AGREEMENT
-from tests.program.inbox.inboxes import CONNECTIONS, WORDS, Inbox, script
-from tests.program.room import Ran, Room
-from tests.program.serving import serving
+from tests.program.documents.examples import blocks, written
+from tests.program.desk.exports import LIMIT, message_of
+from tests.program.files.machines import DESK, Machine, machine
+from tests.program.room import Room
 from tests.running import Outcome
+from tools.root import ROOT
 
 PAGE = "docs/MISTAKES.md"
+CORRECT = "/usr/share/onixdesk/correct.sh"
 
 PARTIES = "06,{},06,5012345678900"
 NORTH = PARTIES.format("4012345000009")
 MISTYPED = PARTIES.format("4012345000008")
+LATER = PARTIES.format("4012345000016")
+
+# Articles.
+A, B, C = "9781234567897", "9781234567880", "9781234567873"
 
 
-def message(number: int, parties: str = NORTH, reference: str = "R1") -> bytes:
-    lines = [
-        f"Message,1,{parties},{number},1,20250401,02,GBP",
-        f"Product,{reference},03,15,9781234567897",
-        "ProductSupply,,WORLD,",
-        "SupplyDetail,04,06,4012345000009,North Books,21,",
-        "Price,02,12.99,GBP,,WORLD,,,",
-        "EndMessage,5",
-    ]
-    return written(lines)
+def message(number: int, *prices: tuple[str, str], parties: str = NORTH) -> bytes:
+    """A message that puts a record for each article, whose reference is its last three digits, at a price."""
+    lines = [f"Message,1,{parties},{number},1,20250401,02,GBP"]
+    for isbn, amount in prices:
+        lines += [
+            f"Product,R{isbn[-3:]},03,15,{isbn}",
+            "ProductSupply,,WORLD,",
+            "SupplyDetail,04,06,4012345000009,North Books,21,",
+            f"Price,02,{amount},GBP,,WORLD,,,",
+        ]
+    return written([*lines, f"EndMessage,{len(lines)}"])
 
 
-def ask(room: Room, records: bytes) -> tuple[int, list[str]]:
-    """How a batch ends, and its answers."""
-    ran = room.run("--db", DATABASE, "batch", given=records)
-    return ran.status, ran.output.decode().splitlines()
+def agreed(parties: str = NORTH, first: int = 1) -> bytes:
+    return written([f"Agree,north,{parties},{first}"])
 
 
-def applied(series: str, number: int, counts: str) -> str:
-    return f"applied,{series},{number},{counts}"
+def offers(**amounts: str) -> dict[str, list[str]]:
+    """The prices of the articles, of which each that is named has one offer."""
+    isbns = {"a": A, "b": B, "c": C}
+    return {isbn: [f"north R{isbn[-3:]} {amounts[name]}"] if name in amounts else [] for name, isbn in isbns.items()}
 
 
-ONE = "replaced=1,updated=0,deleted=0,unknown=0,ignored=0"
-DELETED = "replaced=0,updated=0,deleted=1,unknown=0,ignored=0"
+# By these each block of the page is known.
+BLOCKS = {
+    "a mistyped sender": f"{CORRECT} 's/^Agree,north,06,4012345000008,",
+    "a first number too high": f"{CORRECT} 's/^\\(Agree,north,.*\\),2$/",
+    "a first number too low": "seq -f Waive,north,",
+    "another identifier": f"{CORRECT} 's/^\\(Agree,[^,]*\\|Message",
+    "a wrong number": f"{CORRECT} '/^Message,[12],06,4012345000009,06,5012345678900,20250401,",
+    "a waiver too early": f"{CORRECT} '/^Waive,north,5",
+    "a wrong message": f"{CORRECT} '/^Message,[12],06,4012345000009,06,5012345678900,2,",
+    "a wholesaler that is gone": "batch() {",
+    "a copy from before it": "desk-restore /var/lib/onixdesk-copies/",
+}
 
 
-def mistyped_sender(room: Room) -> Iterator[Outcome]:
-    came = ask(room, written([f"Agree,north,{MISTYPED},1"]) + message(1))
-    yield Outcome("a mistyped sender", came, (1, ["agreed,north,1", "refused,unknown-series"]))
-    came = ask(room, written(block(PAGE, "Agree,north2,")) + message(1))
-    yield Outcome("the right one under another name", came, (0, ["agreed,north2,1", applied("north2", 1, ONE)]))
+def block_with(first: str) -> list[str]:
+    """The one block that has a line that begins so."""
+    found, = (lines for lines in blocks(PAGE) if any(line.startswith(first) for line in lines))
+    return found
 
 
-def first_number_too_low(room: Room) -> Iterator[Outcome]:
-    agreed = written([f"Agree,north2,{NORTH},1"])
-    came = ask(room, agreed + message(3))
-    yield Outcome("a first number that is too low", came, (0, ["agreed,north2,1", "held,north2,3,waiting-for=1"]))
-    came = ask(room, written(block(PAGE, "Waive,north2,1")) + message(4, reference="R2"))
-    wanted = ["waived,north2,1", "waived,north2,2", applied("north2", 4, ONE)]
-    yield Outcome("the numbers below are waived", came, (0, wanted))
+def undone(desk: Machine, name: str, before: dict[str, str], behind: dict[str, str]) -> Iterator[Outcome]:
+    """Runs the block of the page with a line that begins so, and compares prices."""
+    yield Outcome(f"{name}: prices before", desk.prices(A, B, C), offers(**before))
+    ran = desk.run(block_with(BLOCKS[name]))
+    yield Outcome(f"{name}: it is undone", (ran.status, ran.status and ran.errors), (0, 0))
+    yield Outcome(f"{name}: prices behind", desk.prices(A, B, C), offers(**behind))
 
 
-def wrong_numbers(room: Room) -> Iterator[Outcome]:
-    """What the page says that is refused."""
-    agreed = written([f"Agree,north,{NORTH},2"])
-    came = ask(room, agreed + message(1) + message(20250401) + message(20250401, reference="R2"))
-    wanted = [
-        "agreed,north,2",
-        "refused,before-first,north,1,2",
-        "held,north,20250401,waiting-for=2",
-        "refused,other-contents,north,20250401",
-    ]
-    yield Outcome("wrong numbers", came, (1, wanted))
-    line = b"gaps,north,first=2,next=2,greatest=20250401,held=1,missing=1\nmissing,2,20250400\n"
-    yield Outcome("wrong numbers: the gap", gaps(room), Ran(0, line))
-    came = ask(room, written(["Waive,north,2"]) + message(2) + message(3))
-    wanted = ["waived,north,2", "refused,waived,north,2", applied("north", 3, ONE)]
-    yield Outcome("a waiver before its message", came, (1, wanted))
+def a_mistyped_sender(room: Room) -> Iterator[Outcome]:
+    with machine(room, agreed(MISTYPED), SENDER="06,4012345000008") as desk:
+        files = {"1.csv": message(1, (A, "10.00"), (B, "20.00")), "2.csv": message(2, (A, "11.00"))}
+        why = "refused: its sender is not 06,4012345000008"
+        yield Outcome("a mistyped sender: the inbox", desk.take(files), [f"{name}: {why}" for name in files])
+        yield from undone(desk, "a mistyped sender", {}, {"a": "11.000", "b": "20.000"})
+        wanted = ["3.csv: done: number 3 applied"]
+        yield Outcome("a mistyped sender: what comes then", desk.take({"3.csv": message(3, (C, "30.00"))}), wanted)
 
 
-SERVICE = "runuser -u onixdesk -- onixdesk --batches /run/onixdesk/batches"
+def a_first_number_too_high(room: Room) -> Iterator[Outcome]:
+    """Of a desk that has more text than a batch may have, in two parts."""
+    others = written([f"Agree,south,{PARTIES.format('4012345000023')},1"])
+    more = [message_of(number, [1000] * 2200).replace(b"4012345000009", b"4012345000023") for number in (1, 2)]
+    records = agreed(first=2) + others + more[0] + b"\n" + more[1]
+    yield Outcome("a first number too high: more than a batch may have", len(records) > LIMIT, True)
+    with machine(room, records, SENDER="06,4012345000009") as desk:
+        files = {"1.csv": message(1, (A, "14.00"), (B, "9.00")), "2.csv": message(2, (C, "12.99")),
+            "3.csv": message(3, (A, "16.00"))}
+        lines = ["1.csv: refused: number 1 is below the first number of the series, 2",
+            "2.csv: done: number 2 applied", "3.csv: done: number 3 applied"]
+        yield Outcome("a first number too high: the inbox", desk.take(files), lines)
+        before, behind = {"a": "16.000", "c": "12.990"}, {"a": "16.000", "b": "9.000", "c": "12.990"}
+        yield from undone(desk, "a first number too high", before, behind)
+        report = desk.ask("AskGaps,south", "AskGaps,north")
+        wanted = ["gaps,south,first=1,next=3,greatest=2,held=0,missing=0",
+            "gaps,north,first=1,next=4,greatest=3,held=0,missing=0"]
+        yield Outcome("a first number too high: the reports", report, wanted)
+
+
+def a_first_number_too_low(room: Room) -> Iterator[Outcome]:
+    with machine(room, agreed(), SENDER="06,4012345000009") as desk:
+        lines = ["3.csv: done: number 3 held, waiting for 1"]
+        yield Outcome("a first number too low: the inbox", desk.take({"3.csv": message(3, (A, "10.00"))}), lines)
+        yield from undone(desk, "a first number too low", {}, {"a": "10.000"})
+
+
+def another_identifier(room: Room) -> Iterator[Outcome]:
+    with machine(room, agreed(), SENDER="06,4012345000009") as desk:
+        files = {"1.csv": message(1, (A, "10.00"), (B, "20.00")), "2.csv": message(2, (A, "11.00"), parties=LATER)}
+        lines = ["1.csv: done: number 1 applied", "2.csv: refused: its sender is not 06,4012345000009"]
+        yield Outcome("another identifier: the inbox", desk.take(files), lines)
+        before, behind = {"a": "10.000", "b": "20.000"}, {"a": "11.000", "b": "20.000"}
+        yield from undone(desk, "another identifier", before, behind)
+        kept = sorted(path.name for path in (desk.state / "refused").iterdir())
+        yield Outcome("another identifier: nothing is refused", kept, [])
+
+
+# What the converter of the machine gives a number.
+FEED = message(20250401, (A, "10.00")).replace(b",20250401,1,", b",NUMBER,1,")
+
+
+def a_wrong_number(room: Room) -> Iterator[Outcome]:
+    with machine(room, agreed(), SENDER="06,4012345000009") as desk:
+        lines = ["feed.xml: done: number 20250401 held, waiting for 2"]
+        files = {"1.csv": message(1, (A, "9.00"), (B, "20.00")), "feed.xml": FEED}
+        yield Outcome("a wrong number: the inbox", desk.take(files)[1:], lines)
+        before = {"a": "9.000", "b": "20.000"}
+        yield from undone(desk, "a wrong number", before, before)
+        wanted = ["feed.xml: done: number 2 applied"]
+        yield Outcome("a wrong number: its feed", (desk.incoming(), desk.take({})), (["feed.xml"], wanted))
+        yield Outcome("a wrong number: its prices", desk.prices(A, B, C), offers(a="10.000", b="20.000"))
+
+
+def a_waiver_too_early(room: Room) -> Iterator[Outcome]:
+    with machine(room, agreed() + b"Waive,north,5\n" + b"Waive,north,1\nWaive,north,2\nWaive,north,3\n") as desk:
+        desk.settings(SENDER="06,4012345000009")
+        files = {"4.csv": message(4, (A, "14.00"), (B, "5.00")), "5.csv": message(5, (A, "16.00"), (C, "7.00")),
+            "6.csv": message(6, (B, "6.00"))}
+        lines = ["4.csv: done: number 4 applied", "5.csv: refused: number 5 was waived", "6.csv: done: number 6 applied"]
+        yield Outcome("a waiver too early: the inbox", desk.take(files), lines)
+        before, behind = {"a": "14.000", "b": "6.000"}, {"a": "16.000", "b": "6.000", "c": "7.000"}
+        yield from undone(desk, "a waiver too early", before, behind)
+
+
+def with_a_wrong_message(room: Room, name: str) -> Iterator[Outcome]:
+    """One that was applied is taken out, and what comes behind it is not held."""
+    with machine(room, agreed(), SENDER="06,4012345000009") as desk:
+        desk.run(["desk-copy /var/lib/onixdesk/shop.db /var/lib/onixdesk-copies/2026-11-27T02-30-12Z"])
+        files = {"1.csv": message(1, (A, "10.00")), "wrong.xml": message(2, (A, "1.00"), (B, "1.00")),
+            "3.csv": message(3, (C, "7.00"))}
+        lines = [f"{file}: done: number {number} applied" for number, file in enumerate(files, 1)]
+        yield Outcome(f"{name}: the inbox", desk.take(files), lines)
+        before, behind = {"a": "1.000", "b": "1.000", "c": "7.000"}, {"a": "10.000", "c": "7.000"}
+        yield from undone(desk, name, before, behind)
+        taken = [*desk.ask("AskGaps,north"), *desk.take({"4.csv": message(4, (A, "10.50"))})]
+        wanted = ["gaps,north,first=1,next=4,greatest=3,held=0,missing=0", "4.csv: done: number 4 applied"]
+        yield Outcome(f"{name}: what comes then", taken, wanted)
+
+
+def a_wrong_message(room: Room) -> Iterator[Outcome]:
+    yield from with_a_wrong_message(room, "a wrong message")
+
+
+def a_copy_from_before_it(room: Room) -> Iterator[Outcome]:
+    yield from with_a_wrong_message(room, "a copy from before it")
 
 
 def a_wholesaler_that_is_gone(room: Room) -> Iterator[Outcome]:
-    question = b"AskPrice,9781234567897,20250501,GB,GBP,02\n"
-    more = [f"Product,{name},03,01,{place},15,9781234567897" for place, name in enumerate(['"R,""2"""', '"A, B"', "R-3"])]
-    records = message(1).decode().splitlines()[:-1]
+    """References with quotation marks and commas, too."""
+    more = [f"Product,{name},03,01,{place},15,{A}" for place, name in enumerate(['"R,""2"""', '"A, B"', "R-3"])]
+    records = message(1, (A, "10.00"), (B, "20.00")).decode().splitlines()[:-1]
     for product in more:
         records += [product, *records[2:5]]
-    came = ask(room, written([f"Agree,north,{NORTH},1", *records, f"EndMessage,{len(records)}"]) + question)
-    offered = ["agreed", "applied", "price", *["offer"] * 4]
-    yield Outcome("offers of a wholesaler", (came[0], [line.split(",")[0] for line in came[1]]), (0, offered))
-    text = "\n".join(block(PAGE, "batch() {")).replace(SERVICE, f"{room.program} --db {DATABASE}")
-    yield Outcome("the message that deletes its records is written", room.call(["sh", "-e", "-c", text]), Ran(0))
-    came = ask(room, room.path("lines.csv").read_bytes() + question)
-    deleted = DELETED.replace("deleted=1", "deleted=4")
-    yield Outcome("its records are deleted", came, (0, [applied("north", 2, deleted), "price,9781234567897,0"]))
+    with machine(room, agreed() + written([*records, f"EndMessage,{len(records)}"])) as desk:
+        offered = {isbn: len(found) for isbn, found in desk.prices(A, B).items()}
+        yield Outcome("a wholesaler that is gone: its offers", offered, {A: 4, B: 1})
+        ran = desk.run(block_with(BLOCKS["a wholesaler that is gone"]))
+        answer = b"applied,north,2,replaced=0,updated=0,deleted=5,unknown=0,ignored=0\n"
+        yield Outcome("a wholesaler that is gone: its records are deleted", (ran.status, ran.output), (0, answer))
+        yield Outcome("a wholesaler that is gone: prices", desk.prices(A, B), {A: [], B: []})
 
 
-def a_wrong_feed(room: Room) -> Iterator[Outcome]:
-    """It is taken out of what an inbox took, and the desk is restored from a copy of before."""
-    batch(room, INBOX_AGREEMENT)
-    inbox = Inbox(room, 1, NUMBER="next")
-    inbox.converter = script(room, "converter", CONVERTER)
-    feeds = {f"{name}.xml": unwritten("S", name) for name in ("early", "wrong", "late")}
+def what_changes_nothing(room: Room) -> Iterator[Outcome]:
+    """The script stops where no line changes, and where the new desk refuses one; the desk goes on as it was."""
+    with machine(room, agreed() + message(1, (A, "10.00"))) as desk:
+        number = room.path("pid").read_text()
+        for expression, why in [
+            ("s/^Agree,south,/Agree,north,/", "no line of its text changes"),
+            ("s/^Agree,north,06,4012345000009/Agree,north,06,4012345000008/", "the new desk does not take all of it"),
+        ]:
+            ran = desk.run([f"{CORRECT} '{expression}'"])
+            line = f"correct.sh: {why}; the desk is as it was"
+            yield Outcome(why, (ran.status, ran.errors.decode().splitlines()[-1]), (1, line))
+        ran = desk.run([CORRECT])
+        yield Outcome("no expression", ran.status, 1)
+        found = room.path("pid").read_text(), desk.prices(A), [*room.path("var/tmp").iterdir()]
+        yield Outcome("the desk is as it was", found, (number, {A: [f"north R{A[-3:]} 10.000"]}, []))
+        yield Outcome("its database", room.path(DESK).exists(), True)
 
-    def take(*more: str) -> list[str]:
-        with serving(room, WORDS, CONNECTIONS) as desk:
-            inbox.set(NUMBER="next", DESK=f"http://127.0.0.1:{desk.port}")
-            return inbox.run(*more).errors.decode().splitlines()
 
-    name = taken_copy(room)
-    for each, feed in feeds.items():
-        inbox.put({each: feed})
-        take()
-    lines = block(PAGE, "systemctl stop ")
-    # Those between them are desk-restore's, and those around them are for the machine's own systemd.
-    text = "\n".join(lines[1:3]).replace("/var/lib/onixdesk-inbox/north", str(inbox.state))
-    ran = room.call(["sh", "-e", "-c", text])
-    kept = sorted(path.name for path in (inbox.state / "done").iterdir())
-    wanted = ["early.xml", "early.xml.answer", "late.xml", "late.xml.answer"]
-    yield Outcome("a wrong feed is taken out", (ran, kept), (Ran(0), wanted))
-    came = restore(room, f"copies/{name}", units="")
-    yield Outcome("a copy of before a wrong feed", (came.status, lines[3].split()[0]), (0, "desk-restore"))
-    before = "these bytes had that number before"
-    said = [f"early.xml: done: number 1 applied; {before}", f"late.xml: done: number 3 held, waiting for 2; {before}"]
-    yield Outcome("what came beside a wrong feed", take("--again", "all"), [f"onixdesk-inbox: {line}" for line in said])
-    text = lines[4].replace(SERVICE, f"{room.program} --db {DATABASE}")
-    yield Outcome("the number of a wrong feed is waived", room.call(["sh", "-c", text]), Ran(0, b"waived,north,2\n"))
-    inbox.put({"new.xml": unwritten("S", "new")})
-    yield Outcome("a feed behind it", take(), ["onixdesk-inbox: new.xml: done: number 4 applied"])
+def each_section(_room: Room) -> Iterator[Outcome]:
+    """Each mistake has a block, or a sentence that nothing has to be done; each block is run here, and is one command
+    or stops at the first that fails."""
+    _, _, *sections = (ROOT / PAGE).read_text(encoding="utf-8").split("\n## ")
+    without = [text.splitlines()[0] for text in sections if "\n\n    " not in text and "nothing has to be done" not in text]
+    yield Outcome("sections without a block", (len(sections) >= 7, without), (True, []))
+    yield Outcome("blocks", len(blocks(PAGE)), len(BLOCKS))
+    loose = [lines for lines in blocks(PAGE) if len(lines) > 1 and (lines[:2], lines[-1]) != (["(", "set -e"], ")")]
+    yield Outcome("blocks that go on behind a fault", loose, [])

@@ -76,6 +76,9 @@ def copy_to(folder: Path, file: Path, seconds: int) -> str:
 
 def copy_beside_others(folder: Path, file: Path, seconds: int, kept: int) -> str:
     with alone(folder), unfinished(folder) as new:
+        # One that is begun in the second of the last would have its name.
+        while named(folder, time.time_ns()).exists():
+            time.sleep(0.01)
         copied = copy_into(new, file, seconds)
         place = named(folder, copied.moment)
         put(new, place)

@@ -176,7 +176,12 @@ def kept(room: Room) -> Iterator[Outcome]:
     ahead = ["2999-01-01T00-00-00Z", "2999-01-02T00-00-00Z"]
     for name in ahead:
         room.path(f"copies/{name}").mkdir()
-    time.sleep(1)
+    taken = [time.strftime("%Y-%m-%dT%H-%M-%SZ", time.gmtime(time.time() + seconds)) for seconds in range(3)]
+    for name in taken:
+        room.path(f"copies/{name}").mkdir(exist_ok=True)
+    ran = copy(room, "--keep", "9", DATABASE, "copies")
+    found = max(each.name for each in room.path("copies").iterdir() if each.name.startswith("20"))
+    yield Outcome("a second that a copy has", (ran.status, found > taken[-1]), (0, True))
     copy(room, "--keep", "2", DATABASE, "copies")
     found = sorted(each.name for each in room.path("copies").iterdir())
     yield Outcome("the new one stays where others have later names", (len(found), found[0] > new.name, found[1]), (3, True, ahead[1]))

@@ -53,6 +53,14 @@ def bound(lines: list[str], name: str) -> int:
     return int(found[:-1]) * SCALES[found[-1]]
 
 
+def what_a_restore_stops(_room: Room) -> Iterator[Outcome]:
+    """A unit that a restore ends in its work has not failed, so nobody is mailed."""
+    for name in ("onixdesk-inbox/onixdesk-inbox@", "onixdesk-titles/onixdesk-titles", "desk-copy/onixdesk-copy",
+                 "desk-follow/onixdesk-follow", "desk-metrics/onixdesk-metrics"):
+        lines = ROOT.joinpath(f"programs/{name}.service").read_text(encoding="utf-8").splitlines()
+        yield Outcome(f"units: {name} that is ended", "SuccessExitStatus=TERM 143" in lines, True)
+
+
 def memory_of_the_desk(_room: Room) -> Iterator[Outcome]:
     """The program is refused memory before the system ends it."""
     lines = UNITS["the desk"].read_text(encoding="utf-8").splitlines()

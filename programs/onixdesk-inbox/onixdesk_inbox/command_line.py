@@ -12,6 +12,7 @@ from pathlib import Path
 from command_lines.ending import DONE, FAILED, Fault, status_of
 from command_lines.parsing import parser_of
 from onixdesk_inbox.again import ALL, LACKING, Repeat, Since
+from onixdesk_inbox.conversion import check_words
 from onixdesk_inbox.incoming import Incoming
 from onixdesk_inbox.running import Run
 from onixdesk_inbox.settings import read_settings
@@ -68,6 +69,7 @@ def command_line() -> argparse.ArgumentParser:
     add("--again", metavar="SINCE", type=since,
         help="take again what was done, and what was refused for a mistake that may be corrected, and nothing new: of"
         " that `all`, what the desk is `lacking`, or what was answered since a time as 2026-11-27T02-30-00Z of UTC")
+    add("--check", action="store_true", help="only read the settings, and try their WORDS; status 2 where one is wrong")
     add("series", metavar="SERIES", type=series, help="the name of the series that the desk has agreed")
     return parser
 
@@ -83,7 +85,11 @@ def run(options: argparse.Namespace, folder: Path, programs: Path, voice: Voice)
     name = options.series
     incoming = (options.incoming or Path(INCOMING.format(name))).resolve()
     converter = (options.converter or programs / "onix-to-csv").resolve()
-    settings = read_settings(options.settings or Path(SETTINGS.format(name)))
+    file = options.settings or Path(SETTINGS.format(name))
+    settings = read_settings(file)
+    if options.check:
+        check_words(settings.words, converter, file)
+        return DONE
     apart(incoming, folder)
     if not options.state and not folder.exists():
         # Made here it would be this user's, who need not be the unit's.

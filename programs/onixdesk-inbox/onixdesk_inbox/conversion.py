@@ -5,6 +5,7 @@ import os
 import re
 import signal
 import subprocess
+import tempfile
 import time
 from collections import deque
 from collections.abc import Iterator
@@ -17,6 +18,7 @@ from onixdesk_inbox import telling
 from onixdesk_inbox.feeding import Feed, feed_of
 from onixdesk_inbox.names import PACKED, shown
 from onixdesk_inbox.packed import Damage
+from onixdesk_inbox.settings import BadSettings
 from onixdesk_inbox.verdicts import Refusal, Unconverted
 
 CONVERTED, REFUSED = 0, 1
@@ -90,6 +92,15 @@ def said(answer: Path, file: str, name: str) -> Said:
                 first, last = first or shown(text), text
     os.replace(named, answer)
     return Said(first, shown(REFUSED_WORD.sub("", last, count=1)), tuple(summary))
+
+
+def check_words(words: tuple[str, ...], program: Path, file: Path) -> None:
+    """BadSettings where the converter does not take the words of that file of settings: it is given nothing to read."""
+    with tempfile.TemporaryDirectory() as folder:
+        ran = subprocess.run([program, *words, "-o", folder, STANDARD_INPUT], stdin=subprocess.DEVNULL, capture_output=True)
+    if ran.returncode == BAD_CALL:
+        first, *_ = ran.stderr.decode(**TEXT).splitlines()
+        raise BadSettings(f"{file}: WORDS: {shown(first)}")
 
 
 @dataclass(frozen=True)

@@ -32,6 +32,10 @@ class Numbers:
     def of(self, digest: str) -> int | None:
         return self.given.get(digest) or None
 
+    def has_later(self, digest: str) -> bool:
+        """Whether other bytes were given a later number than these."""
+        return max(self.given.values(), default=0) > self.given.get(digest, 0)
+
     def give(self, digest: str, number: int) -> None:
         """Keeps a number for these bytes. Also one that is there is synced: the run that gave it may have been
         killed before it was."""

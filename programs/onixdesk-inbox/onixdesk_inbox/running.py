@@ -7,6 +7,7 @@ from onixdesk_inbox.state import HEAD, State
 from onixdesk_inbox.taking import Copied, Taker
 from onixdesk_inbox.telling import Told, Voice
 from onixdesk_inbox.verdicts import Gone, Left, Lies, Taken
+from onixdesk_inbox.waiting import tell_of_waiting
 
 
 class Resuming:
@@ -63,6 +64,7 @@ class Run(Resuming):
         told = Told(self.state.told)
         has_long = told.tell(self.voice, self.left)
         told.keep()
+        has_long |= tell_of_waiting(self.state.waits, self.taker.series, self.taker.desk, self.voice)
         return self.has_failed or has_long
 
     def take_those_there(self) -> bool:

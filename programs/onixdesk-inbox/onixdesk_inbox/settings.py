@@ -42,6 +42,7 @@ class Settings:
     unchanged_seconds: int = 60
     conversion_seconds: int = 1800
     state_bytes: int = 10_000_000_000
+    records_of_one_isbn: int = 1000
     # Where the rows of titles are handed over, if they are.
     titles: Path | None = None
 
@@ -114,6 +115,12 @@ def count_of_bytes(value: str) -> int:
     return int(value)
 
 
+def count_of_records(value: str) -> int:
+    if not re.fullmatch("[1-9][0-9]{0,8}", value):
+        raise ValueError("records are one to nine digits, the first of them not 0")
+    return int(value)
+
+
 def folder(value: str) -> Path | None:
     if value and not value.startswith("/"):
         raise ValueError("TITLES is a folder, which begins with /, or nothing")
@@ -128,6 +135,7 @@ READERS: dict[str, tuple[str, Callable[[str], object]]] = {
     "UNCHANGED_SECONDS": ("unchanged_seconds", seconds),
     "CONVERSION_SECONDS": ("conversion_seconds", some_seconds),
     "STATE_BYTES": ("state_bytes", count_of_bytes),
+    "RECORDS_OF_ONE_ISBN": ("records_of_one_isbn", count_of_records),
     "TITLES": ("titles", folder),
 }
 

@@ -97,6 +97,7 @@ class State:
         self.most = most
         self.work = Work(path / "work")
         self.told = path / "told"
+        self.waits = path / "waits"
         # Waits until no other run is at work. The lock ends with the program.
         self.lock = os.open(path / "lock", os.O_RDWR | os.O_CREAT | os.O_CLOEXEC, 0o600)
         fcntl.flock(self.lock, fcntl.LOCK_EX)

@@ -6,11 +6,12 @@ from pathlib import Path
 
 from command_lines.ending import Fault
 from onixdesk_inbox.conversion import NOTHING_SAID, Converter, Said
+from onixdesk_inbox.crowding import crowded
 from onixdesk_inbox.desk import CORRECTABLE, LONGEST_MESSAGE, OTHER_SENDER, REASONS, Desk
 from onixdesk_inbox.handing import Handing
 from onixdesk_inbox.names import RECORDS, kept_name, shown
 from onixdesk_inbox.numbers import Numbers
-from onixdesk_inbox.posting import Quicker, post
+from onixdesk_inbox.posting import Posted, Quicker, post
 from onixdesk_inbox.settings import NEXT, Settings
 from onixdesk_inbox.state import State
 from onixdesk_inbox.verdicts import Refusal, Taken, Unconverted
@@ -108,7 +109,14 @@ class Taker:
         taken = posted.taken(self.series)
         more = ["these bytes had that number before"] if came_before else []
         more += [f"notes: {'; '.join(lines.summary)}"] if lines.summary else []
-        return replace(taken, said="; ".join([taken.said, *more]), wrong_products=lines.wrong_products)
+        return replace(taken, said="; ".join([taken.said, *more]), wrong_products=lines.wrong_products,
+            is_late=came_before and copied.answered is None and self.is_late(copied, posted))
+
+    def is_late(self, copied: Copied, posted: Posted) -> bool:
+        """Whether a feed that had its number before changes nothing, since the desk has a later one."""
+        if not posted.stand or not self.numbers.has_later(copied.digest):
+            return False
+        return int(self.desk.report(posted.stand[-1].series).members.get("greatest", 0)) > posted.stand[-1].number
 
     def number_of(self, copied: Copied) -> int | None:
         """The desk's number of the first message of a file, where the file's own does not count: the one that
@@ -145,10 +153,10 @@ class Taker:
 
     def look_at(self, copied: Copied, messages: list[Path]) -> None:
         """Refusal of a file with messages that the desk would not take, or not for this wholesaler."""
-        for message in messages:
-            if refusal := self.refusal_of(message):
-                self.state.work.say(f"{shown(copied.name)}: refused: {refusal}")
-                raise refusal
+        refusal = next(filter(None, map(self.refusal_of, messages)), None)
+        if refusal := refusal or crowded(messages, self.settings.records_of_one_isbn):
+            self.state.work.say(f"{shown(copied.name)}: refused: {refusal}")
+            raise refusal
 
     def refusal_of(self, message: Path) -> Refusal | None:
         size = message.stat().st_size

@@ -45,6 +45,8 @@ class Voice:
             self.of_file(ERROR, name, f"refused: {taken.said}")
         elif taken.is_amiss:
             self.of_file(ERROR, name, taken.said)
+        elif taken.is_late:
+            self.of_file(WARNING, name, f"done, nothing changed, since later feeds have come: {taken.said}")
         elif taken.wrong_products:
             self.of_file(WARNING, name, f"done, {counted(taken.wrong_products)} wrong: {taken.said}")
         else:

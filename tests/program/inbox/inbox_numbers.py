@@ -38,6 +38,7 @@ from tools.words import sought
 FEEDS = 12
 
 BEFORE = "; these bytes had that number before"
+LATE = "done, nothing changed, since later feeds have come"
 
 
 def digest(data: bytes) -> str:
@@ -61,7 +62,7 @@ def next_numbers(room: Room) -> Iterator[Outcome]:
         kept = [f"{digest(files[name])} {number}" for name, number in [("c.xml", 1), ("a.xml", 2), ("d.xml", 4)]]
         yield Outcome("inbox: next numbers, what is kept", numbers_kept(inbox), kept)
         inbox.put({"e.xml": unnumbered("R4"), "f.xml": files["a.xml"]})
-        wanted = said("e.xml: done: number 5 applied", f"f.xml: done: number 2 applied{BEFORE}; kept as a.xml")
+        wanted = said("e.xml: done: number 5 applied", f"f.xml: {LATE}: number 2 applied{BEFORE}; kept as a.xml")
         yield Outcome("inbox: bytes that come again", inbox.run(), wanted)
         inbox.put({"g.xml": b"<", "h.xml": unnumbered("R5")})
         came = inbox.run()

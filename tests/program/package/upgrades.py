@@ -1,0 +1,66 @@
+"""What the package's script does behind an upgrade: it names the settings that are no longer read, and starts again what
+is enabled."""
+
+import os
+import re
+from collections.abc import Iterator
+
+from tests.program.inbox.inboxes import PROGRAM, script
+from tests.program.room import Ran, Room
+from tests.running import Outcome
+from tools.root import ROOT
+
+SCRIPT = ROOT / "packaging/debian/onixdesk.postinst"
+SETTINGS = "SENDER=06,S\n"
+FOLDERS = ["bin", "etc/onixdesk/inbox", "etc/systemd/system/timers.target.wants", "run/systemd/system"]
+
+
+def configured(room: Room, version: str) -> Ran:
+    """How it ends where that version was there before; what systemd is told stands in the file `told`."""
+    text = SCRIPT.read_text(encoding="utf-8").replace("#DEBHELPER#", "")
+    text = re.sub(r"/usr/share/onixdesk/bin/onixdesk-inbox\b", f"{room.folder}/bin/onixdesk-inbox", text)
+    for place in ("/etc/onixdesk", "/etc/systemd", "/run/systemd"):
+        text = text.replace(place, f"{room.folder}{place}")
+    words = f'--settings "{room.folder}/etc/onixdesk/inbox/$series.conf" --converter "{room.folder}/bin/converter"'
+    programs = {
+        "dpkg": "exit 1",
+        "sendmail": "",
+        "runuser": 'shift 3; exec "$@"',
+        "onixdesk": f'exec "{room.program}" "$@"',
+        "converter": f'exec "{room.program}" convert "$@"',
+        "onixdesk-inbox": f'for series; do :; done; exec "{PROGRAM}" {words} "$@"',
+        "deb-systemd-invoke": f'echo "$@" >>"{room.path("told")}"',
+    }
+    for name, lines in programs.items():
+        script(room, f"bin/{name}", lines)
+    room.write("postinst", text.encode())
+    path = f"{room.path('bin')}:{os.environ['PATH']}"
+    return room.call(["sh", "postinst", "configure", version], environment={**os.environ, "PATH": path})
+
+
+def upgraded(room: Room) -> Iterator[Outcome]:
+    for folder in FOLDERS:
+        room.path(folder).mkdir(parents=True)
+    rules = room.path("etc/onixdesk/rules.toml")
+    settings = room.path("etc/onixdesk/inbox")
+    rules.write_bytes(ROOT.joinpath("programs/onixdesk/rules.toml").read_bytes())
+    for name, text in [("example", "SENDER=\n"), ("east", SETTINGS), ("north", "\nSENDER=\n"),
+                       ("west", f"{SETTINGS}WORDS=--leave-out-wrong\n")]:
+        settings.joinpath(f"{name}.conf").write_text(text)
+    for name in ("onixdesk-copy.timer", "onixdesk-inbox@north.timer"):
+        room.path(f"etc/systemd/system/timers.target.wants/{name}").symlink_to("/dev/null")
+    came = configured(room, "0.2.0")
+    lines = came.errors.decode().replace(f"{settings}/", "").splitlines()
+    wanted = [
+        "onixdesk-inbox: north.conf:2: SENDER is TYPE,VALUE with a TYPE of two digits, or any",
+        "onixdesk-inbox: west.conf: WORDS: error: unexpected argument '--leave-out-wrong' found",
+    ]
+    yield Outcome("an upgrade: the settings", (came.status, came.output, lines), (0, b"", wanted))
+    told = room.path("told").read_text()
+    yield Outcome("an upgrade: what is started", told, "start onixdesk-copy.timer onixdesk-inbox@north.timer\n")
+    rules.write_text("[[rule]]\nserie = 'north'\n")
+    came = configured(room, "0.2.0")
+    found = came.status, came.output.decode().replace(str(rules.parent), "").startswith("onixdesk: /rules.toml: line 1: ")
+    yield Outcome("an upgrade: the rules", found, (0, True))
+    came = configured(room, "")
+    yield Outcome("the first time no settings are read", (came.status, came.output + came.errors), (0, b""))

@@ -117,7 +117,7 @@ class Site:
         key = ["-newkey", "ec", "-pkeyopt", "ec_paramgen_curve:prime256v1", "-nodes"]
         files = ["-keyout", f"{folder}/site.key", "-out", f"{folder}/site.pem"]
         openssl("req", "-x509", *key, *subject, *files, "-days", "2")
-        secret = openssl("passwd", "-6", PASSWORD).decode()
+        secret = openssl("passwd", "-6", "-salt", "rounds=1000$0123456789abcdef", PASSWORD).decode()
         self.room.write("passwords", f"{USER}:{secret}".encode())
         self.configure(NO_LIMIT)
         user = "user root;" if os.geteuid() == 0 else ""

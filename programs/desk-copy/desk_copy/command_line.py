@@ -9,10 +9,13 @@ from pathlib import Path
 from command_lines.ending import DONE, end_orderly, status_of, teller
 from command_lines.parsing import count, parser_of
 from desk_copy.copying import Copied, copy_desk
+from desk_copy.crowding import crowded
 from desk_copy.places import alone, keep_latest, named, put, unfinished
 from desk_copy.trying import try_copy
 
 PROGRAM = "desk-copy"
+
+tell = teller(PROGRAM)
 
 DESCRIPTION = """\
 Copies a desk whose program goes on answering: the database FILE and its log FILE-wal, as both were at one moment,
@@ -64,6 +67,8 @@ def copy_into(folder: Path, file: Path, seconds: int) -> Copied:
     """Takes a copy into the folder, and tries it."""
     copied = copy_desk(file, folder, seconds)
     try_copy(folder / file.name, file)
+    for line in crowded(folder / file.name):
+        tell(line)
     return copied
 
 
@@ -99,4 +104,4 @@ def main() -> int:
     options = command_line().parse_args()
     os.umask(0o077)
     end_orderly()
-    return status_of(partial(copy, options), teller(PROGRAM), options.folder)
+    return status_of(partial(copy, options), tell, options.folder)

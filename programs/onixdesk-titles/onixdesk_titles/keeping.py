@@ -20,11 +20,18 @@ MARK = "titles.json"
 # With more of them a million titles lie in more than a hundred thousand files, which take 4,096 bytes each at least.
 DIGITS = 8
 
+# The page fetches a file whole for an article, and so does a run that adds to it: one of 10,000 titles of four series
+# has that many bytes.
+MOST_BYTES = 8 << 20
+
 # How many rows are gathered before files are written.
 MOST_ROWS = 100_000
 
 # Whoever sends titles does not fill the disk of others: so many bytes of it stay free.
 LEAST_FREE = 1 << 30
+
+# The entries of each ISBN, as a file has them.
+Kept = dict[str, list[Any]]
 
 # By their first digits the words of each ISBN.
 Found = dict[str, dict[str, list[str]]]
@@ -59,13 +66,16 @@ class Titles:
             for digits in names:
                 path = folder / f"{digits}.json"
                 kept = self.read(path)
-                if add(kept, found[digits], message):
-                    put(path, json.dumps(kept, ensure_ascii=False, separators=(",", ":")))
+                words = fitting(kept, path.stat().st_size if kept else 0, found[digits], message)
+                if more := len(found[digits]) - len(words):
+                    self.tell(f"{path}: it is full, and titles of {more} ISBNs of {message.series} are left out")
+                if add(kept, words, message):
+                    put(path, text_of(kept))
 
-    def read(self, path: Path) -> dict[str, list[Any]]:
+    def read(self, path: Path) -> Kept:
         """What a file has; nothing where it is damaged, which is told."""
         try:
-            kept: dict[str, list[Any]] = json.loads(path.read_bytes())
+            kept: Kept = json.loads(path.read_bytes())
             return kept
         except FileNotFoundError:
             pass
@@ -74,12 +84,36 @@ class Titles:
         return {}
 
 
+def text_of(kept: Kept) -> str:
+    return json.dumps(kept, ensure_ascii=False, separators=(",", ":"))
+
+
+def bytes_of(kept: Kept) -> int:
+    return len(text_of(kept).encode())
+
+
+def fitting(kept: Kept, size: int, words: dict[str, list[str]], message: Message) -> dict[str, list[str]]:
+    """What of the words of a message a file of that size has room for, beside those of other series."""
+    new: Kept = {isbn: [[*message, *texts]] for isbn, texts in words.items()}
+    room = MOST_BYTES - size
+    if bytes_of(new) <= room:
+        return words
+    own: Kept = {isbn: [entry for entry in kept.get(isbn, []) if entry[0] == message.series] for isbn in new}
+    found = {}
+    for isbn, texts in words.items():
+        more = bytes_of({isbn: new[isbn]}) - bytes_of({isbn: own[isbn]})
+        if more <= room:
+            found[isbn] = texts
+            room -= max(more, 0)
+    return found
+
+
 def moment_of(entry: list[Any]) -> int:
     moment: int = entry[2]
     return moment
 
 
-def add(kept: dict[str, list[Any]], words: dict[str, list[str]], message: Message) -> bool:
+def add(kept: Kept, words: dict[str, list[str]], message: Message) -> bool:
     """Adds what a message says of ISBNs, where no later message of its series has said something. Whether it did."""
     has_changed = False
     for isbn, texts in words.items():

@@ -187,6 +187,24 @@ def kept(room: Room) -> Iterator[Outcome]:
     yield Outcome("the new one stays where others have later names", (len(found), found[0] > new.name, found[1]), (3, True, ahead[1]))
 
 
+def crowded_articles(room: Room) -> Iterator[Outcome]:
+    """An ISBN that more than 1,000 records have is named; one that has as many is not, and no record counts twice."""
+    def products(letter: str, count: int, isbn: str) -> list[str]:
+        return [f"Product,{letter}{number},03,03,{isbn},15,{isbn}" for number in range(count)]
+
+    some = products("A", 1001, "9781234567897"), products("B", 1000, "9780306406157")
+    for number, lines in enumerate(some, 1):
+        first = f"Message,1,06,4012345000009,06,5012345678900,{number},1,20250401,,"
+        text = "".join(f"{line}\n" for line in [first, *lines, f"EndMessage,{len(lines) + 1}"])
+        batch(room, (AGREEMENT if number == 1 else b"") + text.encode())
+    ran = copy(room, DATABASE, "copy")
+    why = "so that questions about it keep others waiting"
+    line = f"desk-copy: warning: 1001 records have the ISBN 9781234567897, {why}\n"
+    yield Outcome("crowded articles", (ran.status, ran.errors.decode()), (0, line))
+    yield Outcome("nothing is left beside the copy", sorted(path.name for path in room.path("copy").iterdir()),
+                  [DATABASE, f"{DATABASE}-wal"])
+
+
 def refused(room: Room) -> Iterator[Outcome]:
     batch(room, AGREEMENT)
     for name, words, line in [

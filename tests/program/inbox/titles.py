@@ -234,7 +234,7 @@ def faults(room: Room) -> Iterator[Outcome]:
     shutil.rmtree(shop.rows)
     yield told("no folder of rows", "d.xml", feed(1, "d"), f"[Errno 2] No such file or directory: '{shop.rows}'")
     left = sorted(name for name in files_in(shop.state / "north") if not name.startswith("done/"))
-    yield Outcome("titles: nothing is left in the state", left, ["lock", "told"])
+    yield Outcome("titles: nothing is left in the state", left, ["lock", "told", "waits"])
 
 
 def a_run_that_is_killed(step: str, room: Room) -> Iterator[Outcome]:
@@ -268,6 +268,23 @@ def a_full_disk(room: Room) -> Iterator[Outcome]:
     wanted = Ran(3, b"", f"onixdesk-titles: {shop.kept}: its disk has less than {1 << 60} free bytes\n".encode())
     yield Outcome("titles: hardly any room", (came, shop.waiting()), (wanted, ["2-north.csv"]))
     yield Outcome("titles: room again", (shop.take(), shop.first()[ONE], len(shop.titles())), (Ran(0), "B", 101))
+
+
+def a_full_file(room: Room) -> Iterator[Outcome]:
+    """What would bring a file above its bound is left out, which is told; what takes no more bytes is not."""
+    shop = Shop(room)
+    bound = "from onixdesk_titles import keeping; keeping.MOST_BYTES = 200"
+    shop.put(100, 1, "north", row(ONE, "A" * 60), row(TWO, "ü" * 60))
+    path = shop.kept / "titles/97819/97819000.json"
+    line = f"onixdesk-titles: {path}: it is full, and titles of 1 ISBNs of {{}} are left out\n"
+    wanted = Ran(0, b"", line.format("north").encode()), {ONE: "A" * 60}
+    yield Outcome("titles: a full file", (shop.take(before=bound), shop.first()), wanted)
+    shop.put(200, 1, "south", row(ONE, "B" * 60))
+    wanted = Ran(0, b"", line.format("south").encode()), {ONE: "A" * 60}
+    yield Outcome("titles: of another series", (shop.take(before=bound), shop.first()), wanted)
+    shop.put(300, 2, "north", row(ONE, "C" * 60))
+    yield Outcome("titles: in place of others", (shop.take(before=bound), shop.first()), (Ran(0), {ONE: "C" * 60}))
+    yield Outcome("titles: the bytes of the file", path.stat().st_size <= 200, True)
 
 
 def damaged_files(room: Room) -> Iterator[Outcome]:

@@ -63,7 +63,7 @@ def take(options: argparse.Namespace) -> int:
                 tell(f"{file.name}: {error}")
                 status = FAILED
             file.unlink()
-    return status
+    return FAILED if titles.is_full else status
 
 
 def hand_over_again(options: argparse.Namespace) -> int:

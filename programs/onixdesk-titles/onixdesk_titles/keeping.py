@@ -43,6 +43,7 @@ class Titles:
     def __init__(self, folder: Path, tell: Callable[[str], None]) -> None:
         self.folder = folder
         self.tell = tell
+        self.is_full = False
         (folder / "titles").mkdir(exist_ok=True)
         if not (folder / MARK).exists():
             put(folder / MARK, "{}")
@@ -68,6 +69,7 @@ class Titles:
                 kept = self.read(path)
                 words = fitting(kept, path.stat().st_size if kept else 0, found[digits], message)
                 if more := len(found[digits]) - len(words):
+                    self.is_full = True
                     self.tell(f"{path}: it is full, and titles of {more} ISBNs of {message.series} are left out")
                 if add(kept, words, message):
                     put(path, text_of(kept))

@@ -14,7 +14,7 @@ from contextlib import closing, contextmanager
 from pathlib import Path
 
 from desk_copy import copying
-from tests.program.databases import DATABASE, batch, execute
+from tests.program.databases import DATABASE, MINIMUM, TABLES, batch, execute
 from tests.program.messages import AGREEMENT, priced_by_number
 from tests.program.room import Ran, Room
 from tests.program.serving import HOST, Serving, posted, serving
@@ -189,14 +189,15 @@ def kept(room: Room) -> Iterator[Outcome]:
 
 def crowded_articles(room: Room) -> Iterator[Outcome]:
     """An ISBN that more than 1,000 records have is named; one that has as many is not, and no record counts twice."""
-    def products(letter: str, count: int, isbn: str) -> list[str]:
-        return [f"Product,{letter}{number},03,03,{isbn},15,{isbn}" for number in range(count)]
-
-    some = products("A", 1001, "9781234567897"), products("B", 1000, "9780306406157")
-    for number, lines in enumerate(some, 1):
-        first = f"Message,1,06,4012345000009,06,5012345678900,{number},1,20250401,,"
-        text = "".join(f"{line}\n" for line in [first, *lines, f"EndMessage,{len(lines) + 1}"])
-        batch(room, (AGREEMENT if number == 1 else b"") + text.encode())
+    series = "INSERT INTO series VALUES ('north', '06', '4012345000009', '', '', 1, 1);"
+    records = "WITH counted (n) AS (SELECT 1 UNION ALL SELECT n + 1 FROM counted WHERE n < {}) INSERT INTO {} FROM counted;"
+    rows = [series]
+    for letter, count, isbn in [("A", 1001, "9781234567897"), ("B", 1000, "9780306406157")]:
+        rows.append(records.format(count, f"record SELECT 'north', '{letter}' || n"))
+        for place, kind in [(1, "03"), (2, "15")]:
+            rows.append(records.format(count, f"article SELECT 'north', '{letter}' || n, {place}, '{kind}', '{isbn}'"))
+    execute(room, f"PRAGMA journal_mode = WAL; {TABLES} {MINIMUM} {' '.join(rows)}")
+    room.path(f"{DATABASE}-wal").touch()
     ran = copy(room, DATABASE, "copy")
     why = "so that questions about it keep others waiting"
     line = f"desk-copy: warning: 1001 records have the ISBN 9781234567897, {why}\n"

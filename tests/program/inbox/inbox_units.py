@@ -9,7 +9,7 @@ from tests.program.inbox.inboxes import PROGRAM, within
 from tests.program.room import SECONDS, Room
 from tests.running import Outcome
 from tools.root import ROOT
-from tools.words import sought
+from tools.words import Word, sought
 
 FOLDER = ROOT / "programs/onixdesk-inbox"
 UNITS = {
@@ -124,6 +124,18 @@ def example_of_settings(room: Room) -> Iterator[Outcome]:
         yield Outcome(f"units: the example of settings without {name}", (done.stdout, done.stderr), ("True\n", ""))
     page = ROOT.joinpath("docs/INBOX.md").read_text(encoding="utf-8")
     yield Outcome("docs/INBOX.md: the settings", re.findall(r"^\| `([A-Z_]+)` \|", page, flags=re.MULTILINE), names)
+
+
+def manual_pages(room: Room) -> Iterator[Outcome]:
+    """Those of the programs that are started by their path have the options that these tell."""
+    for name, commands in {"onixdesk-inbox": [""], "onixdesk-titles": ["", "take", "rebuild"]}.items():
+        calls: list[list[Word]] = [[ROOT / "bin" / name, *command.split(), "--help"] for command in commands]
+        texts = [room.call(words).output.decode() for words in calls]
+        told = {option for text in texts for option in re.findall(r"--[a-z]+", text)}
+        page = ROOT.joinpath(f"programs/{name}/{name}.8").read_text(encoding="utf-8")
+        found = {f"--{option}" for option in re.findall(r"^\.It Fl (?:h , Fl )?-([a-z]+)", page, flags=re.MULTILINE)}
+        yield Outcome(f"the manual page of {name}", found, told)
+        yield Outcome(f"the version of {name}", page.splitlines().count(".Os"), 1)
 
 
 VERSION = r'^const VERSION: &str = "([0-9]+\.[0-9]+\.[0-9]+)";$'

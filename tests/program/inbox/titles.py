@@ -277,10 +277,10 @@ def a_full_file(room: Room) -> Iterator[Outcome]:
     shop.put(100, 1, "north", row(ONE, "A" * 60), row(TWO, "ü" * 60))
     path = shop.kept / "titles/97819/97819000.json"
     line = f"onixdesk-titles: {path}: it is full, and titles of 1 ISBNs of {{}} are left out\n"
-    wanted = Ran(0, b"", line.format("north").encode()), {ONE: "A" * 60}
+    wanted = Ran(1, b"", line.format("north").encode()), {ONE: "A" * 60}
     yield Outcome("titles: a full file", (shop.take(before=bound), shop.first()), wanted)
-    shop.put(200, 1, "south", row(ONE, "B" * 60))
-    wanted = Ran(0, b"", line.format("south").encode()), {ONE: "A" * 60}
+    shop.put(200, 1, "south", row(ONE, "B" * 70))
+    wanted = Ran(1, b"", line.format("south").encode()), {ONE: "A" * 60}
     yield Outcome("titles: of another series", (shop.take(before=bound), shop.first()), wanted)
     shop.put(300, 2, "north", row(ONE, "C" * 60))
     yield Outcome("titles: in place of others", (shop.take(before=bound), shop.first()), (Ran(0), {ONE: "C" * 60}))

@@ -1,6 +1,5 @@
 """The articles of a copy that very many records have: one question about such an article keeps all others waiting."""
 
-import sqlite3
 from collections.abc import Iterator
 from contextlib import closing
 from pathlib import Path

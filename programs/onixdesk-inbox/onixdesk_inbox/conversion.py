@@ -97,7 +97,8 @@ def said(answer: Path, file: str, name: str) -> Said:
 def check_words(words: tuple[str, ...], program: Path, file: Path) -> None:
     """BadSettings where the converter does not take the words of that file of settings: it is given nothing to read."""
     with tempfile.TemporaryDirectory() as folder:
-        ran = subprocess.run([program, *words, "-o", folder, STANDARD_INPUT], stdin=subprocess.DEVNULL, capture_output=True)
+        call: list[str | Path] = [program, *words, "-o", folder, STANDARD_INPUT]
+        ran = subprocess.run(call, stdin=subprocess.DEVNULL, capture_output=True)
     if ran.returncode == BAD_CALL:
         first, *_ = ran.stderr.decode(**TEXT).splitlines()
         raise BadSettings(f"{file}: WORDS: {shown(first)}")

@@ -1,5 +1,5 @@
-"""What docs/MISTAKES.md has for mistakes that were made: each of its blocks is run as it is, at a desk and an inbox where
-they were made, and prices are compared before and behind it."""
+"""What docs/MISTAKES.md has for mistakes that were made: each of its blocks is run as it is, at a desk and an inbox
+where they were made, and prices are compared before and behind it."""
 
 from collections.abc import Iterator
 
@@ -142,7 +142,8 @@ def a_waiver_too_early(room: Room) -> Iterator[Outcome]:
         desk.settings(SENDER="06,4012345000009")
         files = {"4.csv": message(4, (A, "14.00"), (B, "5.00")), "5.csv": message(5, (A, "16.00"), (C, "7.00")),
             "6.csv": message(6, (B, "6.00"))}
-        lines = ["4.csv: done: number 4 applied", "5.csv: refused: number 5 was waived", "6.csv: done: number 6 applied"]
+        lines = ["4.csv: done: number 4 applied", "5.csv: refused: number 5 was waived",
+            "6.csv: done: number 6 applied"]
         yield Outcome("a waiver too early: the inbox", desk.take(files), lines)
         before, behind = {"a": "14.000", "b": "6.000"}, {"a": "16.000", "b": "6.000", "c": "7.000"}
         yield from undone(desk, "a waiver too early", before, behind)
@@ -208,7 +209,8 @@ def each_section(_room: Room) -> Iterator[Outcome]:
     """Each mistake has a block, or a sentence that nothing has to be done; each block is run here, and is one command
     or stops at the first that fails."""
     _, _, *sections = (ROOT / PAGE).read_text(encoding="utf-8").split("\n## ")
-    without = [text.splitlines()[0] for text in sections if "\n\n    " not in text and "nothing has to be done" not in text]
+    texts = [text for text in sections if "\n\n    " not in text and "nothing has to be done" not in text]
+    without = [text.splitlines()[0] for text in texts]
     yield Outcome("sections without a block", (len(sections) >= 7, without), (True, []))
     yield Outcome("blocks", len(blocks(PAGE)), len(BLOCKS))
     loose = [lines for lines in blocks(PAGE) if len(lines) > 1 and (lines[:2], lines[-1]) != (["(", "set -e"], ")")]

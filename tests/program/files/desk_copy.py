@@ -190,7 +190,8 @@ def kept(room: Room) -> Iterator[Outcome]:
 def crowded_articles(room: Room) -> Iterator[Outcome]:
     """An ISBN that more than 1,000 records have is named; one that has as many is not, and no record counts twice."""
     series = "INSERT INTO series VALUES ('north', '06', '4012345000009', '', '', 1, 1);"
-    records = "WITH counted (n) AS (SELECT 1 UNION ALL SELECT n + 1 FROM counted WHERE n < {}) INSERT INTO {} FROM counted;"
+    counted = "WITH counted (n) AS (SELECT 1 UNION ALL SELECT n + 1 FROM counted WHERE n < {})"
+    records = f"{counted} INSERT INTO {{}} FROM counted;"
     rows = [series]
     for letter, count, isbn in [("A", 1001, "9781234567897"), ("B", 1000, "9780306406157")]:
         rows.append(records.format(count, f"record SELECT 'north', '{letter}' || n"))

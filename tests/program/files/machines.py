@@ -39,7 +39,8 @@ list-units) [ ! -e pid ] || echo "onixdesk.service loaded active running onixdes
 stop) [ "$1" = onixdesk.service ] || exit 0; kill "$(cat pid)"; while [ -e pid ]; do sleep 0.1; done ;;
 start) [ "$1" = onixdesk.service ] || exit 0
     rm -f {SOCKET}
-    sh -c 'onixdesk --db {DESK} serve --port PORT --batches {SOCKET} & echo $! >pid; wait $!; rm pid' >lines 2>&1 </dev/null &
+    set -- --db {DESK} serve --port PORT --batches {SOCKET}
+    sh -c 'onixdesk "$@" & echo $! >pid; wait $!; rm pid' sh "$@" >lines 2>&1 </dev/null &
     until grep -q listening lines; do sleep 0.1; done ;;
 esac""",
     # Where no number is given the feeds have a date in place of one.

@@ -1,5 +1,5 @@
-"""What the package's script does behind an upgrade: it names the settings that are no longer read, and starts again what
-is enabled."""
+"""What the package's script does behind an upgrade: it names the settings that are no longer read, and starts again
+what is enabled."""
 
 import os
 import re
@@ -60,7 +60,7 @@ def upgraded(room: Room) -> Iterator[Outcome]:
     yield Outcome("an upgrade: what is started", told, "start onixdesk-copy.timer onixdesk-inbox@north.timer\n")
     rules.write_text("[[rule]]\nserie = 'north'\n")
     came = configured(room, "0.2.0")
-    found = came.status, came.output.decode().replace(str(rules.parent), "").startswith("onixdesk: /rules.toml: line 1: ")
-    yield Outcome("an upgrade: the rules", found, (0, True))
+    begins = came.output.decode().startswith(f"onixdesk: {rules}: line 1: ")
+    yield Outcome("an upgrade: the rules", (came.status, begins), (0, True))
     came = configured(room, "")
     yield Outcome("the first time no settings are read", (came.status, came.output + came.errors), (0, b""))

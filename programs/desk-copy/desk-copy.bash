@@ -4,9 +4,13 @@ _desk_copy() {
     _init_completion || return
     case $prev in
         --keep | --seconds) return ;;
+        --figures)
+            _filedir -d
+            return
+            ;;
     esac
     case $cur in
-        -*) COMPREPLY=($(compgen -W "--keep --seconds --help" -- "$cur")) ;;
+        -*) COMPREPLY=($(compgen -W "--keep --figures --seconds --help" -- "$cur")) ;;
         *) _filedir ;;
     esac
 } && complete -F _desk_copy desk-copy

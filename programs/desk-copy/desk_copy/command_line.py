@@ -2,6 +2,7 @@
 
 import argparse
 import os
+import sys
 import time
 from functools import partial
 from pathlib import Path
@@ -11,6 +12,7 @@ from command_lines.parsing import count, parser_of
 from desk_copy.copying import Copied, copy_desk
 from desk_copy.crowding import crowded
 from desk_copy.places import alone, keep_latest, named, put, unfinished
+from desk_copy.starting import reckon
 from desk_copy.trying import try_copy
 
 PROGRAM = "desk-copy"
@@ -47,6 +49,13 @@ def command_line() -> argparse.ArgumentParser:
         type=count,
         help="FOLDER has a folder for each copy, named by its second; all but the latest N are removed at the end",
     )
+    parser.add_argument(
+        "--figures",
+        metavar="FOLDER",
+        type=Path,
+        help="where the limit of the desk's memory is; what the next start takes is written there, and told if it is"
+        " near the limit",
+    )
     add_source(parser)
     parser.add_argument(
         "folder", metavar="FOLDER", type=Path, help="a folder that is not there yet; with --keep one that is"
@@ -72,14 +81,14 @@ def copy_into(folder: Path, file: Path, seconds: int) -> Copied:
     return copied
 
 
-def copy_to(folder: Path, file: Path, seconds: int) -> str:
+def copy_to(folder: Path, file: Path, seconds: int) -> tuple[Path, Copied]:
     with unfinished(folder.parent) as new:
         copied = copy_into(new, file, seconds)
         put(new, folder)
-    return told(folder / file.name, copied)
+    return folder, copied
 
 
-def copy_beside_others(folder: Path, file: Path, seconds: int, kept: int) -> str:
+def copy_beside_others(folder: Path, file: Path, seconds: int, kept: int) -> tuple[Path, Copied]:
     with alone(folder), unfinished(folder) as new:
         # One that is begun in the second of the last would have its name.
         while named(folder, time.time_ns()).exists():
@@ -88,15 +97,25 @@ def copy_beside_others(folder: Path, file: Path, seconds: int, kept: int) -> str
         place = named(folder, copied.moment)
         put(new, place)
         keep_latest(folder, kept, place)
-    return told(place / file.name, copied)
+    return place, copied
+
+
+def tell_priority(told: tuple[int, str] | None) -> None:
+    """Tells the journal a line with its priority."""
+    if told:
+        priority = "" if sys.stderr.isatty() else f"<{told[0]}>"
+        print(f"{priority}{PROGRAM}: {told[1]}", file=sys.stderr)
 
 
 def copy(options: argparse.Namespace) -> int:
     file, folder = options.file, options.folder
     if options.keep:
-        print(copy_beside_others(folder, file, options.seconds, options.keep))
+        place, copied = copy_beside_others(folder, file, options.seconds, options.keep)
     else:
-        print(copy_to(folder, file, options.seconds))
+        place, copied = copy_to(folder, file, options.seconds)
+    print(told(place / file.name, copied), flush=True)
+    if options.figures:
+        tell_priority(reckon(place / file.name, options.figures))
     return DONE
 
 

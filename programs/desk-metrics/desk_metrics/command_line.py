@@ -18,6 +18,7 @@ PROGRAM = "desk-metrics"
 
 METRICS = "onixdesk.prom"
 KEPT = "since.json"
+FIGURES = Path("/var/lib/onixdesk-figures")
 
 DESCRIPTION = """\
 Writes metrics of a running desk, its series and its inboxes into FOLDER/onixdesk.prom, for the textfile collector of
@@ -65,6 +66,13 @@ def command_line() -> argparse.ArgumentParser:
         help=f"where each inbox has the folder of what it keeps; {Places.state} without it",
     )
     add(
+        "--figures",
+        metavar="FOLDER",
+        type=Path,
+        default=FIGURES,
+        help=f"where the desk's starts are written; {FIGURES} without it",
+    )
+    add(
         "--seconds",
         metavar="N",
         type=count,
@@ -87,6 +95,7 @@ def write(options: argparse.Namespace) -> int:
         gathering = Gathering(standing, options.seconds, leave_out)
         for desk, series_there in sorted(desks.items()) or [(options.desk, [])]:
             gathering.ask(desk, series_there)
+        gathering.add_start(options.figures)
         for name in names:
             gathering.look(name, places)
         standing.keep()

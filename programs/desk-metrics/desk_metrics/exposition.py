@@ -7,6 +7,9 @@ from collections.abc import Iterator
 METRICS = {
     "onixdesk_up": "Whether the desk answered in time, 1 or 0.",
     "onixdesk_answer_duration_seconds": "How long the desk took to answer, with the time in which others were served.",
+    "onixdesk_next_start_memory_bytes": "How much memory the next start takes, as the last copy tells.",
+    "onixdesk_start_memory_limit_bytes": "How much memory the desk may have.",
+    "onixdesk_last_start_duration_seconds": "How long the last start of the desk took.",
     "onixdesk_series_next_number": "The least number of the series at which nothing stands.",
     "onixdesk_series_greatest_number": "The greatest number of the series at which anything stands.",
     "onixdesk_series_held_messages": "How many numbers after the next one have a message or a waiver.",

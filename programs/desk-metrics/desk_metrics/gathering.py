@@ -2,8 +2,10 @@
 
 import time
 from collections.abc import Callable
+from pathlib import Path
 
 from command_lines.ending import Fault
+from desk_copy.starting import NEXT, STARTED, read_figures
 from desk_metrics import folders
 from desk_metrics.asking import Report, Silent, report, time_to_answer
 from desk_metrics.exposition import Samples
@@ -36,6 +38,13 @@ class Gathering:
                 return
             except Fault as fault:
                 self.tell(str(fault))
+
+    def add_start(self, folder: Path) -> None:
+        """Adds what the desk's unit and its copies have written of starts."""
+        started, then = (read_figures(folder / name) for name in (STARTED, NEXT))
+        self.samples.add("onixdesk_next_start_memory_bytes", then.get("bytes"), figures=str(folder))
+        self.samples.add("onixdesk_start_memory_limit_bytes", started.get("limit"), figures=str(folder))
+        self.samples.add("onixdesk_last_start_duration_seconds", started.get("seconds"), figures=str(folder))
 
     def add_report(self, series: str, found: Report) -> None:
         add = self.samples.add

@@ -309,7 +309,7 @@ def values_of_labels(room: Room) -> Iterator[Outcome]:
 
 
 # What ends the name of a gauge that has a unit, and what ends that of a counter alone.
-UNITS = ("_seconds", "_files", "_messages", "_number", "_up")
+UNITS = ("_seconds", "_bytes", "_files", "_messages", "_number", "_up")
 OF_COUNTERS = ("_total", "_count", "_sum", "_bucket")
 
 

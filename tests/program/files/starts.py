@@ -49,6 +49,27 @@ def for_a_desk(room: Room) -> Iterator[Outcome]:
         desk.communicate()
 
 
+def figures(room: Room) -> Iterator[Outcome]:
+    """The seconds of a start and the limit of its memory are kept, once the desk answers."""
+    batch(room, AGREEMENT)
+    port = free_port()
+    room.path("figures").mkdir()
+    words = [room.program, "--db", DATABASE, "serve", "--port", str(port), "--requests", "1"]
+    desk = subprocess.Popen(words, cwd=room.folder, stdout=subprocess.DEVNULL)
+    try:
+        limited = ["sh", "-c", f'ulimit -d 500000; FIGURES=figures exec "{SCRIPT}" {port} {DATABASE}']
+        ran = room.call(limited)
+        seconds, limit = room.path("figures/started").read_text().splitlines()
+        yield Outcome("wait-for-desk.sh: figures", (ran, limit), (Ran(0), f"limit {500_000 * 1024}"))
+        yield Outcome("wait-for-desk.sh: the seconds", seconds.split()[0], "seconds")
+        left = [each.name for each in room.path("figures").iterdir()]
+        yield Outcome("wait-for-desk.sh: nothing else is left", left, ["started"])
+        desk.wait(SECONDS)
+    finally:
+        desk.kill()
+        desk.communicate()
+
+
 def in_vain(room: Room) -> Iterator[Outcome]:
     port = free_port()
     room.write("empty.db", b"")

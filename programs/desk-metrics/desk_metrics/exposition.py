@@ -17,6 +17,7 @@ METRICS = {
     "onixdesk_series_next_number_change_timestamp_seconds": "When the next number was first seen to be this one.",
     "onixdesk_inbox_waiting_files": "How many files lie in the folder for what comes in.",
     "onixdesk_inbox_refused_files": "How many refused files are kept.",
+    "onixdesk_inbox_stopped_files": "How many files are stopped, for a person to decide on.",
     "onixdesk_inbox_last_taken_timestamp_seconds": "When the desk last took a file of the inbox.",
 }
 

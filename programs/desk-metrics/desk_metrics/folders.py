@@ -27,6 +27,11 @@ def refused(state: Path) -> int | None:
     return None
 
 
+def stopped(state: Path) -> int | None:
+    """How many files are stopped for a person: what comes behind one waits."""
+    return int(state.joinpath("stopped").exists()) if state.exists() else None
+
+
 def last_taken(state: Path) -> int | None:
     """The second in which the last answer was written of those beside the files that are done."""
     latest = None

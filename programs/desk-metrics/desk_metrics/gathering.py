@@ -61,6 +61,7 @@ class Gathering:
         for metric, count, folder in [
             ("onixdesk_inbox_waiting_files", folders.waiting, incoming),
             ("onixdesk_inbox_refused_files", folders.refused, state),
+            ("onixdesk_inbox_stopped_files", folders.stopped, state),
             ("onixdesk_inbox_last_taken_timestamp_seconds", folders.last_taken, state),
         ]:
             try:

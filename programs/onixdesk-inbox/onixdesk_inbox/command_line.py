@@ -9,16 +9,19 @@ import time
 from functools import partial
 from pathlib import Path
 
-from command_lines.ending import DONE, FAILED, Fault, status_of
+from command_lines.ending import DONE, FAILED, BadCall, Fault, status_of
 from command_lines.parsing import parser_of
 from onixdesk_inbox.again import ALL, LACKING, Repeat, Since
 from onixdesk_inbox.conversion import check_words
 from onixdesk_inbox.incoming import Incoming
+from onixdesk_inbox.memory import LET_IN, REFUSED
+from onixdesk_inbox.names import kept_name
+from onixdesk_inbox.numbers import digest_of
 from onixdesk_inbox.running import Run
 from onixdesk_inbox.settings import read_settings
 from onixdesk_inbox.state import State
 from onixdesk_inbox.taking import Taker
-from onixdesk_inbox.telling import ERROR, PROGRAM, Voice
+from onixdesk_inbox.telling import ERROR, NOTICE, PROGRAM, Voice
 
 SETTINGS = "/etc/onixdesk/inbox/{}.conf"
 INCOMING = "/var/lib/onixdesk-incoming/{}"
@@ -70,6 +73,10 @@ def command_line() -> argparse.ArgumentParser:
         help="take again what was done, and what was refused for a mistake that may be corrected, and nothing new: of"
         " that `all`, what the desk is `lacking`, or what was answered since a time as 2026-11-27T02-30-00Z of UTC")
     add("--check", action="store_true", help="only read the settings, and try their WORDS; status 2 where one is wrong")
+    decision = parser.add_mutually_exclusive_group()
+    decision.add_argument("--let-in", metavar="NAME", help="have the next run take the file that is stopped, or one in"
+        " refused once it is moved back, if it has the bytes that were looked at")
+    decision.add_argument("--refuse", metavar="NAME", help="have the next run refuse the file that is stopped")
     add("series", metavar="SERIES", type=series, help="the name of the series that the desk has agreed")
     return parser
 
@@ -78,6 +85,21 @@ def apart(incoming: Path, state: Path) -> None:
     """Fault, where one of the folders is in the other: what the inbox keeps is not to lie where others write."""
     if incoming.is_relative_to(state) or state.is_relative_to(incoming):
         raise Fault(f"{state} and {incoming} are not apart")
+
+
+def decide(options: argparse.Namespace, state: State, voice: Voice) -> int:
+    """Keeps what a person decided on a file, which the next run does."""
+    decision, name = (REFUSED, options.refuse) if options.let_in is None else (LET_IN, options.let_in)
+    stopped = state.memory.stopped()
+    if stopped and name in (stopped.name, kept_name(stopped.name)):
+        digest = stopped.digest
+    elif decision == LET_IN and name == Path(name).name and (state.refused.folder / name).is_file():
+        digest = digest_of(state.refused.folder / name)
+    else:
+        raise BadCall(f"{name} is not stopped")
+    state.decisions.give(digest, decision)
+    voice.of_file(NOTICE, name, f"{'let in' if decision == LET_IN else 'refused'} by the next run, as SHA-256 {digest}")
+    return DONE
 
 
 def run(options: argparse.Namespace, folder: Path, programs: Path, voice: Voice) -> int:
@@ -95,6 +117,8 @@ def run(options: argparse.Namespace, folder: Path, programs: Path, voice: Voice)
         # Made here it would be this user's, who need not be the unit's.
         raise Fault(f"{folder}: its unit makes it: systemctl start onixdesk-inbox@{name}")
     state = State(folder, settings.state_bytes)
+    if options.let_in is not None or options.refuse is not None:
+        return decide(options, state, voice)
     taker = Taker(name, settings, converter, state)
     if options.again is not None:
         is_failed = Repeat(state, taker, voice).take_again(options.again)

@@ -1,9 +1,14 @@
 """One run over the folder."""
 
+from dataclasses import asdict
+
 from command_lines.ending import Fault
 from onixdesk_inbox.incoming import Candidate, Incoming, copy, why_not_copied
+from onixdesk_inbox.memory import Stopped
+from onixdesk_inbox.names import shown
 from onixdesk_inbox.numbers import digest_of
 from onixdesk_inbox.state import HEAD, State
+from onixdesk_inbox.stopping import Stop, commands
 from onixdesk_inbox.taking import Copied, Taker
 from onixdesk_inbox.telling import Told, Voice
 from onixdesk_inbox.verdicts import Gone, Left, Lies, Taken
@@ -46,6 +51,7 @@ class Run(Resuming):
         super().__init__(state, taker, voice)
         self.incoming = incoming
         self.left: dict[str, Left] = {}
+        self.is_stopped = False
 
     def take_all(self) -> bool:
         """Takes what can be taken, until nothing is left of it, since some may come meanwhile. Whether a file
@@ -55,6 +61,8 @@ class Run(Resuming):
             self.resume()
             while self.take_those_there():
                 pass
+            if not self.is_stopped:
+                self.state.memory.keep_stopped(None)
         except Fault as fault:
             self.leave_all(str(fault))
         except OSError as error:
@@ -71,17 +79,39 @@ class Run(Resuming):
         """Takes the files that are there, and tells whether one was taken."""
         candidates, self.left = self.incoming.look()
         has_taken = False
-        for candidate in candidates:
+        for place, candidate in enumerate(candidates):
             try:
                 self.take(candidate)
                 has_taken = True
             except Lies as lies:
                 self.left[candidate.name] = lies.left
+                if lies.left.is_stopped:
+                    # What came later waits, so that all are taken in order.
+                    self.is_stopped = True
+                    waits = Left(f"for {shown(candidate.name)}, which is stopped", waits=True)
+                    self.left |= {later.name: waits for later in candidates[place + 1 :]}
+                    return False
             except Gone:
                 continue
         return has_taken
 
+    def leave_stopped(self, candidate: Candidate) -> None:
+        """Lies where the file is the one that was stopped, and nothing has changed since."""
+        stopped = self.state.memory.stopped()
+        if stopped and not self.state.decisions.of(stopped.digest):
+            known = candidate.name, asdict(candidate.state), repr(self.taker.settings)
+            if (stopped.name, stopped.looks, stopped.limits) == known:
+                raise Lies(Left(stopped.why, is_stopped=True))
+
+    def stop(self, candidate: Candidate, digest: str, why: str) -> Lies:
+        """Keeps that the file is stopped."""
+        said = f"{why}; {commands(candidate.name, self.taker.series)}"
+        looks, limits = asdict(candidate.state), repr(self.taker.settings)
+        self.state.memory.keep_stopped(Stopped(candidate.name, digest, looks, limits, said))
+        return Lies(Left(said, is_stopped=True))
+
     def take(self, candidate: Candidate) -> None:
+        self.leave_stopped(candidate)
         work = self.state.work
         source = work.source(candidate.name)
         work.begin(candidate.name)
@@ -91,7 +121,10 @@ class Run(Resuming):
             self.state.make_room(size)
             copied = Copied(candidate.name, source, copy(stream, size, source), why)
         work.sync()
-        self.say(candidate.name, self.taker.take(copied))
+        try:
+            self.say(candidate.name, self.taker.take(copied))
+        except Stop as stop:
+            raise self.stop(candidate, copied.digest, str(stop)) from None
         self.incoming.remove(candidate)
 
     def leave_all(self, why: str) -> None:

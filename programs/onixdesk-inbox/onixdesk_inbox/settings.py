@@ -9,11 +9,14 @@ from pathlib import Path
 from typing import Any, NamedTuple
 from urllib.parse import urlsplit
 
-from command_lines.ending import BAD_CALL, Fault
+from command_lines.ending import BadCall
 
 # The series' next number, asked of the desk, in place of the number that a feed has.
 NEXT = "next"
 OWN = "own"
+
+# In place of percent: nothing is stopped for that.
+NO = "no"
 
 # Any sender whose series the desk has agreed.
 ANY = "any"
@@ -45,6 +48,13 @@ class Settings:
     records_of_one_isbn: int = 1000
     # Where the rows of titles are handed over, if they are.
     titles: Path | None = None
+    # From how many percent on a file is stopped for a person, if it is.
+    stop_emptied: int | None = 50
+    stop_unknown: int | None = 80
+    stop_jumps: int | None = 20
+    stop_lost: int | None = 50
+    # The country of prices for the whole world.
+    country: str = "GB"
 
     @property
     def parts(self) -> int:
@@ -59,10 +69,8 @@ class Settings:
             return 1
 
 
-class BadSettings(Fault):
+class BadSettings(BadCall):
     """A file of settings that cannot be read, or a line of it."""
-
-    status = BAD_CALL
 
 
 def address(value: str) -> Address:
@@ -127,6 +135,20 @@ def folder(value: str) -> Path | None:
     return Path(value) if value else None
 
 
+def percent(value: str) -> int | None:
+    if value == NO:
+        return None
+    if not re.fullmatch("[0-9]{1,2}", value):
+        raise ValueError(f"percent are one or two digits, or {NO}")
+    return int(value)
+
+
+def country(value: str) -> str:
+    if not re.fullmatch("[A-Z]{2}", value):
+        raise ValueError("COUNTRY is two capital letters")
+    return value
+
+
 READERS: dict[str, tuple[str, Callable[[str], object]]] = {
     "DESK": ("desk", address),
     "WORDS": ("words", words),
@@ -137,6 +159,11 @@ READERS: dict[str, tuple[str, Callable[[str], object]]] = {
     "STATE_BYTES": ("state_bytes", count_of_bytes),
     "RECORDS_OF_ONE_ISBN": ("records_of_one_isbn", count_of_records),
     "TITLES": ("titles", folder),
+    "STOP_EMPTIED": ("stop_emptied", percent),
+    "STOP_UNKNOWN": ("stop_unknown", percent),
+    "STOP_JUMPS": ("stop_jumps", percent),
+    "STOP_LOST": ("stop_lost", percent),
+    "COUNTRY": ("country", country),
 }
 
 

@@ -1,5 +1,5 @@
 """The folder of what the inbox keeps, where nobody else may write: its lock, the file that it is at, what is
-done and refused, the numbers that it gave, and what it has told."""
+done and refused, the numbers that it gave, what is stopped and was decided, and what it has told."""
 
 import fcntl
 import os
@@ -12,6 +12,7 @@ from pathlib import Path
 from command_lines.ending import Fault
 from onixdesk_inbox.archive import Archive, room_of
 from onixdesk_inbox.names import PACKED, ending
+from onixdesk_inbox.memory import Memory
 from onixdesk_inbox.numbers import Numbers, digest_of, sync_folder
 from onixdesk_inbox.telling import PROGRAM
 
@@ -101,6 +102,8 @@ class State:
         # Waits until no other run is at work. The lock ends with the program.
         self.lock = os.open(path / "lock", os.O_RDWR | os.O_CREAT | os.O_CLOEXEC, 0o600)
         fcntl.flock(self.lock, fcntl.LOCK_EX)
+        self.memory = Memory(path)
+        self.decisions = Numbers(path / "decisions")
         self.done = Archive(path / "done")
         self.refused = Archive(path / "refused")
 

@@ -5,15 +5,18 @@ from dataclasses import dataclass, replace
 from pathlib import Path
 
 from command_lines.ending import Fault
+from message_records.sampling import Contents
 from onixdesk_inbox.conversion import NOTHING_SAID, Converter, Said
 from onixdesk_inbox.crowding import crowded
 from onixdesk_inbox.desk import CORRECTABLE, LONGEST_MESSAGE, OTHER_SENDER, REASONS, Desk
 from onixdesk_inbox.handing import Handing
+from onixdesk_inbox.memory import LET_IN, REFUSED
 from onixdesk_inbox.names import RECORDS, kept_name, shown
 from onixdesk_inbox.numbers import Numbers
 from onixdesk_inbox.posting import Posted, Quicker, post
 from onixdesk_inbox.settings import NEXT, Settings
 from onixdesk_inbox.state import State
+from onixdesk_inbox.stopping import Given, Look
 from onixdesk_inbox.verdicts import Refusal, Taken, Unconverted
 
 # What a feed leaves that is not converted: one with a number of its own holds up its series.
@@ -52,7 +55,7 @@ class Taker:
         self.numbers: Numbers = state.numbers()
 
     def take(self, copied: Copied) -> Taken:
-        """Takes a file to its end. Fault, where it has to be taken again."""
+        """Takes a file to its end. Fault, where it has to be taken again; Stop, where a person has to decide on it."""
         try:
             taken = self.with_titles(copied, self.deliver(copied))
         except Refusal as refusal:
@@ -86,6 +89,10 @@ class Taker:
         if copied.why_not_whole:
             self.state.work.say(f"{shown(copied.name)}: {copied.why_not_whole}; its first bytes are kept")
             raise Refusal(copied.why_not_whole)
+        if self.state.decisions.of(copied.digest) == REFUSED:
+            why = "it was stopped, and somebody refused it"
+            self.state.work.say(f"{shown(copied.name)}: {why}")
+            raise Refusal(why)
         for _ in range(TRIES):
             try:
                 return self.deliver_once(copied)
@@ -100,12 +107,15 @@ class Taker:
         messages, lines = self.messages_of(copied, number)
         self.look_at(copied, messages)
         came_before = self.numbers.of(copied.digest) is not None
+        contents = None if came_before else self.contents_of(copied, messages)
         if number is not None:
             self.numbers.give(copied.digest, number)
         is_new = number is not None and not came_before
         posted = post(self.desk, messages, self.state.work.answer, is_new)
         if not posted.stand:
             self.numbers.give_back(copied.digest)
+        elif contents:
+            self.state.memory.keep_last(contents)
         taken = posted.taken(self.series)
         more = ["these bytes had that number before"] if came_before else []
         more += [f"notes: {'; '.join(lines.summary)}"] if lines.summary else []
@@ -117,6 +127,15 @@ class Taker:
         if not posted.stand or not self.numbers.has_later(copied.digest):
             return False
         return int(self.desk.report(posted.stand[-1].series).members.get("greatest", 0)) > posted.stand[-1].number
+
+    def contents_of(self, copied: Copied, messages: list[Path]) -> Contents | None:
+        """What is in a file that is looked at. Stop where a person has to decide on it."""
+        # What was answered before was looked at then, or let in.
+        if copied.answered is not None or self.state.decisions.of(copied.digest) == LET_IN:
+            return None
+        look = Look(self.series, self.settings, self.desk, self.state.memory)
+        lines = None if copied.is_records else self.state.work.answer
+        return look.contents(Given(copied.name, copied.source, copied.digest, messages, lines))
 
     def number_of(self, copied: Copied) -> int | None:
         """The desk's number of the first message of a file, where the file's own does not count: the one that

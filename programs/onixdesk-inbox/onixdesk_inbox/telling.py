@@ -108,21 +108,25 @@ class Told:
             self.lying = {name: Lying(**values) for name, values in kept.items()}
 
     def tell(self, voice: Voice, left: dict[str, Left]) -> bool:
-        """Says what is new of these files, and whether one of them lies long, which was not told before."""
+        """Says what is new of these files, and whether one of them is newly stopped, or newly lies long."""
         now = time.time()
         self.lying = {name: self.lying.get(name, Lying(now, "")) for name in sorted(left)}
         lines = Lines(voice)
-        has_long = False
+        is_error = False
         for name, lying in self.lying.items():
             said = str(left[name])
             if said != lying.said:
                 lying.said = said
-                lines.of_file(NOTICE if left[name].waits else WARNING, name, said)
+                if left[name].is_stopped:
+                    voice.of_file(ERROR, name, said)
+                    is_error = True
+                else:
+                    lines.of_file(NOTICE if left[name].waits else WARNING, name, said)
             if not lying.is_long_told and now - lying.since >= LONG_SECONDS:
-                lying.is_long_told = has_long = True
+                lying.is_long_told = is_error = True
                 lines.of_file(ERROR, name, f"{said}; {LONG}")
         lines.count_others()
-        return has_long
+        return is_error
 
     def keep(self) -> None:
         put(self.path, json.dumps({name: asdict(lying) for name, lying in self.lying.items()}))

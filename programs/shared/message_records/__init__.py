@@ -1,1 +1,1 @@
-"""The records of a message, as docs/FORMATS.md has them."""
+"""Messages in records, as docs/FORMATS.md has them, and what the converter says of them."""

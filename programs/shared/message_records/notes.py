@@ -1,9 +1,10 @@
-"""What `onixdesk convert` writes on standard error: notes, refusals and the summary."""
+"""What `onixdesk convert` writes on standard error: notes, refusals and the summary; and what it does not say."""
 
 import re
 from collections import Counter
 from collections.abc import Iterable
 from dataclasses import dataclass, field
+from pathlib import Path
 from typing import NamedTuple
 
 PROGRAM = "onixdesk: "
@@ -12,6 +13,10 @@ PLACE = re.compile(r"([0-9]+):([0-9]+): (?:(.*?): )?(.*)")
 REFUSAL = re.compile(r"(?:[0-9]+:[0-9]+: )?refused: (.*)")
 COUNT = re.compile(r"(.*): ([0-9]+)")
 TOTAL = re.compile(r"([0-9]+) notes?(?:, ([0-9]+) products? wrong)?")
+
+# The element by which a feed says that it has no product, in both kinds of names.
+ENCODINGS = "ascii", "utf-16-le", "utf-16-be"
+NO_PRODUCT = [name.encode(encoding) for name in ("NoProduct", "noproduct") for encoding in ENCODINGS]
 
 
 class Note(NamedTuple):
@@ -57,3 +62,14 @@ def read_said(lines: Iterable[str], file: str) -> Said:
     for line in lines:
         said.add(line, file)
     return said
+
+
+def says_no_product(feed: Path) -> bool:
+    """Whether a feed says itself that it has no product."""
+    before = b""
+    with feed.open("rb") as file:
+        while piece := file.read(1 << 20):
+            if any(name in before + piece for name in NO_PRODUCT):
+                return True
+            before = piece[-max(map(len, NO_PRODUCT)) :]
+    return False

@@ -1,6 +1,8 @@
-"""Why the desk gives no price of an article: for whoever reads the page. Whether it gives one, the desk alone says."""
+"""Which price of an article holds by its records, and why none does: for what is told of a feed. What a desk answers it
+alone says."""
 
 from collections.abc import Iterable
+from decimal import Decimal
 from typing import NamedTuple
 
 from message_records.products import DELETION, REPLACING, UPDATE, Detail, Price, Product
@@ -63,3 +65,28 @@ def why_none_holds(prices: list[Price], question: Question) -> str:
     if not current:
         return "its price has ended"
     return "" if any(price.minimum == 1 for price in current) else "its price is for several copies"
+
+
+def price_that_holds(details: Iterable[Detail], question: Question, copies: int) -> str:
+    """The least amount of these offers that holds by the desk's rules for so many copies, empty where none does."""
+    found = [amount for detail in details if (amount := price_of(detail, question, copies))]
+    return min(found, key=Decimal, default="")
+
+
+def price_of(detail: Detail, question: Question, copies: int) -> str:
+    """What holds of an offer: of the prices the one of the greatest minimum, then the one that began last, then the
+    cheapest."""
+    if not detail.market.has(question.country):
+        return ""
+    found = [price for price in detail.prices if holds(price, question) and price.minimum <= copies]
+    if not found:
+        return ""
+    minimum = max(price.minimum for price in found)
+    first = max(price.first for price in found if price.minimum == minimum)
+    return min((price.amount for price in found if (price.minimum, price.first) == (minimum, first)), key=Decimal)
+
+
+def holds(price: Price, question: Question) -> bool:
+    is_alike = price.price_type == question.price_type and price.currency == question.currency
+    is_current = price.first <= question.day and (not price.last or price.last >= question.day)
+    return is_alike and is_current and price.territory.has(question.country)

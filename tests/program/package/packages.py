@@ -22,7 +22,7 @@ MAY_IMPORT: dict[str, set[str]] = {
     "programs/desk-prices/desk_prices": {
         "command_lines", "desk_batches", "desk_copy", "desk_follow", "onixdesk_titles", "shop_files",
     },
-    "programs/onixdesk-inbox/onixdesk_inbox": {"command_lines"},
+    "programs/onixdesk-inbox/onixdesk_inbox": {"command_lines", "message_records"},
     "programs/desk-metrics/desk_metrics": {"command_lines", "desk_copy", "onixdesk_inbox"},
     "programs/onixdesk-look/onixdesk_look": {"command_lines", "message_records", "onixdesk_inbox"},
     "programs/onixdesk-titles/onixdesk_titles": {"command_lines", "onixdesk_inbox"},

@@ -5,6 +5,7 @@ import socket
 import subprocess
 import time
 from collections.abc import Iterator
+from pathlib import Path
 
 from tests.program.databases import DATABASE, batch
 from tests.program.room import SECONDS, Ran, Room
@@ -54,7 +55,7 @@ def figures(room: Room) -> Iterator[Outcome]:
     batch(room, AGREEMENT)
     port = free_port()
     room.path("figures").mkdir()
-    words = [room.program, "--db", DATABASE, "serve", "--port", str(port), "--requests", "1"]
+    words: list[str | Path] = [room.program, "--db", DATABASE, "serve", "--port", str(port), "--requests", "1"]
     desk = subprocess.Popen(words, cwd=room.folder, stdout=subprocess.DEVNULL)
     try:
         limited = ["sh", "-c", f'ulimit -d 500000; FIGURES=figures exec "{SCRIPT}" {port} {DATABASE}']

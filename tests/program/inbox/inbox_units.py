@@ -56,7 +56,7 @@ def bound(lines: list[str], name: str) -> int:
 def what_a_restore_stops(_room: Room) -> Iterator[Outcome]:
     """A unit that a restore ends in its work has not failed, so nobody is mailed."""
     for name in ("onixdesk-inbox/onixdesk-inbox@", "onixdesk-titles/onixdesk-titles", "desk-copy/onixdesk-copy",
-                 "desk-follow/onixdesk-follow", "desk-metrics/onixdesk-metrics"):
+                 "desk-follow/onixdesk-follow", "desk-metrics/onixdesk-metrics", "desk-prices/onixdesk-prices"):
         lines = ROOT.joinpath(f"programs/{name}.service").read_text(encoding="utf-8").splitlines()
         yield Outcome(f"units: {name} that is ended", "SuccessExitStatus=TERM 143" in lines, True)
 

@@ -12,3 +12,4 @@ pub mod AppendedTexts
 pub mod PartLemmas
 pub mod FolderLemmas
 pub mod ResumedLoads
+pub mod ChangeLemmas

@@ -1,6 +1,6 @@
 -- An export that is loaded into a desk which has a part of what was exported.
 use Rattle.std.proofs.Common.{◌≡◌, ◌+◌, ◌<◌, ◌≤◌, ℕ, zero, suc, Bool, true, false, List, [], ◌∷◌, ◌++◌, Option, Some, None, refl, sym, ap, ◌∙◌, subst, arith, cond, ◌⊎◌, inl, inr, map, take}
-use Rattle.std.specs.Prelude.{bytes_eq, find, ◌||◌, is_some}
+use Rattle.std.specs.Prelude.{bytes_eq, find}
 use Rattle.std.specs.FinMap.{entries}
 use Rattle.std.specs.List.{AllByRecursion, flat_map, range_with_len}
 use Rattle.std.specs.Option.{option_or}
@@ -8,7 +8,6 @@ use Rattle.std.proofs.lemmas.Bool.{cases_lt}
 use Rattle.std.proofs.lemmas.List.Folds.{find-append}
 use Rattle.std.proofs.lemmas.Slice.Eq.{bytes_eq-Decides}
 use Rattle.onix_records.specs.declared.agreements.Agreement.{Agreement}
-use Rattle.onix_records.specs.declared.parts.Product.{Product}
 use Rattle.series_rules.proofs.AgreementLemmas.{agreements_are_distinct, between_has_parties, named_has_name, named_stays}
 use Rattle.series_rules.proofs.Elements.{In}
 use Rattle.series_rules.proofs.FirstLemmas.{first_again, first_left, first_there}

@@ -7,3 +7,4 @@ pub mod Asking
 pub mod ListTexts
 pub mod PartTexts
 pub mod Resuming
+pub mod Changes

@@ -83,7 +83,7 @@ README = ROOT / "examples/page/README.md"
 FILE = "/etc/nginx/onixdesk.passwords"
 
 # Behind it stands the password, where nobody is to be asked for it. Each request is hashed anew: with the rounds of
-# openssl's own choice that takes nginx four times as long.
+# openssl's own choice that takes nginx three times as long.
 SALT = '-salt "rounds=1000\\$$(openssl rand -hex 8)"'
 is_cheap = re.compile(r"\$6\$rounds=1000\$([0-9a-f]{16})\$[./0-9A-Za-z]{86}").fullmatch
 

@@ -74,7 +74,8 @@ def what_does_not_fit(room: Room) -> Iterator[Outcome]:
     with desk_of(room, inbox, AGREED.format("S", 1)) as desk:
         inbox.put({"b.xml": numbered(["R2"], 1)})
         yield Outcome("again: another desk", inbox.run(), said("b.xml: done: number 1 applied"))
-        lines = ["a.xml: refused: another message of number 1 was taken before", "b.xml: done: number 1 applied"]
+        why = "another message of number 1 was taken before; a correction needs a number of its own"
+        lines = [f"a.xml: refused: {why}", "b.xml: done: number 1 applied"]
         yield Outcome("again: two files of one number", inbox.run("--again", "lacking"), said(*lines, status=1))
         inbox.set(DESK=f"http://127.0.0.1:{desk.port}", SENDER="06,T")
         lines = [f"{name}.xml: refused: its sender is not 06,T" for name in "ab"]

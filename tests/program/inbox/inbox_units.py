@@ -55,9 +55,10 @@ def bound(lines: list[str], name: str) -> int:
 
 def what_a_restore_stops(_room: Room) -> Iterator[Outcome]:
     """A unit that a restore ends in its work has not failed, so nobody is mailed."""
-    for name in ("onixdesk-inbox/onixdesk-inbox@", "onixdesk-titles/onixdesk-titles", "desk-copy/onixdesk-copy",
-                 "desk-follow/onixdesk-follow", "desk-metrics/onixdesk-metrics", "desk-prices/onixdesk-prices"):
-        lines = ROOT.joinpath(f"programs/{name}.service").read_text(encoding="utf-8").splitlines()
+    units = {path.name: path.read_text(encoding="utf-8").splitlines() for path in ROOT.glob("programs/*/*.service")}
+    once = {name: lines for name, lines in units.items() if "Type=oneshot" in lines}
+    yield Outcome("units: those that end by themselves", {"onixdesk-inbox@.service", "onixdesk-copy.service"} <= {*once}, True)
+    for name, lines in once.items():
         yield Outcome(f"units: {name} that is ended", "SuccessExitStatus=TERM 143" in lines, True)
 
 

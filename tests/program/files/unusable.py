@@ -1,4 +1,5 @@
-"""The commands of docs/RELIABILITY.md that tell the causes of `storage: unusable` apart, over a file of each."""
+"""The commands of docs/RELIABILITY.md that tell the causes of `storage: unusable` apart, over a file of each, and what
+it says of files beside a desk."""
 
 from collections.abc import Iterator
 from pathlib import Path
@@ -53,3 +54,20 @@ def who_owns_it(room: Room) -> Iterator[Outcome]:
     line = [line for line in told(room, DATABASE).splitlines() if line.endswith(f" {DATABASE}")]
     owner = Path(room.path(DATABASE)).owner()
     yield Outcome("unusable: whose it is", [each.split()[1] for each in line], [owner])
+
+
+def files_beside_a_desk(room: Room) -> Iterator[Outcome]:
+    """What the page says of a file that was cut, and of somebody's file with the name of a log."""
+    batch(room, AGREEMENT)
+    whole = room.path(DATABASE).read_bytes()
+    room.write("cut.db", whole[: len(whole) // 2])
+    came = asked(room, "cut.db")
+    yield Outcome("a file that was cut", came, Ran(3, b"", b"onixdesk: storage: disk\n"))
+    yield Outcome("a file that was cut stays so", room.path("cut.db").read_bytes(), whole[: len(whole) // 2])
+    room.write("new.db-wal", b"notes of somebody\n" * 20)
+    came = room.run("--db", "new.db", "batch", given=AGREEMENT)
+    is_kept = room.path("new.db-wal").read_bytes().startswith(b"notes")
+    yield Outcome("somebody's file with the name of a log", (came.status, is_kept), (0, False))
+    page = ROOT.joinpath("docs/RELIABILITY.md").read_text(encoding="utf-8").partition("### Files beside a desk")[2]
+    named = [name for name in ("that was cut", "`shop.db-wal` that is not", "`.onixdesk.PID`") if name not in page]
+    yield Outcome("both are in the page", named, [])

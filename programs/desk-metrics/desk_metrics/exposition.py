@@ -18,6 +18,7 @@ METRICS = {
     "onixdesk_inbox_waiting_files": "How many files lie in the folder for what comes in.",
     "onixdesk_inbox_refused_files": "How many refused files are kept.",
     "onixdesk_inbox_stopped_files": "How many files are stopped, for a person to decide on.",
+    "onixdesk_fetch_last_success_timestamp_seconds": "When onixdesk-fetch last did its work for the inbox.",
     "onixdesk_inbox_last_taken_timestamp_seconds": "When the desk last took a file of the inbox.",
 }
 

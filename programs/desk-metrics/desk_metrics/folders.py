@@ -8,6 +8,9 @@ from pathlib import Path
 from onixdesk_inbox.archive import ANSWER
 from onixdesk_inbox.incoming import TAKEN
 
+# The file whose time is that of the last success of onixdesk-fetch.
+SUCCEEDED = "succeeded"
+
 
 def entries(folder: Path) -> Iterator[os.DirEntry[str]]:
     with os.scandir(folder) as found:
@@ -30,6 +33,13 @@ def refused(state: Path) -> int | None:
 def stopped(state: Path) -> int | None:
     """How many files are stopped for a person: what comes behind one waits."""
     return int(state.joinpath("stopped").exists()) if state.exists() else None
+
+
+def last_fetched(state: Path) -> int | None:
+    """The second of the last run of onixdesk-fetch that did not fail, by what it keeps."""
+    with contextlib.suppress(FileNotFoundError):
+        return int(state.joinpath(SUCCEEDED).stat().st_mtime)
+    return None
 
 
 def last_taken(state: Path) -> int | None:

@@ -62,6 +62,7 @@ class Gathering:
             ("onixdesk_inbox_waiting_files", folders.waiting, incoming),
             ("onixdesk_inbox_refused_files", folders.refused, state),
             ("onixdesk_inbox_stopped_files", folders.stopped, state),
+            ("onixdesk_fetch_last_success_timestamp_seconds", folders.last_fetched, places.fetched / series),
             ("onixdesk_inbox_last_taken_timestamp_seconds", folders.last_taken, state),
         ]:
             try:

@@ -20,6 +20,7 @@ class Places:
     settings: Path = Path(SETTINGS).parent
     incoming: Path = Path(INCOMING).parent
     state: Path = Path(STATE).parent
+    fetched: Path = Path("/var/lib/onixdesk-fetch")
 
 
 def names_in(folder: Path, tell: Callable[[str], None]) -> list[str]:

@@ -24,6 +24,7 @@ MAY_IMPORT: dict[str, set[str]] = {
     },
     "programs/onixdesk-inbox/onixdesk_inbox": {"command_lines", "message_records"},
     "programs/desk-metrics/desk_metrics": {"command_lines", "desk_copy", "onixdesk_inbox"},
+    "programs/onixdesk-fetch/onixdesk_fetch": {"command_lines", "onixdesk_inbox"},
     "programs/onixdesk-look/onixdesk_look": {"command_lines", "message_records", "onixdesk_inbox"},
     "programs/onixdesk-titles/onixdesk_titles": {"command_lines", "onixdesk_inbox"},
     "tools": set(),
@@ -31,7 +32,7 @@ MAY_IMPORT: dict[str, set[str]] = {
     # The tests of the page drive a browser.
     "tests": {
         "bench", "command_lines", "desk_copy", "desk_follow", "desk_metrics", "desk_prices", "desk_restore",
-        "message_records", "onixdesk_inbox", "onixdesk_look", "onixdesk_titles", "psycopg2", "selenium", "shop_files",
+        "message_records", "onixdesk_fetch", "onixdesk_inbox", "onixdesk_look", "onixdesk_titles", "psycopg2", "selenium", "shop_files",
         "tools",
     },
 }

@@ -1,0 +1,268 @@
+"""What bin/onixdesk-fetch brings from servers on this machine: OpenSSH for SFTP, vsftpd for FTPS, nginx for HTTPS."""
+
+import contextlib
+import json
+import os
+import shutil
+import signal
+import subprocess
+import time
+from collections.abc import Callable, Iterator
+from pathlib import Path
+
+from desk_metrics import folders
+from onixdesk_fetch.server import LISTED, is_name, linked
+from tests.program.inbox.inboxes import files_in
+from tests.program.room import SECONDS, Ran, Room
+from tests.program.serving import HOST, connected, free_port
+from tests.running import Outcome
+from tools.root import ROOT
+
+PROGRAM = ROOT / "bin/onixdesk-fetch"
+
+# The programs of the servers, by Debian's packages that have them.
+SERVERS = {"sshd": "openssh-server", "vsftpd": "vsftpd", "nginx": "nginx-light"}
+
+
+class Fetch:
+    """Runs over folders of this room. `files` is the folder that the server offers."""
+
+    def __init__(self, room: Room, **settings: object) -> None:
+        self.room = room
+        self.files, self.incoming, self.state = (room.path(name) for name in ("files", "incoming", "state"))
+        for folder in (self.files, self.incoming, self.state, room.path("credentials")):
+            folder.mkdir(exist_ok=True)
+            folder.chmod(0o755)
+        self.set(**settings)
+
+    def set(self, **settings: object) -> None:
+        self.room.write("settings.conf", "".join(f"{name}={value}\n" for name, value in settings.items()).encode())
+
+    def words(self, *more: str) -> list[str]:
+        folders = ["--settings", "settings.conf", "--incoming", str(self.incoming), "--state", str(self.state)]
+        return [str(PROGRAM), *folders, *more, "north"]
+
+    def run(self, *more: str) -> Ran:
+        environment = {**os.environ, "CREDENTIALS_DIRECTORY": str(self.room.path("credentials"))}
+        return self.room.call(self.words(*more), environment=environment)
+
+    def came(self) -> dict[str, bytes]:
+        return files_in(self.incoming)
+
+
+def said(text: str = "", status: int = 0) -> Ran:
+    return Ran(status, b"", f"onixdesk-fetch: {text}\n".encode() if text else b"")
+
+
+@contextlib.contextmanager
+def server(room: Room, port: int, *words: str) -> Iterator[None]:
+    """Runs a server until it listens, and ends it."""
+    process = subprocess.Popen(words, cwd=room.folder, stdout=subprocess.DEVNULL, stderr=subprocess.DEVNULL)
+    try:
+        until = time.monotonic() + SECONDS
+        while time.monotonic() < until:
+            with contextlib.suppress(OSError):
+                connected(port).close()
+                break
+            time.sleep(0.1)
+        yield
+    finally:
+        process.send_signal(signal.SIGTERM)
+        process.wait(SECONDS)
+
+
+@contextlib.contextmanager
+def sftp(room: Room, host_key: str = "host") -> Iterator[str]:
+    """Debian's OpenSSH, with the files of the room; gives its URL."""
+    for name in (host_key, "credentials/secrets_key"):
+        if not room.path(name).exists():
+            room.call(["ssh-keygen", "-q", "-t", "ed25519", "-N", "", "-f", room.path(name)])
+    room.path("credentials/secrets_key.pub").replace(room.path("authorized"))
+    port = free_port()
+    room.write("sshd_config", "\n".join([
+        f"Port {port}", f"ListenAddress {HOST}", f"HostKey {room.path(host_key)}", "StrictModes no", "UsePAM no",
+        f"AuthorizedKeysFile {room.path('authorized')}", f"PidFile {room.path('pid')}",
+        "Subsystem sftp internal-sftp", "",
+    ]).encode())
+    Path("/run/sshd").mkdir(exist_ok=True)
+    with server(room, port, shutil.which("sshd") or "", "-D", "-f", str(room.path("sshd_config"))):
+        yield f"sftp://{HOST}:{port}{room.path('files')}/"
+    shutil.copy(room.path("authorized"), room.path("credentials/secrets_key.pub"))
+
+
+def certificate(room: Room) -> None:
+    if not room.path("c.pem").exists():
+        room.call(["openssl", "req", "-x509", "-newkey", "rsa:2048", "-nodes", "-keyout", "k.pem", "-out", "c.pem",
+                   "-days", "2", "-subj", "/CN=wholesaler.example"])
+
+
+@contextlib.contextmanager
+def ftps(room: Room) -> Iterator[str]:
+    certificate(room)
+    port = free_port()
+    room.write("vsftpd.conf", "\n".join([
+        "listen=YES", f"listen_address={HOST}", f"listen_port={port}", "background=NO", "anonymous_enable=YES",
+        f"anon_root={room.path('files')}", "no_anon_password=YES", "ssl_enable=YES", "allow_anon_ssl=YES",
+        "force_anon_data_ssl=YES", "force_anon_logins_ssl=YES", "require_ssl_reuse=NO", "implicit_ssl=YES",
+        f"rsa_cert_file={room.path('c.pem')}", f"rsa_private_key_file={room.path('k.pem')}",
+        "secure_chroot_dir=/run/sshd", "seccomp_sandbox=NO", "ssl_ciphers=HIGH", "",
+    ]).encode())
+    Path("/run/sshd").mkdir(exist_ok=True)
+    room.folder.chmod(0o755)
+    with server(room, port, shutil.which("vsftpd") or "", str(room.path("vsftpd.conf"))):
+        yield f"ftps://{HOST}:{port}/"
+
+
+@contextlib.contextmanager
+def https(room: Room) -> Iterator[str]:
+    certificate(room)
+    port = free_port()
+    room.folder.chmod(0o755)
+    room.write("nginx.conf", f"""daemon off; pid {room.path('nginx.pid')}; error_log /dev/null;
+events {{}}
+http {{ access_log off; server {{ listen {HOST}:{port} ssl; ssl_certificate {room.path('c.pem')};
+ssl_certificate_key {room.path('k.pem')}; root {room.path('files')}; autoindex on; }} }}
+""".encode())
+    with server(room, port, shutil.which("nginx") or "", "-e", "stderr", "-c", str(room.path("nginx.conf"))):
+        yield f"https://{HOST}:{port}/"
+
+
+# How each begins, and its user.
+Begin = Callable[[Room], contextlib.AbstractContextManager[str]]
+KINDS: dict[str, tuple[Begin, str]] = {"sftp": (sftp, "root"), "ftps": (ftps, "anonymous"), "https": (https, "")}
+
+CHANGED = b"<ONIXMessage release='3.0'> of another day </ONIXMessage>"
+
+
+def servers(_room: Room) -> Iterator[Outcome]:
+    yield Outcome("fetch: the servers are there", [name for name in SERVERS if not shutil.which(name)], [])
+
+
+def from_each_server(room: Room) -> Iterator[Outcome]:
+    """The key is trusted first; what is there comes once, what changes comes again, and nothing else does."""
+    for kind, (begin, user) in KINDS.items():
+        for name in ("files", "incoming", "state"):
+            shutil.rmtree(room.path(name), ignore_errors=True)
+        fetch = Fetch(room)
+        files = {"a.xml": b"one", "b b.xml": b"two"}
+        for name, data in {**files, "c.txt": b"three", ".d.xml": b"four"}.items():
+            fetch.files.joinpath(name).write_bytes(data)
+        with begin(room) as url:
+            fetch.set(URL=url, USER=user)
+            wanted = said("no key of the server is trusted: onixdesk-fetch --trust north shows and keeps it", 2)
+            yield Outcome(f"fetch: {kind}, no key", (fetch.run(), fetch.came()), (wanted, {}))
+            trusted = fetch.run("--trust")
+            yield Outcome(f"fetch: {kind}, the key", (trusted.status, trusted.output.split()[0]), (0, url.encode()))
+            yield Outcome(f"fetch: {kind}, all", (fetch.run(), fetch.came()), (said("2 fetched"), files))
+            for path in fetch.incoming.iterdir():
+                path.unlink()
+            yield Outcome(f"fetch: {kind}, nothing twice", (fetch.run(), fetch.came()), (said(), {}))
+            fetch.files.joinpath("a.xml").write_bytes(CHANGED)
+            yield Outcome(f"fetch: {kind}, a changed file", (fetch.run(), fetch.came()),
+                          (said("1 fetched"), {"a.xml": CHANGED}))
+            os.utime(fetch.files / "b b.xml", (1_000_000_000, 1_000_000_000))
+            yield Outcome(f"fetch: {kind}, the same bytes of another time", fetch.run(), said())
+            yield Outcome(f"fetch: {kind}, the server's files", len(list(fetch.files.iterdir())), 4)
+
+
+OTHER_KEY = "the server has another key than the one that is trusted: nothing is fetched"
+
+
+def another_key(room: Room) -> Iterator[Outcome]:
+    """A server with another key is sent no password and asked for nothing; the third time in a row it is an error."""
+    fetch = Fetch(room)
+    fetch.files.joinpath("a.xml").write_bytes(b"one")
+    with sftp(room) as url:
+        fetch.set(URL=url, USER="root")
+        fetch.run("--trust")
+    with sftp(room, "other-host") as url:
+        fetch.set(URL=url, USER="root")
+        came = [fetch.run() for _ in range(3)]
+        yield Outcome("fetch: another key", came, [said(OTHER_KEY), said(OTHER_KEY), said(OTHER_KEY, 1)])
+        yield Outcome("fetch: another key, what came", fetch.came(), {})
+        fetch.run("--trust")
+        yield Outcome("fetch: the other key, once it is trusted", fetch.run(), said("1 fetched"))
+        kept = json.loads(fetch.state.joinpath("fetched").read_text())
+        yield Outcome("fetch: the failures are forgotten", kept["failures"], 0)
+        yield Outcome("fetch: when it succeeded last", time.time() - (folders.last_fetched(fetch.state) or 0) < 600, True)
+
+
+def bounds(room: Room) -> Iterator[Outcome]:
+    """No more files a run, and no more bytes a day, than the settings say; what the inbox has not taken stays."""
+    fetch = Fetch(room)
+    for number in range(5):
+        fetch.files.joinpath(f"{number}.xml").write_bytes(b"%d" % number * 1000)
+    with https(room) as url:
+        fetch.set(URL=url, FILES=2)
+        fetch.run("--trust")
+        for files in (2, 4, 5):
+            fetch.run()
+            yield Outcome(f"fetch: two files a run, {files}", len(fetch.came()), files)
+        fetch.files.joinpath("6.xml").write_bytes(b"6" * 100_000)
+        fetch.set(URL=url, BYTES_A_DAY=50_000)
+        came = fetch.run()
+        yield Outcome("fetch: too many bytes", (came.status, len(fetch.came()), came.errors != b""), (0, 5, True))
+        left = [path.name for path in fetch.incoming.iterdir() if path.name.startswith(".")]
+        yield Outcome("fetch: no half file stays", left, [])
+        fetch.files.joinpath("1.xml").write_bytes(CHANGED)
+        fetch.files.joinpath("6.xml").unlink()
+        fetch.set(URL=url)
+        line = "1.xml: the inbox has not taken the file of this name that came before"
+        yield Outcome("fetch: a file that still lies there", (fetch.run().errors, fetch.came()["1.xml"]),
+                      (said(line).errors, b"1" * 1000))
+
+
+def a_name_with_the_day(room: Room) -> Iterator[Outcome]:
+    fetch = Fetch(room)
+    name = time.strftime("north-%Y%m%d.xml")
+    fetch.files.joinpath(name).write_bytes(b"one")
+    fetch.files.joinpath("north-20010101.xml").write_bytes(b"two")
+    with https(room) as url:
+        fetch.set(URL=f"{url}north-%Y%m%d.xml")
+        fetch.run("--trust")
+        yield Outcome("fetch: a name with the day", (fetch.run(), fetch.came()), (said("1 fetched"), {name: b"one"}))
+        yield Outcome("fetch: a name with the day, again", fetch.run(), said())
+
+
+def names_that_lead_elsewhere(_room: Room) -> Iterator[Outcome]:
+    """Those of a hostile listing or index."""
+    for name in ("..", "../a.xml", "/etc/passwd", ".a.xml", "-o.xml", "a\n.xml", "", "a" * 300):
+        yield Outcome(f"fetch: the name {name[:20]!r}", is_name(name), False)
+    hostile = "../b.xml", "https://other.example/c.xml", "d%2fe.xml"
+    page = "".join(f'<a href="{link}">x</a>' for link in ("a.xml", *hostile))
+    names = [file.name for file in linked(page, "https://north.example/files/") if is_name(file.name)]
+    yield Outcome("fetch: links that lead elsewhere", names, ["a.xml"])
+    line = "-rw-r--r--    1 1000     1000         4096 Nov 28 19:46 price list.xml"
+    found = LISTED.fullmatch(line)
+    yield Outcome("fetch: a line of a listing", found and found.groups(), ("4096", "Nov 28 19:46", "price list.xml"))
+    for line in ("drwxr-xr-x 2 0 0 4096 Nov 28 19:46 folder.xml",
+                 "lrwxrwxrwx 1 0 0 4 Nov 28 19:46 a.xml -> /etc/passwd"):
+        yield Outcome(f"fetch: no file, {line[:1]}", LISTED.fullmatch(line), None)
+
+
+def bad_settings(room: Room) -> Iterator[Outcome]:
+    fetch = Fetch(room)
+    for text in ("", "URL=http://a/", "URL=sftp://a/b", "URL=https://u:p@a/", "URL=https://a/\nFILES=0",
+                 "URL=https://a/\nX=1"):
+        room.write("settings.conf", text.encode())
+        yield Outcome(f"fetch: bad settings {text!r}", fetch.run().status, 2)
+
+
+def killed(room: Room) -> Iterator[Outcome]:
+    """Killed while a file comes, at any moment: no half file has its name, and the next run brings it whole."""
+    fetch = Fetch(room)
+    data = bytes(3_000_000)
+    fetch.files.joinpath("a.xml").write_bytes(data)
+    with https(room) as url:
+        fetch.set(URL=url)
+        fetch.run("--trust")
+        for tenths in range(1, 8):
+            process = subprocess.Popen(fetch.words(), cwd=room.folder, stderr=subprocess.DEVNULL)
+            time.sleep(tenths / 10)
+            process.kill()
+            process.wait()
+            whole = {name: len(data) for name in fetch.came() if not name.startswith(".")}
+            yield Outcome(f"fetch: killed after {tenths}/10 s", set(whole.values()) <= {len(data)}, True)
+        fetch.run()
+        names = {name: size for name, size in ((name, len(data)) for name, data in fetch.came().items())}
+        yield Outcome("fetch: what came after kills", names, {"a.xml": len(data)})

@@ -4,10 +4,10 @@ _desk_metrics() {
     _init_completion || return
     case $prev in
         --desk | --seconds) return ;;
-        --settings | --incoming | --state | --figures) _filedir -d; return ;;
+        --settings | --incoming | --state | --fetched | --figures) _filedir -d; return ;;
     esac
     case $cur in
-        -*) COMPREPLY=($(compgen -W "--desk --settings --incoming --state --figures --seconds --help" -- "$cur")) ;;
+        -*) COMPREPLY=($(compgen -W "--desk --settings --incoming --state --fetched --figures --seconds --help" -- "$cur")) ;;
         *) _filedir -d ;;
     esac
 } && complete -F _desk_metrics desk-metrics

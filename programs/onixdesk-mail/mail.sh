@@ -20,6 +20,7 @@ journal() {
         set -- --since=-1h "$@"
     fi
     journalctl --quiet --no-pager --output=short --unit=onixdesk.service --unit='onixdesk-inbox@*.service' \
+        --unit='onixdesk-fetch@*.service' \
         --unit=onixdesk-copy.service --unit=onixdesk-follow.service --unit=onixdesk-titles.service \
         --unit=onixdesk-prices.service --unit=onixdesk-prices-mail.service "$@" >"$folder/journal" || return
     [ -e "$folder/read" ] && [ "$(sed -n 1p "$folder/journal")" = "$(sed -n 2p "$folder/read")" ] &&

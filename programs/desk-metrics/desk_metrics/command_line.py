@@ -66,6 +66,13 @@ def command_line() -> argparse.ArgumentParser:
         help=f"where each inbox has the folder of what it keeps; {Places.state} without it",
     )
     add(
+        "--fetched",
+        metavar="FOLDER",
+        type=Path,
+        default=Places.fetched,
+        help=f"where onixdesk-fetch has the folder of what it keeps of each series; {Places.fetched} without it",
+    )
+    add(
         "--figures",
         metavar="FOLDER",
         type=Path,
@@ -87,7 +94,7 @@ def command_line() -> argparse.ArgumentParser:
 def write(options: argparse.Namespace) -> int:
     left_out: list[str] = []
     leave_out = left_out.append
-    places = Places(options.settings, options.incoming, options.state)
+    places = Places(options.settings, options.incoming, options.state, options.fetched)
     with alone(options.folder):
         names = sorted(set(options.series)) or names_in(places.settings, leave_out)
         desks = {options.desk: names} if options.series else by_desk(places.settings, names, leave_out)

@@ -336,7 +336,9 @@ def by_promtool(room: Room) -> Iterator[Outcome]:
         room.path("state/north/done").mkdir(parents=True)
         room.path("state/north/refused").mkdir()
         room.write("state/north/done/1.csv.answer", b"")
-        write(room, "--desk", at(desk), "north")
+        room.path("fetched/north").mkdir(parents=True)
+        room.write("fetched/north/succeeded", b"")
+        write(room, "--desk", at(desk), "--fetched", "fetched", "north")
     found = {name for name, _ in read(room)}
     yield Outcome("promtool: every metric is written", found, set(METRICS))
     checked = room.call(["promtool", "check", "metrics"], room.path(FILE).read_bytes())

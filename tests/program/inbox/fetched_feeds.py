@@ -3,6 +3,7 @@
 import contextlib
 import json
 import os
+import re
 import shutil
 import signal
 import subprocess
@@ -12,6 +13,7 @@ from pathlib import Path
 
 from desk_metrics import folders
 from onixdesk_fetch.server import LISTED, is_name, linked
+from onixdesk_fetch.settings import read_settings
 from tests.program.inbox.inboxes import files_in
 from tests.program.room import SECONDS, Ran, Room
 from tests.program.serving import HOST, connected, free_port
@@ -266,3 +268,28 @@ def killed(room: Room) -> Iterator[Outcome]:
         fetch.run()
         names = {name: size for name, size in ((name, len(data)) for name, data in fetch.came().items())}
         yield Outcome("fetch: what came after kills", names, {"a.xml": len(data)})
+
+
+def unit(_room: Room) -> Iterator[Outcome]:
+    """What is forbidden to the other units is forbidden to this one, but for the network and what the group reads."""
+    lines = ROOT.joinpath("programs/onixdesk-fetch/onixdesk-fetch@.service").read_text(encoding="utf-8").splitlines()
+    forbidden = ROOT.joinpath("tests/units/forbidden.conf").read_text(encoding="utf-8").splitlines()
+    wanted = [line for line in forbidden if not line.startswith(("IPAddress", "UMask"))]
+    yield Outcome("fetch: what is forbidden to the unit", [line for line in wanted if line not in lines], [])
+    needed = ["UMask=0007", "User=onixdesk-fetch", "ReadWritePaths=-/var/lib/onixdesk-incoming/%i",
+              "StateDirectory=onixdesk-fetch/%i", "LoadCredential=secrets:/etc/onixdesk/fetch/%i.secrets"]
+    yield Outcome("fetch: what the unit has", [line for line in needed if line not in lines], [])
+
+
+def example_of_settings(room: Room) -> Iterator[Outcome]:
+    """Once the address is set it is read, and has what holds where another line is left out."""
+    text = ROOT.joinpath("programs/onixdesk-fetch/example.conf").read_text(encoding="utf-8")
+    room.write("all.conf", text.replace("\nURL=\n", "\nURL=https://a.example/\n").encode())
+    room.write("one.conf", b"URL=https://a.example/\n")
+    found = read_settings(room.path("all.conf"))
+    yield Outcome("fetch: the example of settings", found, read_settings(room.path("one.conf")))
+    page = ROOT.joinpath("docs/INBOX.md").read_text(encoding="utf-8")
+    names = re.findall("^([A-Z_]+)=", text, flags=re.MULTILINE)
+    told = [name for line in re.findall(r"^\| (`[A-Z_]+=`.*?) \|", page, flags=re.MULTILINE)
+            for name in re.findall("`([A-Z_]+)=`", line)]
+    yield Outcome("fetch: the settings of the page", told, names)

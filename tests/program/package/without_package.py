@@ -16,6 +16,7 @@ BLOCKS = [
     ("docs/HTTP.md", "useradd "),
     ("docs/INBOX.md", "adduser --system --group --no-create-home --home /nonexistent onixdesk-inbox"),
     ("docs/INBOX.md", "adduser --system --group --no-create-home --home /nonexistent onixdesk-titles"),
+    ("docs/INBOX.md", "adduser --system --group --no-create-home --home /nonexistent onixdesk-fetch"),
     ("docs/RELIABILITY.md", "install -m 755 programs/onixdesk-mail/mail.sh"),
     ("docs/METRICS.md", "install -m 644 programs/desk-metrics/"),
     ("docs/PRICES.md", "install -m 755 programs/desk-prices/"),

@@ -77,8 +77,8 @@ def what_is_mailed(room: Room) -> Iterator[Outcome]:
     yield Outcome("mails: what is in it", bodies(room), (wanted, wanted))
     called = room.path("calls").read_text().splitlines()
     names = [
-        "onixdesk", "onixdesk-inbox@*", "onixdesk-fetch@*", "onixdesk-copy", "onixdesk-follow", "onixdesk-titles", "onixdesk-prices",
-        "onixdesk-prices-mail",
+        "onixdesk", "onixdesk-inbox@*", "onixdesk-fetch@*", "onixdesk-copy", "onixdesk-follow", "onixdesk-titles",
+        "onixdesk-prices", "onixdesk-prices-mail",
     ]  # fmt: skip
     units = [f"--unit={name}.service" for name in names]
     yield Outcome("mails: of which units", [word for word in called[-1].split() if word.startswith("--unit")], units)

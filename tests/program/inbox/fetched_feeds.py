@@ -1,12 +1,15 @@
 """What bin/onixdesk-fetch brings from servers on this machine: OpenSSH for SFTP, vsftpd for FTPS, nginx for HTTPS."""
 
 import contextlib
+import http.server
 import json
 import os
 import re
 import shutil
 import signal
+import ssl
 import subprocess
+import threading
 import time
 from collections.abc import Callable, Iterator
 from pathlib import Path
@@ -16,7 +19,7 @@ from onixdesk_fetch.server import LISTED, is_name, linked
 from onixdesk_fetch.settings import read_settings
 from tests.program.inbox.inboxes import files_in
 from tests.program.room import SECONDS, Ran, Room
-from tests.program.serving import HOST, connected, free_port
+from tests.program.serving import HOST, StandIn, connected, free_port
 from tests.running import Outcome
 from tools.root import ROOT
 
@@ -248,6 +251,78 @@ def bad_settings(room: Room) -> Iterator[Outcome]:
                  "URL=https://a/\nX=1"):
         room.write("settings.conf", text.encode())
         yield Outcome(f"fetch: bad settings {text!r}", fetch.run().status, 2)
+
+
+class Failing(StandIn):
+    """A server whose index has so many names, and which breaks off, or takes its time, within each file."""
+
+    kind = "text/html"
+    names = 1
+    pause = 0.0
+
+    def do_GET(self) -> None:
+        if self.path == "/":
+            self.reply(200, "".join(f'<a href="{name}.xml">{name}</a> 1\n' for name in range(self.names)).encode())
+            return
+        self.send_response(200)
+        self.send_header("Content-Length", "1000")
+        self.end_headers()
+        with contextlib.suppress(OSError):
+            self.wfile.write(b"x" * 500)
+            self.wfile.flush()
+            time.sleep(self.pause)
+
+
+class Whole(Failing):
+    """One that gives whole files."""
+
+    def do_GET(self) -> None:
+        if self.path == "/":
+            super().do_GET()
+        else:
+            self.reply(200, self.path.encode())
+
+
+@contextlib.contextmanager
+def standing_in_over_tls(room: Room, handler: type[StandIn]) -> Iterator[str]:
+    certificate(room)
+    context = ssl.SSLContext(ssl.PROTOCOL_TLS_SERVER)
+    context.load_cert_chain(room.path("c.pem"), room.path("k.pem"))
+    with http.server.ThreadingHTTPServer((HOST, 0), handler) as standing:
+        standing.socket = context.wrap_socket(standing.socket, server_side=True)
+        thread = threading.Thread(target=standing.serve_forever)
+        thread.start()
+        try:
+            yield f"https://{HOST}:{standing.server_port}/"
+        finally:
+            standing.shutdown()
+            thread.join()
+
+
+def connections_that_fail(room: Room) -> Iterator[Outcome]:
+    """Of what is cut or comes too slowly nothing stays; of a server that is gone nothing is lost."""
+    fetch = Fetch(room)
+    for name, pause, seconds in ("cut", 0.0, 60), ("slow", 5.0, 2):
+        with standing_in_over_tls(room, type("Server", (Failing,), {"pause": pause})) as url:
+            fetch.set(URL=url, SECONDS=seconds)
+            fetch.run("--trust")
+            came = fetch.run()
+            found = came.status, came.errors.count(b"\n"), list(fetch.incoming.iterdir())
+            yield Outcome(f"fetch: a connection that is {name}", found, (0, 1, []))
+    came = fetch.run()
+    yield Outcome("fetch: no server, the third failure", (came.status, came.errors.count(b"\n")), (1, 1))
+    kept = json.loads(fetch.state.joinpath("fetched").read_text())
+    yield Outcome("fetch: nothing was fetched", (kept["failures"], kept["fetched"]), (3, {}))
+
+
+def many_names(room: Room) -> Iterator[Outcome]:
+    """Of 10,000 names as many are fetched as a run may, and the next run goes on behind them."""
+    fetch = Fetch(room)
+    with standing_in_over_tls(room, type("Server", (Whole,), {"names": 10_000})) as url:
+        fetch.set(URL=url, FILES=3)
+        fetch.run("--trust")
+        for count in (3, 6):
+            yield Outcome(f"fetch: 10,000 names, {count} files", (fetch.run().status, len(fetch.came())), (0, count))
 
 
 def killed(room: Room) -> Iterator[Outcome]:

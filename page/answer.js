@@ -1,11 +1,11 @@
 // The answer of a day: the sentence that says what to do, what speaks against it, and the table of offers.
 
 import { money } from "./amounts.js";
+import { elsewhereInWords, fallsInWords, onlyMoreInWords } from "./better.js";
 import { catalogueLink } from "./catalogue.js";
 import { inWords, timeInWords } from "./days.js";
 import {
-  betterInWords, conditionsOf, copiesInWords, detailsOf, kindOfAnswer, onlyMoreInWords, otherRules, sentenceOf,
-  sumInWords,
+  betterInWords, conditionsOf, copiesInWords, detailsOf, kindOfAnswer, otherRules, sentenceOf, sumInWords,
 } from "./decision.js";
 import { element } from "./elements.js";
 import { areUnpriced, keyOf, ORDERS } from "./offers.js";
@@ -13,9 +13,10 @@ import { offersInWords, offersTable, referencesTable } from "./offers-table.js";
 import { kindOf } from "./price-types.js";
 import { changesOf } from "./quantities.js";
 import { messagesNotes } from "./reports.js";
+import { farInWords, farOf } from "./retail.js";
 import { wholesalerOf } from "./settings.js";
 import { keep, recall } from "./storage.js";
-import { titleSaid } from "./titles.js";
+import { titleSaid, titlesOfOffers } from "./titles.js";
 import { formatter, say } from "./wording.js";
 
 const KEY = "onixdesk-order";
@@ -38,14 +39,28 @@ function copiesNotes({ choice, copies, question: { quantity, currency } }) {
   return betterInWords(changesOf(choice, copies), Number(quantity), currency);
 }
 
-/** Who has a price for more copies, of a book that nobody has one of for so few. */
-function moreOnlyNotes({ offers, copies, question }, settings) {
-  return copies === undefined ? [] : onlyMoreInWords(offers, copies, question.currency, settings);
+/** What is better at the other offers: other numbers of copies, a price soon, a price for more copies alone. */
+function otherNotes({ offers, choice, copies, ahead, question }, settings) {
+  const { day, quantity, currency } = question;
+  const ordered = choice ?? undefined;
+  const asked = { answers: copies, quantity: Number(quantity), ordered, day, currency };
+  const later = offers.map((offer) => ({ ...offer, later: ahead?.get(keyOf(offer))?.later }));
+  return [
+    ...fallsInWords(later, asked, settings),
+    ...(copies === undefined ? [] : elsewhereInWords(offers, asked, settings)),
+    ...(copies === undefined ? [] : onlyMoreInWords(offers, asked, settings)),
+  ];
+}
+
+/** That the chosen price is far from the recommended one, or from the next. */
+function farNotes({ offers, choice, retail, question }) {
+  const far = choice === null ? undefined : farOf(choice, { offers, retail, type: question.type });
+  return far === undefined ? [] : [farInWords(far, choice, question.currency)];
 }
 
 /** Until when the price of the chosen offer holds, where it ends. */
-function untilNotes({ choice, holds, question }, settings) {
-  const until = choice === null ? undefined : holds?.get(keyOf(choice));
+function untilNotes({ choice, ahead, question }, settings) {
+  const until = choice === null ? undefined : ahead?.get(keyOf(choice))?.holds;
   if (until?.last === undefined) return [];
   const [last, from] = [inWords(until.last), inWords(until.from)];
   const wholesaler = wholesalerOf(settings, choice.series);
@@ -119,9 +134,10 @@ export class Answer {
     found("answer").hidden = answer.offers.length === 0;
   }
 
-  /** Adds what is known of the shown answer by now: `copies`, `types`, `holds` or `title`. */
+  /** Adds what is known of the shown answer by now: `copies`, `types`, `currencies`, `ahead`, `retail`, `titles`. */
   add(parts) {
     Object.assign(this.#shown, parts);
+    this.#drawSentence();
     this.#draw();
   }
 
@@ -193,8 +209,9 @@ export class Answer {
   }
 
   #drawTitle() {
-    const { title } = this.#shown;
-    const nodes = title === undefined ? [] : titleSaid(title, this.#place.settings);
+    const { titles, offers, choice } = this.#shown;
+    const said = titles === undefined ? undefined : titlesOfOffers(titles, offers, choice ?? undefined);
+    const nodes = said === undefined ? [] : titleSaid(said, this.#place.settings);
     putWhereNew(found("title"), nodes);
   }
 
@@ -206,9 +223,10 @@ export class Answer {
     const all = [
       answer.changed,
       ...(isRetail ? [say("article.notPaid")] : []),
+      ...farNotes(answer),
       ...untilNotes(answer, settings),
       ...copiesNotes(answer),
-      ...moreOnlyNotes(answer, settings),
+      ...otherNotes(answer, settings),
       otherRules(answer, settings),
     ].filter((words) => words !== undefined);
     const notes = [...all.map((words) => [words]), ...messagesNotes(series, reports)];

@@ -2,16 +2,16 @@
 
 import { addressOf, ASKED, RANGE, readAddress } from "./address.js";
 import { Answer } from "./answer.js";
-import { askCalendar, askCopies, askDay, askTypes } from "./asking.js";
+import { askCalendar, askCopies, askCurrencies, askDay, askRetail, askTypes } from "./asking.js";
 import { CalendarPart } from "./calendar-part.js";
 import { copiesInWords } from "./decision.js";
 import { today } from "./days.js";
 import { isAbandoned } from "./desk.js";
 import { readAll } from "./fields.js";
-import { Form, markAll, refuse, textsFor } from "./form.js";
+import { Form, markAll, refuse, textsFor, yearAround } from "./form.js";
 import { keyOf } from "./offers.js";
 import { changesOf, firstQuantities } from "./quantities.js";
-import { holdsUntil } from "./spans.js";
+import { holdsUntil, laterThan } from "./spans.js";
 import { titlesOf } from "./titles.js";
 import { say } from "./wording.js";
 
@@ -27,9 +27,11 @@ const found = (id) => document.getElementById(id);
 
 const asText = (values) => JSON.stringify(ASKED.map((name) => values[name]));
 
-/** Of each offer of a calendar until when its price of a day holds. */
-function holdsOf(offers, { day }) {
-  return new Map(offers.map((offer) => [keyOf(offer), holdsUntil(offer, day)]));
+/** Of each offer of a calendar until when its price of a day holds, what comes later, and where the calendar ends. */
+function aheadOf(offers, { day, until }) {
+  return new Map(offers.map((offer) => [
+    keyOf(offer), { holds: holdsUntil(offer, day), later: laterThan(offer, day), until },
+  ]));
 }
 
 /** The offers that have no price for any number of copies. */
@@ -240,22 +242,39 @@ export class Article {
   async #ask() {
     const { values, problems, remarks } = readAll(this.#texts);
     const asked = asText(values);
+    const isWrong = remarks.isbn !== undefined && this.#wantedAnyway !== this.#given.isbn;
     // Where only the range is another one, the offers stay, and the buttons with the focus.
-    if (this.#answered?.asked !== asked) this.#clear();
+    if (isWrong || this.#answered?.asked !== asked) this.#clear();
     if (!markAll(ASKED, problems)) return;
-    if (remarks.isbn !== undefined && this.#wantedAnyway !== this.#given.isbn) {
+    if (isWrong) {
       this.#notLookedFor(remarks.isbn);
       return;
     }
     markAll(RANGE, problems);
     await this.#whileWanted(async (signal) => {
-      const calendar = this.#askForCalendar(values, signal);
+      const [calendar, ahead] = this.#askForCalendars(values, signal);
       if (this.#answered === undefined) await this.#askForDay(values, asked, signal);
       if (this.#answered === undefined) return;
       const title = this.#askForTitle(signal);
       if (this.#answered.offers.length === 0) await title;
-      else await Promise.all([title, this.#showCalendar(values, await calendar), this.#askForMore(signal)]);
+      else await Promise.all([title, this.#showCalendars(values, calendar, ahead), this.#askForMore(signal)]);
     });
+  }
+
+  /**
+   * The calendars of a question, which are waited for later: that of the range that is shown, and that from its day
+   * on, by which the notes go. They are one where no range was set.
+   */
+  #askForCalendars(question, signal) {
+    const calendar = this.#askForCalendar(question, signal);
+    const { from, until } = this.#given;
+    if (from === undefined && until === undefined) return [calendar, calendar];
+    return [calendar, this.#askForCalendar(this.#fromDay(question), signal)];
+  }
+
+  /** The question of a calendar from the day on. */
+  #fromDay(question) {
+    return { ...question, from: question.day, until: yearAround(question.day).until };
   }
 
   /** The calendar of a question, which is waited for later; `undefined` where its range is wrong. */
@@ -291,16 +310,24 @@ export class Article {
 
   /** Shows what a feed said of the book, behind the answer. */
   async #askForTitle(signal) {
-    const { title, question: { isbn } } = this.#answered;
-    if (!this.#settings.hasTitles || title !== undefined) return;
-    const titles = await titlesOf([isbn], signal);
-    this.#answer.add({ title: titles.get(isbn) });
+    const { titles, question: { isbn } } = this.#answered;
+    if (!this.#settings.hasTitles || titles !== undefined) return;
+    const found = await titlesOf([isbn], signal);
+    this.#answer.add({ titles: found.get(isbn) });
   }
 
   /** Says what the desk refused; after a fault of its own the shown answer is not asked for anew. */
   #refused(outcome) {
     refuse(outcome);
     if (outcome.kind === "fault") this.#answered.checked = Infinity;
+  }
+
+  async #showCalendars(question, calendar, ahead) {
+    this.#showCalendar(question, await calendar);
+    const outcome = await ahead;
+    if (outcome?.kind !== "answer") return;
+    const { until } = this.#fromDay(question);
+    this.#answer.add({ ahead: aheadOf(outcome.body.offers, { day: question.day, until }) });
   }
 
   #showCalendar(question, outcome) {
@@ -312,7 +339,7 @@ export class Article {
       return;
     }
     const { offers } = outcome.body;
-    this.#answer.add({ holds: holdsOf(offers, question), question });
+    this.#answer.add({ question });
     this.#calendar.show({ offers, question, choice: this.#answered.choice });
   }
 
@@ -323,21 +350,35 @@ export class Article {
     const { quantities } = this.#settings;
     const first = firstQuantities(Number(answered.question.quantity), quantities);
     const show = (copies) => this.#answer.add({ copies });
-    show(await askCopies(answered, first, show, signal, this.#watch));
+    await Promise.all([
+      this.#askForRetail(answered.question, signal),
+      askCopies(answered, first, show, signal, this.#watch).then(show),
+    ]);
     const lacking = withoutPrice(answered);
-    if (lacking.length > 0) {
-      this.#answer.add({ types: await askTypes(answered.question, lacking, signal, this.#watch) });
-    }
+    if (lacking.length > 0) await this.#askForOthers(answered.question, lacking, signal);
     answered.isWhole = true;
+  }
+
+  /** The recommended price, where desk.json says of which type it is. */
+  async #askForRetail(question, signal) {
+    const { retailType } = this.#settings;
+    if (retailType === "" || retailType === question.type) return;
+    this.#answer.add({ retail: await askRetail(question, retailType, signal, this.#watch) });
+  }
+
+  /** The other currencies and types in which offers without a price have one. */
+  async #askForOthers(question, lacking, signal) {
+    const { currencies } = this.#settings;
+    this.#answer.add({ currencies: await askCurrencies(question, lacking, currencies, signal, this.#watch) });
+    this.#answer.add({ types: await askTypes(question, lacking, signal, this.#watch) });
   }
 
   /** Asks once more what is shown, and says what has changed. */
   #askAnew() {
     const { question, asked } = this.#answered;
     return this.#whileWanted(async (signal) => {
-      const [day, calendar] = await Promise.all([
-        askDay(question, signal, this.#watch), this.#askForCalendar(question, signal),
-      ]);
+      const [calendar, ahead] = this.#askForCalendars(question, signal);
+      const day = await askDay(question, signal, this.#watch);
       this.#answered.checked = Date.now();
       if (day.refusal !== undefined) {
         this.#refused(day.refusal);
@@ -347,11 +388,11 @@ export class Article {
       if (state(day) === state(this.#answered)) this.#answer.noteTime(day.time);
       else {
         const before = this.#answer.inWords();
-        this.#answered = { ...day, title: this.#answered.title, asked, checked: Date.now() };
+        this.#answered = { ...day, titles: this.#answered.titles, asked, checked: Date.now() };
         this.#answer.show(this.#answered, before);
       }
       if (this.#answered.offers.length === 0) return;
-      await Promise.all([this.#showCalendar(question, calendar), this.#askForMore(signal)]);
+      await Promise.all([this.#showCalendars(question, calendar, ahead), this.#askForMore(signal)]);
     });
   }
 }

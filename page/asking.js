@@ -79,6 +79,26 @@ export async function askCopies({ question, offers, choice }, quantities, show, 
   return askedOn(answers, next, askFor);
 }
 
+/** The offers of a day by another type, such as that of recommended prices; `undefined` where the desk refuses. */
+export async function askRetail(question, type, signal, watch) {
+  const price = await askOfDay("price", { ...question, type }, signal, watch);
+  return price.kind === "answer" ? price.body.offers : undefined;
+}
+
+/** The prices that each of the offers has in other currencies, by its key: each with its `currency` and `amount`. */
+export async function askCurrencies(question, offers, currencies, signal, watch) {
+  const found = new Map(offers.map((offer) => [keyOf(offer), []]));
+  const others = currencies.filter((currency) => currency !== question.currency);
+  await Promise.all(others.map(async (currency) => {
+    const price = await askOfDay("price", { ...question, currency }, signal, watch);
+    for (const offer of price.kind === "answer" ? price.body.offers : []) {
+      if (offer.amount !== null) found.get(keyOf(offer))?.push({ currency, amount: offer.amount });
+    }
+  }));
+  for (const prices of found.values()) prices.sort((one, other) => one.currency.localeCompare(other.currency));
+  return found;
+}
+
 /** The types to look for in place of one, the common ones first. */
 function otherTypes(type) {
   return [...new Set([...COMMON_TYPES, ...codesOf("priceTypes")])].filter((code) => code !== type);

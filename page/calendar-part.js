@@ -16,11 +16,11 @@ function moved({ from, until }, lengths) {
   return { from: plusDays(from, days), until: plusDays(until, days) };
 }
 
-// What the buttons do to the range.
+// What the buttons do to the range; a month begins at the day asked for.
 const MOVES = {
   earlier: (range) => moved(range, -1),
   later: (range) => moved(range, 1),
-  month: ({ from }) => ({ from, until: endOfMonths(from, 1) }),
+  month: (_, day) => ({ from: day, until: endOfMonths(day, 1) }),
   year: ({ from }) => ({ from, until: endOfMonths(from, YEAR) }),
 };
 
@@ -36,7 +36,7 @@ export class CalendarPart {
     this.#place = place;
     const move = (how) => {
       const { values, problems } = readAll(range());
-      if (markAll(RANGE, problems)) go(how(values));
+      if (markAll(RANGE, problems)) go(how(values, this.#shown?.question.day ?? values.from));
     };
     found("range").addEventListener("submit", (event) => {
       event.preventDefault();

@@ -4,9 +4,11 @@ import { compareAmounts, isNothing, money, times } from "./amounts.js";
 import { inWords, today } from "./days.js";
 import { areUnpriced } from "./offers.js";
 import { kindOf } from "./price-types.js";
-import { betterQuantities, changesOf } from "./quantities.js";
+import { betterQuantities } from "./quantities.js";
+import { retailInWords } from "./retail.js";
 import { chooseSo } from "./rules.js";
 import { wholesalerOf } from "./settings.js";
+import { shortened } from "./said.js";
 import { codeInWords, formatter, language, say, sayCount, wordsOfCode } from "./wording.js";
 
 /** How many copies, in words. */
@@ -24,18 +26,6 @@ export function betterInWords(changes, quantity, currency) {
   });
 }
 
-/** Who has a price for more copies alone, of offers that none of has one for so few: a sentence for each. */
-export function onlyMoreInWords(offers, copies, currency, settings) {
-  if (!areUnpriced(offers)) return [];
-  return offers.flatMap((offer) => {
-    const first = changesOf(offer, copies).find(({ amount }) => amount !== null);
-    if (first === undefined) return [];
-    const wholesaler = wholesalerOf(settings, offer.series);
-    const amount = money(first.amount, currency);
-    return [say("article.onlyCopies", { wholesaler, copies: copiesInWords(first.quantity), amount })];
-  });
-}
-
 /** What of a question is not as the shop asks mostly, in words that the sentence begins with. */
 export function conditionsOf({ day, country, currency, type }, settings) {
   const found = [];
@@ -49,17 +39,25 @@ export function conditionsOf({ day, country, currency, type }, settings) {
   return say("article.conditions.before", { conditions });
 }
 
-/** A rule of the shop, with its words where rules.toml has some. */
-function ruleInWords(rule, settings) {
-  const words = settings.rules?.[rule - 1]?.words ?? "";
-  return words === "" ? say("article.chosenBy", { rule }) : say("article.chosenByWords", { rule, words });
-}
-
 /** What is wrong with the words of rules, where the desk does not choose as rules.toml has it. */
 export function otherRules({ offers, choice }, { rules }) {
   if (rules === undefined) return undefined;
   if (choice?.rule > rules.length) return sayCount("article.unknownRule", rules.length, { rule: choice.rule });
   return chooseSo(rules, offers, choice) ? undefined : say("article.otherRules");
+}
+
+/** The rule that chooses, with its words where rules.toml has some and the desk chooses by it. */
+function ruleInWords(answer, settings) {
+  const { rule } = answer.choice;
+  const words = otherRules(answer, settings) === undefined ? (settings.rules?.[rule - 1]?.words ?? "") : "";
+  return words === "" ? say("article.chosenBy", { rule }) : say("article.chosenByWords", { rule, words });
+}
+
+/** Who offers what is chosen, with its reference where the same wholesaler has another offer of the book. */
+function chooserInWords({ offers, choice }, settings) {
+  const words = wholesalerOf(settings, choice.series);
+  const isAlone = offers.filter(({ series }) => series === choice.series).length < 2;
+  return isAlone ? words : say("article.withReference", { words, reference: shortened(choice.reference) });
 }
 
 /** What kind of thing an answer says: `none`, `unpriced`, `notChosen`, `free`, `net`, `retail` or `other`. */
@@ -71,10 +69,11 @@ export function kindOfAnswer({ offers, choice, question }) {
   return kind !== "retail" && isNothing(choice.amount) ? "free" : kind;
 }
 
-function chosenInWords(kind, { choice, question }, settings) {
+function chosenInWords(kind, answer, settings) {
+  const { choice, question } = answer;
   return say(`article.chosen.${kind}`, {
     count: formatter(Intl.NumberFormat).format(Number(question.quantity)),
-    wholesaler: wholesalerOf(settings, choice.series),
+    wholesaler: chooserInWords(answer, settings),
     amount: money(choice.amount, question.currency),
     type: codeInWords("priceTypes", question.type),
   });
@@ -101,7 +100,8 @@ export function sumInWords(answer) {
 }
 
 /** What stands below the sentence: the book, how it can be had, and by which rule it is chosen. */
-export function detailsOf({ offers, choice, question }, settings) {
+export function detailsOf(answer, settings) {
+  const { offers, choice, question, retail } = answer;
   const book = say("article.answerFor", question);
   if (offers.length === 0) return [book, say("article.askPublisher")];
   if (choice === null || areUnpriced(offers)) return [book];
@@ -109,5 +109,6 @@ export function detailsOf({ offers, choice, question }, settings) {
   const priced = offers.filter(({ amount }) => amount !== null);
   const isLeast = priced.every(({ amount }) => compareAmounts(choice.amount, amount) <= 0);
   const least = isLeast && priced.length > 1 ? [say("article.leastPrice")] : [];
-  return [book, availability, ruleInWords(choice.rule, settings), ...least];
+  const recommended = retailInWords(retail, choice, question);
+  return [book, availability, ...(recommended === "" ? [] : [recommended]), ruleInWords(answer, settings), ...least];
 }

@@ -2,7 +2,7 @@
 
 import { isDay, toDesk } from "./days.js";
 import { isbnsIn, plain } from "./isbn-in-text.js";
-import { isChecked, isTen, toThirteen, withoutHyphens } from "./isbn.js";
+import { isBook, isChecked, isTen, toThirteen, withoutHyphens } from "./isbn.js";
 import { formatter, say, sayCount } from "./wording.js";
 
 const value = (text) => ({ value: text });
@@ -14,7 +14,7 @@ const problem = (words) => ({ problem: words });
  */
 function readIsbn(text) {
   const found = isbnsIn(text);
-  if (found.length === 1) return value(found[0]);
+  if (found.length === 1) return isBook(found[0]) ? value(found[0]) : { value: found[0], remark: say("wrong.isbnGoods") };
   if (found.length > 1) return problem(sayCount("wrong.isbnSeveral", found.length));
   const digits = withoutHyphens(plain(text)).toUpperCase();
   if (digits === "") return problem(say("wrong.isbnEmpty"));

@@ -15,10 +15,16 @@ const FOLDED = ["day", "country", "currency", "type"];
 
 const found = (id) => document.getElementById(id);
 
-/** From a month before the day on, a year at once. */
+/** From a month before a day on, a year at once. */
+export function yearAround(day) {
+  const from = plusMonths(day, -1);
+  return { from, until: endOfMonths(from, YEAR) };
+}
+
+/** The range that is given, or else a year around the day. */
 function rangeAround(day, given) {
   if (!isDay(day)) return { from: given.from ?? "", until: given.until ?? "" };
-  const from = given.from ?? plusMonths(day, -1);
+  const from = given.from ?? yearAround(day).from;
   return { from, until: given.until ?? (isDay(from) ? endOfMonths(from, YEAR) : "") };
 }
 

@@ -14,6 +14,11 @@ export function isTen(text) {
   return /^\d{9}[\dX]$/.test(text);
 }
 
+/** Whether thirteen digits begin as those of a book do. */
+export function isBook(text) {
+  return /^97[89]/.test(text);
+}
+
 /** The last digit that belongs to the twelve at the start of an ISBN of thirteen. */
 export function checkDigit(text) {
   const digits = [...text.slice(0, 12)].map(Number);

@@ -73,22 +73,23 @@ function countMissing(settings, reports) {
   found("missing-count").replaceChildren(...parts);
 }
 
-/** A bar code that is scanned in another view is asked for in that of an article. */
-function scanIn(article) {
-  const isOpen = () => readAddress(location.hash).view === "article";
+/** A bar code that is scanned is a line of the order list in its view, and is asked for in that of an article. */
+function scanIn(article, order) {
+  const view = () => readAddress(location.hash).view;
   return {
     field: found("isbn"),
-    begin: () => isOpen() && article.beginIsbn(),
+    begin: () => view() === "article" && article.beginIsbn(),
     scanned: (code) => {
-      if (isOpen()) article.scanned(code);
+      if (view() === "article") article.scanned(code);
+      else if (view() === "order") order.scanned(code);
       else location.hash = addressOf("article", { isbn: code });
     },
   };
 }
 
 async function start() {
-  const { settings, problems } = await loadSettings();
-  const [words, rules, hasTitles] = await Promise.all([loadWords(settings.language), loadRules(), areTitlesKept()]);
+  const [{ settings, problems }, rules, hasTitles] = await Promise.all([loadSettings(), loadRules(), areTitlesKept()]);
+  const words = await loadWords(settings.language);
   Object.assign(settings, { rules, hasTitles });
   speak(settings.language, words.texts);
   document.documentElement.lang = settings.language;
@@ -101,7 +102,7 @@ async function start() {
   const order = new Order(settings, reports, watch);
   const views = { article, order, missing: new Missing(settings, reports, watch) };
   reports.subscribe(() => countMissing(settings, reports));
-  new Scanner(scanIn(article));
+  new Scanner(scanIn(article, order));
   found("skip").addEventListener("click", (event) => {
     event.preventDefault();
     found("content").focus();

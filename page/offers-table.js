@@ -7,7 +7,7 @@ import { dayInShort, inWords } from "./days.js";
 import { element, table } from "./elements.js";
 import { keyOf, nameOf, referenceOf } from "./offers.js";
 import { kindOf } from "./price-types.js";
-import { changesOf, listedQuantities } from "./quantities.js";
+import { changesOf } from "./quantities.js";
 import { wholesalerOf } from "./settings.js";
 import { codeInWords, formatter, say, sayCount, wordsOfCode } from "./wording.js";
 
@@ -38,9 +38,11 @@ function availabilityCell({ availability }) {
   return [words, " ", element("small", { class: "code" }, availability)];
 }
 
-function priceCell({ amount }, { type, currency }) {
+/** The price of an offer, or that it has none of the type for so few copies, in the currency. */
+function priceCell({ amount }, { type, currency, quantity }) {
   if (amount !== null) return [money(amount, currency)];
-  return [element("span", { class: "lacking" }, say(`article.noPriceOf.${kindOf(type)}`))];
+  const words = say(`article.noPriceOf.${kindOf(type)}`, { copies: copiesInWords(quantity), currency });
+  return [element("span", { class: "lacking" }, words)];
 }
 
 /** How much more an offer costs than the chosen one, and why a cheaper one is not chosen. */
@@ -52,30 +54,34 @@ function differenceCell(offer, { choice, question }) {
   return [words, " ", element("small", {}, sayCount("article.cheaper", choice.rule))];
 }
 
-/** The types that an offer has in place of the one asked for, as links. */
-function typesCell(found, { currency }, addressWith) {
-  if (found === undefined) return [say("article.askingTypes")];
-  if (found.length === 0) return [element("span", { class: "lacking" }, say("article.noOtherType"))];
-  const links = found.map(({ type, amount }) => {
+/** The other currencies and types in which an offer has a price in place of what was asked for, as links. */
+function othersCell(types, currencies = [], { currency }, addressWith) {
+  const inOthers = currencies.map(({ currency: other, amount }) => {
+    const text = say("article.otherCurrency", { amount: money(amount, other) });
+    return element("li", {}, element("a", { href: addressWith({ currency: other }) }, text));
+  });
+  if (types === undefined && inOthers.length === 0) return [say("article.askingTypes")];
+  if (inOthers.length + types?.length === 0) {
+    return [element("span", { class: "lacking" }, say("article.noOtherType"))];
+  }
+  const links = (types ?? []).map(({ type, amount }) => {
     const words = codeInWords("priceTypes", type);
     const text = say("article.otherType", { words, amount: money(amount, currency) });
     return element("li", {}, element("a", { href: addressWith({ type }) }, text));
   });
-  return [element("ul", { class: "plain" }, ...links)];
+  return [element("ul", { class: "plain" }, ...inOthers, ...links)];
 }
 
-/** What is known of other numbers of copies, or, of an offer without any price, of other types. */
-function copiesCell(offer, { question, copies, types }, { settings, addressWith }) {
+/** What is known of other numbers of copies, or, of an offer without any price, of other currencies and types. */
+function copiesCell(offer, { question, copies, types, currencies }, { settings, addressWith }) {
   if (copies === undefined) return [say("article.askingCopies")];
   const changes = changesOf(offer, copies);
   if (changes.every(({ amount }) => amount === null)) {
-    return typesCell(types?.get(keyOf(offer)), question, addressWith);
+    return othersCell(types?.get(keyOf(offer)), currencies?.get(keyOf(offer)), question, addressWith);
   }
   const asked = Number(question.quantity);
   if (changes.length === 1) {
-    const counts = listedQuantities(settings.quantities).filter((quantity) => quantity !== asked);
-    const list = formatter(Intl.ListFormat).format(counts.map(number));
-    return [element("span", { class: "lacking" }, say("article.sameForCopies", { counts: list }))];
+    return [element("span", { class: "lacking" }, say("article.sameForCopies"))];
   }
   const wholesaler = wholesalerOf(settings, offer.series);
   return [copiesList(changes, { asked, currency: question.currency, wholesaler, addressWith })];
@@ -104,10 +110,10 @@ function copiesList(changes, { asked, currency, wholesaler, addressWith }) {
   return element("ul", { class: "copies" }, ...items);
 }
 
-function holdsCell(offer, { holds, question }) {
-  const found = holds?.get(keyOf(offer));
+function holdsCell(offer, { ahead, question }) {
+  const { holds: found, until } = ahead?.get(keyOf(offer)) ?? {};
   if (found === undefined || offer.amount === null) return [""];
-  if (found.last === undefined) return [say("article.holdsOn", { until: dayInShort(question.until) })];
+  if (found.last === undefined) return [say("article.holdsOn", { until: dayInShort(until) })];
   const amount = found.then === null ? say("article.noPrice") : money(found.then, question.currency);
   return [say("article.holdsUntil", { last: dayInShort(found.last), amount })];
 }

@@ -2,6 +2,7 @@
 
 import { compareAmounts } from "./amounts.js";
 import { element } from "./elements.js";
+import { undirected } from "./said.js";
 import { wholesalerOf } from "./settings.js";
 import { sayParts } from "./wording.js";
 
@@ -23,7 +24,7 @@ export function areUnpriced(offers) {
 
 /** The reference of an offer, in whatever script, with its place where that is not the first. */
 export function referenceOf({ reference, place }) {
-  const isolated = element("bdi", {}, reference);
+  const isolated = element("bdi", {}, undirected(reference));
   if (place === 1) return isolated;
   return element("span", {}, ...sayParts("article.place", { reference: isolated, place }));
 }

@@ -1,26 +1,27 @@
 // What the desk answered about a book of an order list, what is ordered of it, and why a person should look.
 
 import { compareAmounts, isNothing, times } from "./amounts.js";
+import { DAYS_AHEAD } from "./better.js";
 import { plusDays } from "./days.js";
 import { keyOf } from "./offers.js";
-import { holdsUntil } from "./spans.js";
+import { farOf } from "./retail.js";
+import { areAdmitting } from "./rules.js";
+import { holdsUntil, laterThan } from "./spans.js";
 
 /** A hand that leaves a book out of the order. */
 export const LEFT_OUT = "left-out";
-
-/** How many days ahead of an order a change of the price is told. */
-export const DAYS_AHEAD = 30;
 
 /** The last day of those ahead. */
 export function lastAhead(day) {
   return plusDays(day, DAYS_AHEAD);
 }
 
-/** The offers of a calendar on a day, each with the `change` of its price ahead: its last day, and what then. */
+/** The offers of a calendar on a day, each with the `change` of its price ahead, its last day, and what is `later`. */
 export function offersOfCalendar(offers, day) {
   return offers.map(({ spans, ...offer }) => {
     const { amount, last, then } = holdsUntil({ spans }, day);
-    return { ...offer, amount, change: last === undefined ? undefined : { last, amount: then } };
+    const change = last === undefined ? undefined : { last, amount: then };
+    return { ...offer, amount, change, later: laterThan({ spans }, day) };
   });
 }
 
@@ -68,10 +69,10 @@ export function rightKey(need, { copies }, offer) {
 
 /**
  * What stands at a book of a list: `offer`, which is ordered, `isByHand`, and `need`, the reason why a
- * person should look at it, or none; what a buyer said is `right` is none. `many` has the most `copies` and the most
- * `money` that need nobody.
+ * person should look at it, or none; what a buyer said is `right` is none. `shop` has the most `copies` and the most
+ * `money` that need nobody, and the `type` of the prices.
  */
-export function stateOf({ wrong, answer, isUnsure, change, right = [], ...book }, hand, many) {
+export function stateOf({ wrong, answer, isUnsure, change, right = [], ...book }, hand, shop = {}) {
   if (wrong !== undefined) return { need: wrong };
   if (answer === undefined) return {};
   if (answer.refusal !== undefined) return { need: "refused" };
@@ -82,7 +83,8 @@ export function stateOf({ wrong, answer, isUnsure, change, right = [], ...book }
     lost: isLost,
     free: isNothing(offer.amount),
     unsure: isUnsure,
-    many: isMany(book, offer, many),
+    far: farOf(offer, { ...answer, type: shop.type }) !== undefined,
+    many: isMany(book, offer, shop),
   };
   const need = Object.keys(needs).find((reason) => needs[reason] && !right.includes(rightKey(reason, book, offer)));
   return { offer, isByHand, need };
@@ -90,5 +92,13 @@ export function stateOf({ wrong, answer, isUnsure, change, right = [], ...book }
 
 /** The offers that have no price for the question, of another wholesaler than the one that is ordered. */
 export function unpricedBeside({ offers }, ordered) {
-  return offers.filter((offer) => !isPriced(offer) && offer.series !== ordered.series);
+  return offers.filter((offer) => !isPriced(offer) && offer.series !== ordered?.series);
+}
+
+/** The offers that a rule admits and that have no price, at none of the numbers of copies that are known. */
+export function unpricedIn(offers, { rules }, copies = []) {
+  const hasPrice = (offer) => copies.some((answer) => answer.offers.some(
+    (other) => keyOf(other) === keyOf(offer) && isPriced(other),
+  ));
+  return offers.filter((offer) => !isPriced(offer) && areAdmitting(rules, offer) && !hasPrice(offer));
 }

@@ -2,17 +2,23 @@
 
 import { ask } from "./desk.js";
 import { dayKeys, rangeKeys } from "./fields.js";
-import { areUnpriced, keyOf } from "./offers.js";
-import { agree, lastAhead, LEFT_OUT, offersOfCalendar, orderedOf } from "./order-answers.js";
-import {
-  askedOn, MOST_COPIES, nextBetter, nextQuantity, quantitiesBeside, withAnswer,
-} from "./quantities.js";
+import { othersAdmitted } from "./better.js";
+import { keyOf } from "./offers.js";
+import { agree, lastAhead, LEFT_OUT, offersOfCalendar, orderedOf, unpricedIn } from "./order-answers.js";
+import { askedOn, MOST_COPIES, nextOfAll, nextQuantity, withAnswer } from "./quantities.js";
 
-// A browser has six connections to a server, of which some stay for the page's other questions.
-const AT_ONCE = 4;
+// Over HTTP/2 questions share a connection; more at once would wait for each other at the desk.
+const AT_ONCE = 8;
 
 // How often the choice and the offers are asked for until both are of the same moment.
 const TRIES = 3;
+
+// How many questions there are for a line, on average, and for a list however short; nginx lets as many pass.
+const QUESTIONS = 4;
+const MORE_QUESTIONS = 24;
+
+// The net types that an offer may have in place of the one asked for, beside that of the recommended price.
+const NET_TYPES = ["05", "07"];
 
 /** Asks for each item, a few at once. */
 export async function eachOf(items, askFor) {
@@ -41,25 +47,38 @@ export function sharedWatch(watch) {
   };
 }
 
-/** The questions of a list, over its `question` (day, country, currency, type) and while `signal` waits. */
+/**
+ * The questions of a list, over its `question` (day, country, currency, type), the `settings`, and while `signal`
+ * waits.
+ */
 export class OrderAsking {
   #question;
+  #settings;
   #signal;
   #watchOfOne;
+  // How many questions may still look for what is better.
+  #left = 0;
 
-  constructor(question, signal, watch) {
+  constructor(question, settings, signal, watch) {
     this.#question = question;
+    this.#settings = settings;
     this.#signal = signal;
     this.#watchOfOne = sharedWatch(watch);
+  }
+
+  /** The type of the recommended price, where it is another one than what is asked for; else the empty text. */
+  get #retailType() {
+    const { retailType = "" } = this.#settings;
+    return retailType === this.#question.type ? "" : retailType;
   }
 
   #ask(path, keys) {
     return ask(path, keys, this.#signal, this.#watchOfOne());
   }
 
-  #askOf({ isbn, copies }, what) {
+  #askOf({ isbn, copies }, what, changes = {}) {
     const { day } = this.#question;
-    const question = { ...this.#question, quantity: String(copies) };
+    const question = { ...this.#question, ...changes, quantity: String(copies) };
     const isCalendar = what === "calendar";
     const keys = isCalendar ? rangeKeys({ ...question, from: day, until: lastAhead(day) }) : dayKeys(question);
     return this.#ask(`articles/${isbn}/${what}`, keys);
@@ -73,38 +92,115 @@ export class OrderAsking {
     return { offers: isOrdered ? offersOfCalendar(offers, this.#question.day) : offers };
   }
 
+  /** The offers of a book by another type or in another currency; none where the desk refuses. */
+  async #offersWith(book, changes) {
+    const outcome = await this.#askOf(book, "price", changes);
+    return outcome.kind === "answer" ? outcome.body.offers : [];
+  }
+
+  /** The offers of a book by the type of recommended prices, if there is one. */
+  #retailOf(book) {
+    return this.#retailType === "" ? [] : this.#offersWith(book, { type: this.#retailType });
+  }
+
+  /** Whether one more question may look for what is better. */
+  #isAllowed() {
+    this.#left -= 1;
+    return this.#left >= 0;
+  }
+
   /** The offers of a book at another number of copies, as an answer; `undefined` where the desk refuses. */
   async #askQuantity(book, quantity) {
     const outcome = await this.#askOf({ ...book, copies: quantity }, "price");
     return outcome.kind === "answer" ? { quantity, offers: outcome.body.offers } : undefined;
   }
 
-  /** The offers of a book at other numbers of copies: some, and those that `next` tells of. */
-  async #askedAt(book, offers, quantities, next) {
-    const askFor = (quantity) => this.#askQuantity(book, quantity);
-    let answers = [{ quantity: book.copies, offers }];
-    for (const answer of await Promise.all(quantities.map(askFor))) {
-      if (answer !== undefined) answers = withAnswer(answers, answer);
+  /** The same, where one more question is allowed. */
+  #askAllowed(book, quantity) {
+    return this.#isAllowed() ? this.#askQuantity(book, quantity) : undefined;
+  }
+
+  /** The offers of a book at the numbers of copies from which on they have a price, where some have none for so few. */
+  async #moreOf(book, offers) {
+    if (unpricedIn(offers, this.#settings).length === 0) return undefined;
+    const here = { quantity: book.copies, offers };
+    const most = await this.#askQuantity(book, MOST_COPIES);
+    const answers = most === undefined ? [here] : withAnswer([here], most);
+    const next = (all) => nextQuantity(all, book.copies);
+    return askedOn(answers, next, (quantity) => this.#askQuantity(book, quantity));
+  }
+
+  /**
+   * Looks for what is better than what is ordered of answered books: other numbers of copies, `copies` of an answer
+   * then, and prices by other types and in other currencies, `others`. What tells most for one question is asked of
+   * all books first; `tell` hears of a book after each step, with how many steps are done and how many there are.
+   */
+  async lookForBetter(books, tell) {
+    const steps = [
+      async (book) => { book.answer.most = await this.#withCopies(book, MOST_COPIES); },
+      async (book) => { book.answer.copies = await this.#copiesOf(book, book.answer.most); },
+      async (book) => { book.answer.others = await this.#othersOf(book); },
+      (book) => this.#askFewer(book, 1),
+      (book) => this.#askFewer(book, Math.max(book.copies - 1, 1)),
+    ];
+    const before = this.#retailType === "" ? 2 : 3;
+    this.#left = books.length * (QUESTIONS - before) + MORE_QUESTIONS;
+    let done = 0;
+    for (const step of steps) {
+      await eachOf(books, async (book) => {
+        await step(book);
+        done += 1;
+        tell(book, done, steps.length * books.length);
+      });
     }
-    return askedOn(answers, next, askFor);
   }
 
-  /** The offers of a book at the numbers of copies from which on they have a price, where none has one for so few. */
-  #moreOf(book, offers) {
-    if (offers.length === 0 || !areUnpriced(offers)) return undefined;
-    return this.#askedAt(book, offers, [MOST_COPIES], (all) => nextQuantity(all, book.copies));
-  }
-
-  /** The offers of an answered book at the numbers of copies that tell whether one is better than its own. */
-  copiesOf(book) {
+  /**
+   * The offers of an answered book at what is known of other numbers of copies, and at the numbers that tell whether
+   * one is better at an offer that a rule admits.
+   */
+  #copiesOf(book, known) {
     const { offers, ordered } = book.answer;
-    const next = (all) => nextBetter(all, book.copies, ordered);
-    return this.#askedAt(book, offers, quantitiesBeside(book.copies), next);
+    const looked = othersAdmitted(offers, ordered, this.#settings);
+    const next = (all) => nextOfAll(all, book.copies, ordered, looked);
+    return askedOn(known, next, (quantity) => this.#askAllowed(book, quantity));
+  }
+
+  /** The offers of an answered book at one more number of copies, beside those that are known. */
+  async #withCopies(book, quantity, known = [{ quantity: book.copies, offers: book.answer.offers }]) {
+    if (known.some((answer) => answer.quantity === quantity)) return known;
+    const answer = await this.#askAllowed(book, quantity);
+    return answer === undefined ? known : withAnswer(known, answer);
+  }
+
+  /** Asks whether fewer copies are better, by one number of them. */
+  async #askFewer(book, quantity) {
+    const known = await this.#withCopies(book, quantity, book.answer.copies);
+    if (known !== book.answer.copies) book.answer.copies = await this.#copiesOf(book, known);
+  }
+
+  /** What offers that have no price at any number of copies have by other types and in other currencies. */
+  async #othersOf(book) {
+    const { offers, copies, retail = [] } = book.answer;
+    const lacking = unpricedIn(offers, this.#settings, copies);
+    const found = retail.map((offer) => ({ ...offer, type: this.#retailType }));
+    const { type, currency } = this.#question;
+    const changes = [
+      ...(this.#settings.currencies ?? []).filter((other) => other !== currency).map((other) => ({ currency: other })),
+      ...NET_TYPES.filter((other) => other !== type).map((other) => ({ type: other })),
+    ];
+    for (const change of lacking.length > 0 ? changes : []) {
+      if (!this.#isAllowed()) break;
+      for (const offer of await this.#offersWith(book, change)) found.push({ ...offer, ...change });
+    }
+    const keys = lacking.map(keyOf);
+    return found.filter((offer) => offer.amount !== null && keys.includes(keyOf(offer)));
   }
 
   /**
    * The choice and the offers of a book, of one moment if that can be had, or a `refusal`. Where it is ordered,
-   * `ordered` is the offer; where nobody has a price for so few, `copies` has the offers at other numbers.
+   * `ordered` is the offer; else, where somebody has no price for so few, `copies` has the offers at other numbers.
+   * `retail` are the offers by the type of recommended prices.
    */
   async answerOf(book, hand) {
     for (let tries = 1; ; tries += 1) {
@@ -112,10 +208,12 @@ export class OrderAsking {
       if (outcome.kind !== "answer") return { refusal: outcome };
       const { choice } = outcome.body;
       const isOrdered = hand === undefined ? choice !== null : hand !== LEFT_OUT;
-      const { offers, refusal } = await this.#offersOf(book, isOrdered);
+      const [{ offers, refusal }, retail] = await Promise.all([
+        this.#offersOf(book, isOrdered), this.#retailOf(book),
+      ]);
       if (refusal !== undefined) return { refusal };
       if (tries < TRIES && !agree(choice, offers)) continue;
-      const answer = { choice, offers, at: Date.now() };
+      const answer = { choice, offers, retail, at: Date.now() };
       const { offer } = orderedOf(answer, hand);
       if (offer === undefined) return { ...answer, copies: await this.#moreOf(book, offers) };
       return { ...answer, ordered: offer };

@@ -5,8 +5,12 @@ import { formatter } from "./wording.js";
 const MARK = "\ufeff";
 const LINE_END = "\r\n";
 
-// What a spreadsheet takes for the beginning of a formula, full width too.
-const FORMULA = /^[\s'"]*[=+\-@\uff1d\uff0b\uff0d\uff20]/;
+// What a spreadsheet takes for the beginning of a formula, full width too: of a cell, and of what is one where it
+// cuts at another sign than the file's.
+const FORMULA = /(?<=^|[,;])(?=[\s'"]*[=+\-@\uff1d\uff0b\uff0d\uff20])/g;
+
+// What some program or other cuts a line at.
+const CUTS = /[",;]/;
 
 /** The sign of the page's language between whole and decimals. */
 function decimalSign() {
@@ -24,18 +28,19 @@ export function amountCell(amount) {
   return amount.replace(/0$/, "").replace(".", decimalSign());
 }
 
-/** A text as a cell: on one line, in quotes where it needs them, and never a formula. */
-function cellOf(text, separator) {
+const quoted = (text) => `"${text.replaceAll('"', '""')}"`;
+
+/** A text as a cell: on one line, in quotes where any sign of it may cut, and never a formula. */
+function cellOf(text) {
   const line = text.replace(/[\p{Cc}\p{Zl}\p{Zp}]+/gu, " ").trim();
-  const safe = FORMULA.test(line) ? `'${line}` : line;
-  const isPlain = !safe.includes('"') && !safe.includes(separator);
-  return isPlain ? safe : `"${safe.replaceAll('"', '""')}"`;
+  const safe = line.replace(FORMULA, "'");
+  return CUTS.test(safe) ? quoted(safe) : safe;
 }
 
 /** A file of rows of texts, the first of which names the columns, with the mark by which spreadsheets know UTF-8. */
 export function csvOf(rows) {
   const separator = separatorOf();
-  const lines = rows.map((row) => row.map((text) => cellOf(text, separator)).join(separator));
+  const lines = rows.map((row) => row.map(cellOf).join(separator));
   return MARK + lines.map((line) => line + LINE_END).join("");
 }
 

@@ -81,6 +81,14 @@ export class OrderInput {
     this.#begin();
   }
 
+  /** A line more behind the others; gives its number. */
+  add(line) {
+    const before = this.text.replace(/\s+$/, "");
+    found("lines").value = `${before}${before === "" ? "" : "\n"}${line}\n`;
+    found("lines").scrollTop = found("lines").scrollHeight;
+    return found("lines").value.split("\n").length - 1;
+  }
+
   /** Where several ISBNs are put into a field for one, they are a list; `taken` hears of that. */
   takeFrom(field, taken) {
     const take = (event, data) => {

@@ -64,7 +64,7 @@ export class OrderList {
   stateOf(book) {
     const { manyCopies, manyMoney, currency } = this.#shop;
     const money = this.question?.currency === currency ? manyMoney : undefined;
-    return stateOf(book, this.handOf(book), { copies: manyCopies, money });
+    return stateOf(book, this.handOf(book), { copies: manyCopies, money, type: this.question?.type });
   }
 
   /** Notes in which way and when the order of a series, or, with `undefined`, of all left the page. */

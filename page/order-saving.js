@@ -4,12 +4,14 @@ import { times } from "./amounts.js";
 import { element } from "./elements.js";
 import { amountCell, csvOf, linesToPaste } from "./order-file.js";
 import { kindOf } from "./price-types.js";
+import { inPercent, marginOf, retailOf } from "./retail.js";
 import { wholesalerOf } from "./settings.js";
-import { titleTexts } from "./titles.js";
+import { titlesOfOffers, titleTexts } from "./titles.js";
 import { say, wordsOfCode } from "./wording.js";
 
 const CELLS = [
-  "isbn", "copies", "wholesaler", "price", "sum", "currency", "availability", "reference", "note", "remark", "title",
+  "isbn", "copies", "wholesaler", "price", "sum", "currency", "availability", "reference", "note", "remark", "rrp",
+  "margin", "title",
 ];
 const UNPRINTED = "unprinted";
 
@@ -18,8 +20,18 @@ const KEPT = 60_000;
 
 const found = (id) => document.getElementById(id);
 
-/** The names of the columns; that of titles, where the shop keeps some, is the last one. */
-const namesOf = ({ hasTitles }) => CELLS.filter((name) => name !== "title" || hasTitles);
+/** The names of the columns; those of the recommended price and of titles where the shop has these. */
+function namesOf({ hasTitles, retailType }) {
+  const left = [...(retailType === "" ? ["rrp", "margin"] : []), ...(hasTitles ? [] : ["title"])];
+  return CELLS.filter((name) => !left.includes(name));
+}
+
+/** The recommended price of an offer and the margin that its price leaves, as cells. */
+function retailCells({ answer }, offer) {
+  const retail = retailOf(answer.retail, offer);
+  const margin = retail === undefined ? undefined : marginOf(offer.amount, retail);
+  return { rrp: retail === undefined ? "" : amountCell(retail), margin: margin === undefined ? "" : inPercent(margin) };
+}
 
 /** What stands at a line whose wholesaler's messages are missing, so that its price may be old. */
 const remarkOf = ({ state: { offer } }, isOld) => (isOld(offer.series) ? say("order.mayBeOld") : "");
@@ -37,7 +49,8 @@ function cellsOf(row, { settings, currency, isOld }) {
     reference: offer.reference,
     note: book.note,
     remark: remarkOf(row, isOld),
-    title: titleTexts(book.title ?? {}).join(" · "),
+    ...retailCells(book, offer),
+    title: titleTexts(titlesOfOffers(book.titles ?? [], book.answer.offers, offer)).join(" · "),
   };
   return namesOf(settings).map((name) => cells[name]);
 }

@@ -3,15 +3,18 @@
 import { difference, money, signedMoney, times } from "./amounts.js";
 import { catalogueLink } from "./catalogue.js";
 import { dayInShort } from "./days.js";
-import { betterInWords, onlyMoreInWords } from "./decision.js";
+import { elsewhereInWords, fallsInWords, onlyMoreInWords } from "./better.js";
+import { betterInWords } from "./decision.js";
 import { element, table, tableRow } from "./elements.js";
+import { isBook } from "./isbn.js";
 import { keyOf } from "./offers.js";
 import { marksOf } from "./offers-table.js";
 import { LEFT_OUT, unpricedBeside } from "./order-answers.js";
 import { changesOf } from "./quantities.js";
+import { farInWords, farOf, retailInWords } from "./retail.js";
 import { wholesalerOf } from "./settings.js";
-import { titleNodes } from "./titles.js";
-import { formatter, say, wordsOfCode } from "./wording.js";
+import { titleNodes, titlesOfOffers } from "./titles.js";
+import { codeInWords, formatter, say, wordsOfCode } from "./wording.js";
 
 const COLUMNS = ["lines", "isbn", "title", "copies", "wholesaler", "availability", "price", "sum", "note"];
 
@@ -84,8 +87,13 @@ function handField(book, state, hand, context) {
 }
 
 /** Why a book needs a person, in words. */
-export function needInWords({ need, offer }, { answer, written, note, change, copies }, { settings, currency, type }) {
-  if (need === "onlyMore") return onlyMoreInWords(answer.offers, answer.copies, currency, settings).join(" ");
+export function needInWords({ need, offer }, book, { settings, currency, type }) {
+  const { isbn, answer, written, note, change, copies } = book;
+  if (need === "onlyMore") {
+    return onlyMoreInWords(answer.offers, { answers: answer.copies, currency }, settings).join(" ");
+  }
+  if (need === "noOffers" && !isBook(isbn)) return say("order.needs.goods");
+  if (need === "far") return farInWords(farOf(offer, { ...answer, type }), offer, currency);
   if (need === "refused") {
     const { kind, words, reason } = answer.refusal;
     if (kind === "fault") return `${words} ${say("order.notAgain")}`;
@@ -94,7 +102,7 @@ export function needInWords({ need, offer }, { answer, written, note, change, co
   if (need !== "changed") {
     const sum = offer === undefined ? "" : money(times(offer.amount, copies), currency);
     const many = formatter(Intl.NumberFormat).format(copies ?? 0);
-    return say(`order.needs.${need}`, { written, note, type, sum, copies: many });
+    return say(`order.needs.${need}`, { written, note, type, currency, sum, copies: many });
   }
   const { series, amount } = change;
   return say("order.needs.changed", {
@@ -114,14 +122,37 @@ function addedUp({ lines, parts }) {
   return [say("order.addedUp", { lines: linesInWords({ lines }), copies: parts.join(" + ") })];
 }
 
-/** Which other numbers of copies are better, where the desk has been asked for those of the offer. */
-export function otherCopies({ answer, copies }, offer, { currency }) {
+/** Which other numbers of copies are better, at any offer, where the desk has been asked for the ordered one's. */
+export function otherCopies({ answer, copies }, offer, { currency, settings }) {
   const isAsked = answer.ordered !== undefined && keyOf(answer.ordered) === keyOf(offer);
-  return isAsked && answer.copies !== undefined ? betterInWords(changesOf(offer, answer.copies), copies, currency) : [];
+  if (!isAsked || answer.copies === undefined) return [];
+  const asked = { answers: answer.copies, quantity: copies, ordered: offer, currency };
+  return [
+    ...betterInWords(changesOf(offer, answer.copies), copies, currency),
+    ...elsewhereInWords(answer.offers, asked, settings),
+    ...onlyMoreInWords(answer.offers, asked, settings),
+  ];
+}
+
+/** A price by another type, or in another currency. */
+function otherPriceInWords({ type, amount, currency: other }, currency) {
+  if (other !== undefined) return say("article.otherCurrency", { amount: money(amount, other) });
+  return say("article.otherType", { words: codeInWords("priceTypes", type), amount: money(amount, currency) });
+}
+
+/** Who has no price for what is asked, and what it has by another type or in another currency. */
+export function unpricedNotes({ answer }, ordered, { settings, type, currency }) {
+  const beside = unpricedBeside(answer, ordered);
+  const names = [...new Set(beside.map(({ series }) => series))];
+  return names.map((series) => {
+    const words = say("order.unpricedBeside", { wholesalers: wholesalerOf(settings, series), type, currency });
+    const others = (answer.others ?? []).filter((offer) => offer.series === series);
+    return [words, ...new Set(others.map((offer) => otherPriceInWords(offer, currency)))].join("; ");
+  });
 }
 
 // What a buyer may look at and say that it is right.
-const LOOKED_AT = ["changed", "lost", "free", "unsure", "many"];
+const LOOKED_AT = ["changed", "lost", "free", "unsure", "far", "many"];
 
 /** The button by which a buyer says that a book is right. */
 function rightButton(book, need, context) {
@@ -142,18 +173,26 @@ function noteCell(book, state, context) {
     }
     if (isByHand) words.push(say("order.byHand"));
     if (offer.change !== undefined) words.push(changeAhead(offer.change, context.currency));
+    words.push(...fallsInWords(book.answer.offers, { ordered: offer, ...context }, context.settings));
     words.push(...otherCopies(book, offer, context));
-    const beside = unpricedBeside(book.answer, offer).map(({ series }) => wholesalerOf(context.settings, series));
-    if (beside.length > 0) words.push(say("order.unpricedBeside", { wholesalers: [...new Set(beside)].join(", ") }));
+    words.push(...unpricedNotes(book, offer, context));
   }
   if (book.note !== "") words.push(element("bdi", {}, book.note));
   return words.flatMap((part) => [" · ", part]).slice(1);
+}
+
+/** What could be had of a book of which nothing is ordered: more copies, another type or currency. */
+function besideNeed(book, { settings, currency, type }) {
+  const { offers, copies } = book.answer;
+  const more = copies === undefined ? [] : onlyMoreInWords(offers, { answers: copies, currency }, settings);
+  return [...more, ...unpricedNotes(book, undefined, { settings, currency, type })].map((words) => ` · ${words}`);
 }
 
 /** What stands in place of a wholesaler: why there is none, or that the desk has not answered yet. */
 function withoutOffer(book, state, context) {
   if (state.need !== undefined) {
     const need = element("strong", { class: "need" }, needInWords(state, book, context));
+    if (state.need === "notChosen" || state.need === "unpriced") return [need, ...besideNeed(book, context)];
     if (state.need !== "noOffers") return [need];
     return [need, " ", ...catalogueLink(book.isbn, say("order.inCatalogue"), context.settings)];
   }
@@ -170,6 +209,19 @@ function wholesalerCell(book, state, context) {
   return [...field, name, " ", ...marksOf(state.offer.series, context.reports)];
 }
 
+/** What a copy costs, with the recommended price and the margin below, where there are these. */
+function priceCell({ answer }, offer, context) {
+  const retail = retailInWords(answer.retail, offer, context);
+  const below = retail === "" ? [] : [" ", element("small", {}, retail)];
+  return [money(offer.amount, context.currency), ...below];
+}
+
+/** The title of a book, once it is known who offers it. */
+function titleCell({ titles, answer }, offer, { settings }) {
+  if (titles === undefined || answer === undefined) return [];
+  return titleNodes(titlesOfOffers(titles, answer.offers ?? [], offer), settings);
+}
+
 function rowOf(book, state, context) {
   const { offer } = state;
   const { currency } = context;
@@ -177,7 +229,7 @@ function rowOf(book, state, context) {
     ? [[], [], []]
     : [
         [inPlainWords(offer.availability)],
-        [money(offer.amount, currency)],
+        priceCell(book, offer, context),
         [money(times(offer.amount, book.copies), currency)],
       ];
   return {
@@ -185,7 +237,7 @@ function rowOf(book, state, context) {
     cells: [
       [linesInWords(book)],
       [element("bdi", { class: "isbn" }, book.wrong === undefined ? book.isbn : book.written)],
-      ...(context.settings.hasTitles ? [book.title === undefined ? [] : titleNodes(book.title)] : []),
+      ...(context.settings.hasTitles ? [titleCell(book, offer, context)] : []),
       [book.copies === undefined ? "" : formatter(Intl.NumberFormat).format(book.copies)],
       wholesalerCell(book, state, context),
       ...amounts,

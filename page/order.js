@@ -100,6 +100,13 @@ export class Order {
     this.#watch.up();
   }
 
+  /** What a scanner has read is a line more. */
+  scanned(code) {
+    const line = this.#input.add(code);
+    this.#noteChanges();
+    tell(say("order.scanned", { code, line: String(line) }));
+  }
+
   /** The title of the view, for the window. */
   title() {
     return say("order.view");
@@ -171,29 +178,24 @@ export class Order {
 
   /** Asks what feeds said of the books, once the desk has answered. */
   async #askTitles(signal) {
-    const books = this.#settings.hasTitles ? this.#list.askable().filter(({ title }) => title === undefined) : [];
+    const books = this.#settings.hasTitles ? this.#list.askable().filter(({ titles }) => titles === undefined) : [];
     const files = new Set(books.map(({ isbn }) => fileOf(isbn)));
     await eachOf([...files], async (file) => {
       const those = books.filter(({ isbn }) => fileOf(isbn) === file);
       const titles = await titlesOf(those.map(({ isbn }) => isbn), signal);
       for (const book of those) {
-        book.title = titles.get(book.isbn);
+        book.titles = titles.get(book.isbn);
         this.#results.drawSoon(this.#list, book);
       }
     });
   }
 
-  /** Asks whether other numbers of copies are better, once nothing else is asked: an order does not wait for it. */
-  async #askCopies(asking) {
+  /** Looks for what is better, once nothing else is asked: an order does not wait for it. */
+  #askBetter(asking) {
     const list = this.#list;
-    const books = list.withoutCopies();
-    let done = 0;
-    showCopies(done, books.length);
-    await eachOf(books, async (book) => {
-      book.answer.copies = await asking.copiesOf(book);
+    return asking.lookForBetter(list.withoutCopies(), (book, done, all) => {
       this.#results.drawCopies(list, book);
-      done += 1;
-      showCopies(done, books.length);
+      showCopies(done, all);
     });
   }
 
@@ -204,10 +206,10 @@ export class Order {
     this.#watch.up();
     showCopies(0, 0);
     try {
-      const asking = new OrderAsking(this.#list.question, this.#asking.signal, this.#watch);
+      const asking = new OrderAsking(this.#list.question, this.#settings, this.#asking.signal, this.#watch);
       await act(asking);
       await this.#askTitles(this.#asking.signal);
-      await this.#askCopies(asking);
+      await this.#askBetter(asking);
     } catch (fault) {
       if (!isAbandoned(fault)) throw fault;
     }

@@ -84,19 +84,30 @@ function betterIn({ from, to }, offer, quantity, amount) {
 }
 
 /**
- * The number of copies to ask about next where one may be better than the wanted one, for an offer: with a
- * lesser amount below it, with a lesser sum above it. `undefined` where that is known, if no amount between two
- * answers is less than both of theirs.
+ * The number of copies to ask about next where one of an offer may be better than the wanted one of the offer that is
+ * ordered, at its `amount` a copy: with a lesser amount below it, with a lesser sum above it. `undefined` where that
+ * is known, if no amount between two answers is less than both of theirs.
  */
-export function nextBetter(answers, quantity, offer) {
-  const wanted = answers.find((answer) => answer.quantity === quantity);
-  const amount = wanted === undefined ? undefined : amountIn(wanted, offer);
-  if (amount === undefined || amount === null) return undefined;
+export function nextBetter(answers, quantity, offer, amount) {
   const gaps = gapsOf(answers, offer).flatMap((gap) => betterIn(gap, offer, quantity, amount));
   const gap = nearest(gaps, quantity);
   if (gap === undefined) return undefined;
   const { from, to, last } = gap;
   return last < to.quantity ? last : between(from.quantity, to.quantity);
+}
+
+/**
+ * The same of several offers, of which the one that is ordered comes first; and where one has a price for more copies
+ * alone, the number that tells from how many on.
+ */
+export function nextOfAll(answers, quantity, ordered, offers) {
+  const others = offers.filter((offer) => keyOf(offer) !== keyOf(ordered));
+  for (const offer of [ordered, ...others]) {
+    const next = nextBetter(answers, quantity, offer, ordered.amount);
+    if (next !== undefined) return next;
+  }
+  const unpriced = others.filter(({ amount }) => amount === null);
+  return unpriced.map((offer) => nextQuantity(answers, quantity, offer)).find((next) => next !== undefined);
 }
 
 /** Answers with one more, at its place. */
@@ -138,6 +149,24 @@ export function changesOf(offer, answers) {
 /** The last change at or below a number of copies. */
 function changeAt(changes, quantity) {
   return changes.findLast((change) => change.quantity <= quantity);
+}
+
+/**
+ * What speaks against a number of copies of the offer that is ordered, by the changes of another one's price: `fewer`
+ * copies that cost less each than at the `amount` of the first, and `more` that cost less in all.
+ */
+export function betterElsewhere(changes, quantity, amount) {
+  const sum = times(amount, quantity);
+  const isPriced = (change) => change.amount !== null;
+  const last = changes.findLast(
+    (change) => isPriced(change) && change.last < quantity && compareAmounts(change.amount, amount) < 0,
+  );
+  const fewer = last === undefined ? undefined : { quantity: last.last, amount: last.amount };
+  const more = changes.find(
+    (change) => isPriced(change) && change.quantity > quantity
+      && compareAmounts(times(change.amount, change.quantity), sum) < 0,
+  );
+  return { fewer, more };
 }
 
 /**

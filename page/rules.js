@@ -60,6 +60,16 @@ const admitsOffer = ({ series, codes, max }) => ({ amount, ...offer }) =>
   && codes.includes(offer.availability)
   && (max === undefined || compareAmounts(amount, max) <= 0);
 
+/**
+ * Whether one of the rules admits an offer, at whatever price where it has none. So it is where the rules cannot be
+ * read (`undefined`), or one of them is written in a way that is not read here.
+ */
+export function areAdmitting(rules, offer) {
+  if (rules === undefined || rules.some(({ admits }) => admits === undefined)) return true;
+  const priced = offer.amount === null ? { ...offer, amount: "0" } : offer;
+  return rules.some(({ admits }) => admitsOffer(admits)(priced));
+}
+
 /** Whether rules choose of offers what the desk chose, of equal amounts any; so too where one of them is not read. */
 export function chooseSo(rules, offers, choice) {
   if (rules.some(({ admits }) => admits === undefined)) return true;

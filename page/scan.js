@@ -8,6 +8,12 @@ const BEHIND = 120;
 
 const FIELDS = "input, select, textarea";
 
+/** Whether a field takes digits: any but a choice of which no option begins with one. */
+function takesDigits(field) {
+  if (!field.matches("select")) return field.matches(FIELDS);
+  return [...field.options].some(({ text }) => /^\d/.test(text));
+}
+
 /** The digits that came one after the other as quickly as a scanner types them. */
 export class Burst {
   #digits = "";
@@ -106,7 +112,7 @@ export class Scanner {
       this.#field = field;
       this.#restore = field === this.#place.field || isText(field) ? () => {} : remembered(field);
     }
-    if (!field.matches(FIELDS)) this.#place.begin();
+    if (!takesDigits(field)) this.#place.begin();
     this.#burst.add(key, timeStamp);
     this.#digitAt = timeStamp;
     clearTimeout(this.#timer);

@@ -16,6 +16,7 @@ const RULES = "rules.toml";
 const NEEDED = ["series", "country", "currency", "price_type"];
 const KEYS = [
   ...NEEDED, "shop", "language", "quantities", "minutes_to_usual", "catalogue", "many_copies", "many_money",
+  "retail_type", "currencies",
 ];
 // What the file of prices reads of desk.json.
 const OTHERS = ["recommended_type", "price_file"];
@@ -27,6 +28,7 @@ const LANGUAGE = "en-GB";
 const MOST_QUANTITIES = 8;
 const MINUTES_TO_USUAL = 10;
 const MANY_COPIES = 50;
+const MOST_CURRENCIES = 4;
 const DAY = 1440;
 
 const isText = (value) => typeof value === "string";
@@ -61,6 +63,12 @@ function isLanguage(value) {
 function areQuantities(value) {
   if (!Array.isArray(value) || value.length > MOST_QUANTITIES) return false;
   return value.every((count, at) => isCount(count, 999_999) && !(value[at - 1] >= count));
+}
+
+/** Whether a value is a list of a few currencies, each once. */
+function areCurrencies(value) {
+  if (!Array.isArray(value) || value.length > MOST_CURRENCIES || new Set(value).size < value.length) return false;
+  return value.every((code) => isText(code) && /^[A-Z]{3}$/.test(code));
 }
 
 function checkKeys(given, known, problems, path, values = {}) {
@@ -160,6 +168,8 @@ function settingsOf(given, problems) {
     manyCopies: read(
       given, "many_copies", (value) => isCount(value, 999_999), MANY_COPIES, problems, "manyCopies",
     ),
+    retailType: readCode(given, "retail_type", /^0[24]$/, problems, "retailType"),
+    currencies: read(given, "currencies", areCurrencies, [], problems, "currencies"),
     manyMoney: read(given, "many_money", isAmount, undefined, problems, "manyMoney"),
   };
 }
@@ -177,10 +187,13 @@ export function readSettings(text) {
   return { settings: settingsOf(given, problems), problems };
 }
 
-/** The text of a file beside the page, or a problem; neither where an `isOptional` one is not there. */
-async function load(file, isOptional = false) {
+/**
+ * The text of a file beside the page, or a problem; neither where an `isOptional` one is not there. What index.html
+ * has loaded is used by the default way of caching alone.
+ */
+async function load(file, isOptional = false, cache = "default") {
   try {
-    const reply = await fetch(urlBeside(file), { cache: "no-cache" });
+    const reply = await fetch(urlBeside(file), { cache });
     if (reply.ok) return { text: await reply.text() };
     if (isOptional && reply.status === 404) return {};
     return { problem: { path: "settings.unread", values: { file, status: reply.status } } };
@@ -196,9 +209,9 @@ export async function loadSettings() {
   return { settings: settingsOf({}, []), problems: [problem] };
 }
 
-/** The shop's rules, as rules.toml has them now; `undefined` where it cannot be read. */
-export async function loadRules() {
-  const { text } = await load(RULES, true);
+/** The shop's rules, as rules.toml has them; with "no-cache" now. `undefined` where it cannot be read. */
+export async function loadRules(cache) {
+  const { text } = await load(RULES, true, cache);
   return text === undefined ? undefined : rulesOf(text);
 }
 

@@ -11,9 +11,9 @@ from tests.running import Outcome
 NORTH = ["North Books", "in stock 21"]
 SOUTH = ["South Books", "in stock 21"]
 WEST = ["Western Wholesale", "out of stock 31"]
-NONE = "no retail price"
-SAME = "same at 10, 25 and 999,999"
-SAME_FOR_TEN = "same at 1, 25 and 999,999"
+NONE = "no retail price in GBP"
+SAME = "same for more"
+SAME_FOR_TEN = "same for more"
 BREAK = "1: £11.8010: £9.95"
 RISE = "until 14 Apr 2025, then £10.75"
 ON = "beyond 9 Mar 2026"
@@ -168,7 +168,7 @@ def typed_question(site: Site, browser: Browser) -> Iterator[Outcome]:
 def own_type(site: Site, browser: Browser) -> Iterator[Outcome]:
     """A type that has no words here can be asked for by the address."""
     prices = [row[2] for row in ask(browser, article(type="77"))]
-    yield Outcome("a type without words: the answer", prices, ["no price of this type"] * 3)
+    yield Outcome("a type without words: the answer", prices, ["no price of this type for 1 copy in GBP"] * 3)
     shown = browser.run("return document.querySelector('#type').selectedOptions[0].textContent")
     yield Outcome("a type without words: its field", shown, "77 – no words for this code")
 

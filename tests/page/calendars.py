@@ -153,14 +153,15 @@ def buttons(site: Site, browser: Browser) -> Iterator[Outcome]:
     for id, wanted in [
         ("later", ["2025-02-10", "2025-02-19"]),
         ("earlier", ["2025-01-31", "2025-02-09"]),
-        ("month", ["2025-01-31", "2025-02-27"]),
-        ("year", ["2025-01-31", "2026-01-30"]),
+        # A month begins at the day that is asked for.
+        ("month", ["2025-04-10", "2025-05-09"]),
+        ("year", ["2025-04-10", "2026-04-09"]),
     ]:
         yield Outcome(f"the button {id}", values_after(browser, id), wanted)
         focus = browser.run("return document.activeElement.id")
         yield Outcome(f"the button {id} keeps the focus", focus, id)
     given = browser.run("return location.hash").split("&")[-2:]
-    yield Outcome("the range is in the address", given, ["from=2025-01-31", "until=2026-01-30"])
+    yield Outcome("the range is in the address", given, ["from=2025-04-10", "until=2026-04-09"])
 
 
 def in_words(text: str) -> str:

@@ -8,6 +8,8 @@ from datetime import date
 from typing import Any
 from urllib.parse import unquote
 
+from selenium.webdriver.common.action_chains import ActionChains
+
 from tests.page.articles import answered, ask, has_calendar, noted, said
 from tests.page.browser import Browser
 from tests.page.days import with_clock
@@ -260,6 +262,35 @@ def until(site: Site, browser: Browser) -> Iterator[Outcome]:
     told = "Until 30 April 2025. From 1 May 2025 on net takes £4.58 a copy."
     yield Outcome("until when the price holds", noted(browser, told), True)
     yield Outcome("until when the price holds: the row", rows[0][5], "until 30 Apr 2025, then £4.58")
+    browser.open(article(BREAKS_ISBN, type="05", **{"from": "2025-03-01", "until": "2025-03-31"}))
+    yield Outcome("whatever range the calendar has", noted(browser, told), True)
+    yield Outcome("whatever range the calendar has: the row", answered(browser)[0][5], "until 30 Apr 2025, then £4.58")
+
+
+# A wrong digit behind an answer for the same thirteen digits; the number of a pen; a slow scanner.
+TEN_WRONG = ISBN[3:12] + ("0" if ISBN[12] != "0" else "1")
+PEN = "4006381333931"
+
+
+def wrong_numbers(site: Site, browser: Browser) -> Iterator[Outcome]:
+    """What is not looked for stands above no answer, and another article's bar code is no book's."""
+    browser.open(article())
+    said(browser, ISBN)
+    browser.run("location.hash = arguments[0]", article(TEN_WRONG))
+    browser.wait(lambda: browser.one("#not-looked-for").is_displayed())
+    yield Outcome("a wrong ISBN of ten: no answer below", browser.text("#article-status"), "")
+    browser.open(article(PEN))
+    told = browser.wait_for_text("#isbn-wrong", "978")
+    words = "This is no book's number, since it begins with neither 978 nor 979: scan the other bar code."
+    yield Outcome("the number of a pen", told, words)
+    yield Outcome("the number of a pen: no answer", browser.text("#article-status"), "")
+    ask(browser, article())
+    browser.run("document.getElementById('order').focus()")
+    ActionChains(browser.driver).send_keys(OTHER_ISBN[0]).perform()
+    time.sleep(0.1)
+    ActionChains(browser.driver).send_keys(OTHER_ISBN[1:]).perform()
+    value = browser.one("#isbn").get_attribute("value")
+    yield Outcome("digits at the order of offers begin an ISBN", value, OTHER_ISBN)
 
 
 def aliases(site: Site, browser: Browser) -> Iterator[Outcome]:
@@ -346,6 +377,6 @@ def words_of_rules(site: Site, browser: Browser) -> Iterator[Outcome]:
 
 
 CASES = [
-    scans, scanned_twice, scanned_lines, typed_digits, whole_sentence, back_to_usual, marked_wholesalers, breaks, until, aliases, own_numbers,
-    words_of_rules, asked_anew,
+    scans, scanned_twice, scanned_lines, typed_digits, whole_sentence, back_to_usual, marked_wholesalers, breaks, until,
+    wrong_numbers, aliases, own_numbers, words_of_rules, asked_anew,
 ]

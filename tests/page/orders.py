@@ -245,7 +245,7 @@ def needs(site: Site, browser: Browser) -> Iterator[Outcome]:
     rising = row_of(browser, order_desk.RISING)[-1]
     yield Outcome("a price that rises", rising.startswith("until ") and rising.endswith(", then £12.99"), True)
     beside = row_of(browser, order_desk.BESIDE)[-1]
-    yield Outcome("an offer without a price", beside, "Gamma: no price of this type")
+    yield Outcome("an offer without a price", beside, "Gamma: no price of type 05 for so many in GBP")
     line = browser.one("#list-needs button")
     line.click()
     chosen = browser.run("return document.activeElement.querySelector('.isbn').textContent")
@@ -310,11 +310,14 @@ def other_copies(site: Site, browser: Browser) -> Iterator[Outcome]:
     open_list(browser)
     look_up(browser, f"{BROKEN} 9\n{DEARER} 12")
     more = "More copies cost less in all: 10 copies at £4.00 each, £40.00 in all."
+    beta = "More copies from Beta & Sons cost less in all: 10 copies at £3.00 each, £30.00 in all."
     fewer = "Fewer copies cost less each: 9 copies at £8.66 each, £77.94 in all."
-    yield Outcome("ten cost less than nine, nine less each than twelve", notes_of(browser, BROKEN, DEARER), [more, fewer])
+    told = notes_of(browser, BROKEN, DEARER)
+    yield Outcome("ten cost less than nine, nine less each than twelve", told, [f"{more} · {beta}", fewer])
     field = Select(browser.one(f"select[aria-label='Wholesaler of {BROKEN}']"))
     field.select_by_visible_text("Beta & Sons, £5.50 (+£0.50), in stock")
     told = "chosen by hand · More copies cost less in all: 10 copies at £3.00 each, £30.00 in all."
+    told += " · More copies from Alpha Books cost less in all: 10 copies at £4.00 each, £40.00 in all."
     came = browser.wait(lambda: notes_of(browser, BROKEN) == [told], 20)
     yield Outcome("of a wholesaler by hand too", came, True)
     look_up(browser, order_desk.FIVE)
@@ -325,6 +328,9 @@ def other_copies(site: Site, browser: Browser) -> Iterator[Outcome]:
     yield Outcome("where none is better, none is told", notes_of(browser, BROKEN, DEARER), ["", ""])
     look_up(browser, f"{BROKEN} 10\n{DEARER} 10")
     yield Outcome("ten cost more than nine", notes_of(browser, DEARER), [fewer])
+    browser.open(f"#article?isbn={BROKEN}&quantity=9")
+    browser.wait(lambda: beta in browser.texts("#notes li"))
+    yield Outcome("in the article too", [note in browser.texts("#notes li") for note in (more, beta)], [True, True])
 
 
 AS_OF = re.compile(r"As of (\d\d:\d\d:\d\d)(?: to (\d\d:\d\d:\d\d))?\.")

@@ -121,6 +121,7 @@ POLICY = {
     "base-uri 'none'",
     "frame-ancestors 'none'",
     "require-trusted-types-for 'script'",
+    "trusted-types 'none'",
 }
 
 
@@ -134,9 +135,23 @@ def reply_fields(site: Site, browser: Browser) -> Iterator[Outcome]:
         _, fields, _ = site.fetch(path)
         policy = {part.strip() for part in fields["Content-Security-Policy"].split(";")}
         yield Outcome(f"the policy of {path}", policy, POLICY)
+        yield Outcome(f"what {path} may use", "camera=()" in fields["Permissions-Policy"], True)
         came = {name: fields.get(name) for name in FIELDS}
         yield Outcome(f"the fields of {path}", came, FIELDS)
         yield Outcome(f"how long {path} is kept", fields["Cache-Control"], cache)
+
+
+def quick(site: Site, browser: Browser) -> Iterator[Outcome]:
+    """What a slow network is spared: connections, and half of the bytes."""
+    context = ssl._create_unverified_context()
+    context.set_alpn_protocols(["h2", "http/1.1"])
+    with socket.create_connection((HOST, site.port)) as raw, context.wrap_socket(raw, server_hostname=NAME) as peer:
+        yield Outcome("HTTP/2", peer.selected_alpn_protocol(), "h2")
+    for path in ("/main.js", "/style.css", "/words/en.js"):
+        _, fields, body = site.fetch(path, fields=[("Accept-Encoding", "gzip")])
+        yield Outcome(f"{path} is packed", fields.get("Content-Encoding"), "gzip")
+        whole = (site.page / path[1:]).stat().st_size
+        yield Outcome(f"{path}: {len(body)} of {whole} bytes", 2 * len(body) < whole, True)
 
 
 def slow_client(site: Site, browser: Browser) -> Iterator[Outcome]:
@@ -247,5 +262,5 @@ def bare_port(site: Site, browser: Browser) -> Iterator[Outcome]:
     yield Outcome(f"a stranger's post to the bare port ({came})", came in (["200"], ["202"]), True)
 
 
-CASES = [server_rules, hosts, reply_fields, slow_client, own_host_alone, another_site]
+CASES = [server_rules, hosts, reply_fields, quick, slow_client, own_host_alone, another_site]
 AT_THE_END = [bare_port]

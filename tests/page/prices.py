@@ -25,11 +25,14 @@ def settings(site: Site, **changes: object) -> Iterator[None]:
         site.write_settings()
 
 
+NO_NET = "no net price for 1 copy in GBP"
+
+
 def kinds(site: Site, browser: Browser) -> Iterator[Outcome]:
     """To buy at a price is said of a net price alone."""
     rows = ask(browser, article(NET_ISBN, **NET))
     yield Outcome("a net price: it is said", said(browser, "Buy 1 from net at £8.125 a copy"), True)
-    yield Outcome("a net price: the offers", [row[2] for row in rows], ["£8.49", "£8.125", "no net price"])
+    yield Outcome("a net price: the offers", [row[2] for row in rows], ["£8.49", "£8.125", NO_NET])
     yield Outcome("a net price: its column", browser.texts("#offers thead th")[2], "Net, 1 copy")
     marks = [["", ""], ["chosen", "chosen, rule 2"], ["", ""]]
     yield Outcome("a net price: the chosen offer is marked", chosen_rows(browser), marks)
@@ -49,7 +52,7 @@ def other_types(site: Site, browser: Browser) -> Iterator[Outcome]:
         "42 – publisher's retail price, with tax, £19.99",
     ]
     browser.open(article(NET_ISBN, **NET))
-    yield Outcome("beside net prices: what another offer has", answered(browser)[2][2:5], ["no net price", "", types[2]])
+    yield Outcome("beside net prices: what another offer has", answered(browser)[2][2:5], [NO_NET, "", types[2]])
     rows = ask(browser, article(NET_ISBN, **NET | {"type": "02"}))
     words = "No wholesaler has a price for 1 copy of type 02 – recommended retail price, with tax"
     yield Outcome("no price of the type: it is said", said(browser, words), True)

@@ -179,7 +179,7 @@ def without_rules(site: Site, browser: Browser) -> Iterator[Outcome]:
     wanted = f"On 10 April 2025: North: retail price £11.50\nISBN {ISBN} · in stock · rule 2"
     yield Outcome("without words for rules", said, wanted)
     yield Outcome("wholesalers without words", [row[0] for row in rows], ["North", "south", "west"])
-    copies = ["same at 999,999", "1: £11.8010: £9.95", "same at 999,999"]
+    copies = ["same for more", "1: £11.8010: £9.95", "same for more"]
     yield Outcome("without numbers of copies", [row[4] for row in rows], copies)
     shutil.copy(RULES, site.rules)
     site.write_settings()

@@ -15,14 +15,17 @@ ISBN, OTHER, HOSTILE_ISBN, UNTITLED = (isbn_of(number) for number in (1, 4, 7, 1
 
 HEAD = "Title, as a feed said last (not proved)"
 SAID = "as a feed of Beta & Sons said last; not proved"
-UNKNOWN = "no feed has said a title"
+UNKNOWN = "no feed of its wholesalers has said a title"
+DIFFERS = "Alpha Books says: Older"
 WHOLE = "The Lamplighter’s Almanac: A year of small lights · Éilís Byrne (author); Noor Haddad (illustrator) · Quayside Editions"
 
 TITLES = {
     ISBN: [["beta", 5, 1795849200, "The Lamplighter’s Almanac", "A year of small lights",
             "Éilís Byrne (A01); Noor Haddad (A12)", "Quayside Editions"], ["alpha", 9, 1795849100, "Older", "", "", ""]],
     OTHER: [["alpha", 9, 1795849300], ["beta", 1, 1795849100, "=1+1", "", "", ""]],
-    HOSTILE_ISBN: [["odd", 1, 1795849200, HOSTILE, "one\u202etwo", "\u05d0\u05d1 (A01)", "{isbn}"]],
+    # Gamma does not offer it.
+    UNTITLED: [["gamma", 1, 1795849200, "Another book", "", "", ""]],
+    HOSTILE_ISBN: [["beta", 1, 1795849200, HOSTILE, "one\u202etwo", "\u05d0\u05d1 (A01)", "{isbn}"]],
 }
 
 
@@ -68,22 +71,22 @@ def of_an_article(site: Site, browser: Browser) -> Iterator[Outcome]:
     browser.complaints()
     since = len(site.requests())
     browser.open(article(ISBN))
-    yield Outcome("a title", browser.wait_for_text("#title", "Almanac"), f"{WHOLE} · {SAID}")
+    yield Outcome("a title", browser.wait_for_text("#title", "Almanac"), f"Title: {WHOLE} · {DIFFERS} · {SAID}")
     paths = asked(site, since)
     answers = [paths.index(f"/desk/articles/{ISBN}/{what}") for what in ("price", "choice")]
     title = paths.index(f"/titles/{ISBN[:5]}/{ISBN[:8]}.json")
     yield Outcome("it is asked for behind the answer", max(answers) < title, True)
     for isbn, wanted in [
-        (OTHER, f"=1+1 · {SAID}"),
+        (OTHER, f"Title: =1+1 · {SAID}"),
         (UNTITLED, UNKNOWN),
-        (HOSTILE_ISBN, f"{HOSTILE}: one\u202etwo · \u05d0\u05d1 (author) · {{isbn}} · as a feed of odd said last; not proved"),
+        (HOSTILE_ISBN, f"Title: {HOSTILE}: onetwo · \u05d0\u05d1 (author) · {{isbn}} · {SAID}"),
         (order_desk.NOBODYS, UNKNOWN),
     ]:
         browser.open(article(isbn))
-        browser.wait_for_text("#title", wanted[:9])
+        browser.wait_for_text("#title", wanted[:16])
         came = browser.run("return document.getElementById('title').textContent")
         yield Outcome(f"the title of {isbn}", came, wanted)
-    yield Outcome("no element of a title", browser.all("main img, main script"), [])
+        yield Outcome(f"no element of the title of {isbn}", browser.all("main img, main script"), [])
     yield Outcome("no complaint of the browser", browser.complaints(), [])
     browser.driver.execute_cdp_cmd("Emulation.setEmulatedMedia", {"media": "print"})
     yield Outcome("it is on paper", browser.one("#title").is_displayed(), True)
@@ -112,8 +115,8 @@ def of_a_list(site: Site, browser: Browser) -> Iterator[Outcome]:
     came = browser.wait(lambda: row_of(browser, UNTITLED)[2])
     yield Outcome("a book without a title", came, UNKNOWN)
     found = [row_of(browser, isbn)[2] for isbn in (ISBN, OTHER, HOSTILE_ISBN, order_desk.NOBODYS)]
-    whole = f"{HOSTILE}: one\u202etwo · \u05d0\u05d1 (author) · {{isbn}}"
-    yield Outcome("the titles of a list", found, [WHOLE, "=1+1", whole, UNKNOWN])
+    whole = f"{HOSTILE}: onetwo · \u05d0\u05d1 (author) · {{isbn}}"
+    yield Outcome("the titles of a list", found, [f"{WHOLE} · {DIFFERS}", "=1+1", whole, UNKNOWN])
     yield Outcome("their column", browser.texts("#list thead th")[2], HEAD)
     paths = asked(site, since)
     files = [path for path in paths if path.startswith("/titles/")]
@@ -127,7 +130,7 @@ def of_a_list(site: Site, browser: Browser) -> Iterator[Outcome]:
     yield Outcome("the table is no wider than the window", wide, True)
     browser.driver.execute_cdp_cmd("Emulation.setEmulatedMedia", {"media": "print"})
     seen = [text for _, text in browser.call("seen", "#list tbody td[data-column^=Title]")]
-    yield Outcome("titles on paper", WHOLE in seen, True)
+    yield Outcome("titles on paper", f"{WHOLE} · {DIFFERS}" in seen, True)
     browser.driver.execute_cdp_cmd("Emulation.setEmulatedMedia", {"media": ""})
     browser.one("#csv-all").click()
     rows = file_rows(saved(browser, folder))

@@ -67,7 +67,8 @@ test("a calendar says what holds on its first day, until when, and what then", (
     { amount: "9.990", first: "20261127", last: "20261130" }, { amount: "12.990", first: "20261201", last: "20261227" },
   ];
   const [found] = offersOfCalendar([{ series: "south", reference: "R", place: 1, availability: "21", spans }], "2026-11-27");
-  assert.deepEqual(found, offer("south", "9.990", { change: { last: "2026-11-30", amount: "12.990" } }));
+  const later = [{ from: "2026-12-01", amount: "12.990" }];
+  assert.deepEqual(found, offer("south", "9.990", { change: { last: "2026-11-30", amount: "12.990" }, later }));
   const whole = [{ amount: "9.990", first: "20261127", last: "20261227" }];
   const [same] = offersOfCalendar([{ series: "south", reference: "R", place: 1, availability: "21", spans: whole }], "2026-11-27");
   assert.equal(same.change, undefined);

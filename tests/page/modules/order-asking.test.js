@@ -5,6 +5,7 @@ import { afterEach, beforeEach, test } from "node:test";
 
 import { eachOf, OrderAsking, sharedWatch } from "../page/order-asking.js";
 import { LEFT_OUT } from "../page/order-answers.js";
+import { rulesOf } from "../page/rules.js";
 
 const QUESTION = { day: "2026-11-27", country: "GB", currency: "GBP", type: "05" };
 const BOOK = { isbn: "9780306406157", copies: 2 };
@@ -30,7 +31,7 @@ afterEach(() => {
   delete globalThis.document;
 });
 
-const asking = () => new OrderAsking(QUESTION, new AbortController().signal, QUIET);
+const asking = (settings = {}) => new OrderAsking(QUESTION, settings, new AbortController().signal, QUIET);
 const choiceOf = (amount) => ({ answer: "choice", choice: amount === null ? null : { ...HEAD, amount, rule: 1 } });
 const spans = (amount) => [{ amount, first: "20261127", last: "20261227" }];
 const calendarOf = (amount) => ({ answer: "calendar", offers: [{ ...HEAD, spans: spans(amount) }] });
@@ -48,27 +49,97 @@ test("what is ordered is asked for its choice and its calendar of 30 days, with 
 });
 
 const PRICED = { ...HEAD, amount: "9.000" };
-const ANSWERED = { ...BOOK, answer: { offers: [PRICED], ordered: PRICED } };
 const quantitiesOf = (copies) => copies.map(({ quantity }) => quantity);
 
-test("what is ordered is asked for its price at one copy and at the most", async () => {
+/** What is found better than a book that is ordered, of which these are the offers, with those settings. */
+async function better(offers = [PRICED], settings = {}, copies = 2) {
+  const book = { ...BOOK, copies, answer: { offers, ordered: offers[0], retail: [] } };
+  await asking(settings).lookForBetter([book], () => {});
+  return book.answer;
+}
+
+const byQuantity = (offersAt) => (url) => ({ answer: "price", offers: offersAt(Number(url.searchParams.get("quantity")), url) });
+
+test("what is ordered is asked for its price at the most copies first, and at one", async () => {
   replies = { price: priceOf("9.000") };
-  assert.deepEqual(quantitiesOf(await asking().copiesOf(ANSWERED)), [1, 2, 999999]);
+  assert.deepEqual(quantitiesOf((await better()).copies), [1, 2, 999999]);
   assert.deepEqual(asked, [
-    "price?day=20261127&country=GB&currency=GBP&type=05&quantity=1",
     "price?day=20261127&country=GB&currency=GBP&type=05&quantity=999999",
+    "price?day=20261127&country=GB&currency=GBP&type=05&quantity=1",
   ]);
 });
 
 test("numbers of copies that may be better are asked for until they are found", async () => {
-  const amountOf = (quantity) => (quantity < 3 ? "9.000" : "5.000");
-  replies = { price: (url) => priceOf(amountOf(Number(url.searchParams.get("quantity")))) };
-  assert.deepEqual(quantitiesOf(await asking().copiesOf(ANSWERED)), [1, 2, 3, 999999]);
+  replies = { price: byQuantity((quantity) => [{ ...HEAD, amount: quantity < 3 ? "9.000" : "5.000" }]) };
+  assert.deepEqual(quantitiesOf((await better()).copies), [1, 2, 3, 999999]);
+});
+
+const SOUTH = { ...HEAD, series: "south", reference: "S" };
+
+// Nine copies of north cost 54.000, ten of south 40.000.
+test("they are found at every offer that a rule admits", async () => {
+  const dear = { ...SOUTH, amount: "10.400" };
+  const offersAt = (quantity) => [
+    { ...HEAD, amount: "6.000" }, { ...SOUTH, amount: quantity < 10 ? "10.400" : "4.000" },
+  ];
+  replies = { price: byQuantity(offersAt) };
+  const settings = { rules: rulesOf('[[rule]]\nseries = "*"\ncodes = ["21"]\n') };
+  const { copies } = await better([{ ...HEAD, amount: "6.000" }, dear], settings, 9);
+  const [before, ten] = copies.filter(({ quantity }) => [9, 10].includes(quantity));
+  assert.deepEqual([before.offers[1].amount, ten?.offers[1].amount], ["10.400", "4.000"]);
+  asked.length = 0;
+  const others = { rules: rulesOf('[[rule]]\nseries = "north"\ncodes = ["21"]\n') };
+  assert.deepEqual(quantitiesOf((await better([{ ...HEAD, amount: "6.000" }, dear], others, 9)).copies), [1, 8, 9, 999999]);
+});
+
+test("from how many copies on another offer has a price is asked for, though one has one for so few", async () => {
+  const offersAt = (quantity) => [{ ...HEAD, amount: "7.000" }, { ...SOUTH, amount: quantity < 5 ? null : "6.000" }];
+  replies = { price: byQuantity(offersAt) };
+  const { copies } = await better([{ ...HEAD, amount: "7.000" }, { ...SOUTH, amount: null }], {}, 3);
+  assert.deepEqual(copies.filter(({ quantity }) => [4, 5].includes(quantity)).map(({ offers }) => offers[1].amount), [null, "6.000"]);
+});
+
+test("what has no price for any number of copies is asked for in other currencies and by other types", async () => {
+  const offersAt = (_, url) => {
+    const isEuro = url.searchParams.get("currency") === "EUR";
+    return [{ ...HEAD, amount: isEuro ? null : "11.200" }, { ...SOUTH, amount: isEuro ? "6.100" : null }];
+  };
+  replies = { price: byQuantity(offersAt) };
+  const settings = { currencies: ["GBP", "EUR"], retailType: "02" };
+  const { others } = await better([{ ...HEAD, amount: "11.200" }, { ...SOUTH, amount: null }], settings, 1);
+  assert.deepEqual(others, [{ ...SOUTH, amount: "6.100", currency: "EUR" }]);
+});
+
+test("the recommended price is one question more", async () => {
+  const typed = (url) => priceOf(url.searchParams.get("type") === "02" ? "12.990" : "9.000");
+  replies = { choice: choiceOf("9.000"), calendar: calendarOf("9.000"), price: typed };
+  const { retail } = await asking({ retailType: "02" }).answerOf(BOOK, undefined);
+  assert.deepEqual([retail[0].amount, names().sort()], ["12.990", ["calendar", "choice", "price"]]);
+  asked.length = 0;
+  await asking({ retailType: "05" }).answerOf(BOOK, undefined);
+  assert.deepEqual(names(), ["choice", "calendar"]);
+});
+
+// Each price changes at a number of its own, and the least of them is that of the most copies.
+test("there are four questions for a line at most, and two dozen for a list", async () => {
+  for (const retailType of ["", "02"]) {
+    asked.length = 0;
+    replies = {
+      choice: choiceOf("9.000"), calendar: calendarOf("9.000"),
+      price: byQuantity((quantity) => [{ ...HEAD, amount: (9 - Math.min(Math.log(quantity), 8)).toFixed(3) }]),
+    };
+    const list = asking({ retailType });
+    const books = [...Array(100).keys()].map((at) => ({ isbn: `97803064${at}`, copies: 20 }));
+    for (const book of books) book.answer = await list.answerOf(book, undefined);
+    await list.lookForBetter(books, () => {});
+    assert.ok(asked.length <= 4 * books.length + 24, `${asked.length}`);
+    assert.ok(books.every(({ answer }) => quantitiesOf(answer.copies).includes(999999)));
+  }
 });
 
 test("where prices of other copies are refused, there are those of the book's own", async () => {
   replies = { price: { answer: "refused", reason: "bad-query" } };
-  assert.deepEqual(quantitiesOf(await asking().copiesOf(ANSWERED)), [2]);
+  assert.deepEqual(quantitiesOf((await better()).copies), [2]);
 });
 
 test("a book without a price for so few copies is asked for from how many on it has one", async () => {
@@ -134,7 +205,7 @@ test("what a hand chose is as before by its own offer", async () => {
   assert.deepEqual(names(), ["price", "price", "price"]);
 });
 
-test("each is asked for once, four at a time", async () => {
+test("each is asked for once, eight at a time", async () => {
   let running = 0;
   let most = 0;
   const found = [];
@@ -145,7 +216,7 @@ test("each is asked for once, four at a time", async () => {
     running -= 1;
     found.push(item);
   });
-  assert.equal(most, 4);
+  assert.equal(most, 8);
   assert.deepEqual(found.sort((one, other) => one - other), [...Array(30).keys()]);
 });
 

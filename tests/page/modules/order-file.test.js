@@ -20,7 +20,7 @@ test("the separator and the decimal sign are the language's", () => {
   for (const language of ["de", "de-AT", "fr"]) {
     speaking(language);
     assert.deepEqual([separatorOf(), amountCell("1234.500")], [";", "1234,50"], language);
-    assert.equal(cells("a,b", "c;d"), 'a,b;"c;d"\r\n');
+    assert.equal(cells("a,b", "c;d", "e"), '"a,b";"c;d";e\r\n');
   }
   speaking("de-CH");
   assert.deepEqual([separatorOf(), amountCell("8.660")], [",", "8.66"]);
@@ -45,6 +45,17 @@ test("no cell is one that a spreadsheet would run", () => {
   }
   assert.equal(cells("=cmd|' /C calc'!A0"), "'=cmd|' /C calc'!A0\r\n");
   assert.equal(cells("Mrs Lindqvist", "a=b", "9780306406157"), "Mrs Lindqvist,a=b,9780306406157\r\n");
+});
+
+test("nor where it cuts at another sign", () => {
+  assert.equal(cells("Anna;=1+1"), "\"Anna;'=1+1\"\r\n");
+  assert.equal(cells("Anna, =1+1"), "\"Anna,' =1+1\"\r\n");
+  assert.equal(cells('x;"=1+1"'), "\"x;'\"\"=1+1\"\"\"\r\n");
+  for (const cut of [",", ";", "\t"]) {
+    for (const field of cells(`=a;-b,@c\t+d`).replaceAll("\r\n", "").split(cut)) {
+      assert.doesNotMatch(field, /^[\s"]*[=+\-@]/, `${cut} ${field}`);
+    }
+  }
 });
 
 test("what is copied is ISBN and copies", () => {

@@ -4,7 +4,7 @@ import assert from "node:assert/strict";
 import { test } from "node:test";
 
 import {
-  askedOn, betterQuantities, changesOf, firstQuantities, listedQuantities, MOST_COPIES, nextBetter, nextQuantity,
+  askedOn, betterElsewhere, betterQuantities, changesOf, firstQuantities, listedQuantities, MOST_COPIES, nextBetter, nextQuantity,
   quantitiesBeside, withAnswer,
 } from "../page/quantities.js";
 import { holdsUntil } from "../page/spans.js";
@@ -105,7 +105,7 @@ test("fewer copies that cost less are told where their change is not asked for e
 /** What is better than a number of copies, by no more questions than that takes. */
 function better(quantity, amountOf) {
   const first = [...quantitiesBeside(quantity), quantity].sort((one, other) => one - other);
-  const { answers, count } = asked(first, amountOf, (all) => nextBetter(all, quantity, R));
+  const { answers, count } = asked(first, amountOf, (all) => nextBetter(all, quantity, R, amountOf(quantity)));
   return { ...betterQuantities(changesOf(R, answers), quantity), count };
 }
 
@@ -127,6 +127,18 @@ test("better numbers of copies of a list are found by few questions", () => {
   assert.deepEqual(better(10, between).fewer, { quantity: 9, amount: "8.000" });
   const free = byChanges([[1, "5.000"], [3, "0.000"]]);
   assert.deepEqual(better(1, free).more.quantity, 3);
+});
+
+test("another offer is better at more copies that cost less in all, and at fewer that cost less each", () => {
+  const falling = changesOf(R, [answer(1, "10.400"), answer(9, "10.400"), answer(10, "4.000")]);
+  assert.deepEqual(betterElsewhere(falling, 9, "6.000").more, falling[1]);
+  assert.equal(betterElsewhere(falling, 9, "6.000").fewer, undefined);
+  // Six cost £36.00 of the first, ten £40.00 of the other.
+  assert.equal(betterElsewhere(falling, 6, "6.000").more, undefined);
+  const rising = changesOf(R, [answer(1, "5.000"), answer(9, "5.000"), answer(10, "8.000"), answer(12, "8.000")]);
+  assert.deepEqual(betterElsewhere(rising, 12, "6.000"), { fewer: { quantity: 9, amount: "5.000" }, more: undefined });
+  const none = changesOf(R, [answer(1, null), answer(5, "6.000")]);
+  assert.deepEqual(betterElsewhere(none, 4, "9.000").more.quantity, 5);
 });
 
 test("questions end where the desk refuses one, and after thirty-two", async () => {

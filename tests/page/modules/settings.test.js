@@ -37,6 +37,8 @@ test("what is not named is as the page has it", () => {
     catalogue: "",
     manyCopies: 50,
     manyMoney: undefined,
+    retailType: "",
+    currencies: [],
   });
 });
 
@@ -63,6 +65,14 @@ test("from how many copies and what sum on a person looks", () => {
   const { settings, problems } = readSettings(JSON.stringify({ ...RIGHT, many_copies: 20, many_money: "250.50" }));
   assert.deepEqual([settings.manyCopies, settings.manyMoney, problems], [20, "250.50", []]);
   for (const wrong of [{ many_copies: 0 }, { many_copies: "20" }, { many_money: 250 }, { many_money: "1,5" }]) {
+    assert.equal(problemsOf({ ...RIGHT, ...wrong }).length, 1, JSON.stringify(wrong));
+  }
+});
+
+test("the type of recommended prices, and other currencies", () => {
+  const { settings, problems } = readSettings(JSON.stringify({ ...RIGHT, retail_type: "04", currencies: ["EUR", "USD"] }));
+  assert.deepEqual([settings.retailType, settings.currencies, problems], ["04", ["EUR", "USD"], []]);
+  for (const wrong of [{ retail_type: "05" }, { retail_type: 2 }, { currencies: "EUR" }, { currencies: ["EUR", "EUR"] }]) {
     assert.equal(problemsOf({ ...RIGHT, ...wrong }).length, 1, JSON.stringify(wrong));
   }
 });

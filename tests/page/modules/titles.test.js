@@ -3,7 +3,7 @@
 import assert from "node:assert/strict";
 import { afterEach, beforeEach, test } from "node:test";
 
-import { areTitlesKept, fileOf, titlesOf, titleTexts } from "../page/titles.js";
+import { areTitlesKept, differing, fileOf, titlesOf, titlesOfOffers, titleTexts } from "../page/titles.js";
 
 const ISBN = "9781900001014";
 const OTHER = "9781900001021";
@@ -27,7 +27,10 @@ afterEach(() => {
 
 const has = (file) => { reply = () => new Response(typeof file === "string" ? file : JSON.stringify(file)); };
 const signal = new AbortController().signal;
-const textsOf = async (isbn = ISBN) => titleTexts((await titlesOf([isbn], signal)).get(isbn));
+const OFFERS = [{ series: "north" }, { series: "south" }];
+const titlesOfBook = async (offers = OFFERS, chosen = undefined) =>
+  titlesOfOffers((await titlesOf([ISBN], signal)).get(ISBN), offers, chosen);
+const textsOf = async (...given) => titleTexts(await titlesOfBook(...given));
 
 const NORTH = ["north", 5, 1795849200, "The Lamplighter’s Almanac", "A Year", "Éilís Byrne (A01); Jo Roe (B06); X (Z99)", "Quay"];
 
@@ -37,8 +40,8 @@ test("a title is asked for by the first digits of its ISBN, in the file of other
   assert.deepEqual(asked, ["/titles/97819/97819000.json"]);
   assert.equal(fileOf(ISBN), "titles/97819/97819000.json");
   assert.deepEqual([...titles.keys()], [ISBN, OTHER]);
-  assert.equal(titles.get(ISBN).series, "north");
-  assert.deepEqual(titles.get(OTHER), {});
+  assert.deepEqual(titles.get(ISBN).map(({ series }) => series), ["north"]);
+  assert.deepEqual(titles.get(OTHER), []);
 });
 
 test("it is shown with its subtitle, its contributors with their roles, and its publisher", async () => {
@@ -58,6 +61,32 @@ test("of several series the first one counts that has not deleted its own", asyn
   assert.deepEqual(await textsOf(), ["Another title"]);
   has({ [ISBN]: [["north", 6, 1795849300]] });
   assert.deepEqual(await textsOf(), []);
+});
+
+test("a title is that of a series that offers the book, and of the chosen one first", async () => {
+  const libra = ["libra", 1, 1795849300, "Dictionary", "", "", ""];
+  const south = ["south", 1, 1795849100, "Small Harbour", "", "", ""];
+  has({ [ISBN]: [libra, south, NORTH] });
+  assert.deepEqual(await textsOf(), ["Small Harbour"]);
+  assert.equal((await textsOf(OFFERS, { series: "north" }))[0], "The Lamplighter’s Almanac: A Year");
+  assert.deepEqual(await textsOf([{ series: "west" }]), []);
+});
+
+test("titles that differ are told, but for case, punctuation and subtitles", async () => {
+  const titled = (series, title, subtitle = "") => [series, 1, 1795849100, title, subtitle, "", ""];
+  const differ = async (...titles) => {
+    has({ [ISBN]: titles });
+    return differing(await titlesOfBook()).map(({ title }) => title);
+  };
+  assert.deepEqual(await differ(titled("north", "Small Harbour"), titled("south", "Wörterbuch")), ["Wörterbuch"]);
+  assert.deepEqual(await differ(titled("north", "Small Harbour"), titled("south", "SMALL HARBOUR!")), []);
+  assert.deepEqual(await differ(titled("north", "Dune", "A novel"), titled("south", "Dune: a novel")), []);
+  assert.deepEqual(await differ(titled("north", "Dune")), []);
+});
+
+test("signs that set the direction of letters are left out", async () => {
+  has({ [ISBN]: [["north", 5, 1795849200, "One\u202ekcab \u2067two\u2069", "", "", ""]] });
+  assert.deepEqual(await textsOf(), ["Onekcab two"]);
 });
 
 test("what is no file of titles says nothing", async () => {

@@ -1,0 +1,125 @@
+// What is better at other offers, in words, and what a recommended price tells. Sums are reckoned by hand.
+
+import assert from "node:assert/strict";
+import { test } from "node:test";
+
+import { elsewhereInWords, fallsInWords, onlyMoreInWords } from "../page/better.js";
+import { detailsOf, sentenceOf } from "../page/decision.js";
+import { farOf, marginOf, retailInWords, retailOf } from "../page/retail.js";
+import { areAdmitting, rulesOf } from "../page/rules.js";
+
+const offer = (series, amount, more = {}) => ({ series, reference: series, place: 1, availability: "21", amount, ...more });
+const at = (quantity, ...offers) => ({ quantity, offers });
+const SETTINGS = {
+  series: [{ name: "north", words: "North Books" }, { name: "south", words: "South Books" }],
+  rules: rulesOf('[[rule]]\nseries = "*"\ncodes = ["21"]\nmax = "20.00"\n'),
+  country: "GB", currency: "GBP", type: "05",
+};
+const QUESTION = { currency: "GBP", day: "2026-11-28", type: "05" };
+
+test("more copies from another wholesaler that cost less in all", () => {
+  const north = offer("north", "6.000");
+  const question = (code) => [
+    [north, offer("south", "10.400", { availability: code })],
+    {
+      ...QUESTION, ordered: north, quantity: 9,
+      answers: [
+        at(9, north, offer("south", "10.400", { availability: code })),
+        at(10, north, offer("south", "4.000", { availability: code })),
+      ],
+    },
+    SETTINGS,
+  ];
+  assert.deepEqual(elsewhereInWords(...question("21")), [
+    "More copies from South Books cost less in all: 10 copies at £4.00 each, £40.00 in all.",
+  ]);
+  assert.deepEqual(elsewhereInWords(...question("40")), []);
+});
+
+test("who sells from more copies on alone is told beside a price", () => {
+  const offers = [offer("north", "7.000"), offer("south", null)];
+  const answers = [at(3, ...offers), at(4, ...offers), at(5, offers[0], offer("south", "6.000"))];
+  const question = { ...QUESTION, ordered: offers[0], answers };
+  assert.deepEqual(onlyMoreInWords(offers, question, SETTINGS), [
+    "South Books sells it from 5 copies on, at £6.00 each.",
+  ]);
+  const about = { ...question, answers: [answers[0], answers[2]] };
+  assert.deepEqual(onlyMoreInWords(offers, about, SETTINGS), [
+    "South Books sells it from 5 copies or fewer on, at £6.00 each.",
+  ]);
+  assert.deepEqual(onlyMoreInWords(offers, { ...question, ordered: undefined }, SETTINGS).length, 1);
+});
+
+test("another wholesaler's price that falls within thirty days is told", () => {
+  const north = offer("north", "9.900");
+  const falls = (from, amount) => {
+    const south = offer("south", "10.400", { later: [{ from, amount }] });
+    return fallsInWords([north, south], { ...QUESTION, ordered: north }, SETTINGS);
+  };
+  assert.deepEqual(falls("2026-11-29", "7.100"), ["From 29 November 2026 on South Books takes £7.10 a copy."]);
+  assert.equal(falls("2026-12-28", "7.100").length, 1);
+  for (const [from, amount] of [["2026-12-29", "7.100"], ["2026-11-29", "9.900"], ["2026-11-29", null]]) {
+    assert.deepEqual(falls(from, amount), [], `${from} ${amount}`);
+  }
+  const none = offer("south", null, { later: [{ from: "2026-12-01", amount: "8.000" }] });
+  assert.equal(fallsInWords([none], { ...QUESTION, ordered: undefined }, SETTINGS).length, 1);
+  const dear = offer("south", null, { later: [{ from: "2026-12-01", amount: "21.000" }] });
+  assert.deepEqual(fallsInWords([dear], { ...QUESTION, ordered: undefined }, SETTINGS), []);
+});
+
+test("an offer is admitted by its series, its availability and its price, where the rules are read", () => {
+  const { rules } = SETTINGS;
+  assert.equal(areAdmitting(rules, offer("south", "20.000")), true);
+  assert.equal(areAdmitting(rules, offer("south", null)), true);
+  assert.equal(areAdmitting(rules, offer("south", "20.001")), false);
+  assert.equal(areAdmitting(rules, offer("south", "1.000", { availability: "40" })), false);
+  assert.equal(areAdmitting(undefined, offer("south", "99.000", { availability: "40" })), true);
+  assert.equal(areAdmitting(rulesOf("[[rule]]\nseries = 1\n"), offer("south", "99.000")), true);
+});
+
+test("the recommended price is the offer's own, else its wholesaler's, else another one's", () => {
+  const retail = [offer("north", "12.990"), offer("south", null), offer("south", "13.990", { place: 2 })];
+  assert.equal(retailOf(retail, offer("north", "7.000")), "12.990");
+  assert.equal(retailOf(retail, offer("south", "7.000")), "13.990");
+  assert.equal(retailOf(retail, offer("west", "7.000")), "12.990");
+  assert.equal(retailOf([], offer("north", "7.000")), undefined);
+  // 12.99 less 7.53 is 5.46, and 42.03 % of 12.99.
+  assert.equal(retailInWords(retail, offer("north", "7.530"), QUESTION), "RRP £12.99 · margin 42%");
+  assert.equal(retailInWords(retail, offer("north", "7.530"), { ...QUESTION, type: "02" }), "");
+  assert.equal(retailInWords([offer("north", "0.000")], offer("north", "7.530"), QUESTION), "");
+  assert.equal(marginOf("10.000", "8.000"), -0.25);
+});
+
+test("a net price far from the recommended one, or from the next, is marked", () => {
+  const far = (amount, retail, ...others) => farOf(offer("north", amount), {
+    offers: [offer("north", amount), ...others.map((other) => offer("south", other))],
+    retail: retail === undefined ? [] : [offer("north", retail)],
+    type: "05",
+  });
+  assert.deepEqual(far("0.010", undefined, "7.100"), { next: "7.100" });
+  assert.deepEqual(far("0.010", "12.990"), { retail: "12.990" });
+  assert.deepEqual(far("13.000", "12.990"), { retail: "12.990" });
+  for (const given of [["2.598", "12.990"], ["12.990", "12.990"], ["1.420", undefined, "7.100"], ["5.000", undefined, null]]) {
+    assert.equal(far(...given), undefined, given.join(" "));
+  }
+  assert.equal(farOf(offer("north", "0.010"), { offers: [offer("south", "9.000")], retail: [], type: "02" }), undefined);
+});
+
+const answerOf = (offers, choice) => ({ offers, choice, question: { ...QUESTION, isbn: "9780306406157", quantity: "1", country: "GB" } });
+
+test("the sentence says which of two records of a wholesaler is chosen", () => {
+  const offers = [offer("north", "6.100", { reference: "paperback" }), offer("north", "12.100", { reference: "hardback" })];
+  const answer = answerOf(offers, { ...offers[0], rule: 1 });
+  assert.equal(sentenceOf(answer, SETTINGS), "Buy 1 from North Books (\u2068paperback\u2069) at £6.10 a copy");
+  assert.equal(sentenceOf(answerOf([offers[0]], { ...offers[0], rule: 1 }), SETTINGS), "Buy 1 from North Books at £6.10 a copy");
+  const long = { ...offers[0], reference: `\u202e${"x".repeat(300)}`, rule: 1 };
+  assert.ok(sentenceOf(answerOf([long, offers[1]], long), SETTINGS).length < 100);
+});
+
+test("where the desk and rules.toml differ no rule's words are quoted", () => {
+  const rules = rulesOf('# The best\n[[rule]]\nseries = "south"\ncodes = ["21"]\n');
+  const offers = [offer("north", "6.000"), offer("south", "5.000")];
+  const details = (choice) => detailsOf(answerOf(offers, choice), { ...SETTINGS, rules }).join(" · ");
+  assert.match(details({ ...offers[1], rule: 1 }), /rule 1: “The best”/);
+  assert.match(details({ ...offers[0], rule: 1 }), /rule 1$/);
+});

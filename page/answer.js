@@ -59,7 +59,7 @@ function farNotes({ offers, choice, retail, question }) {
 }
 
 /** Until when the price of the chosen offer holds, where it ends. */
-function untilNotes({ choice, ahead, question }, settings) {
+export function untilNotes({ choice, ahead, question }, settings) {
   const until = choice === null ? undefined : ahead?.get(keyOf(choice))?.holds;
   if (until?.last === undefined) return [];
   const [last, from] = [inWords(until.last), inWords(until.from)];

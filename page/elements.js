@@ -21,17 +21,21 @@ export function drawn(name, attributes = {}, ...children) {
   return built(document.createElementNS(DRAWING, name), attributes, children);
 }
 
-function cell({ name, className }, content, isFirst) {
-  const attributes = { role: isFirst ? "rowheader" : "cell", "data-column": name, class: className };
-  if (isFirst) attributes.scope = "row";
-  return element(isFirst ? "th" : "td", attributes, ...content);
+function cell({ name, className }, content, isHeader) {
+  const attributes = { role: isHeader ? "rowheader" : "cell", "data-column": name, class: className };
+  if (isHeader) attributes.scope = "row";
+  return element(isHeader ? "th" : "td", attributes, ...content);
 }
 
 const columnOf = (column) => (typeof column === "string" ? { name: column } : column);
 
-/** A row of a table with those columns: of `cells`, a list of children for each, and `className`. */
+/**
+ * A row of a table with those columns: of `cells`, a list of children for each, and `className`. Its header is the
+ * cell of the column that `isHeader`, else the first one.
+ */
 export function tableRow(columns, { cells, className }) {
-  const made = cells.map((content, at) => cell(columnOf(columns[at]), content, at === 0));
+  const header = Math.max(columns.findIndex(({ isHeader }) => isHeader), 0);
+  const made = cells.map((content, at) => cell(columnOf(columns[at]), content, at === header));
   return element("tr", { role: "row", class: className }, ...made);
 }
 

@@ -45,13 +45,18 @@ function priceCell({ amount }, { type, currency, quantity }) {
   return [element("span", { class: "lacking" }, words)];
 }
 
-/** How much more an offer costs than the chosen one, and why a cheaper one is not chosen. */
-function differenceCell(offer, { choice, question }) {
+/** How much more an offer costs than the chosen one, and, of one that costs less, why it is not chosen, in words. */
+export function differenceInWords(offer, { choice, question }) {
   if (choice === null || offer.amount === null) return [""];
   if (keyOf(choice) === keyOf(offer)) return ["–"];
   const words = signedMoney(difference(offer.amount, choice.amount), question.currency);
   if (compareAmounts(offer.amount, choice.amount) >= 0) return [words];
-  return [words, " ", element("small", {}, sayCount("article.cheaper", choice.rule))];
+  return [words, sayCount("article.cheaper", choice.rule)];
+}
+
+function differenceCell(offer, answer) {
+  const [words, ...why] = differenceInWords(offer, answer);
+  return [words, ...why.flatMap((text) => [" ", element("small", {}, text)])];
 }
 
 /** The other currencies and types in which an offer has a price in place of what was asked for, as links. */

@@ -69,6 +69,11 @@ export class Columns {
     this.#chosen = {};
   }
 
+  /** A table without a heading has these columns. */
+  set(columns) {
+    this.#chosen = { heading: "", columns };
+  }
+
   /** What was chosen for a table with those names of columns. */
   chosenFor(names = []) {
     const heading = headingOf(names);

@@ -7,10 +7,10 @@ const LINE_END = "\r\n";
 
 // What a spreadsheet takes for the beginning of a formula, full width too: of a cell, and of what is one where it
 // cuts at another sign than the file's.
-const FORMULA = /(?<=^|[,;])(?=[\s'"]*[=+\-@\uff1d\uff0b\uff0d\uff20])/g;
+const FORMULA = /(?<=^|[,;|])(?=[\s'"]*[=+\-@\uff1d\uff0b\uff0d\uff20])/g;
 
 // What some program or other cuts a line at.
-const CUTS = /[",;]/;
+const CUTS = /[",;|]/;
 
 /** The sign of the page's language between whole and decimals. */
 function decimalSign() {
@@ -37,11 +37,16 @@ function cellOf(text) {
   return CUTS.test(safe) ? quoted(safe) : safe;
 }
 
-/** A file of rows of texts, the first of which names the columns, with the mark by which spreadsheets know UTF-8. */
-export function csvOf(rows) {
-  const separator = separatorOf();
-  const lines = rows.map((row) => row.map(cellOf).join(separator));
-  return MARK + lines.map((line) => line + LINE_END).join("");
+/** Digits that a spreadsheet keeps as they are, since it takes them for a text. */
+const digitsAsText = (text) => (/^\d+$/.test(text) ? `="${text}"` : cellOf(text));
+
+/**
+ * A file of rows of texts, with the mark by which spreadsheets know UTF-8, with a `separator`, the language's where
+ * there is none; `isText` says of each column whether its digits are a text.
+ */
+export function csvOf(rows, { separator = separatorOf(), isText = [] } = {}) {
+  const lines = rows.map((row) => row.map((text, at) => (isText[at] ? digitsAsText(text) : cellOf(text))));
+  return MARK + lines.map((cells) => cells.join(separator) + LINE_END).join("");
 }
 
 /** An order as lines of ISBN, copies and, where there is one, a remark, with a tabulator between them. */

@@ -2,7 +2,8 @@
 
 import { isbnsIn } from "./isbn-in-text.js";
 import { Columns } from "./order-columns.js";
-import { MOST_LINES, readList, textOf } from "./order-lines.js";
+import { MOST_LINES, piecesOf, readList, textOf } from "./order-lines.js";
+import { COLUMNS_OF_TEXT, textOfBooks } from "./order-text.js";
 import { say, sayCount } from "./wording.js";
 
 const MOST_BYTES = 1_000_000;
@@ -37,6 +38,8 @@ export class OrderInput {
   #timer;
   // Whether the lines are those that were looked up, edited, and no other list.
   #isSame = false;
+  // What is left of a list of too many lines, of which a piece was taken.
+  #rest = "";
 
   /** `acts` has `changed`, which hears of other lines, and `lookUp`, where a buyer wants an answer. */
   constructor(acts) {
@@ -47,6 +50,7 @@ export class OrderInput {
     });
     this.#readLines();
     this.#readFiles();
+    found("take-piece").addEventListener("click", () => this.#takePiece());
   }
 
   get text() {
@@ -65,6 +69,8 @@ export class OrderInput {
     const list = this.read();
     const wrong = wrongOf(list.count);
     tellWrong(wrong);
+    if (list.count > MOST_LINES) this.#rest = this.text;
+    this.#offerPiece();
     if (wrong !== "") found("lines").focus();
     else if (list.columns?.isOpen) this.#columns.ask(list.columns);
     else {
@@ -81,12 +87,18 @@ export class OrderInput {
     this.#begin();
   }
 
-  /** A line more behind the others; gives its number. */
+  /** The same list with other lines, whose text is made of its books. */
+  rewrite(books) {
+    found("lines").value = textOfBooks(books);
+    this.#columns.set(COLUMNS_OF_TEXT);
+    this.#isSame = true;
+  }
+
+  /** A line more behind those that are not looked up yet. */
   add(line) {
     const before = this.text.replace(/\s+$/, "");
     found("lines").value = `${before}${before === "" ? "" : "\n"}${line}\n`;
     found("lines").scrollTop = found("lines").scrollHeight;
-    return found("lines").value.split("\n").length - 1;
   }
 
   /** Where several ISBNs are put into a field for one, they are a list; `taken` hears of that. */
@@ -105,6 +117,24 @@ export class OrderInput {
   #begin() {
     this.#isSame = false;
     this.#columns.forget();
+  }
+
+  /** Offers to take the first lines of what is left of a list that is too long. */
+  #offerPiece() {
+    const count = Math.min(readList(this.#rest).count, MOST_LINES);
+    found("take-piece").hidden = count === 0;
+    found("take-piece").textContent = count === 0 ? "" : sayCount("order.takePiece", count);
+  }
+
+  /** The first lines of what is left are a list, below the heading of the whole one. */
+  #takePiece() {
+    const { first, rest } = piecesOf(this.#rest);
+    this.put(first);
+    this.#rest = rest;
+    this.#offerPiece();
+    tellWrong("");
+    this.#acts.changed();
+    this.#acts.lookUp();
   }
 
   #readLines() {

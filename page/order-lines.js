@@ -111,14 +111,19 @@ function mayBeCopies(field, at, { isbn, kinds, isChosen }) {
   return at !== isbn && !isChosen && kinds[at] === undefined && IN_WORDS.test(plain(field));
 }
 
-/** A row of a table: its ISBN and copies from their columns; all others are its note. */
+/** Whether a field is a number of which its heading says what it is, such as the stock: nobody needs it in an order. */
+const isFigure = (field, kind) => kind === "other" && NUMBER.test(plain(field).trim());
+
+/** A row of a table: its ISBN and copies from their columns; all others are its note, but for figures. */
 function pieceOfRow(fields, columns) {
   const cell = fields[columns.isbn] ?? "";
   const number = bookIn(numbersIn(cell));
   const book = bookOf(cell, number);
   const isSame = (field) => book.isbn !== undefined && bookIn(numbersIn(field))?.isbn === book.isbn;
   const beside = number === undefined ? [] : [beforeIsbn(cell.slice(0, number.start)), behindIsbn(cell, number)];
-  const others = fields.filter((field, at) => at !== columns.isbn && at !== columns.copies && !isSame(field));
+  const isNote = (field, at) =>
+    ![columns.isbn, columns.copies].includes(at) && !isSame(field) && !isFigure(field, columns.kinds[at]);
+  const others = fields.filter(isNote);
   const note = joined([...beside, ...others]);
   if (book.wrong === "none") return { ...book, note };
   if (beside.some((text) => IN_WORDS.test(plain(text)))) return { copies: 1, isUnsure: true, note, ...book };
@@ -161,7 +166,7 @@ function tableOf(filled, chosenFor) {
   return { rows, columns: columnsOf(rows, chosenFor) };
 }
 
-function piecesOf(filled, { rows, columns }) {
+function booksOf(filled, { rows, columns }) {
   const lines = columns === undefined ? filled : rows.filter((row) => row !== columns.heading);
   return lines.flatMap(({ row, fields = [], line }) => {
     const pieces = fields.length > 1 ? [pieceOfRow(fields, columns)] : piecesOfLine(row);
@@ -190,8 +195,17 @@ export function readList(text, chosenFor) {
   const lines = columns === undefined ? withoutHeading(filled) : filled;
   const count = lines.length - (columns?.heading === undefined ? 0 : 1);
   if (count > MOST_LINES || columns?.isOpen) return { books: [], count, columns };
-  const pieces = piecesOf(lines, table);
+  const pieces = booksOf(lines, table);
   return { books: addedUp(pieces), count: pieces.length, columns };
+}
+
+/** The first lines of a text, as many as a list may have, and the rest, each below the heading if there is one. */
+export function piecesOf(text) {
+  const filled = filledRows(text).map(({ row }) => row);
+  const above = Math.max(filled.length - readList(text).count, 0);
+  const [heading, lines] = [filled.slice(0, above), filled.slice(above)];
+  const textFrom = (rows) => (rows.length === 0 ? "" : [...heading, ...rows].map((row) => `${row}\n`).join(""));
+  return { first: textFrom(lines.slice(0, MOST_LINES)), rest: textFrom(lines.slice(MOST_LINES)) };
 }
 
 const UTF_16 = [[0xff, 0xfe, "utf-16le"], [0xfe, 0xff, "utf-16be"]];

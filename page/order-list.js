@@ -4,6 +4,17 @@ import { keyOf } from "./offers.js";
 import { filledRows } from "./list-rows.js";
 import { rightKey, stateOf } from "./order-answers.js";
 
+const areSame = (one, other) => JSON.stringify(one) === JSON.stringify(other);
+
+/** What is known of a book that is among those that were answered, with the same copies. */
+function answerOf({ isbn, copies, wrong }, answered) {
+  if (wrong !== undefined) return {};
+  const same = answered.find((book) => book.isbn === isbn);
+  if (same === undefined) return {};
+  const { titles, answer, right, change } = same;
+  return { titles, ...(same.copies === copies ? { answer, right, change } : {}) };
+}
+
 export class OrderList {
   /** The text that was looked up, and the question (day, country, currency, type). */
   text = "";
@@ -23,12 +34,13 @@ export class OrderList {
 
   /**
    * Begins with the books of a text, none of which has an answer. What was chosen by hand belongs to the list for
-   * which it was; it stays where a buyer has edited that (`isSame`).
+   * which it was; it stays where a buyer has edited that (`isSame`), and so do the answers about what is unchanged.
    */
   begin(text, question, books, isSame = false) {
+    const answered = isSame && areSame(question, this.question) ? this.askable() : [];
     this.text = text;
     this.question = question;
-    this.books = books.map((book, id) => ({ ...book, id }));
+    this.books = books.map((book, id) => ({ ...answerOf(book, answered), ...book, id }));
     const isbns = books.map(({ isbn }) => isbn);
     for (const isbn of this.#hands.keys()) if (!isSame || !isbns.includes(isbn)) this.#hands.delete(isbn);
     this.#saved.clear();

@@ -1,8 +1,9 @@
 // What stands above the table of an order list: the books that need a person, and the sums.
 
-import { money } from "./amounts.js";
+import { compareAmounts, difference, money, signedMoney } from "./amounts.js";
 import { element, table } from "./elements.js";
 import { marksOf } from "./offers-table.js";
+import { stepTo } from "./order-carriage.js";
 import { lackingTo } from "./order-sums.js";
 import { linesInWords } from "./order-table.js";
 import { wholesalerOf } from "./settings.js";
@@ -15,7 +16,7 @@ const AMOUNTS = ["rows", "copies", "sum"];
 
 const counted = (number) => formatter(Intl.NumberFormat).format(number);
 
-/** How many books need a person, for each reason with links to their rows; `goTo` hears of a book. */
+/** How many books need a person, for each reason with links to their rows; `goTo` hears of a book and of its need. */
 export function needsList(rows, goTo) {
   const reasons = [...new Set(rows.map(({ state }) => state.need))];
   const items = reasons.map((reason) => {
@@ -23,7 +24,7 @@ export function needsList(rows, goTo) {
     const links = books.flatMap((book) => {
       const link = element("button", { type: "button", class: "link" }, linesInWords(book));
       link.setAttribute("aria-label", say("order.toLine", { lines: linesInWords(book) }));
-      link.addEventListener("click", () => goTo(book));
+      link.addEventListener("click", () => goTo(book, reason));
       return [", ", link];
     });
     const lines = element("span", {}, ...links.slice(1));
@@ -42,14 +43,27 @@ function buttonsFor(name, series, save) {
   }).slice(1);
 }
 
+/** What it costs to come to free carriage with books of others, and the button that does so. */
+function stepParts(series, lacking, { settings, currency, rows, move }) {
+  const freeFrom = (name) => settings.series.find((other) => other.name === name)?.freeFrom;
+  const step = stepTo(series, lacking, rows, freeFrom);
+  if (step === undefined) return [];
+  const words = sayCount("order.step", step.moves.length, { more: signedMoney(step.more, currency) });
+  const button = element("button", { type: "button", class: "small", id: `move-${series}` }, say("order.move"));
+  button.setAttribute("aria-label", say("order.moveTo", { name: wholesalerOf(settings, series) }));
+  button.addEventListener("click", () => move(step.moves));
+  return [" ", words, " ", button];
+}
+
 /** How much is lacking to where a wholesaler's carriage is free, where desk.json says so for this question. */
-function carriageCell({ series, amount }, { settings, currency }) {
+function carriageCell({ series, amount }, context) {
+  const { settings, currency } = context;
   const { freeFrom } = settings.series.find(({ name }) => name === series) ?? {};
   if (freeFrom === undefined) return [];
   const lacking = lackingTo(amount, freeFrom);
   if (lacking === undefined) return [say("order.carriageFree", { least: money(freeFrom, currency) })];
   const words = { lacking: money(lacking, currency), least: money(freeFrom, currency) };
-  return [element("strong", { class: "need" }, say("order.carriage", words))];
+  return [element("strong", { class: "need" }, say("order.carriage", words)), ...stepParts(series, lacking, context)];
 }
 
 /** When an order left the page, which is marked until the list changes. */
@@ -60,6 +74,14 @@ function savedMarks(saved) {
   });
 }
 
+/** A sum; that of all with how much it is above the budget, if it is. */
+function sumCell(amount, series, { currency, budget }) {
+  const words = money(amount, currency);
+  if (series !== undefined || budget === undefined || compareAmounts(amount, budget) <= 0) return [words];
+  const above = say("order.aboveBudget", { above: money(difference(amount, budget), currency) });
+  return [words, " ", element("strong", { class: "need" }, above)];
+}
+
 function sumRow(name, { lines, copies, amount, series }, context) {
   const { currency, reports, save } = context;
   const marks = series === undefined ? [] : marksOf(series, reports);
@@ -67,7 +89,7 @@ function sumRow(name, { lines, copies, amount, series }, context) {
     [name, ...marks.flatMap((mark) => [" ", mark])],
     [counted(lines)],
     [counted(copies)],
-    [money(amount, currency)],
+    sumCell(amount, series, context),
     ...(context.hasCarriage ? [carriageCell({ series, amount }, context)] : []),
     [...buttonsFor(name, series, save), ...savedMarks(context.savedOf(series))],
   ];

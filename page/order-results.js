@@ -68,6 +68,24 @@ export function showAge(isOld) {
   }
 }
 
+/** An amount as a buyer writes it, such as 500 or 1.234,50; `undefined` where it is none. */
+export function budgetOf(text) {
+  const digits = text.replace(/[\s'’]/g, "").replace(/[.,](?=\d{3}(?:\D|$))/g, "").replace(",", ".");
+  return /^\d{1,9}(?:\.\d{1,2})?$/.test(digits) ? digits : undefined;
+}
+
+/** A selector of the field of a row that has the focus, if one has. */
+function heldField() {
+  const { activeElement } = document;
+  const book = activeElement.closest("tr[data-book]")?.dataset.book;
+  const { field } = activeElement.dataset;
+  return book === undefined || field === undefined ? undefined : `tr[data-book="${book}"] [data-field="${field}"]`;
+}
+
+// By which field of its row a need is met, where that is not the wholesaler's.
+const [ISBN, COPIES] = ["row-isbn", "row-copies"];
+const FIELD_OF = { isbn: ISBN, shortened: ISBN, none: ISBN, copies: COPIES, unsure: COPIES, many: COPIES };
+
 // How many milliseconds what has changed waits to be drawn together: a long table is laid out and painted anew
 // for each change, which takes longer than the desk's answer.
 const TOGETHER = 1000;
@@ -96,6 +114,8 @@ export class OrderResults {
       ...question,
       handOf: (book) => list.handOf(book),
       savedOf: (series) => list.savedOf(series),
+      rows: list.ordered(),
+      budget: budgetOf(found("budget").value),
       reports: this.#reports,
       isAsking,
       isRetail: kindOf(question.type) === "retail",
@@ -108,12 +128,13 @@ export class OrderResults {
   /** Draws all, where the field or button that has the focus keeps it. */
   draw(list) {
     this.#forget();
-    const held = document.activeElement.closest("tr[data-book]")?.dataset.book;
+    const held = heldField();
     const rows = list.rows();
-    found("list").replaceChildren(orderTable("list-heading", rows, this.#context(list)));
+    const before = [...found("list").querySelectorAll("tbody tr")];
+    found("list").replaceChildren(orderTable("list-heading", rows, this.#context(list), before));
     found("list-part").hidden = rows.length === 0;
     found("list-retail").hidden = kindOf(list.question.type) !== "retail";
-    if (held !== undefined) this.#rowOf({ id: held }).querySelector("select")?.focus();
+    if (held !== undefined) found("list").querySelector(held)?.focus();
     this.#drawAbove(list);
     this.#marks = this.#marksOf(list);
   }
@@ -129,7 +150,7 @@ export class OrderResults {
 
   #drawAbove(list) {
     const needs = list.rows().filter(({ state }) => state.need !== undefined);
-    found("list-needs").replaceChildren(...needsList(needs, (book) => this.#goTo(book)));
+    found("list-needs").replaceChildren(...needsList(needs, (book, need) => this.#goTo(book, need)));
     found("list-needs").hidden = needs.length === 0;
     this.drawSums(list);
   }
@@ -181,9 +202,19 @@ export class OrderResults {
     return found("list").querySelector(`tr[data-book="${id}"]`);
   }
 
-  #goTo(book) {
+  /** Leads to the field of a book's row by which its need is met. */
+  #goTo(book, need) {
     const row = this.#rowOf(book);
     row.scrollIntoView({ block: "center" });
-    (row.querySelector("select") ?? row).focus({ preventScroll: true });
+    const field = row.querySelector(`[data-field=${FIELD_OF[need] ?? "wholesaler"}]`) ?? row;
+    field.focus({ preventScroll: true });
+    field.select?.();
+  }
+
+  /** Leads to the first field that needs a person, or else to the first order. */
+  goToWork(list) {
+    const row = list.rows().find(({ state }) => Object.hasOwn(FIELD_OF, state.need));
+    if (row === undefined) found("sums").querySelector("button")?.focus();
+    else this.#goTo(row.book, row.state.need);
   }
 }

@@ -1,67 +1,51 @@
 // How an order leaves the page: as a file, on the clipboard, on paper. Nothing of it is sent anywhere.
 
-import { times } from "./amounts.js";
-import { element } from "./elements.js";
-import { amountCell, csvOf, linesToPaste } from "./order-file.js";
+import { money, sumOf, times } from "./amounts.js";
+import { ABOVE, fileNameOf, formOf } from "./csv-form.js";
+import { today } from "./days.js";
+import { element, table } from "./elements.js";
+import { cellsOf, remarkOf } from "./order-cells.js";
+import { csvOf, linesToPaste } from "./order-file.js";
 import { kindOf } from "./price-types.js";
-import { inPercent, marginOf, retailOf } from "./retail.js";
 import { wholesalerOf } from "./settings.js";
-import { titlesOfOffers, titleTexts } from "./titles.js";
-import { say, wordsOfCode } from "./wording.js";
+import { say } from "./wording.js";
 
-const CELLS = [
-  "isbn", "copies", "wholesaler", "price", "sum", "currency", "availability", "reference", "note", "remark", "rrp",
-  "margin", "title",
-];
 const UNPRINTED = "unprinted";
+const ON_PAPER = "order-on-paper";
+const AMOUNTS = ["copies", "price", "sum", "rrp", "margin"];
 
 // As long as a browser may take to begin with a file.
 const KEPT = 60_000;
 
 const found = (id) => document.getElementById(id);
 
-/** The names of the columns; those of the recommended price and of titles where the shop has these. */
-function namesOf({ hasTitles, retailType }) {
-  const left = [...(retailType === "" ? ["rrp", "margin"] : []), ...(hasTitles ? [] : ["title"])];
-  return CELLS.filter((name) => !left.includes(name));
-}
-
-/** The recommended price of an offer and the margin that its price leaves, as cells. */
-function retailCells({ answer }, offer) {
-  const retail = retailOf(answer.retail, offer);
-  const margin = retail === undefined ? undefined : marginOf(offer.amount, retail);
-  return { rrp: retail === undefined ? "" : amountCell(retail), margin: margin === undefined ? "" : inPercent(margin) };
-}
-
-/** What stands at a line whose wholesaler's messages are missing, so that its price may be old. */
-const remarkOf = ({ state: { offer } }, isOld) => (isOld(offer.series) ? say("order.mayBeOld") : "");
-
-function cellsOf(row, { settings, currency, isOld }) {
-  const { book, state: { offer } } = row;
-  const cells = {
-    isbn: book.isbn,
-    copies: String(book.copies),
-    wholesaler: wholesalerOf(settings, offer.series),
-    price: amountCell(offer.amount),
-    sum: amountCell(times(offer.amount, book.copies)),
-    currency,
-    availability: wordsOfCode("availabilities", offer.availability) ?? offer.availability,
-    reference: offer.reference,
-    note: book.note,
-    remark: remarkOf(row, isOld),
-    ...retailCells(book, offer),
-    title: titleTexts(titlesOfOffers(book.titles ?? [], book.answer.offers, offer)).join(" · "),
-  };
-  return namesOf(settings).map((name) => cells[name]);
-}
-
-/** Hands the browser a file of an order; gives its name. `isOld` says of a series whether its prices may be old. */
-export function download(rows, { series, day, type, ...context }) {
-  const name = say("order.fileName", { day, series: series === undefined ? "" : `-${series}` });
+/** The names of columns in words; a price of a type that customers pay is a retail price. */
+export function headsOf(columns, type) {
   const isRetail = kindOf(type) === "retail";
-  const columns = namesOf(context.settings).map((column) => (column === "price" && isRetail ? "retail" : column));
-  const head = columns.map((column) => say(`order.columns.${column}`));
-  const text = csvOf([head, ...rows.map((row) => cellsOf(row, context))]);
+  return columns.map((name) => say(`order.columns.${name === "price" && isRetail ? "retail" : name}`));
+}
+
+/** The text of a file of rows in a form. */
+export function fileText(rows, form, { type, ...context }) {
+  const { columns, heading = true } = form;
+  const heads = heading === true ? headsOf(columns, type) : heading;
+  const lines = rows.map((row) => {
+    const cells = cellsOf(row, context);
+    return columns.map((name) => cells[name]);
+  });
+  const isText = form.isbn === "text" ? columns.map((name) => name === "isbn") : [];
+  return csvOf(heads === false ? lines : [heads, ...lines], { ...form, isText });
+}
+
+/**
+ * Hands the browser a file of the order of a `series`, or of all, in its form; gives its name. The context is that of
+ * `cellsOf`, with the `day` and the `type` of the prices.
+ */
+export function download(rows, { series, day, type, ...context }) {
+  const form = formOf(context.settings, series);
+  const usual = say("order.fileName", { day, series: series === undefined ? "" : `-${series}` });
+  const name = fileNameOf(form, usual, { day, series, order: context.order });
+  const text = fileText(rows, form, { ...context, type, date: today() });
   const url = URL.createObjectURL(new Blob([text], { type: "text/csv" }));
   const link = element("a", { href: url, download: name });
   document.body.append(link);
@@ -91,18 +75,57 @@ export function copyLines(rows, isOld, place) {
   return copyText(linesToPaste(lines), place);
 }
 
-/** Prints rows of a list, with the sums of those wholesalers of which all is printed. */
-export function printRows(rows, name) {
-  const ids = rows.map(({ book }) => String(book.id));
-  const listed = [...document.querySelectorAll("#list tbody tr")];
-  const sums = [...document.querySelectorAll("#sums tbody tr")];
-  const isLeftOut = ({ dataset: { book } }) => !ids.includes(book);
-  const left = listed.filter(isLeftOut).flatMap(({ dataset }) => dataset.series ?? []);
-  const isPart = ({ dataset: { series } }) => (series === undefined ? left.length > 0 : left.includes(series));
-  const others = [...listed.filter(isLeftOut), ...sums.filter(isPart)];
-  found("paper-heading").textContent = say("order.paper", { name });
-  others.forEach((row) => row.classList.add(UNPRINTED));
-  const restore = () => others.forEach((row) => row.classList.remove(UNPRINTED));
+/** Prints the page with a class, and, until that is done, without some of its rows. */
+function print(className, unprinted) {
+  unprinted.forEach((row) => row.classList.add(UNPRINTED));
+  document.body.classList.toggle(ON_PAPER, className === ON_PAPER);
+  const restore = () => {
+    unprinted.forEach((row) => row.classList.remove(UNPRINTED));
+    document.body.classList.remove(ON_PAPER);
+  };
   window.addEventListener("afterprint", restore, { once: true });
   window.print();
+}
+
+/** Prints rows of the whole list, for the shop itself. */
+export function printList(rows) {
+  const ids = rows.map(({ book }) => String(book.id));
+  const isLeftOut = ({ dataset: { book } }) => !ids.includes(book);
+  const left = [...document.querySelectorAll("#list tbody tr")].filter(isLeftOut);
+  const names = left.flatMap(({ dataset }) => dataset.series ?? []);
+  const isPart = ({ dataset: { series } }) => (series === undefined ? names.length > 0 : names.includes(series));
+  const sums = [...document.querySelectorAll("#sums tbody tr")].filter(isPart);
+  found("paper-heading").textContent = say("order.paper", { name: say("order.all") });
+  print("", [...left, ...sums]);
+}
+
+/** What stands once above the order of a wholesaler: each with what it is. */
+function paperHead(series, { settings, order }) {
+  const { account = "" } = settings.series.find(({ name }) => name === series) ?? {};
+  const texts = { order, date: today(), shop: settings.shop, address: settings.address, account };
+  return Object.entries(texts).filter(([, text]) => text !== "").map(([name, text]) => (
+    element("p", {}, say("order.onPaper", { name: say(`order.columns.${name}`), text }))
+  ));
+}
+
+/** Prints the order of a wholesaler: what its form has, and nothing of another one. */
+export function printOrder(rows, series, context) {
+  const { settings, currency, type } = context;
+  const columns = formOf(settings, series).columns.filter((name) => !ABOVE.includes(name));
+  const heads = headsOf(columns, type).map((name, at) => ({
+    name, className: AMOUNTS.includes(columns[at]) ? "amount" : undefined,
+  }));
+  const lines = rows.map((row) => {
+    const cells = cellsOf(row, context);
+    return { cells: columns.map((name) => [element("bdi", {}, cells[name])]) };
+  });
+  const sum = sumOf(rows.map(({ book, state: { offer } }) => times(offer.amount, book.copies)));
+  const heading = element("h1", { id: "paper-order" }, say("order.paper", { name: wholesalerOf(settings, series) }));
+  found("paper").replaceChildren(
+    heading,
+    ...paperHead(series, context),
+    table("paper-order", heads, lines),
+    element("p", { class: "sum" }, say("order.paperSum", { sum: money(sum, currency) })),
+  );
+  print(ON_PAPER, []);
 }

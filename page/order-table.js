@@ -1,5 +1,6 @@
 // The table of an order list: a row for each book, with the wholesaler that it is ordered from.
 
+import { addressOf } from "./address.js";
 import { difference, money, signedMoney, times } from "./amounts.js";
 import { catalogueLink } from "./catalogue.js";
 import { dayInShort } from "./days.js";
@@ -14,7 +15,7 @@ import { changesOf } from "./quantities.js";
 import { farInWords, farOf, retailInWords } from "./retail.js";
 import { wholesalerOf } from "./settings.js";
 import { titleNodes, titlesOfOffers } from "./titles.js";
-import { codeInWords, formatter, say, wordsOfCode } from "./wording.js";
+import { codeInWords, formatter, say, sayCount, wordsOfCode } from "./wording.js";
 
 const COLUMNS = ["lines", "isbn", "title", "copies", "wholesaler", "availability", "price", "sum", "note"];
 
@@ -28,7 +29,7 @@ export function linesInWords({ lines }) {
   return lines.join(", ");
 }
 
-const CLASSES = { title: "title", copies: "amount", price: "amount", sum: "amount" };
+const CLASSES = { title: "title", copies: "amount", price: "amount", sum: "amount", note: "note-of" };
 
 /** The names of the columns; that of titles where the shop keeps some. */
 const namesOf = ({ settings }) => COLUMNS.filter((column) => column !== "title" || settings.hasTitles);
@@ -38,6 +39,7 @@ function columnsOf(context) {
   return namesOf(context).map((column) => ({
     name: say(`order.columns.${column === "price" && isRetail ? "retail" : column}`),
     className: CLASSES[column],
+    isHeader: column === "isbn",
   }));
 }
 
@@ -75,7 +77,8 @@ function handField(book, state, hand, context) {
   });
   const none = element("option", { value: LEFT_OUT }, say("order.leftOut"));
   const label = say("order.wholesalerOf", { isbn: book.isbn });
-  const field = element("select", { "aria-label": label }, ...first, ...options, none);
+  const attributes = { "aria-label": label, "data-field": "wholesaler" };
+  const field = element("select", attributes, ...first, ...options, none);
   const isChosen = state.offer === undefined || (chosen !== undefined && keyOf(state.offer) === keyOf(chosen));
   field.value = hand === LEFT_OUT ? LEFT_OUT : isChosen ? RULES : keyOf(state.offer);
   field.addEventListener("change", () => {
@@ -177,6 +180,9 @@ function noteCell(book, state, context) {
     words.push(...otherCopies(book, offer, context));
     words.push(...unpricedNotes(book, offer, context));
   }
+  for (const { file, copies } of context.beforeOf(book.isbn)) {
+    words.push(element("strong", {}, sayCount("order.orderedBefore", copies, { file })));
+  }
   if (book.note !== "") words.push(element("bdi", {}, book.note));
   return words.flatMap((part) => [" · ", part]).slice(1);
 }
@@ -209,11 +215,62 @@ function wholesalerCell(book, state, context) {
   return [...field, name, " ", ...marksOf(state.offer.series, context.reports)];
 }
 
-/** What a copy costs, with the recommended price and the margin below, where there are these. */
+/** A field of a row, by which a buyer changes the list; `change` hears of a value, and whether it came by Enter. */
+function rowField(name, value, label, change) {
+  const attributes = { class: name, value, "aria-label": label, "data-field": name, autocomplete: "off" };
+  const scan = name === "row-isbn" ? "" : undefined;
+  const field = element("input", { ...attributes, inputmode: "numeric", spellcheck: "false", "data-scan": scan });
+  const tell = (isEntered) => {
+    if (field.isConnected && field.value !== value) change(field.value, isEntered);
+  };
+  // The focus has gone on before the row is drawn anew.
+  field.addEventListener("change", () => setTimeout(() => tell(false), 0));
+  field.addEventListener("keydown", (event) => {
+    if (event.key === "Enter" && !event.defaultPrevented) tell(true);
+  });
+  field.addEventListener("scanned", () => tell(true));
+  return field;
+}
+
+/** The ISBN of a row: a field, a link to its article, and, on paper, a text. */
+function isbnCell(book, context) {
+  const { isbn, written, wrong, copies } = book;
+  const text = wrong === undefined || wrong === "copies" ? isbn : written;
+  const label = say("order.isbnOf", { lines: linesInWords(book) });
+  const field = rowField("row-isbn", text, label, (value, isEntered) => {
+    context.edit(book, { isbn: value }, isEntered);
+  });
+  const paper = element("bdi", { class: "isbn on-paper" }, text);
+  if (wrong !== undefined) return [field, paper];
+  const address = addressOf("article", { isbn, quantity: String(copies) });
+  const link = element("a", { class: "to-article", href: address, target: "_blank", rel: "noopener" });
+  link.setAttribute("aria-label", say("order.toArticle", { isbn }));
+  return [field, link, paper];
+}
+
+/** The copies of a row: a field, and, on paper, a text. */
+function copiesCell(book, context) {
+  const { copies } = book;
+  const label = say("order.copiesOf", { isbn: book.isbn ?? book.written });
+  const change = (value, isEntered) => context.edit(book, { copies: value.trim() }, isEntered);
+  const field = rowField("row-copies", copies === undefined ? "" : String(copies), label, change);
+  const text = copies === undefined ? "" : formatter(Intl.NumberFormat).format(copies);
+  return [field, element("span", { class: "on-paper" }, text), removeButton(book, context)];
+}
+
+/** The button that takes a row out of the list. */
+function removeButton(book, context) {
+  const button = element("button", { type: "button", class: "small remove", "data-field": "remove" });
+  button.setAttribute("aria-label", say("order.removeOf", { isbn: book.isbn ?? book.written }));
+  button.addEventListener("click", () => context.edit(book, undefined));
+  return button;
+}
+
+/** What a copy costs, behind the recommended price and the margin, where there are these. */
 function priceCell({ answer }, offer, context) {
-  const retail = retailInWords(answer.retail, offer, context);
-  const below = retail === "" ? [] : [" ", element("small", {}, retail)];
-  return [money(offer.amount, context.currency), ...below];
+  const retail = retailInWords(answer.retail, offer, context, "order.retail");
+  const before = retail === "" ? [] : [element("small", {}, retail), " "];
+  return [...before, money(offer.amount, context.currency)];
 }
 
 /** The title of a book, once it is known who offers it. */
@@ -236,9 +293,9 @@ function rowOf(book, state, context) {
     className: state.need === undefined ? undefined : "needs",
     cells: [
       [linesInWords(book)],
-      [element("bdi", { class: "isbn" }, book.wrong === undefined ? book.isbn : book.written)],
+      isbnCell(book, context),
       ...(context.settings.hasTitles ? [titleCell(book, offer, context)] : []),
-      [book.copies === undefined ? "" : formatter(Intl.NumberFormat).format(book.copies)],
+      copiesCell(book, context),
       wholesalerCell(book, state, context),
       ...amounts,
       noteCell(book, state, context),
@@ -256,25 +313,48 @@ function marked(row, book, { offer }, context) {
     const [wholesaler, note] = ["wholesaler", "note"].map((name) => namesOf(context).indexOf(name));
     cells.slice(wholesaler + 1, note).forEach((cell) => cell.remove());
     cells[wholesaler].colSpan = note - wholesaler;
+    cells[wholesaler].classList.add("wide");
   }
   return row;
 }
 
+// The book of a row and all that the row says, so that one which says the same need not be made anew.
+const made = new WeakMap();
+
+/** All that a row says, as a text. */
+function contentsOf(book, context) {
+  const series = (book.answer?.offers ?? []).map((offer) => offer.series);
+  const marks = series.map((name) => context.reports.stateOf(name));
+  const isWaiting = book.answer === undefined && context.isAsking;
+  return JSON.stringify([book, context.handOf(book), marks, isWaiting, context.beforeOf(book.isbn), context.type]);
+}
+
+function makeRow(book, state, context) {
+  const row = marked(tableRow(columnsOf(context), rowOf(book, state, context)), book, state, context);
+  made.set(row, { book, contents: contentsOf(book, context) });
+  return row;
+}
+
 /**
- * The table of books with their states, named by the heading with that id. The context has the
- * `settings`, the `currency` and `type` asked for, `handOf` a book, the `reports` on messages,
- * `isAsking`, `isRetail`, and `choose`, which hears of a book what a hand chose.
+ * The table of books with their states, named by the heading with that id, with those of the rows `before` that say
+ * the same still. The context has the `settings`, the `currency` and `type` asked for, `handOf` a book, the `reports`
+ * on messages, `isAsking`, `isRetail`, and what hears of what a buyer does.
  */
-export function orderTable(heading, rows, context) {
-  const made = table(heading, columnsOf(context), rows.map(({ book, state }) => rowOf(book, state, context)));
-  [...made.tBodies[0].rows].forEach((row, at) => marked(row, rows[at].book, rows[at].state, context));
-  return made;
+export function orderTable(heading, rows, context, before = []) {
+  const whole = table(heading, columnsOf(context), []);
+  const known = new Map(before.map((row) => [made.get(row).book, row]));
+  const isSame = (row, book) => row !== undefined && made.get(row).contents === contentsOf(book, context);
+  whole.tBodies[0].append(...rows.map(({ book, state }) => {
+    const row = known.get(book);
+    return isSame(row, book) ? row : makeRow(book, state, context);
+  }));
+  return whole;
 }
 
 /** Draws the row of a book anew, where its field keeps the focus. */
 export function redraw(row, book, state, context) {
-  const hadFocus = row.contains(document.activeElement);
-  const made = marked(tableRow(columnsOf(context), rowOf(book, state, context)), book, state, context);
-  row.replaceWith(made);
-  if (hadFocus) made.querySelector("select")?.focus();
+  const held = row.contains(document.activeElement) ? document.activeElement.dataset.field : undefined;
+  const drawn = makeRow(book, state, context);
+  row.replaceWith(drawn);
+  if (held !== undefined) drawn.querySelector(`[data-field="${held}"]`)?.focus();
 }

@@ -1,14 +1,17 @@
 // The view of an order list: its lines, what the desk answers about each book, and the orders of it.
 
 import { isAbandoned } from "./desk.js";
+import { isbnsIn } from "./isbn-in-text.js";
 import { eachOf, OrderAsking } from "./order-asking.js";
+import { FormerOrders } from "./order-before.js";
 import { OrderInput } from "./order-input.js";
 import { OrderList } from "./order-list.js";
+import { edited, withOneMore } from "./order-text.js";
 import { OrderQuestion } from "./order-question.js";
 import {
   OrderResults, showAge, showChecking, showCopies, showHands, showProgress, summaryOf,
 } from "./order-results.js";
-import { copyLines, copyText, download, printRows } from "./order-saving.js";
+import { copyLines, copyText, download, printList, printOrder } from "./order-saving.js";
 import { askToSave, endQuestion, offerRest, restInWords } from "./save-question.js";
 import { wholesalerOf } from "./settings.js";
 import { fileOf, titlesOf } from "./titles.js";
@@ -42,8 +45,11 @@ export class Order {
   #question;
   #results;
   #input;
+  #before;
   #list;
   #asking = new AbortController();
+  // A row was changed by Enter: then the next one that needs a person has the focus.
+  #isEntered = false;
   // A list that was pasted elsewhere is looked up once the view is shown.
   #isTaken = false;
 
@@ -57,6 +63,12 @@ export class Order {
     this.#results = new OrderResults(settings, reports, {
       choose: (book, hand) => this.#choose(book, hand),
       confirm: (book) => this.#confirm(book),
+      beforeOf: (isbn) => this.#before.of(isbn),
+      move: (moves) => this.#move(moves),
+      edit: (book, changes, isEntered = false) => {
+        this.#isEntered = isEntered;
+        this.#rewrite(edited(this.#list.books, book, changes));
+      },
       save: (way, series) => this.#save(way, series),
     });
     reports.subscribe((series) => {
@@ -70,6 +82,11 @@ export class Order {
       if (this.#list.open().length === 0) this.#list.reopen();
       this.#goOn();
       found("stop").focus();
+    });
+    this.#before = new FormerOrders(settings, () => this.#list.books.length > 0 && this.#show());
+    this.#readAdded();
+    found("budget").addEventListener("input", () => {
+      if (this.#list.books.length > 0) this.#results.drawSums(this.#list);
     });
     found("forget-hands").addEventListener("click", () => this.#forgetHands());
     this.#input.takeFrom(found("isbn"), () => {
@@ -102,9 +119,42 @@ export class Order {
 
   /** What a scanner has read is a line more. */
   scanned(code) {
-    const line = this.#input.add(code);
-    this.#noteChanges();
-    tell(say("order.scanned", { code, line: String(line) }));
+    if (this.#isLookedUp()) this.#add(code, 1);
+    else {
+      this.#input.add(code);
+      this.#noteChanges();
+    }
+    tell(say("order.scanned", { code }));
+  }
+
+  /** Whether the lines are those that were looked up, so that a row may be changed by itself. */
+  #isLookedUp() {
+    return this.#list.books.length > 0 && this.#input.text === this.#list.text;
+  }
+
+  /** A book more, or more copies of it. */
+  #add(text, copies) {
+    const isbn = isbnsIn(text)[0] ?? text.trim();
+    this.#rewrite(withOneMore(this.#list.books, isbn, copies));
+  }
+
+  /** Other books in place of those of the list, of which those are asked for that are new or have other copies. */
+  #rewrite(books) {
+    this.#input.rewrite(books);
+    this.#lookUp();
+  }
+
+  #readAdded() {
+    found("add-isbn").addEventListener("scanned", () => found("add-form").requestSubmit());
+    found("add-form").addEventListener("submit", (event) => {
+      event.preventDefault();
+      const { isbn, copies } = { isbn: found("add-isbn").value, copies: Number(found("add-copies").value) };
+      if (isbn.trim() === "" || !Number.isInteger(copies) || copies < 1) return;
+      this.#add(isbn, copies);
+      found("add-isbn").value = "";
+      found("add-copies").value = "1";
+      found("add-isbn").focus();
+    });
   }
 
   /** The title of the view, for the window. */
@@ -147,6 +197,12 @@ export class Order {
     this.#goOn();
   }
 
+  /** The focus goes to where the books stand that need a person, or else to the first order. */
+  #goToNeeds() {
+    const place = document.querySelector("#list-needs button, #sums button") ?? found("lines");
+    place.focus({ preventScroll: true });
+  }
+
   #forgetHands() {
     const list = this.#list;
     list.forgetHands();
@@ -169,9 +225,12 @@ export class Order {
       // What a hand chose meanwhile.
       await this.#askEach(asking, list.short());
       list.isAsking = false;
-      const isLost = document.activeElement === found("stop");
+      const places = [document.body, ...["stop", "look-up", "lines"].map(found)];
+      const isLost = places.includes(document.activeElement);
       this.#show();
-      if (isLost) found("look-up").focus();
+      if (this.#isEntered) this.#results.goToWork(list);
+      else if (isLost) this.#goToNeeds();
+      this.#isEntered = false;
       tell(summaryOf(list));
     });
   }
@@ -193,7 +252,9 @@ export class Order {
   /** Looks for what is better, once nothing else is asked: an order does not wait for it. */
   #askBetter(asking) {
     const list = this.#list;
-    return asking.lookForBetter(list.withoutCopies(), (book, done, all) => {
+    const books = list.withoutCopies();
+    showCopies(0, books.length);
+    return asking.lookForBetter(books, (book, done, all) => {
       this.#results.drawCopies(list, book);
       showCopies(done, all);
     });
@@ -241,6 +302,14 @@ export class Order {
     list.choose(book, hand);
     forgetSaved();
     this.#results.drawBook(list, book);
+    this.#askShort();
+  }
+
+  /** Orders books from another wholesaler. */
+  #move(moves) {
+    for (const { book, offer } of moves) this.#list.choose(book, offer);
+    forgetSaved();
+    this.#show();
     this.#askShort();
   }
 
@@ -328,15 +397,18 @@ export class Order {
     const chosen = rows.map(({ book }) => book);
     const rest = list.rest(list.ordered(series).map(({ book }) => book).filter((book) => !chosen.includes(book)));
     const told = restInWords(rest.count);
-    const isOld = (found) => this.#reports.stateOf(found).count > 0;
+    const isOld = (wholesaler) => this.#reports.stateOf(wholesaler).count > 0;
+    const order = found("order-reference").value.trim();
+    const context = { settings: this.#settings, isOld, day, currency, type, order };
     if (way === "csv") {
-      const file = download(rows, { settings: this.#settings, isOld, series, day, currency, type });
+      const file = download(rows, { ...context, series });
       tellSaved(say("order.saved", { file, lines }) + told);
     } else if (way === "copy") {
       const isCopied = await copyLines(rows, isOld, found("saved"));
       tellSaved(isCopied ? say("order.copied", { name, lines }) + told : say("missing.copyByHand"));
     } else {
-      printRows(rows, name);
+      if (series === undefined) printList(rows);
+      else printOrder(rows, series, context);
       tellSaved(say("order.printed", { name, lines }) + told);
     }
     offerRest(rest, async (text) => {

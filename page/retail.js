@@ -24,11 +24,11 @@ export function marginOf(amount, retail) {
 export const inPercent = (share) => formatter(Intl.NumberFormat, { style: "percent" }).format(share);
 
 /** The recommended price and the margin of an offer in words; empty where there is none, or the price is no net one. */
-export function retailInWords(retail, offer, { type, currency }) {
+export function retailInWords(retail, offer, { type, currency }, path = "article.retail") {
   const found = kindOf(type) === "net" ? retailOf(retail, offer) : undefined;
   const margin = found === undefined ? undefined : marginOf(offer.amount, found);
   if (margin === undefined) return "";
-  return say("article.retail", { retail: money(found, currency), margin: inPercent(margin) });
+  return say(path, { retail: money(found, currency), margin: inPercent(margin) });
 }
 
 // A fifth of a recommended price, or of the next offer's, is less than any wholesaler takes.

@@ -59,6 +59,9 @@ function remembered(field) {
 // What is scanned into a text of several lines is a line of it.
 const isText = (field) => field.localName === "textarea" && !field.readOnly;
 
+// A field that a bar code may be scanned into: it hears of that as the event `scanned`.
+const takesScans = (field) => field.matches("[data-scan]");
+
 /** Ends the line at which a text has its caret. */
 function endLine(field) {
   field.setRangeText("\n", field.selectionStart, field.selectionEnd, "end");
@@ -110,7 +113,8 @@ export class Scanner {
     const field = document.activeElement ?? document.body;
     if (this.#burst.begins(timeStamp)) {
       this.#field = field;
-      this.#restore = field === this.#place.field || isText(field) ? () => {} : remembered(field);
+      const isOwn = field === this.#place.field || isText(field) || takesScans(field);
+      this.#restore = isOwn ? () => {} : remembered(field);
     }
     if (!takesDigits(field)) this.#place.begin();
     this.#burst.add(key, timeStamp);
@@ -126,6 +130,11 @@ export class Scanner {
     this.#askedAt = this.#digitAt;
     if (isText(this.#field)) {
       endLine(this.#field);
+      return;
+    }
+    if (takesScans(this.#field)) {
+      this.#field.value = code;
+      this.#field.dispatchEvent(new CustomEvent("scanned"));
       return;
     }
     this.#restore();

@@ -4,8 +4,10 @@
 
 import { urlBeside } from "./address.js";
 import { isCatalogue } from "./catalogue.js";
+import { isForm } from "./csv-form.js";
 import { isChecked } from "./isbn.js";
 import { withOwnWords } from "./own-words.js";
+import { kindOf } from "./price-types.js";
 import { rulesOf } from "./rules.js";
 import { say, shippedWords } from "./wording.js";
 
@@ -16,13 +18,13 @@ const RULES = "rules.toml";
 const NEEDED = ["series", "country", "currency", "price_type"];
 const KEYS = [
   ...NEEDED, "shop", "language", "quantities", "minutes_to_usual", "catalogue", "many_copies", "many_money",
-  "retail_type", "currencies",
+  "recommended_type", "currencies", "address",
 ];
 // What the file of prices reads of desk.json.
-const OTHERS = ["recommended_type", "price_file"];
+const OTHERS = ["price_file"];
 const SERIES_KEYS = [
   "name", "words", "days_without_message", "parts", "number_offset", "sender", "addressee", "mail",
-  "free_from",
+  "free_from", "account", "csv",
 ];
 const LANGUAGE = "en-GB";
 const MOST_QUANTITIES = 8;
@@ -94,6 +96,8 @@ const OPTIONAL = {
   addressee: ["addressee", isGln, "seriesGln"],
   mail: ["mail", isMail, "seriesMail"],
   free_from: ["freeFrom", isAmount, "seriesFree"],
+  account: ["account", isText, "seriesAccount"],
+  csv: ["csv", isForm, "seriesCsv"],
 };
 
 function readOptional(item, number, problems) {
@@ -155,6 +159,7 @@ function settingsOf(given, problems) {
   const isMinutes = (value) => value === 0 || isCount(value, DAY);
   return {
     shop: read(given, "shop", isText, "", problems, "shop"),
+    address: read(given, "address", isText, "", problems, "address"),
     language: read(given, "language", isLanguage, LANGUAGE, problems, "language"),
     series: readAllSeries(given, problems),
     country: readCode(given, "country", /^[A-Z]{2}$/, problems, "country"),
@@ -168,7 +173,9 @@ function settingsOf(given, problems) {
     manyCopies: read(
       given, "many_copies", (value) => isCount(value, 999_999), MANY_COPIES, problems, "manyCopies",
     ),
-    retailType: readCode(given, "retail_type", /^0[24]$/, problems, "retailType"),
+    retailType: read(
+      given, "recommended_type", (value) => kindOf(value) === "retail", "", problems, "recommendedType",
+    ),
     currencies: read(given, "currencies", areCurrencies, [], problems, "currencies"),
     manyMoney: read(given, "many_money", isAmount, undefined, problems, "manyMoney"),
   };

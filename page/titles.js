@@ -112,7 +112,8 @@ export function titleNodes(titles, settings) {
   const texts = titleTexts(titles);
   if (texts.length === 0) return [element("small", {}, say("titles.none"))];
   const nodes = texts.flatMap((text) => [" · ", element("bdi", {}, text)]).slice(1);
-  return [element("span", { class: "clamped" }, ...nodes), ...differNodes(titles, settings)];
+  const whole = { class: "clamped", title: texts.join(" · ") };
+  return [element("span", whole, ...nodes), ...differNodes(titles, settings)];
 }
 
 /** The same behind "Title", with whose feed said it, and that it is not proved. */

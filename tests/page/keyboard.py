@@ -80,7 +80,7 @@ def article(site: Site, browser: Browser) -> Iterator[Outcome]:
     press(browser, Keys.SPACE)
     browser.wait(lambda: "until=2025-04-09" in browser.run("return location.hash"))
     given = browser.run("return location.hash").split("&")[-2:]
-    yield Outcome("a month by the keyboard", given, ["from=2025-03-10", "until=2025-04-09"])
+    yield Outcome("a month by the keyboard", given, ["from=2025-04-10", "until=2025-05-09"])
     unseen = [focus for focus in way if focus["outline"] == "none" or focus["width"] < 2]
     yield Outcome("each place of the focus is seen", unseen, [])
 

@@ -57,6 +57,9 @@ DEARER = isbn_of(9009)
 FIVE = isbn_of(9010)
 # Another wholesaler has it, without a price of the type.
 BESIDE = isbn_of(9007)
+# One that is sold in euros too.
+IN_EUROS = isbn_of(9011)
+EUROS = Decimal("8.40")
 # A book whose price a case changes, so that the five hundred keep theirs.
 CHANGING = isbn_of(9008)
 CHANGING_FROM, CHANGING_TO = Decimal("5.09"), Decimal("5.55")
@@ -88,6 +91,7 @@ def special_rows(gln: str, today: date) -> list[str]:
         *product("s-9", DEARER, gln, "21", "Price,,8.66,,,,,,", "Price,,10.59,,,,,,,10"),
         *product("s-10", FIVE, gln, "21", "Price,,5.00,,,,,,,5"),
         *product(HOSTILE, BESIDE, gln, "21", "Price,,6.00,,,,,,"),
+        *product("s-11", IN_EUROS, gln, "21", "Price,,7.20,,,,,,", f"Price,,{EUROS},EUR,,,,,"),
         *changing_rows(gln, CHANGING_FROM),
     ]
 
@@ -123,9 +127,19 @@ def batch(today: date) -> str:
     return text + message("gamma", 4, [])
 
 
-def settings(language: str = "en-GB", **others: object) -> str:
-    series: list[dict[str, str]] = [{"name": name, "words": words} for name, words in WHOLESALERS.items()]
+def settings(
+    language: str = "en-GB", forms: dict[str, object] | None = None, accounts: dict[str, str] | None = None,
+    **others: object,
+) -> str:
+    """desk.json with these wholesalers, some with forms of their files and accounts."""
+    series: list[dict[str, object]] = [{"name": name, "words": words} for name, words in WHOLESALERS.items()]
     series[0]["free_from"] = str(FREE_FROM)
+    for item in series:
+        name = str(item["name"])
+        if forms and name in forms:
+            item["csv"] = forms[name]
+        if accounts and name in accounts:
+            item["account"] = accounts[name]
     shop = {"country": "GB", "currency": "GBP", "price_type": "05"}
     return json.dumps({"language": language, "series": series, **shop, **others})
 

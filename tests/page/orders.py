@@ -16,13 +16,15 @@ from selenium.webdriver.support.select import Select
 from tests.page import order_desk
 from tests.page.browser import Browser
 from tests.page.days import with_clock
+from tests.page.scanning import scan
 from tests.page.order_desk import WHOLESALERS, chosen_of, isbn_of, offers_of
 from tests.page.reports import allow_clipboard
 from tests.page.site import RATE, NO_LIMIT, Site
 from tests.running import Outcome
 
 MARK = "\ufeff"
-HEAD = ["ISBN", "Copies", "Wholesaler", "Price", "Sum", "Currency", "Availability", "Reference", "Note", "Remark"]
+# The files of a wholesaler that has no form of its own.
+HEAD = ["ISBN", "Copies", "Price", "Sum", "Currency", "Reference", "Remark", "Order reference", "Date"]
 
 # Two of gamma's messages are missing.
 OLD = "messages missing: the price may be old"
@@ -110,11 +112,11 @@ def file_rows(text: str, separator: str = ",") -> list[list[str]]:
     return list(csv.reader(io.StringIO(text.removeprefix(MARK), newline=""), delimiter=separator))
 
 
-def rows_of(series: str, books: list[tuple[int, int, Decimal]]) -> list[list[str]]:
+def rows_of(series: str, books: list[tuple[int, int, Decimal]], day: str) -> list[list[str]]:
     return [
         [
-            isbn_of(number), str(copies), WHOLESALERS[series], cell(amount), cell(copies * amount), "GBP", "in stock",
-            f"{series}-{number}", f"customer {number}", OLD if series == "gamma" else "",
+            isbn_of(number), str(copies), cell(amount), cell(copies * amount), "GBP", f"{series}-{number}",
+            OLD if series == "gamma" else "", "", day,
         ]
         for number, copies, amount in books
     ]
@@ -150,6 +152,11 @@ class Keyboard:
         self.count += 2
         chain = ActionChains(self.browser.driver)
         chain.key_down(Keys.CONTROL).send_keys("v").key_up(Keys.CONTROL).perform()
+
+    def type(self, text: str) -> None:
+        """In place of what a field has, which is selected."""
+        self.count += len(text)
+        ActionChains(self.browser.driver).send_keys(text).perform()
 
     def tab_to(self, id: str) -> None:
         for _ in range(60):
@@ -200,7 +207,7 @@ def thirty_books(site: Site, browser: Browser) -> Iterator[Outcome]:
         day = browser.run("return new Date().toLocaleDateString('sv')")
         text = saved(browser, folder, f"order-{day}-{name}.csv")
         yield Outcome(f"the mark of the file for {name}", text.startswith(MARK), True)
-        yield Outcome(f"the file for {name}", file_rows(text), [HEAD, *rows_of(name, wanted[name])])
+        yield Outcome(f"the file for {name}", file_rows(text), [HEAD, *rows_of(name, wanted[name], day)])
     yield Outcome(f"{keys.count} keys are {MOST_KEYS} at most", keys.count <= MOST_KEYS, True)
 
 
@@ -248,7 +255,7 @@ def needs(site: Site, browser: Browser) -> Iterator[Outcome]:
     yield Outcome("an offer without a price", beside, "Gamma: no price of type 05 for so many in GBP")
     line = browser.one("#list-needs button")
     line.click()
-    chosen = browser.run("return document.activeElement.querySelector('.isbn').textContent")
+    chosen = browser.run("return document.activeElement.closest('tr').querySelector('.isbn').textContent")
     yield Outcome("a link leads to its row", chosen, "9780306406158")
 
 
@@ -409,8 +416,8 @@ def in_german(site: Site, browser: Browser) -> Iterator[Outcome]:
     least = f"{chosen_of(1).amount:.3f}".replace(".", ",")
     rows = [row[:5] + row[7:] for row in file_rows(text, ";")[1:]]
     wanted = [
-        [order_desk.BESIDE, "2", "Alpha Books", "6,00", "12,00", "'" + order_desk.HOSTILE, "'=1+1", ""],
-        [isbn_of(1), "1", "Beta & Sons", least, least, "beta-1", "für Jürgen, groß", ""],
+        [order_desk.BESIDE, "2", "Alpha Books", "6,00", "12,00", "'" + order_desk.HOSTILE, "'=1+1", "", ""],
+        [isbn_of(1), "1", "Beta & Sons", least, least, "beta-1", "für Jürgen, groß", "", ""],
     ]
     yield Outcome("a file in German", rows, wanted)
     yield Outcome("each line ends in CR and LF", text.count("\r\n"), 3)
@@ -440,22 +447,130 @@ def seen_texts(browser: Browser, selector: str) -> list[str]:
 
 def printed(site: Site, browser: Browser) -> Iterator[Outcome]:
     """On paper there is the order of a wholesaler, with its name and time, and nothing else."""
+    site.write_settings(order_desk.settings(shop="High Street Books", accounts={"beta": "B-7"}))
     open_list(browser)
     look_up(browser, lines_of(range(6)))
+    browser.one("#order-reference").send_keys("2026-118")
     browser.run("window.print = () => { window.isPrinted = true; }")
     browser.one("#print-beta").click()
     browser.wait(lambda: browser.run("return window.isPrinted"))
     browser.driver.execute_cdp_cmd("Emulation.setEmulatedMedia", {"media": "print"})
     wanted = [isbn_of(number) for number, _, _ in ordered(range(6))["beta"]]
-    yield Outcome("the rows on paper", seen_texts(browser, "#list tbody .isbn"), wanted)
-    yield Outcome("its sum alone", seen_texts(browser, "#sums tbody tr > :first-child"), ["Beta & Sons"])
-    yield Outcome("whose order it is", browser.text("#paper-heading"), "Order: Beta & Sons")
-    yield Outcome("its time", browser.text("#list-as-of").startswith("As of "), True)
+    yield Outcome("the rows on paper", seen_texts(browser, "#paper tbody th"), wanted)
+    total = money(sum_of(ordered(range(6))["beta"]))
+    yield Outcome("its sum alone", browser.text("#paper .sum"), f"Sum: {total}")
+    yield Outcome("whose order it is", browser.text("#paper h1"), "Order: Beta & Sons")
+    day = browser.run("return new Date().toLocaleDateString('sv')")
+    above = ["Order reference: 2026-118", f"Date: {day}", "Shop: High Street Books", "Account: B-7"]
+    yield Outcome("what stands above it", browser.texts("#paper p")[:-1], above)
+    seen = browser.run("return document.body.innerText")
+    others = [word for word in ("Alpha", "Gamma", "customer") if word in seen]
+    yield Outcome("nothing of others, and of customers", others, [])
     fields = browser.call("seen", "button, input, select, textarea, nav, summary")
     yield Outcome("no fields on paper", fields, [])
     browser.driver.execute_cdp_cmd("Emulation.setEmulatedMedia", {"media": ""})
     browser.run("window.dispatchEvent(new Event('afterprint'))")
-    yield Outcome("all rows are back", len(seen_texts(browser, "#list tbody .isbn")), 6)
+    yield Outcome("the page is back", len(seen_texts(browser, "#list .row-isbn")), 6)
+    site.write_settings(order_desk.settings())
+
+
+FORMS = {
+    "alpha": {"columns": ["isbn", "copies", "order"], "heading": ["EAN", "QTY", "REF"], "file": "alpha-{day}.csv",
+              "isbn": "text"},
+    "beta": {"columns": ["copies", "isbn", "account"], "heading": False, "separator": ";", "file": "{order}.txt"},
+}
+MOST_TILL_KEYS, MOST_TILL_SECONDS = 60, 120
+
+
+def from_a_till(site: Site, browser: Browser) -> Iterator[Outcome]:
+    """From the export of a till to a file in each wholesaler's own form, with two lines corrected in their rows."""
+    folder = site.room.path("till")
+    save_to(browser, folder)
+    allow_clipboard(site, browser, "granted")
+    site.write_settings(order_desk.settings(forms=FORMS, accounts={"beta": "B-7"}))
+    wrong = isbn_of(1)[:-1] + str((int(isbn_of(1)[-1]) + 1) % 10)
+    numbers = range(30)
+    lines = [f"{isbn_of(number)};Title {number};{number};{number % 4 + 1}" for number in numbers]
+    lines[1] = lines[1].replace(isbn_of(1), wrong)
+    lines[2] = lines[2].removesuffix("3") + "0"
+    open_list(browser)
+    text = "\n".join(["ISBN;Title;Stock;Order", *lines])
+    browser.driver.execute_async_script("navigator.clipboard.writeText(arguments[0]).then(arguments[1])", text)
+    begun = time.monotonic()
+    keys = Keyboard(browser)
+    keys.paste()
+    keys.press(Keys.TAB, Keys.ENTER)
+    status(browser, "28 of 28 looked up")
+    focus = browser.run("return document.activeElement.getAttribute('aria-label')")
+    yield Outcome("till: the focus is at what needs somebody", focus, "To line 3")
+    keys.press(Keys.ENTER)
+    row = browser.run("return document.activeElement.dataset.field")
+    yield Outcome("till: it leads to the field", row, "row-isbn")
+    keys.type(isbn_of(1))
+    keys.press(Keys.ENTER)
+    status(browser, "29 of 29 looked up")
+    asked = len(site.requests())
+    label = "return document.activeElement.getAttribute('aria-label')"
+    browser.wait(lambda: browser.run(label) == f"Copies of {isbn_of(2)}")
+    keys.press("3", Keys.ENTER)
+    status(browser, "30 of 30 looked up. No book needs you.")
+    desk = {line.split("/")[3] for line in site.requests()[asked:] if "/choice?" in line}
+    yield Outcome("till: only that book is asked for", desk, {isbn_of(2)})
+    browser.one("#order-reference").send_keys("2026-118")
+    keys.count += len("2026-118")
+    for name in WHOLESALERS:
+        keys.tab_to(f"csv-{name}")
+        keys.press(Keys.ENTER)
+        if name == "gamma":
+            browser.wait(lambda: browser.one("#save-question").is_displayed())
+            keys.tab_to("save-all")
+            keys.press(Keys.ENTER)
+        saved_status(browser, "Saved as " + {"alpha": "alpha-", "beta": "2026-118.txt", "gamma": "order-"}[name])
+    seconds = time.monotonic() - begun
+    wanted = ordered(numbers)
+    day = browser.run("return new Date().toLocaleDateString('sv')")
+    texts = [saved(browser, folder, name) for name in (f"alpha-{day}.csv", "2026-118.txt", f"order-{day}-gamma.csv")]
+    alpha = [f'="{isbn_of(number)}",{copies},2026-118' for number, copies, _ in wanted["alpha"]]
+    yield Outcome("till: alpha's form", texts[0], MARK + "\r\n".join(["EAN,QTY,REF", *alpha, ""]))
+    beta = [f"{copies};{isbn_of(number)};B-7" for number, copies, _ in wanted["beta"]]
+    yield Outcome("till: beta's form", texts[1], MARK + "\r\n".join([*beta, ""]))
+    gamma = [[isbn_of(number), str(copies)] for number, copies, _ in wanted["gamma"]]
+    yield Outcome("till: gamma's form", [row[:2] for row in file_rows(texts[2])[1:]], gamma)
+    yield Outcome(f"till: {keys.count} keys are {MOST_TILL_KEYS} at most", keys.count <= MOST_TILL_KEYS, True)
+    yield Outcome(f"till: {seconds:.0f} s are {MOST_TILL_SECONDS} at most", seconds <= MOST_TILL_SECONDS, True)
+    former = str(folder / "2026-118.txt")
+    browser.one("#before-files").send_keys(former)
+    told = browser.wait_for_text("#before-status", "compared")
+    yield Outcome("till: a former order", told, "1 file of former orders is compared; it is not kept.")
+    number, copies, _ = wanted["beta"][0]
+    note = f"ordered before: {copies} cop{'y' if copies == 1 else 'ies'} (2026-118.txt)"
+    yield Outcome("till: what it has is told", note in row_of(browser, isbn_of(number))[-1], True)
+    yield Outcome("till: and nothing else", "ordered before" in row_of(browser, isbn_of(0))[-1], False)
+    site.write_settings(order_desk.settings())
+
+
+def rows_change(site: Site, browser: Browser) -> Iterator[Outcome]:
+    """A row is taken out, a book is added, a scan is a row, and the text is made of them."""
+    open_list(browser)
+    look_up(browser, f"{isbn_of(0)};2;Anna\n{isbn_of(1)};1;Bert\n{isbn_of(3)};4;Cid")
+    asked = len(site.requests())
+    browser.one(f"button[aria-label='Take {isbn_of(1)} out of the list']").click()
+    browser.wait(lambda: len(browser.rows("#list")) == 2)
+    lines = "return document.getElementById('lines').value"
+    text = f"{isbn_of(0)}\t2\tAnna\n{isbn_of(3)}\t4\tCid\n"
+    yield Outcome("rows: one is taken out", browser.run(lines), text)
+    browser.one("#add-isbn").send_keys(isbn_of(4), Keys.ENTER)
+    status(browser, "3 of 3 looked up")
+    yield Outcome("rows: one more", [row[1:3] for row in browser.rows("#list")][-1], [isbn_of(4), "1"])
+    browser.run("document.getElementById('to-order').focus()")
+    scan(browser, isbn_of(4))
+    browser.wait(lambda: row_of(browser, isbn_of(4))[2] == "2")
+    yield Outcome("rows: a scan is a copy more", browser.run(lines), f"{text}{isbn_of(4)}\t2\n")
+    yield Outcome("rows: in the same view", browser.run("return location.hash"), "#order")
+    desk = {line.split("/")[3] for line in site.requests()[asked:] if "/choice?" in line}
+    yield Outcome("rows: what is new is asked for alone", desk, {isbn_of(4)})
+    href = browser.one(f"a[aria-label^='Article {isbn_of(0)}']").get_attribute("href").partition("#")[2]
+    yield Outcome("rows: a link to the article", href, f"article?isbn={isbn_of(0)}&quantity=2")
 
 
 def from_a_file(site: Site, browser: Browser) -> Iterator[Outcome]:
@@ -684,6 +799,38 @@ def asked_before(site: Site, browser: Browser) -> Iterator[Outcome]:
     yield Outcome("then leaving asks", browser.run(asks), True)
 
 
+def another_question(site: Site, browser: Browser) -> Iterator[Outcome]:
+    """A list in another currency, and what was looked up for another question, which is not saved."""
+    folder = site.room.path("question")
+    save_to(browser, folder)
+    open_list(browser)
+    look_up(browser, f"{order_desk.IN_EUROS} 3")
+    yield Outcome("in pounds", sums(browser)[-1][3], "£21.60")
+    browser.one("#list-question summary").click()
+    for name, value in (("currency", "EUR"), ("country", "IE"), ("type", "02"), ("day", "2020-01-01")):
+        before = browser.run("return document.getElementById(arguments[0]).value", f"list-{name}")
+        browser.call("put", f"list-{name}", value, "input")
+        yield Outcome(f"another {name} is told", browser.one("#list-old").is_displayed(), True)
+        # As where it changes between a press and the question that is asked before a file is saved.
+        browser.run("document.getElementById('sums-part').inert = false; document.getElementById('csv-all').click()")
+        told = saved_status(browser, "look them up again")
+        yield Outcome(f"with another {name} nothing is saved", (told != "", list(folder.iterdir())), (True, []))
+        browser.call("put", f"list-{name}", before, "input")
+    browser.call("put", "list-currency", "EUR", "input")
+    browser.one("#look-up").click()
+    wanted = f"€{3 * order_desk.EUROS:.2f}"
+    came = browser.wait(lambda: [row[3] for row in sums(browser)][-1:] == [wanted])
+    yield Outcome("in euros", came, True)
+    status(browser, "1 of 1 looked up")
+    yield Outcome("free carriage is in pounds alone", "Carriage" in browser.texts("#sums thead th"), False)
+    rows = order_desk.product("s-11", order_desk.IN_EUROS, order_desk.gln_of("alpha"), "21", "Price,,8.90,EUR,,,,,")
+    site.tell_desk(order_desk.message("alpha", 3, rows))
+    browser.one("#csv-all").click()
+    saved_status(browser, "changed")
+    note = row_of(browser, order_desk.IN_EUROS)[-1]
+    yield Outcome("a change in euros", note.startswith(f"Changed: it was Alpha Books at €{order_desk.EUROS}."), True)
+
+
 def missing_marks(site: Site, browser: Browser) -> Iterator[Outcome]:
     """A wholesaler whose messages are missing is marked at its books and its sum."""
     open_list(browser)
@@ -704,5 +851,5 @@ def missing_marks(site: Site, browser: Browser) -> Iterator[Outcome]:
 
 CASES = [
     begins, columns, asked_before, thirty_books, needs, by_hand, other_copies, as_of, changed, older, in_german, copied,
-    printed, from_a_file, missing_marks, kept, refused, without_reply, stopped, whole_list,
+    printed, from_a_till, rows_change, from_a_file, missing_marks, another_question, kept, refused, without_reply, stopped, whole_list,
 ]

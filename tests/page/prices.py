@@ -25,19 +25,21 @@ def settings(site: Site, **changes: object) -> Iterator[None]:
         site.write_settings()
 
 
+# The wholesaler has three records of the book, so the sentence says which.
+BUY = "Buy 1 from net (\u2068K-2\u2069) at £8.125 a copy"
 NO_NET = "no net price for 1 copy in GBP"
 
 
 def kinds(site: Site, browser: Browser) -> Iterator[Outcome]:
     """To buy at a price is said of a net price alone."""
     rows = ask(browser, article(NET_ISBN, **NET))
-    yield Outcome("a net price: it is said", said(browser, "Buy 1 from net at £8.125 a copy"), True)
+    yield Outcome("a net price: it is said", said(browser, BUY), True)
     yield Outcome("a net price: the offers", [row[2] for row in rows], ["£8.49", "£8.125", NO_NET])
     yield Outcome("a net price: its column", browser.texts("#offers thead th")[2], "Net, 1 copy")
     marks = [["", ""], ["chosen", "chosen, rule 2"], ["", ""]]
     yield Outcome("a net price: the chosen offer is marked", chosen_rows(browser), marks)
     ask(browser, article(NET_ISBN, **NET | {"type": "42"}))
-    yield Outcome("a retail price: it is named", said(browser, "net: retail price £19.99"), True)
+    yield Outcome("a retail price: it is named", said(browser, "net (\u2068K-3\u2069): retail price £19.99"), True)
     told = "A retail price is not what the shop pays: ask for a net price before you buy."
     yield Outcome("a retail price: it is no reason to buy", noted(browser, told), True)
     yield Outcome("a retail price: nobody buys at it", "Buy" in browser.text("#article-status"), False)
@@ -59,7 +61,7 @@ def other_types(site: Site, browser: Browser) -> Iterator[Outcome]:
     yield Outcome("no price of the type: no rule is blamed", "rule" in browser.text("#article-status"), False)
     yield Outcome("no price of the type: the types that there are", [row[3] for row in rows], types)
     browser.one("#offers tbody a").click()
-    yield Outcome("another type by its link", said(browser, "Buy 1 from net at £8.125 a copy"), True)
+    yield Outcome("another type by its link", said(browser, BUY), True)
     answered(browser)
     begun = len(site.requests())
     browser.open(article(NET_ISBN, **NET | {"type": "02", "currency": "USD"}))
@@ -77,7 +79,7 @@ def quantities(site: Site, browser: Browser) -> Iterator[Outcome]:
     link = browser.one("#offers .copies a")
     yield Outcome("the name of a link to other copies", link.accessible_name, "25 copies from net: £7.99")
     link.click()
-    yield Outcome("other copies by a link", said(browser, "Buy 25 from net at £7.99 a copy"), True)
+    yield Outcome("other copies by a link", said(browser, "Buy 25 from net (\u2068K-1\u2069) at £7.99 a copy"), True)
     yield Outcome("other copies: the sum", browser.text("#article-status .sum"), "£199.75")
     yield Outcome("other copies: the price", answered(browser)[0][2::2], ["£7.99", wanted[0]])
     with settings(site, quantities=[1, 24]):
@@ -126,9 +128,9 @@ def german(site: Site, browser: Browser) -> Iterator[Outcome]:
 def in_german(browser: Browser) -> Iterator[Outcome]:
     rows = ask(browser, article(NET_ISBN, **EURO))
     amounts = [row[2].replace("\u00a0", " ") for row in rows]
-    yield Outcome("German amounts", amounts, ["1.234,50 €", "24,00 €", "kein Nettopreis"])
+    yield Outcome("German amounts", amounts, ["1.234,50 €", "24,00 €", "kein Nettopreis für 1 Exemplar in EUR"])
     status = browser.text("#article-status").replace("\u00a0", " ")
-    sentence = "Am 10. April 2025, in DE, in EUR, nach Preisart 05: 1 bei net kaufen, zu 24,00 € je Exemplar"
+    sentence = "Am 10. April 2025, in DE, in EUR, nach Preisart 05: 1 bei net (\u2068K-2\u2069) kaufen, zu 24,00 € je Exemplar"
     yield Outcome("a German sentence", status.startswith(sentence), True)
     yield Outcome("German words of codes", rows[0][1], "am Lager 21")
     unfold(browser)

@@ -1,6 +1,7 @@
 """Titles behind the desk's answers, of files as onixdesk-titles writes them, by hand."""
 
 import json
+import time
 from collections.abc import Iterator
 
 from tests.page import order_desk
@@ -88,6 +89,14 @@ def of_an_article(site: Site, browser: Browser) -> Iterator[Outcome]:
         yield Outcome(f"the title of {isbn}", came, wanted)
         yield Outcome(f"no element of the title of {isbn}", browser.all("main img, main script"), [])
     yield Outcome("no complaint of the browser", browser.complaints(), [])
+    browser.open(article(ISBN))
+    browser.wait_for_text("#title", "Almanac")
+    site.freeze_desk()
+    browser.run("location.hash = arguments[0]", article(OTHER))
+    browser.wait(lambda: "Asking" in browser.text("#article-status"))
+    yield Outcome("while the next book is asked for", browser.text("#title"), "")
+    site.thaw_desk()
+    browser.wait_for_text("#title", "=1+1")
     browser.driver.execute_cdp_cmd("Emulation.setEmulatedMedia", {"media": "print"})
     yield Outcome("it is on paper", browser.one("#title").is_displayed(), True)
     browser.driver.execute_cdp_cmd("Emulation.setEmulatedMedia", {"media": ""})
@@ -102,6 +111,8 @@ def that_cannot_be_read(site: Site, browser: Browser) -> Iterator[Outcome]:
     none = "No wholesaler offers this book"
     yield Outcome("a damaged file: the answer", none in browser.wait_for_text("#article-status", none), True)
     was_asked = browser.wait(lambda: any("/titles/97899/" in path for path in asked(site, 0)))
+    # A wrong title would be drawn a moment later.
+    time.sleep(0.5)
     yield Outcome("a damaged file: the title", (was_asked, browser.text("#title")), (True, ""))
 
 

@@ -5,6 +5,9 @@ import { test } from "node:test";
 
 import { elsewhereInWords, fallsInWords, onlyMoreInWords } from "../page/better.js";
 import { detailsOf, sentenceOf } from "../page/decision.js";
+import { untilNotes } from "../page/answer.js";
+import { keyOf } from "../page/offers.js";
+import { differenceInWords } from "../page/offers-table.js";
 import { farOf, marginOf, retailInWords, retailOf } from "../page/retail.js";
 import { areAdmitting, rulesOf } from "../page/rules.js";
 
@@ -114,6 +117,25 @@ test("the sentence says which of two records of a wholesaler is chosen", () => {
   assert.equal(sentenceOf(answerOf([offers[0]], { ...offers[0], rule: 1 }), SETTINGS), "Buy 1 from North Books at £6.10 a copy");
   const long = { ...offers[0], reference: `\u202e${"x".repeat(300)}`, rule: 1 };
   assert.ok(sentenceOf(answerOf([long, offers[1]], long), SETTINGS).length < 100);
+});
+
+test("an offer at the same price is not passed over", () => {
+  const north = { ...offer("north", "6.000"), rule: 2 };
+  const differs = (amount) => differenceInWords(offer("south", amount), answerOf([], north));
+  assert.deepEqual(differs("6.000"), ["£0.00"]);
+  assert.deepEqual(differs("6.500"), ["+£0.50"]);
+  assert.deepEqual(differs("5.500"), ["-£0.50", "rules 1 to 2 do not take it"]);
+});
+
+test("a price that ends without another one is told", () => {
+  const north = { ...offer("north", "6.000"), rule: 1 };
+  const until = (then) => {
+    const holds = { amount: "6.000", last: "2026-11-30", from: "2026-12-01", then };
+    const ahead = new Map([[keyOf(north), { holds }]]);
+    return untilNotes({ ...answerOf([north], north), ahead }, SETTINGS);
+  };
+  assert.deepEqual(until(null), ["Until 30 November 2026. From 1 December 2026 on North Books has no price."]);
+  assert.deepEqual(until("7.000"), ["Until 30 November 2026. From 1 December 2026 on North Books takes £7.00 a copy."]);
 });
 
 test("where the desk and rules.toml differ no rule's words are quoted", () => {

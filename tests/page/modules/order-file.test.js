@@ -43,7 +43,7 @@ test("no cell is one that a spreadsheet would run", () => {
     const [line] = cells(text).split("\r\n");
     assert.match(line, /^"?'/, text);
   }
-  assert.equal(cells("=cmd|' /C calc'!A0"), "'=cmd|' /C calc'!A0\r\n");
+  assert.equal(cells("=cmd|' /C calc'!A0"), "\"'=cmd|' /C calc'!A0\"\r\n");
   assert.equal(cells("Mrs Lindqvist", "a=b", "9780306406157"), "Mrs Lindqvist,a=b,9780306406157\r\n");
 });
 

@@ -142,6 +142,11 @@ test("what was chosen is asked for by the names of the columns, and three rows s
   assert.deepEqual(asked[1], undefined);
 });
 
+test("figures of which the heading says what they are are no note", () => {
+  assert.equal(readList(`ISBN;Title;Stock;Order;Customer\n${BOOK};1984;12;3;Anna 7`).books[0].note, "Anna 7");
+  assert.equal(readList(`ISBN;Title;Stock;Order\n${BOOK};Dune;12;3`).books[0].note, "Dune");
+});
+
 test("what stands beside is kept, with separators in quotes", () => {
   assert.equal(only(`${BOOK};2;"Lindqvist; tall";"say ""now"""`).note, 'Lindqvist; tall, say "now"');
   assert.equal(only(`${BOOK}\t2\tA\t\tB`).note, "A, B");

@@ -39,6 +39,7 @@ test("what is not named is as the page has it", () => {
     manyMoney: undefined,
     retailType: "",
     currencies: [],
+    address: "",
   });
 });
 
@@ -70,9 +71,9 @@ test("from how many copies and what sum on a person looks", () => {
 });
 
 test("the type of recommended prices, and other currencies", () => {
-  const { settings, problems } = readSettings(JSON.stringify({ ...RIGHT, retail_type: "04", currencies: ["EUR", "USD"] }));
+  const { settings, problems } = readSettings(JSON.stringify({ ...RIGHT, recommended_type: "04", currencies: ["EUR", "USD"] }));
   assert.deepEqual([settings.retailType, settings.currencies, problems], ["04", ["EUR", "USD"], []]);
-  for (const wrong of [{ retail_type: "05" }, { retail_type: 2 }, { currencies: "EUR" }, { currencies: ["EUR", "EUR"] }]) {
+  for (const wrong of [{ recommended_type: "05" }, { recommended_type: 2 }, { currencies: "EUR" }, { currencies: ["EUR", "EUR"] }]) {
     assert.equal(problemsOf({ ...RIGHT, ...wrong }).length, 1, JSON.stringify(wrong));
   }
 });

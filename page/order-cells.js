@@ -1,0 +1,57 @@
+// What an order has in each column of a file or of a paper.
+
+import { compareAmounts, times } from "./amounts.js";
+import { othersAdmitted } from "./better.js";
+import { amountCell } from "./order-file.js";
+import { inPercent, marginOf, retailOf } from "./retail.js";
+import { undirected } from "./said.js";
+import { wholesalerOf } from "./settings.js";
+import { titlesOfOffers, titleTexts } from "./titles.js";
+import { say, wordsOfCode } from "./wording.js";
+
+/** What stands at a line whose wholesaler's messages are missing, so that its price may be old. */
+export const remarkOf = ({ state: { offer } }, isOld) => (isOld(offer.series) ? say("order.mayBeOld") : "");
+
+/** The wholesaler that has a book for the least, of the others that a rule admits; empty where none has. */
+function secondOf({ answer }, offer, settings) {
+  const others = othersAdmitted(answer.offers, offer, settings)
+    .filter(({ amount, series }) => amount !== null && series !== offer.series)
+    .sort((one, other) => compareAmounts(one.amount, other.amount));
+  return others.length === 0 ? "" : wholesalerOf(settings, others[0].series);
+}
+
+function marginCell(offer, retail) {
+  const margin = retail === undefined ? undefined : marginOf(offer.amount, retail);
+  return margin === undefined ? "" : inPercent(margin);
+}
+
+/**
+ * The cells of a row by their columns. The context has the `settings`, the `currency`, `isOld`, which says of a series
+ * whether its prices may be old, the order's reference (`order`) and the `date`.
+ */
+export function cellsOf(row, { settings, currency, isOld, order, date }) {
+  const { book, state: { offer } } = row;
+  const retail = retailOf(book.answer.retail, offer);
+  const { account = "" } = settings.series.find(({ name }) => name === offer.series) ?? {};
+  return {
+    isbn: book.isbn,
+    copies: String(book.copies),
+    wholesaler: wholesalerOf(settings, offer.series),
+    price: amountCell(offer.amount),
+    sum: amountCell(times(offer.amount, book.copies)),
+    currency,
+    availability: wordsOfCode("availabilities", offer.availability) ?? offer.availability,
+    reference: undirected(offer.reference),
+    note: book.note,
+    remark: remarkOf(row, isOld),
+    rrp: retail === undefined ? "" : amountCell(retail),
+    margin: marginCell(offer, retail),
+    title: titleTexts(titlesOfOffers(book.titles ?? [], book.answer.offers, offer)).join(" · "),
+    second: secondOf(book, offer, settings),
+    order,
+    date,
+    shop: settings.shop,
+    address: settings.address,
+    account,
+  };
+}

@@ -68,7 +68,7 @@ class Links(HTMLParser):
 def is_name(name: str) -> bool:
     """Whether it is a name of a file that leads nowhere else."""
     is_plain = bool(name) and name == Path(name).name and name.isprintable()
-    return is_plain and not name.startswith((".", "-")) and len(name.encode()) <= LONGEST_NAME
+    return is_plain and not name.startswith((".", "-")) and '"' not in name and len(name.encode()) <= LONGEST_NAME
 
 
 @dataclass(frozen=True)
@@ -121,7 +121,8 @@ class Server:
         return found[1]
 
     def offered(self, scratch: Path, seconds: float) -> list[Offered]:
-        """The files that the server offers whose names are as the pattern; the listing is written into a file."""
+        """The files that the server offers whose names are as the pattern, in the order of their names; the listing is
+        written into a file."""
         url = time.strftime(self.settings.url)
         is_dated = url != self.settings.url
         scratch.write_bytes(b"")
@@ -131,7 +132,8 @@ class Server:
             found = [Offered(unquote(urlsplit(url).path.rpartition("/")[2]), None, looks_of(listing), url)]
         else:
             found = linked(listing, url) if self.settings.scheme == "https" else listed(listing, url)
-        return [file for file in found if fnmatch.fnmatchcase(file.name, self.settings.pattern) and is_name(file.name)]
+        wanted = (file for file in found if fnmatch.fnmatchcase(file.name, self.settings.pattern))
+        return sorted((file for file in wanted if is_name(file.name)), key=lambda file: file.name)
 
     def fetch(self, file: Offered, target: Path, seconds: float, most: int) -> None:
         """Fault where it does not come whole, or has more bytes."""
@@ -141,8 +143,10 @@ class Server:
             raise Fault(f"{file.name}: {size} bytes came, and the server says {file.size}")
 
     def remove(self, file: Offered, seconds: float) -> None:
+        """Fault where the server does not allow it."""
         path = unquote(urlsplit(file.url).path)
-        word = f'rm "{path}"' if self.settings.scheme == "sftp" else f"DELE {path}"
+        # A path of FTP is below the folder of the user.
+        word = f'rm "{path}"' if self.settings.scheme == "sftp" else f"DELE {path.removeprefix('/')}"
         self.get(self.settings.url, Path(os.devnull), seconds, LARGEST_LISTING, "--quote", word)
 
 

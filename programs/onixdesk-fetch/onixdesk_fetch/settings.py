@@ -77,4 +77,7 @@ def read_settings(file: Path) -> Settings:
             raise BadCall(f"{file}:{place}: {error}") from None
     if "url" not in found:
         raise BadCall(f"{file}: URL is missing")
-    return Settings(**found)
+    settings = Settings(**found)
+    if settings.remove and settings.scheme == "https":
+        raise BadCall(f"{file}: REMOVE=yes is for SFTP and FTPS")
+    return settings

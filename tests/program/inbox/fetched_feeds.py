@@ -17,10 +17,11 @@ from pathlib import Path
 from desk_metrics import folders
 from onixdesk_fetch.server import LISTED, is_name, linked
 from onixdesk_fetch.settings import read_settings
+from tests.program.feeds.convert.failing_files import small_disk
 from tests.program.inbox.inboxes import files_in
 from tests.program.room import SECONDS, Ran, Room
 from tests.program.serving import HOST, StandIn, connected, free_port
-from tests.running import Outcome
+from tests.running import Outcome, left_out
 from tools.root import ROOT
 
 PROGRAM = ROOT / "bin/onixdesk-fetch"
@@ -173,6 +174,20 @@ def from_each_server(room: Room) -> Iterator[Outcome]:
 OTHER_KEY = "the server has another key than the one that is trusted: nothing is fetched"
 
 
+def what_is_removed(room: Room) -> Iterator[Outcome]:
+    """With REMOVE=yes a file leaves the server once it was fetched, and no other one does."""
+    fetch = Fetch(room)
+    for name in ("a b.xml", "b.xml", "c.txt"):
+        fetch.files.joinpath(name).write_bytes(b"one")
+    with sftp(room) as url:
+        fetch.set(URL=url, USER="root", FILES=1, REMOVE="yes")
+        fetch.run("--trust")
+        for left in (["b.xml", "c.txt"], ["c.txt"]):
+            came = fetch.run(), sorted(path.name for path in fetch.files.iterdir())
+            yield Outcome(f"fetch: removed, {left} are left", came, (said("1 fetched"), left))
+        yield Outcome("fetch: what was removed came", fetch.came(), {"a b.xml": b"one", "b.xml": b"one"})
+
+
 def another_key(room: Room) -> Iterator[Outcome]:
     """A server with another key is sent no password and asked for nothing; the third time in a row it is an error."""
     fetch = Fetch(room)
@@ -248,7 +263,7 @@ def names_that_lead_elsewhere(_room: Room) -> Iterator[Outcome]:
 def bad_settings(room: Room) -> Iterator[Outcome]:
     fetch = Fetch(room)
     for text in ("", "URL=http://a/", "URL=sftp://a/b", "URL=https://u:p@a/", "URL=https://a/\nFILES=0",
-                 "URL=https://a/\nX=1"):
+                 "URL=https://a/\nX=1", "URL=https://a/\nREMOVE=yes"):
         room.write("settings.conf", text.encode())
         yield Outcome(f"fetch: bad settings {text!r}", fetch.run().status, 2)
 
@@ -323,6 +338,24 @@ def many_names(room: Room) -> Iterator[Outcome]:
         fetch.run("--trust")
         for count in (3, 6):
             yield Outcome(f"fetch: 10,000 names, {count} files", (fetch.run().status, len(fetch.came())), (0, count))
+
+
+def a_full_disk(room: Room) -> Iterator[Outcome]:
+    """A file that the disk of the folder has no room for leaves nothing there, and comes once there is room."""
+    fetch = Fetch(room)
+    fetch.files.joinpath("a.xml").write_bytes(bytes(300_000))
+    with small_disk(room) as folder, https(room) as url:
+        if folder is None:
+            yield left_out("a full disk, since no file system can be mounted")
+            return
+        roomy, fetch.incoming = fetch.incoming, folder
+        fetch.set(URL=url)
+        fetch.run("--trust")
+        came = fetch.run()
+        found = came.status, came.errors.count(b"\n"), list(folder.iterdir())
+        yield Outcome("fetch: a full disk", found, (0, 1, []))
+        fetch.incoming = roomy
+        yield Outcome("fetch: room again", (fetch.run(), len(fetch.came()["a.xml"])), (said("1 fetched"), 300_000))
 
 
 def killed(room: Room) -> Iterator[Outcome]:

@@ -338,7 +338,10 @@ def by_promtool(room: Room) -> Iterator[Outcome]:
         room.write("state/north/done/1.csv.answer", b"")
         room.path("fetched/north").mkdir(parents=True)
         room.write("fetched/north/succeeded", b"")
-        write(room, "--desk", at(desk), "--fetched", "fetched", "north")
+        room.path("figures").mkdir()
+        room.write("figures/started", b"seconds 45\nlimit 678\n")
+        room.write("figures/next", b"bytes 123\n")
+        write(room, "--desk", at(desk), "--fetched", "fetched", "--figures", "figures", "north")
     found = {name for name, _ in read(room)}
     yield Outcome("promtool: every metric is written", found, set(METRICS))
     checked = room.call(["promtool", "check", "metrics"], room.path(FILE).read_bytes())

@@ -145,7 +145,7 @@ def of_a_list(site: Site, browser: Browser) -> Iterator[Outcome]:
     browser.driver.execute_cdp_cmd("Emulation.setEmulatedMedia", {"media": ""})
     browser.one("#csv-all").click()
     rows = file_rows(saved(browser, folder))
-    yield Outcome("the columns of the file", [rows[0][0], *rows[0][-2:]], ["ISBN", "Remark", HEAD])
+    yield Outcome("the columns of the file", [rows[0][0], *rows[0][-2:]], ["ISBN", "Order reference", HEAD])
     wanted_rows = [(ISBN, WHOLE), (OTHER, "'=1+1"), (HOSTILE_ISBN, whole), (UNTITLED, "")]
     yield Outcome("the titles of the file", [(row[0], row[-1]) for row in rows[1:]], wanted_rows)
 

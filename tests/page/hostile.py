@@ -78,12 +78,13 @@ def unknown_names(site: Site, browser: Browser) -> Iterator[Outcome]:
 
 
 def turning(site: Site, browser: Browser) -> Iterator[Outcome]:
-    """A reference in a script from right to left leaves what stands beside it in its place."""
+    """A reference in a script from right to left leaves what stands beside it in its place, and is shown without the
+    signs that turn a text round."""
     browser.size(1400, 900)
     browser.open(article(TURNING_ISBN, **{"from": "2025-04-10", "until": "2025-04-11"}))
     unfold(browser)
     browser.run("document.getElementById('references').open = true")
-    for reference in TURNING:
+    for reference in (text.replace("\u202e", "") for text in TURNING):
         for place in ("#picture .lane-name", "#spans tbody th"):
             came = browser.call("around", place, reference)
             yield Outcome(f"beside {reference!a} in {place}", came, [[]])

@@ -39,10 +39,10 @@ def plain(site: Site, browser: Browser) -> Iterator[Outcome]:
             yield Outcome(f"without TLS, {path} of {host}", came, (301, f"https://{NAME}{path}", None))
 
 
-# The example lets 4000 requests through at once, and a hundred a second. nginx takes no more than 1000 over one
+# The example lets 6000 requests through at once, and a hundred a second. nginx takes no more than 1000 over one
 # connection.
-AT_ONCE = 4000
-CONNECTIONS = 11
+AT_ONCE = 6000
+CONNECTIONS = 16
 EACH = 500
 AFTER = 50
 

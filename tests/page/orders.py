@@ -391,6 +391,7 @@ def older(site: Site, browser: Browser) -> Iterator[Outcome]:
     """What was looked up of other lines can no longer be ordered."""
     open_list(browser)
     look_up(browser, isbn_of(15))
+    yield Outcome("lines that are no table have no columns", browser.one("#columns").is_displayed(), False)
     yield Outcome("what is of these lines can be ordered", browser.run("return document.getElementById('sums-part').inert"), False)
     browser.one("#lines").send_keys("0")
     told = browser.text("#list-old")

@@ -67,8 +67,9 @@ def changed(data: bytes, places: list[tuple[bytes, int]], value: bytes) -> bytes
 
 
 def spaced(megabytes: int) -> Iterator[bytes]:
-    """A feed that is nearly all spaces, which pack to less than a thousandth."""
+    """A feed of one product that is nearly all spaces, which pack to less than a thousandth."""
     yield FRAMES["products"].before.encode()
+    yield PRODUCT.format("R1").encode()
     yield from itertools.repeat(b"<x>" + b" " * 999_993 + b"</x>", megabytes)
     yield FRAMES["products"].behind.encode()
 

@@ -141,7 +141,7 @@ def of_a_unit(_room: Room) -> Iterator[Outcome]:
     lines = SCRIPTS.joinpath("onixdesk.service").read_text(encoding="utf-8").splitlines()
     wanted = [
         "ExecCondition=/opt/onixdesk/start-memory.sh /var/lib/onixdesk/shop.db /var/lib/onixdesk-figures",
-        "Environment=HOME=/nonexistent FIGURES=/var/lib/onixdesk-figures FILE=/var/lib/onixdesk/shop.db",
+        "Environment=FIGURES=/var/lib/onixdesk-figures FILE=/var/lib/onixdesk/shop.db",
         "ReadWritePaths=-/var/lib/onixdesk-figures",
     ]
     yield Outcome("not again: the unit", [line for line in wanted if line not in lines], [])

@@ -11,7 +11,7 @@ use Rattle.feed_outline.specs.Nodes.{Nodes}
 use Rattle.onix_records.specs.Grammar.{most_records}
 use Rattle.onix_records.specs.Opening.{opening_of}
 use Rattle.feed_mapping.specs.Elements.{text_or_empty}
-use Rattle.feed_mapping.specs.Header.{Choices, Heading, ◌>>=◌, addressee_pair, heading_in, message_fields, number_in, parsed_opening, sender_in}
+use Rattle.feed_mapping.specs.Header.{Choices, Heading, ◌>>=◌, addressee_pair, heading_in, message_fields, number_in, parsed_opening, repeat_in, sender_in}
 use Rattle.feed_mapping.specs.declared.header.HeaderRefusal.{HeaderRefusal}
 use Rattle.feed_mapping.specs.declared.header.HeaderRefusal.TheVariants as denied
 use Rattle.feed_mapping.proofs.PartLaws.{number-within}
@@ -59,7 +59,7 @@ first_utf8 c header h e before less =
     let all = (cond-then (list_all is_utf8 fields) (opening_of (codes "Message" ∷ fields)) o.0 (some_ok (parsed_opening fields) denied.Malformed o.0 o.1)).0 in
     let front = codes "2" ∷ s.0.id_type ∷ s.0.id_value ∷ a.0.id_type ∷ a.0.id_value ∷ [] in
     let back =
-    text_or_empty (codes "MessageRepeat") header
+    repeat_in header
     ∷ text_or_empty (codes "SentDateTime") header
     ∷ text_or_empty (codes "DefaultPriceType") header
     ∷ text_or_empty (codes "DefaultCurrencyCode") header

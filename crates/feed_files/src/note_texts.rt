@@ -30,6 +30,9 @@ const NO_IDENTIFIER: &str = "without thirteen digits of type 03 or 15: nobody fi
 const OTHER_NAMESPACE: &str =
     "an element below it is in another namespace, of the other kind of names, or in other letters than one that counts there";
 
+const BESIDE_DATES: &str =
+    "a Price of its type and currency is left out for its PriceDates, and may stand in its place";
+
 const LONG_SUPPLIER: &str =
     "a text of its Supplier has more than 1024 bytes or a control character";
 
@@ -154,9 +157,11 @@ fn words_of_foreign(kind: Foreign, text: &[u8]) -> Words {
         Foreign::PriceCoded => plain("PriceCoded"),
         Foreign::CurrencyZone => with_text("CurrencyZone", ""),
         Foreign::EpubLicense => plain("EpubLicense"),
+        Foreign::EpubLicenseWithDate => plain("EpubLicenseWithDate"),
         Foreign::DateFormat => with_text("PriceDate in format", ""),
         Foreign::MoreDecimals => with_text("PriceAmount", " has more than 3 decimals"),
         Foreign::NoCharge => with_text("PriceAmount", " is no price"),
+        Foreign::BesideDates => plain(BESIDE_DATES),
         Foreign::RegionAlone => with_text("RegionsIncluded", " without a country or WORLD"),
         Foreign::RegionOfNoCountry => {
             with_text("RegionsExcluded", ", which is no part of a country")
@@ -169,28 +174,78 @@ fn words_of_foreign(kind: Foreign, text: &[u8]) -> Words {
         Foreign::NoMarketLeft => plain("every Market is left out"),
         Foreign::LongMarkets => plain(LONG_MARKETS),
         Foreign::NoSupplyLeft => plain("no ProductSupply is left"),
+        Foreign::IdentifierType => identifier_type(text),
+        Foreign::IdentifierValue => identifier_value(text),
         Foreign::NoIsbn => plain(NO_IDENTIFIER),
         Foreign::Ignored => with_text("of NotificationType", ": the desk ignores it"),
     }
 }
 
-// Of an element of ONIX 2.1, which has this name.
+// Of an element of ONIX 2.1 of a Price, which has this name.
 fn old_element(name: &[u8]) -> Words {
     if name == b"PriceTypeCode".as_slice() {
         plain("PriceTypeCode of ONIX 2.1")
+    } else if name == b"ClassOfTrade".as_slice() {
+        plain("ClassOfTrade of ONIX 2.1")
     } else if name == b"PriceEffectiveFrom".as_slice() {
         plain("PriceEffectiveFrom of ONIX 2.1")
     } else if name == b"PriceEffectiveUntil".as_slice() {
         plain("PriceEffectiveUntil of ONIX 2.1")
-    } else {
+    } else if name == b"CountryCode".as_slice() {
         plain("CountryCode of ONIX 2.1")
+    } else if name == b"CountryExcluded".as_slice() {
+        plain("CountryExcluded of ONIX 2.1")
+    } else if name == b"TerritoryExcluded".as_slice() {
+        plain("TerritoryExcluded of ONIX 2.1")
+    } else {
+        old_supply(name)
     }
+}
+
+// Of one of a SupplyDetail, or the Territory of a Price in ONIX 2.1.
+fn old_supply(name: &[u8]) -> Words {
+    if name == b"SupplyToCountry".as_slice() {
+        plain("SupplyToCountry of ONIX 2.1")
+    } else if name == b"SupplyToRegion".as_slice() {
+        plain("SupplyToRegion of ONIX 2.1")
+    } else if name == b"SupplyToCountryExcluded".as_slice() {
+        plain("SupplyToCountryExcluded of ONIX 2.1")
+    } else if name == b"SupplyToTerritory".as_slice() {
+        plain("SupplyToTerritory of ONIX 2.1")
+    } else {
+        plain("j303 of ONIX 2.1")
+    }
+}
+
+// Of a PriceDate whose role does not count.
+fn date_role(role: &[u8]) -> Words {
+    if role.is_empty() {
+        plain("PriceDate without PriceDateRole")
+    } else {
+        with_text("PriceDate of role", ", which is none of 14, 15 and 24")
+    }
+}
+
+// Of the type of a ProductIdentifier.
+fn identifier_type(text: &[u8]) -> Words {
+    needed("ProductIDType", text, NO_CODE)
+}
+
+// Of the value of a ProductIdentifier.
+fn identifier_value(text: &[u8]) -> Words {
+    needed("IDValue of ProductIdentifier", text, "")
 }
 
 // Of what the desk would not take of a Price or a Territory.
 fn words_of_price(kind: Wrong, text: &[u8]) -> Option<Words> {
     let words = match kind {
         Wrong::OldElement => old_element(text),
+        Wrong::ComesAgain => with_text("", " comes again, and does not repeat"),
+        Wrong::NoTerritory => plain("no Territory"),
+        Wrong::EmptyTerritory => plain("its Territory is empty"),
+        Wrong::CountryAsRegion => with_text("", " is a country, and stands among regions"),
+        Wrong::DateRole => date_role(text),
+        Wrong::OtherDay => plain("two of its PriceDates give another first or last day"),
         Wrong::NoDate => with_text("PriceDate of role", " without Date"),
         Wrong::NotTwoDays => field("Date of PriceDate", text, " is not two days YYYYMMDD"),
         Wrong::Day => field("Date of PriceDate", text, " is not a day YYYYMMDD"),
@@ -238,8 +293,8 @@ fn words_of_product(kind: Wrong, text: &[u8]) -> Words {
     match kind {
         Wrong::NoMarketLeft => plain("every Market is left out"),
         Wrong::NoDetailLeft => plain("every SupplyDetail is left out"),
-        Wrong::IdentifierType => needed("ProductIDType", text, NO_CODE),
-        Wrong::IdentifierValue => needed("IDValue of ProductIdentifier", text, ""),
+        Wrong::IdentifierType => identifier_type(text),
+        Wrong::IdentifierValue => identifier_value(text),
         Wrong::RecordReference => needed("RecordReference", text, ""),
         Wrong::NotificationType => needed("NotificationType", text, NO_CODE),
         Wrong::NoIdentifierLeft => plain("no right ProductIdentifier"),
@@ -303,12 +358,22 @@ fn name_of(name: &'static [u8]) -> &'static str {
     }
 }
 
+// What two letters among regions leave out: themselves in a Territory, else all of it.
+fn thing_with_region(name: &'static [u8]) -> &'static str {
+    if name == b"Territory".as_slice() {
+        "region of RegionsIncluded"
+    } else {
+        name_of(name)
+    }
+}
+
 // Of what a note speaks.
 fn thing_of(note: Note<'_>) -> &'static str {
     match note.reason.kind {
         ReasonKind::Foreign(Foreign::RegionIncluded) => "region of RegionsIncluded",
         ReasonKind::Foreign(Foreign::RegionExcluded) => "region of RegionsExcluded",
         ReasonKind::Foreign(Foreign::CountryName) => "country",
+        ReasonKind::Wrong(Wrong::CountryAsRegion) => thing_with_region(note.line.name),
         _ => name_of(note.line.name),
     }
 }

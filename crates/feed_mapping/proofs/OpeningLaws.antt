@@ -18,7 +18,7 @@ use Rattle.onix_terms.specs.Number.{number_of}
 use Rattle.onix_terms.specs.Options.{◌>>=◌}
 use Rattle.onix_terms.specs.declared.party.Party.{Party}
 use Rattle.feed_mapping.specs.Elements.{text_or_empty}
-use Rattle.feed_mapping.specs.Header.{message_fields, parsed_opening}
+use Rattle.feed_mapping.specs.Header.{message_fields, parsed_opening, repeat_in}
 use Rattle.feed_mapping.specs.Parties.{Pair}
 use Rattle.feed_mapping.specs.Rows.{numbered}
 use Rattle.feed_mapping.proofs.RowLaws.{cond-then}
@@ -91,7 +91,7 @@ pub opening-numbered : (s a : Pair) (nodes : Nodes) (n m : List ℕ) (k : ℕ) (
     → opening_of (codes "Message" ∷ message_fields s a m nodes) ≡ Some (numbered k o)
 unfolding opening_of
 opening-numbered s a nodes n m k o digits is e =
-    let repeat = text_or_empty (codes "MessageRepeat") nodes in
+    let repeat = repeat_in nodes in
     let sent = text_or_empty (codes "SentDateTime") nodes in
     let price_type = text_or_empty (codes "DefaultPriceType") nodes in
     let currency = text_or_empty (codes "DefaultCurrencyCode") nodes in

@@ -1,13 +1,10 @@
 -- The first of some reasons.
-use Rattle.std.proofs.Common.{◌≡◌, ℕ, true, List, [], ◌∷◌, ◌++◌, Option, Some, None, refl, sym, ap}
-use Rattle.std.specs.Prelude.{codes, is_some}
-use Rattle.onix_records.specs.Price.{price_of}
-use Rattle.feed_mapping.specs.Outcomes.{outcome_records}
+use Rattle.std.proofs.Common.{◌≡◌, List, [], ◌∷◌, ◌++◌, Option, Some, None, refl}
 use Rattle.std.specs.Option.{option_or}
 use Rattle.feed_outline.specs.Nodes.{Nodes}
 use Rattle.feed_mapping.specs.Notes.{Reason}
-use Rattle.feed_mapping.specs.Prices.{PriceContext, early_reasons, outcome_of, price_fields, price_reasons, record_reason}
-use Rattle.feed_mapping.specs.Records.{first_some, parsed}
+use Rattle.feed_mapping.specs.Prices.{PriceContext, date_reason, early_reasons, last_reason, price_reasons}
+use Rattle.feed_mapping.specs.Records.{first_some}
 
 or_nothing : {A : Type 0} (x : Option A) → option_or x None ≡ x
 or_nothing None = refl
@@ -31,10 +28,10 @@ earlier_counts [] ys x e = absurd (differ e)
 earlier_counts (None ∷ xs) ys x e = earlier_counts xs ys x e
 earlier_counts (Some y ∷ xs) ys x e = cc
 
--- what the desk says of a Price counts where no earlier reason holds
-pub known : (context : PriceContext) (nodes : Nodes) → None ≡ first_some (early_reasons nodes) → first_some (price_reasons context nodes) ≡ record_reason context nodes
-known context nodes e = last_counts (early_reasons nodes) (record_reason context nodes) e
+-- what the desk and the Prices beside it say of a Price counts where no earlier reason holds
+pub known : (context : PriceContext) (nodes : Nodes) → None ≡ first_some (early_reasons (date_reason nodes) nodes) → first_some (price_reasons context nodes) ≡ last_reason context nodes
+known context nodes e = last_counts (early_reasons (date_reason nodes) nodes) (last_reason context nodes) e
 
--- a Price is left out for an earlier reason, whatever the desk says of it
-pub early : (context : PriceContext) (nodes : Nodes) (kind : Reason) → Some kind ≡ first_some (early_reasons nodes) → first_some (price_reasons context nodes) ≡ Some kind
-early context nodes kind e = earlier_counts (early_reasons nodes) (record_reason context nodes ∷ []) kind e
+-- a Price is left out for an earlier reason, whatever they say of it
+pub early : (context : PriceContext) (nodes : Nodes) (kind : Reason) → Some kind ≡ first_some (early_reasons (date_reason nodes) nodes) → first_some (price_reasons context nodes) ≡ Some kind
+early context nodes kind e = earlier_counts (early_reasons (date_reason nodes) nodes) (last_reason context nodes ∷ []) kind e

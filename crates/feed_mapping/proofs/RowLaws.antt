@@ -34,20 +34,20 @@ use Rattle.onix_records.proofs.FrontRows.{bind-some}
 use Rattle.onix_terms.specs.Code.{code2_of}
 use Rattle.onix_terms.specs.Territory.{countries_text, territory_of, world_text}
 use Rattle.onix_terms.specs.declared.territory.Territory.{Territory}
-use Rattle.feed_mapping.specs.Details.{context_in, detail_fields, detail_reasons, detail_reason, price_in, prices_in}
+use Rattle.feed_mapping.specs.Details.{context_in, detail_fields, detail_reasons, detail_reason, field_reason, old_supply, price_in, prices_in}
 use Rattle.feed_mapping.specs.Elements.{Composite, each_at, first}
-use Rattle.feed_mapping.specs.Markets.{first_kept, kept_area, kept_fields, kept_outcome, market_reason, markets_outcome, supply_record, territories_of, union_fields}
+use Rattle.feed_mapping.specs.Markets.{early_market_reasons, first_kept, kept_area, kept_fields, kept_outcome, market_reason, markets_outcome, supply_record, territories_of, union_fields}
 use Rattle.feed_mapping.proofs.MarketLaws.{joined_outcome}
 use Rattle.feed_mapping.specs.Notes.{Note, Reason, foreign, wrong}
 use Rattle.feed_mapping.specs.Outcomes.{Outcome, all_notes, all_records, left_out, nothing, outcome_reason, outcome_records, written_unless}
-use Rattle.feed_mapping.specs.Prices.{PriceContext, early_reasons, field_reasons, is_nothing, outcome_of, price_fields, price_outcome, price_reasons, record_reason}
+use Rattle.feed_mapping.specs.Prices.{PriceContext, closed_reason, date_reason, early_reasons, field_reasons, is_nothing, last_reason, outcome_of, price_fields, price_outcome, price_reasons, record_reason}
 use Rattle.feed_mapping.specs.ProductRecords.{variants, small_variants, smaller_variants, fate_by, records_by, supplies_in, too_large_notes, why_emptied}
 use Rattle.feed_mapping.specs.Products.{dropping, identifier_reason, identifiers_in, is_code, is_there, notification_in, or_reference, own_reason, pair_reason, product_record, reference_in, right_pair, right_pairs, type_of, value_of, value_written}
 use Rattle.feed_mapping.specs.Records.{clean, first_some, if_empty, is_field, parsed, parsed_term, unless, invalid}
 use Rattle.feed_mapping.specs.Rows.{AreOf, AreProducts, references_of}
 use Rattle.feed_mapping.specs.Supplies.{detail_in, detailed_outcome, details_in, supplies_reason, supply_in, supply_markets, supply_outcome}
 use Rattle.feed_mapping.specs.declared.notes.Foreign.TheVariants as other
-use Rattle.feed_mapping.specs.Territories.{Area, area_fields, area_in, area_reason, area_reasons, market_of, unsupported}
+use Rattle.feed_mapping.specs.Territories.{Area, area_fields, area_in, area_reason, area_reasons, market_of}
 use Rattle.feed_mapping.specs.Unions.{union}
 use Rattle.feed_mapping.specs.declared.notes.Wrong.TheVariants as bad
 use Rattle.feed_mapping.proofs.Utf8Laws.{are_utf8, ascii-field, empty-fields, named-utf8, territory-utf8, utf8-first, utf8-joined}
@@ -141,6 +141,14 @@ last-none [] (Some r) e = cc e
 last-none (None ∷ xs) y e = last-none xs y e
 last-none (Some r ∷ xs) y e = cc e
 
+or-none : {A : Type 0} (x y : Option A) → option_or x y ≡ None → y ≡ None
+or-none None y e = e
+or-none (Some a) y e = cc e
+
+or-first : {A : Type 0} (x y : Option A) → option_or x y ≡ None → x ≡ None
+or-first None y e = refl
+or-first (Some a) y e = cc e
+
 pub taken : {A B : Type 0} (x : Option A) (w : B) → (if is_some x then None else Some w) ≡ None → (p : A) × (x ≡ Some p)
 taken (Some p) w e = (p, refl)
 taken None w e = cc e
@@ -153,7 +161,8 @@ reason-rows : (context : PriceContext) (nodes : Nodes) (kind : Option Reason) �
     → ArePrices context.opening (outcome_records (outcome_of kind context nodes))
 reason-rows context nodes (Some kind) e = ([], no-rows context.opening)
 reason-rows context nodes None e =
-    let none : record_reason context nodes ≡ None = last-none (early_reasons nodes) (record_reason context nodes) e in
+    let last : last_reason context nodes ≡ None = last-none (early_reasons (date_reason nodes) nodes) (last_reason context nodes) e in
+    let none : record_reason context nodes ≡ None = or-first (record_reason context nodes) (closed_reason context nodes) last in
     let (p, read) = taken (parsed (price_of context.opening) (price_fields context nodes)) (unwrap_or (first_some (field_reasons context.opening nodes)) (wrong bad.Price [])) none in
     let s = said-read (price_of context.opening) (price_fields context nodes) p read in (
       p ∷ [],
@@ -197,7 +206,8 @@ detail-rows : (o : Opening) (preferred : List ℕ) (nodes : Nodes) (kind : Optio
 detail-rows o preferred nodes (Some kind) e = ([], no-rows o)
 detail-rows o preferred nodes None e =
     let fields = detail_fields preferred nodes in
-    let (d, read) = taken (parsed detail_of fields) (unwrap_or (first_some (detail_reasons preferred nodes)) (wrong bad.SupplyDetail [])) e in
+    let none = or-none (option_map (wrong bad.OldElement) (old_supply nodes)) (field_reason preferred nodes) e in
+    let (d, read) = taken (parsed detail_of fields) (unwrap_or (first_some (detail_reasons preferred nodes)) (wrong bad.SupplyDetail [])) none in
     let s = said-read detail_of fields d read in
     let (ps, prices) = prices-rows o nodes (prices_in nodes) in (
       record d { prices = ps } ∷ [],
@@ -253,10 +263,6 @@ held-row o a s held ts fields e = go (length ts == 1) e
     go true f = subst (λ (k : List (List ℕ)). IsSupply o (supply_record k)) (same_Some _ fields f) (stands-row o a s held)
     go false f = joined-row o a s held (union ts) fields f
 
-or-none : {A : Type 0} (x y : Option A) → option_or x y ≡ None → y ≡ None
-or-none None y e = e
-or-none (Some a) y e = cc e
-
 -- the desk takes the first Market that is not left out
 held-market : (ms : List Composite) (a : Area) → first_some (map kept_area ms) ≡ Some a → (s : ProductSupply) × (market_of a ≡ Some s)
 held-market [] a e = cc e
@@ -268,7 +274,7 @@ held-market (m ∷ ms) a e = go (market_reason (area_in m.below)) refl (held-mar
     go : (r : Option Reason) → market_reason own ≡ r → (first_some (map kept_area ms) ≡ Some a → (s : ProductSupply) × (market_of a ≡ Some s)) → (s : ProductSupply) × (market_of a ≡ Some s)
     go None is later =
         let now : Some own ≡ Some a = rw is at e in
-        let none = or-none (unsupported own) (area_reason own) is in
+        let none = or-none (first_some (early_market_reasons own)) (area_reason own) is in
         subst (λ (k : Area). (s : ProductSupply) × (market_of k ≡ Some s)) (same_Some own a now)
         (taken (market_of own) (unwrap_or (first_some (area_reasons own)) (wrong bad.Territory [])) none)
     go (Some reason) is later = let now : first_some (map kept_area ms) ≡ Some a = rw is at e in later now

@@ -1,7 +1,7 @@
 -- The days between which a Price holds, by its PriceDates.
 use Prim.Native.String.{String}
-use Rattle.std.specs.Prelude.{ℕ, ℤ, Bool, true, ◌==◌, ◌&&◌, not, List, [], ◌∷◌, ◌++◌, length, map}
-use Rattle.std.specs.Prelude.{take, drop, find, Option, Some, None, Result, Ok}
+use Rattle.std.specs.Prelude.{ℕ, ℤ, Bool, true, ◌==◌, ◌&&◌, ◌||◌, not, List, [], ◌∷◌, ◌++◌, length}
+use Rattle.std.specs.Prelude.{map, fold, int_lt, take, drop, find, Option, Some, None, Result, Ok}
 use Rattle.std.specs.Prelude.{Err, if◌then◌else◌, codes, option_map, option_and_then, unwrap_or}
 use Rattle.std.specs.List.{list_any}
 use Rattle.std.specs.Option.{option_map_or, option_or, ok_or}
@@ -11,12 +11,14 @@ use Rattle.feed_xml.specs.Grammar.{is_filled}
 use Rattle.feed_outline.specs.Nodes.{Nodes}
 use Rattle.onix_terms.specs.Day.{day_of}
 use Rattle.onix_terms.specs.Options.{◌>>=◌}
-use Rattle.feed_mapping.specs.Elements.{Element, each_at, some_at, text_at}
+use Rattle.feed_mapping.specs.Again.{again_in}
+use Rattle.feed_mapping.specs.Elements.{Composite, Element, each_at, some_at, text_at}
 use Rattle.feed_mapping.specs.Notes.{Reason, foreign, is_wrong, wrong}
 use Rattle.feed_mapping.specs.Records.{first_some, parsed_term}
 use Rattle.feed_mapping.specs.declared.dates.Days.{Days}
 use Rattle.feed_mapping.specs.declared.notes.Foreign.TheVariants.{DateFormat}
-use Rattle.feed_mapping.specs.declared.notes.Wrong.TheVariants.{Day, NoDate, NotTwoDays}
+use Rattle.feed_mapping.specs.declared.notes.Wrong.TheVariants.{ComesAgain, DateRole, Day, NoDate}
+use Rattle.feed_mapping.specs.declared.notes.Wrong.TheVariants.{NotTwoDays, OtherDay}
 
 -- the first and the last day, each where there is one
 abbrev pub days : Option ℤ → Option ℤ → Days
@@ -96,6 +98,11 @@ two_days text =
 
 -- ---- a PriceDate
 
+-- what a PriceDate says, unless this element comes again in it
+abbrev pub unless_again : Option (List ℕ) → Dated → Dated
+unless_again (Some name) (Ok d) = Err (wrong ComesAgain name)
+unless_again other dated = dated
+
 -- the days of a text of this format
 abbrev pub parsed_days : List ℕ → List ℕ → Dated
 parsed_days format text = ok_or (in_format format text) (wrong Day text)
@@ -118,39 +125,49 @@ module _ (nodes : Nodes) where
       then option_map_or (λ date. read date.text) date_in (Err (wrong NoDate role))
       else Err (foreign DateFormat format_in)
 
-  -- What a PriceDate says: by its role the first day, the last day or both. Another role says
-  -- nothing.
-  abbrev pub days_of : Dated
-  days_of =
+  -- what a PriceDate says by its role: the first day, the last day or both
+  abbrev pub days_by_role : Dated
+  days_by_role =
       let role = text_at "PriceDateRole" nodes in
       let one = role_days formats (parsed_days format_in) role in
       if bytes_eq role (codes "14") then result_map_both (λ d. days d.first None) (λ e. e) one
       else if bytes_eq role (codes "15") then result_map_both (λ d. days None d.last) (λ e. e) one
       else if bytes_eq role (codes "24") then role_days (codes "06" ∷ []) two_days role
-      else Ok (days None None)
+      else Err (wrong DateRole role)
+
+  -- the same, unless an element in it comes again
+  abbrev pub days_of : Dated
+  days_of = unless_again (again_in nodes) days_by_role
 
 -- ---- several PriceDates
 
--- of two first days the former counts, and so of last days
-abbrev pub or_days : Days → Days → Days
-or_days a b = days (option_or a.first b.first) (option_or a.last b.last)
+-- two days are one, where both are there
+abbrev pub are_one : Option ℤ → Option ℤ → Bool
+are_one (Some a) (Some b) = not (int_lt a b || int_lt b a)
+are_one a b = true
+
+-- the days of both, which give no first and no last day that is another
+abbrev pub or_days : Days → Days → Dated
+or_days a b =
+    if are_one a.first b.first && are_one a.last b.last
+    then Ok (days (option_or a.first b.first) (option_or a.last b.last))
+    else Err (wrong OtherDay [])
 
 -- of two reasons the first that is foreign, else the first
 abbrev pub graver : Reason → Reason → Reason
 graver a b = if is_wrong a.kind && not (is_wrong b.kind) then b else a
 
--- two that follow each other
+-- one more behind what others say
 abbrev pub and_days : Dated → Dated → Dated
-and_days (Ok a) (Ok b) = Ok (or_days a b)
+and_days (Ok a) (Ok b) = or_days a b
 and_days (Ok a) (Err e) = Err e
 and_days (Err e) (Ok b) = Err e
 and_days (Err e) (Err f) = Err (graver e f)
 
--- the days of several PriceDates, or why their Price is left out
-abbrev pub all_days : List Dated → Dated
-all_days [] = Ok (days None None)
-all_days (d ∷ more) = and_days d (all_days more)
+-- the days of PriceDates behind others that say this
+abbrev pub days_behind : Dated → List Composite → Dated
+days_behind before dates = fold (λ held c. and_days held (days_of c.below)) before dates
 
--- the days of a Price
+-- the days of a Price, or why its PriceDates leave it out
 abbrev pub days_in : Nodes → Dated
-days_in nodes = all_days (map (λ c. days_of c.below) (each_at "PriceDate" nodes))
+days_in nodes = days_behind (Ok (days None None)) (each_at "PriceDate" nodes)

@@ -1,5 +1,6 @@
 -- A SupplyDetail: the records that are written of it and of its Prices.
 use Rattle.std.specs.Prelude.{ℕ, List, [], ◌∷◌, Option, None, if◌then◌else◌, codes, is_some, map}
+use Rattle.std.specs.Prelude.{option_map}
 use Rattle.std.specs.Option.{option_or, unwrap_or}
 use Rattle.feed_xml.specs.Grammar.{is_filled}
 use Rattle.feed_outline.specs.Nodes.{Nodes}
@@ -10,19 +11,22 @@ use Rattle.onix_records.specs.Fields.{optional}
 use Rattle.onix_records.specs.declared.row.Opening.{Opening}
 use Rattle.feed_mapping.specs.Elements.{Composite, below_at, each_at, some_at, text_at}
 use Rattle.feed_mapping.specs.Identifiers.{chosen, identifiers_in}
-use Rattle.feed_mapping.specs.Notes.{Reason, Reasons}
+use Rattle.feed_mapping.specs.Notes.{Reason, Reasons, wrong}
 use Rattle.feed_mapping.specs.Outcomes.{Outcome, all_notes, all_records, written_unless}
 use Rattle.feed_mapping.specs.Parties.{Pair, is_there, pair}
-use Rattle.feed_mapping.specs.Prices.{PriceContext, price_outcome}
+use Rattle.feed_mapping.specs.Prices.{PriceContext, closing_keys, first_with_text, price_outcome}
 use Rattle.feed_mapping.specs.Records.{Fields, desk_reason, first_some, is_field, option_filter}
 use Rattle.feed_mapping.specs.Records.{parsed}
 use Rattle.feed_mapping.specs.Records.{parsed_term, unless, invalid}
 use Rattle.feed_mapping.specs.declared.notes.Wrong.TheVariants as bad
+use Rattle.feed_mapping.specs.declared.prices.Key.{Key}
 
--- the UnpricedItemType of a Price without an amount
+-- the UnpricedItemType of a Price without an amount, where it is a code
 abbrev pub unpriced_price : Nodes → Option (List ℕ)
 unpriced_price nodes =
-    if is_some (some_at "PriceAmount" nodes) then None else some_at "UnpricedItemType" nodes
+    if is_some (some_at "PriceAmount" nodes) then None
+    else option_filter (λ text. is_some (parsed_term code2_of text))
+    (some_at "UnpricedItemType" nodes)
 
 module _ (nodes : Nodes) where
   abbrev pub prices_in : List Composite
@@ -32,11 +36,17 @@ module _ (nodes : Nodes) where
   abbrev pub supplier_in : Nodes
   supplier_in = below_at "Supplier" nodes
 
-  -- the UnpricedItemType of a SupplyDetail, else the first one of its Prices that have no amount
+  -- the UnpricedItemType of a SupplyDetail, else the first code of its Prices that have no amount
   abbrev pub unpriced_in : Option (List ℕ)
   unpriced_in =
       option_or (some_at "UnpricedItemType" nodes)
       (first_some (map (λ c. unpriced_price c.below) prices_in))
+
+  -- the name of the first of the elements of ONIX 2.1 that say where a SupplyDetail holds
+  abbrev pub old_supply : Option (List ℕ)
+  old_supply =
+      first_with_text nodes (codes "SupplyToCountry" ∷ codes "SupplyToRegion"
+      ∷ codes "SupplyToCountryExcluded" ∷ codes "SupplyToTerritory" ∷ [])
 
   -- the OrderQuantityMinimum, where it is a quantity
   abbrev pub default_minimum : Option (List ℕ)
@@ -81,19 +91,30 @@ module _ (preferred : List ℕ) (nodes : Nodes) where
       ∷ invalid (optional (parsed_term code2_of)) bad.Unpriced (unwrap_or (unpriced_in nodes) [])
       ∷ []
 
-  -- why a SupplyDetail is left out, where the desk would not take it
-  abbrev pub detail_reason : Option Reason
-  detail_reason =
+  -- why the desk would not take the record of a SupplyDetail, where it would not
+  abbrev pub field_reason : Option Reason
+  field_reason =
       desk_reason (is_some (parsed detail_of detail_fields)) detail_reasons bad.SupplyDetail
 
+  -- why a SupplyDetail is left out, where it is
+  abbrev pub detail_reason : Option Reason
+  detail_reason = option_or (option_map (wrong bad.OldElement) (old_supply nodes)) field_reason
+
 module _ (o : Opening) where
-  -- the context of the Prices of a SupplyDetail
-  abbrev pub context_in : Nodes → PriceContext
-  context_in nodes = record {
+  -- the context of the Prices of a SupplyDetail, by what closes them
+  abbrev pub context_by : List Key → Nodes → PriceContext
+  context_by closed nodes = record {
     opening = o;
     is_unpriced = is_some (unpriced_in nodes);
     minimum = default_minimum nodes;
+    closed = closed;
   }
+
+  -- the context of the Prices of a SupplyDetail: those close others that would be written but for
+  -- their PriceDates
+  abbrev pub context_in : Nodes → PriceContext
+  context_in nodes =
+      context_by (closing_keys (context_by [] nodes) (prices_in nodes)) nodes
 
   -- what a Price of a SupplyDetail with these elements comes to
   abbrev pub price_in : Nodes → Composite → Outcome

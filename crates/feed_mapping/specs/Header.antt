@@ -1,6 +1,7 @@
 -- The Header: what the first record of each part of the message says, or why the message is
 -- refused.
-use Rattle.std.specs.Prelude.{ℕ, ◌+◌, ◌-◌, ◌*◌, List, [], ◌∷◌, Option, Some, None, find}
+use Rattle.std.specs.Prelude.{ℕ, Bool, ◌+◌, ◌-◌, ◌*◌, ◌==◌, List, [], ◌∷◌, Option, Some, None}
+use Rattle.std.specs.Prelude.{find, is_some}
 use Rattle.std.specs.Prelude.{Result, Ok, Err, if◌then◌else◌, codes, decimal, option_map}
 use Rattle.std.specs.List.{list_all, list_any}
 use Rattle.std.specs.Option.{ok_or, option_map_or}
@@ -8,8 +9,9 @@ use Rattle.std.specs.Str.{is_utf8}
 use Rattle.feed_outline.specs.Nodes.{Nodes, no_nodes}
 use Rattle.onix_records.specs.Opening.{opening_of}
 use Rattle.onix_records.specs.declared.row.Opening.{Opening}
+use Rattle.onix_terms.specs.Digits.{digits_of}
 use Rattle.onix_terms.specs.Number.{number_from, number_of}
-use Rattle.feed_mapping.specs.Elements.{Composite, below_at, each_at, some_at, text_at}
+use Rattle.feed_mapping.specs.Elements.{Composite, below_at, each_at, first, some_at, text_at}
 use Rattle.feed_mapping.specs.Identifiers.{chosen, identifiers_in}
 use Rattle.feed_mapping.specs.Parties.{Pair, is_whole, pair, same_pair}
 use Rattle.feed_mapping.specs.Records.{Fields, parsed_term}
@@ -71,12 +73,21 @@ meant p addressees =
     let found = find (λ a. list_any (same_pair p) (addressee_ids a.below)) addressees in
     ok_or (option_map (λ a. a.below) found) why.NoSuchAddressee
 
--- what stands in the addressee: of one it is that, of several the one that the caller means
+-- one of them has an identifier
+abbrev pub are_identified : List Composite → Bool
+are_identified addressees = list_any (λ a. is_some (first (addressee_ids a.below))) addressees
+
+-- of several addressees the one that the caller means
+abbrev pub picked : Option Pair → List Composite → Result Nodes HeaderRefusal
+picked None several = Err why.SeveralAddressees
+picked (Some p) several = meant p several
+
+-- what stands in the addressee: of one it is that, of several the one that the caller means, unless
+-- none has an identifier: then they are as one without
 abbrev pub addressee_in : Option Pair → List Composite → Result Nodes HeaderRefusal
 addressee_in p [] = Ok no_nodes
 addressee_in p (a ∷ []) = Ok a.below
-addressee_in None several = Err why.SeveralAddressees
-addressee_in (Some p) several = meant p several
+addressee_in p several = if are_identified several then picked p several else Ok no_nodes
 
 -- the type and the value of the addressee, both empty where there is none
 abbrev pub addressee_pair : Choices → Nodes → Result Pair HeaderRefusal
@@ -86,11 +97,16 @@ addressee_pair c nodes = do
 
 -- ---- number
 
+-- a text behind its leading zeros
+abbrev pub behind_zeros : List ℕ → List ℕ
+behind_zeros [] = []
+behind_zeros (b ∷ text) = if b == 48 then behind_zeros text else b ∷ text
+
 -- the number of the Header with what is added to it
 abbrev pub added : ℕ → Option (List ℕ) → Result ℕ HeaderRefusal
 added offset None = Err why.NoNumber
 added offset (Some text) = do
-  n ← ok_or (parsed_term number_of text) why.WrongNumber
+  n ← ok_or (parsed_term number_of (behind_zeros text)) why.WrongNumber
   ok_or (number_from (n + offset)) why.NumberTooGreat
 
 -- the message of this number has so many parts, and the last of them this number: so the first has
@@ -108,12 +124,18 @@ number_in c nodes = do
 
 -- ---- the record
 
+-- the MessageRepeat: one that is not 1 to 9 digits is as absent, since it decides nothing
+abbrev pub repeat_in : Nodes → List ℕ
+repeat_in nodes =
+    let text = text_at "MessageRepeat" nodes in
+    if is_some (parsed_term digits_of text) then text else []
+
 -- the fields behind the name of the record with which a part of this number begins, in form 2, each
 -- as it stands
 abbrev pub message_fields : Pair → Pair → List ℕ → Nodes → Fields
 message_fields sender addressee number nodes =
     codes "2" ∷ sender.id_type ∷ sender.id_value ∷ addressee.id_type ∷ addressee.id_value ∷ number
-    ∷ text_at "MessageRepeat" nodes ∷ text_at "SentDateTime" nodes
+    ∷ repeat_in nodes ∷ text_at "SentDateTime" nodes
     ∷ text_at "DefaultPriceType" nodes ∷ text_at "DefaultCurrencyCode" nodes ∷ []
 
 -- what the desk reads of the record Message with these fields

@@ -1,6 +1,6 @@
 -- The Markets of a ProductSupply, as one.
 use Rattle.std.specs.Prelude.{◌≡◌, Bool, true, false, ◌==◌, List, [], ◌∷◌, length, Option, Some}
-use Rattle.std.specs.Prelude.{None, is_none, if◌then◌else◌, codes, map, not, option_map}
+use Rattle.std.specs.Prelude.{None, is_none, is_some, if◌then◌else◌, codes, map, not, option_map}
 use Rattle.std.specs.Prelude.{option_and_then, option_to_list, Result, Ok, Err}
 use Rattle.std.specs.List.{flat_map, list_any}
 use Rattle.std.specs.Option.{option_map_or, option_or}
@@ -8,11 +8,12 @@ use Rattle.onix_records.specs.Fields.{territory_fields}
 use Rattle.onix_records.specs.Supply.{supply_of}
 use Rattle.onix_terms.specs.declared.territory.Territory.{Territory}
 use Rattle.feed_mapping.specs.Elements.{Composite}
-use Rattle.feed_mapping.specs.Notes.{Note, Reason, foreign, is_wrong, note, reason_view, wrong}
+use Rattle.feed_mapping.specs.Notes.{Note, Reason, Reasons, foreign, is_wrong, note, reason_view}
+use Rattle.feed_mapping.specs.Notes.{wrong}
 use Rattle.feed_mapping.specs.Outcomes.{Outcome, left_out, written}
-use Rattle.feed_mapping.specs.Records.{Fields, clean, first_some}
+use Rattle.feed_mapping.specs.Records.{Fields, clean, first_some, unless}
 use Rattle.feed_mapping.specs.Territories.{Area, area_fields, area_in, area_reason, market_of}
-use Rattle.feed_mapping.specs.Territories.{territory_notes, unsupported}
+use Rattle.feed_mapping.specs.Territories.{form_reasons, territory_notes, unsupported}
 use Rattle.feed_mapping.specs.Unions.{union}
 use Rattle.feed_mapping.specs.declared.notes.Foreign.TheVariants as other
 use Rattle.feed_mapping.specs.declared.notes.Reason.{Reason as LentReason}
@@ -20,9 +21,18 @@ use Rattle.feed_mapping.specs.declared.notes.Wrong.TheVariants as bad
 
 -- ---- one Market
 
+-- that a Market has no Territory: it does not say where, and that is not the world
+abbrev pub no_territory : Area → Option Reason
+no_territory area = unless (is_some area.territory) bad.NoTerritory []
+
+-- why a Market is left out, whatever countries it names, each where it holds
+abbrev pub early_market_reasons : Area → Reasons
+early_market_reasons area =
+    unsupported area ∷ first_some (form_reasons area) ∷ no_territory area ∷ []
+
 -- why a Market is left out, where it is: the desk does not support it, or would not take it
 abbrev pub market_reason : Area → Option Reason
-market_reason area = option_or (unsupported area) (area_reason area)
+market_reason area = option_or (first_some (early_market_reasons area)) (area_reason area)
 
 module _ (m : Composite) where
   -- what its Territory says, unless it is left out

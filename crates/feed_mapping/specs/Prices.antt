@@ -1,10 +1,11 @@
 -- A Price: the record that is written of it, or why it is left out.
 use Prim.Native.String.{String}
-use Rattle.std.specs.Prelude.{ℕ, Bool, false, ◌+◌, ◌&&◌, ◌==◌, nat_lt, drop, length, position, take}
+use Rattle.std.specs.Prelude.{ℕ, Bool, false, ◌+◌, ◌&&◌, ◌||◌, ◌==◌, nat_lt, drop, length}
+use Rattle.std.specs.Prelude.{position, take}
 use Rattle.std.specs.Prelude.{List, [], ◌∷◌, ◌++◌, Option, Some, None, if◌then◌else◌, codes}
 use Rattle.std.specs.Prelude.{find, map, not, option_map, is_none, is_some}
 use Rattle.std.specs.Char.{is_ascii_digit}
-use Rattle.std.specs.List.{flat_map, list_all}
+use Rattle.std.specs.List.{flat_map, list_all, list_any}
 use Rattle.std.specs.Option.{option_map_or, option_or, option_to_list, unwrap_or}
 use Rattle.std.specs.Result.{result_err, result_unwrap_or}
 use Rattle.std.specs.Str.{bytes_eq}
@@ -18,31 +19,35 @@ use Rattle.onix_terms.specs.Code.{code2_of, currency_of}
 use Rattle.onix_terms.specs.Quantity.{quantity_of}
 use Rattle.feed_mapping.specs.Dates.{days, days_in}
 use Rattle.feed_mapping.specs.declared.dates.Days.{Days}
-use Rattle.feed_mapping.specs.Elements.{composites, each_at, first, some_at, text_at}
+use Rattle.feed_mapping.specs.Elements.{Composite, composites, each_at, first, some_at, text_at}
 use Rattle.feed_mapping.specs.Notes.{Note, Reason, Reasons, foreign, is_wrong, note}
 use Rattle.feed_mapping.specs.Notes.{wrong}
 use Rattle.feed_mapping.specs.Outcomes.{Outcome, nothing, written_unless}
 use Rattle.feed_mapping.specs.Records.{Fields, desk_reason, first_some, option_filter, parsed}
 use Rattle.feed_mapping.specs.Records.{parsed_term}
 use Rattle.feed_mapping.specs.Records.{invalid}
-use Rattle.feed_mapping.specs.Territories.{Area, area_fields, area_in, area_reason}
+use Rattle.feed_mapping.specs.Territories.{Area, area_fields, area_in, area_reason, form_reasons}
 use Rattle.feed_mapping.specs.Territories.{territory_notes, unsupported}
 use Rattle.feed_mapping.specs.declared.notes.Foreign.{Foreign}
-use Rattle.feed_mapping.specs.declared.notes.Foreign.TheVariants.{CurrencyZone, Discount}
+use Rattle.feed_mapping.specs.declared.notes.Foreign.TheVariants.{BesideDates, CurrencyZone}
+use Rattle.feed_mapping.specs.declared.notes.Foreign.TheVariants.{Discount, EpubLicenseWithDate}
 use Rattle.feed_mapping.specs.declared.notes.Foreign.TheVariants.{DiscountCoded, EpubLicense}
 use Rattle.feed_mapping.specs.declared.notes.Foreign.TheVariants.{MoreDecimals, NoCharge}
 use Rattle.feed_mapping.specs.declared.notes.Foreign.TheVariants.{PriceCoded, PriceCondition}
 use Rattle.feed_mapping.specs.declared.notes.Foreign.TheVariants.{PriceConstraint, PricePer}
 use Rattle.feed_mapping.specs.declared.notes.Foreign.TheVariants.{PriceQualifier}
 use Rattle.feed_mapping.specs.declared.notes.Wrong.TheVariants as bad
+use Rattle.feed_mapping.specs.declared.prices.Key.{Key}
 use Rattle.feed_mapping.specs.declared.prices.PriceContext.{PriceContext as Lent}
 
 -- The context of a Price: what its message begins with, whether the record of its SupplyDetail has
--- an UnpricedItemType, and the quantity that stands for a minimum that it does not have.
+-- an UnpricedItemType, the quantity that stands for a minimum that is not greater, and the types
+-- and currencies of which a Price beside it is left out for its PriceDates alone.
 pub record PriceContext : Type 0 where
   pub opening : Opening
   pub is_unpriced : Bool
   pub minimum : Option (List ℕ)
+  pub closed : List Key
 
 -- ---- the record
 
@@ -72,6 +77,19 @@ module _ (nodes : Nodes) where
   abbrev pub own_minimum : Option (List ℕ)
   own_minimum = option_filter (λ text. not (are_zeros text)) (some_at "MinimumOrderQuantity" nodes)
 
+-- whether a quantity is greater than another, where both are quantities
+abbrev pub is_greater : Option ℕ → Option ℕ → Bool
+is_greater (Some n) (Some m) = nat_lt m n
+is_greater n m = false
+
+-- a minimum that is written where another stands for it that is greater
+abbrev pub greater_of : Option (List ℕ) → Option (List ℕ) → Option (List ℕ)
+greater_of None other = other
+greater_of (Some own) None = Some own
+greater_of (Some own) (Some other) =
+    if is_greater (parsed_term quantity_of other) (parsed_term quantity_of own) then Some other
+    else Some own
+
 -- The fields that each Price has behind its name, empty where it has none: type, amount, currency,
 -- territory, the first and the last day.
 abbrev pub eight_fields : Area → Days → Nodes → Fields
@@ -83,12 +101,16 @@ eight_fields a d nodes =
 abbrev pub price_fields : PriceContext → Nodes → Fields
 price_fields context nodes =
     eight_fields (area_in nodes) (right_days nodes) nodes
-    ++ option_to_list (option_or (own_minimum nodes) context.minimum)
+    ++ option_to_list (greater_of (own_minimum nodes) context.minimum)
 
 -- ---- why a Price is left out
 
 abbrev pub is_other : List ℕ → Bool
 is_other code = not (bytes_eq code (codes "00"))
+
+-- a PriceQualifier that is not that of the ordinary price, as 00 and 05 are, the consumer's
+abbrev pub is_other_qualifier : List ℕ → Bool
+is_other_qualifier code = not (bytes_eq code (codes "00") || bytes_eq code (codes "05"))
 
 -- what stands behind the digits at the front
 abbrev pub behind_digits : List ℕ → List ℕ
@@ -119,36 +141,50 @@ module _ (nodes : Nodes) where
   abbrev pub mark_in : String → Option (List ℕ)
   mark_in name = option_map (λ c. []) (first (each_at name nodes))
 
+  -- the first of these names by which an element has a text
+  abbrev pub first_with_text : List (List ℕ) → Option (List ℕ)
+  first_with_text names = find (λ name. is_some (text_in name nodes)) names
+
   -- the name of the first of the elements of ONIX 2.1 that say what a Price is
   abbrev pub old_element : Option (List ℕ)
   old_element =
-      find (λ name. is_some (text_in name nodes))
-      (codes "PriceTypeCode" ∷ codes "PriceEffectiveFrom" ∷ codes "PriceEffectiveUntil"
-      ∷ codes "CountryCode" ∷ [])
+      first_with_text (codes "PriceTypeCode" ∷ codes "ClassOfTrade" ∷ codes "PriceEffectiveFrom"
+      ∷ codes "PriceEffectiveUntil" ∷ codes "CountryCode" ∷ codes "CountryExcluded"
+      ∷ codes "TerritoryExcluded" ∷ codes "(j303)" ∷ [])
 
-  -- for where, for how much and between which days a Price holds; behind those the elements of
-  -- ONIX 2.1, and dates that are none
+-- why the PriceDates of a Price leave it out, where they do
+abbrev pub date_reason : Nodes → Option Reason
+date_reason nodes = result_err (days_in nodes)
+
+module _ (dated : Option Reason) (nodes : Nodes) where
+  -- for where, for how much and between which days a Price holds; behind those what is wrong:
+  -- the elements of ONIX 2.1, a territory that does not say where, and its dates
   abbrev pub late_reasons : Reasons
   late_reasons =
       unsupported (area_in nodes)
       ∷ option_map (foreign MoreDecimals)
       (option_filter has_more_decimals (Some (amount_written nodes)))
       ∷ option_map (foreign NoCharge) (option_filter is_zero (Some (amount_written nodes)))
-      ∷ option_filter (λ r. not (is_wrong r.kind)) (result_err (days_in nodes))
-      ∷ option_map (wrong bad.OldElement) old_element
-      ∷ option_filter (λ r. is_wrong r.kind) (result_err (days_in nodes))
+      ∷ option_filter (λ r. not (is_wrong r.kind)) dated
+      ∷ option_map (wrong bad.OldElement) (old_element nodes)
+      ∷ first_some (form_reasons (area_in nodes))
+      ∷ option_filter (λ r. is_wrong r.kind) dated
       ∷ []
 
-  -- why a Price is another than the desk knows, each where it holds
+  -- why a Price with these dates is another than the desk knows, each where it holds
   abbrev pub early_reasons : Reasons
   early_reasons =
-      option_map (foreign PriceQualifier) (option_filter is_other (some_at "PriceQualifier" nodes))
+      option_map (foreign PriceQualifier)
+      (option_filter is_other_qualifier (some_at "PriceQualifier" nodes))
       ∷ option_map (foreign PricePer) (option_filter is_other (some_at "PricePer" nodes))
-      ∷ option_map (foreign PriceCondition) (other_type "PriceCondition" "PriceConditionType")
-      ∷ option_map (foreign PriceConstraint) (other_type "PriceConstraint" "PriceConstraintType")
-      ∷ option_map (foreign PriceCoded) (mark_in "PriceCoded")
+      ∷ option_map (foreign PriceCondition)
+      (other_type nodes "PriceCondition" "PriceConditionType")
+      ∷ option_map (foreign PriceConstraint)
+      (other_type nodes "PriceConstraint" "PriceConstraintType")
+      ∷ option_map (foreign PriceCoded) (mark_in nodes "PriceCoded")
       ∷ option_map (foreign CurrencyZone) (some_at "CurrencyZone" nodes)
-      ∷ option_map (foreign EpubLicense) (mark_in "EpubLicense")
+      ∷ option_map (foreign EpubLicense) (mark_in nodes "EpubLicense")
+      ∷ option_map (foreign EpubLicenseWithDate) (mark_in nodes "EpubLicenseWithDate")
       ∷ late_reasons
 
 -- Which fields of a Price the desk does not take, each where it does not: it is outside its
@@ -164,17 +200,47 @@ field_reasons o nodes =
     ∷ invalid (optional (parsed_term quantity_of)) bad.Quantity (unwrap_or (own_minimum nodes) [])
     ∷ []
 
+-- the price type and the currency of a Price, or those of the header
+abbrev pub key_in : Opening → Nodes → Key
+key_in o nodes = record {
+  price_type = or_default (parsed_term code2_of) o.header.default_type (text_at "PriceType" nodes);
+  currency =
+      or_default (parsed_term currency_of) o.header.default_currency
+      (text_at "CurrencyCode" nodes);
+}
+
+-- two codes that are there and the same
+abbrev pub are_same : Option (List ℕ) → Option (List ℕ) → Bool
+are_same (Some a) (Some b) = bytes_eq a b
+are_same a b = false
+
+abbrev pub is_key : Key → Key → Bool
+is_key a b = are_same a.price_type b.price_type && are_same a.currency b.currency
+
 module _ (context : PriceContext) (nodes : Nodes) where
+  -- whether the desk takes the record of a Price
+  abbrev pub is_taken : Bool
+  is_taken = is_some (parsed (price_of context.opening) (price_fields context nodes))
+
   -- a Price of which the desk would not take the record, for the first field that it does not take,
   -- if it is one of those
   abbrev pub record_reason : Option Reason
-  record_reason =
-      desk_reason (is_some (parsed (price_of context.opening) (price_fields context nodes)))
-      (field_reasons context.opening nodes) bad.Price
+  record_reason = desk_reason is_taken (field_reasons context.opening nodes) bad.Price
+
+  -- that a Price beside this one, of its type and currency, is left out for its PriceDates alone:
+  -- it might stand in the place of this one
+  abbrev pub closed_reason : Option Reason
+  closed_reason =
+      if list_any (is_key (key_in context.opening nodes)) context.closed
+      then Some (foreign BesideDates []) else None
+
+  -- why a Price is left out that is none other than the desk knows
+  abbrev pub last_reason : Option Reason
+  last_reason = option_or record_reason closed_reason
 
   -- why a Price is left out, each where it holds: what is both foreign and wrong is foreign
   abbrev pub price_reasons : Reasons
-  price_reasons = early_reasons nodes ++ record_reason ∷ []
+  price_reasons = early_reasons (date_reason nodes) nodes ++ last_reason ∷ []
 
 -- ---- what a Price comes to
 
@@ -208,6 +274,18 @@ module _ (context : PriceContext) (nodes : Nodes) where
       if is_nothing then nothing
       else outcome_of (first_some (price_reasons context nodes)) context nodes
 
+-- the type and currency of a Price that would be written but for its PriceDates
+abbrev pub closing_key : PriceContext → Nodes → Option Key
+closing_key context nodes =
+    if is_nothing context nodes || is_none (date_reason nodes) then None
+    else if is_none (first_some (early_reasons None nodes)) && is_taken context nodes
+    then Some (key_in context.opening nodes)
+    else None
+
+-- those of some Prices
+abbrev pub closing_keys : PriceContext → List Composite → List Key
+closing_keys context prices = flat_map (λ p. option_to_list (closing_key context p.below)) prices
+
 -- ---- without where it lies in memory
 
 abbrev pub context_view : Lent → PriceContext
@@ -215,4 +293,5 @@ context_view a = record {
   opening = a.opening.now;
   is_unpriced = a.is_unpriced;
   minimum = option_map (λ t. t.now) a.minimum;
+  closed = a.closed.now;
 }

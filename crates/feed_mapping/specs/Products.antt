@@ -12,9 +12,12 @@ use Rattle.feed_outline.specs.Names.{stranger}
 use Rattle.feed_outline.specs.Nodes.{Nodes, no_nodes, node}
 use Rattle.onix_terms.specs.Code.{code2_of, isbn13_of}
 use Rattle.feed_mapping.specs.Elements.{Composite, each_at, text_at}
-use Rattle.feed_mapping.specs.Notes.{Note, Reason, Reasons, reason_notes}
+use Rattle.feed_mapping.specs.Notes.{Note, Reason, Reasons, note}
 use Rattle.feed_mapping.specs.Records.{Fields, first_some, is_field, parsed_term}
 use Rattle.feed_mapping.specs.Records.{unless, invalid}
+use Rattle.feed_mapping.specs.declared.notes.Foreign.TheVariants as other
+use Rattle.feed_mapping.specs.declared.notes.ReasonKind.{ReasonKind}
+use Rattle.feed_mapping.specs.declared.notes.ReasonKind.TheVariants.{Foreign, Wrong}
 use Rattle.feed_mapping.specs.declared.notes.Wrong.TheVariants as bad
 
 -- ---- one identifier
@@ -56,6 +59,16 @@ pair_reason id_type written stands =
     first_some (invalid (parsed_term code2_of) bad.IdentifierType id_type
     ∷ unless (is_field written) bad.IdentifierValue stands ∷ [])
 
+-- what is wrong with an identifier is foreign beside a GTIN-13 or an ISBN-13, by which the product
+-- is found
+abbrev pub beside_isbn : ReasonKind → ReasonKind
+beside_isbn (Wrong bad.IdentifierType) = Foreign other.IdentifierType
+beside_isbn (Wrong bad.IdentifierValue) = Foreign other.IdentifierValue
+beside_isbn kind = kind
+
+abbrev pub graded : Bool → Reason → Reason
+graded is_found r = record { kind = if is_found then beside_isbn r.kind else r.kind; text = r.text }
+
 module _ (identifier : Composite) where
   -- the type and the value of an identifier, each empty where it is absent
   abbrev pub type_of : List ℕ
@@ -86,8 +99,10 @@ module _ (identifier : Composite) where
   is_isbn = is_gtin_type type_of && is_thirteen value_written
 
   -- a note on one that the desk would not take
-  abbrev pub identifier_note : List Note
-  identifier_note = reason_notes identifier.element identifier_reason
+  abbrev pub identifier_note : Bool → List Note
+  identifier_note is_found =
+      option_map_or (λ reason. note identifier.element (graded is_found reason) ∷ [])
+      identifier_reason []
 
 -- the pair 01 and the RecordReference stands for identifiers, where there are none
 abbrev pub or_reference : List ℕ → Fields → Fields
@@ -137,12 +152,12 @@ module _ (nodes : Nodes) where
   abbrev pub right_pairs : Fields
   right_pairs = flat_map right_pair identifiers_in
 
-  -- notes on the others
-  abbrev pub identifier_notes : List Note
-  identifier_notes = flat_map identifier_note identifiers_in
-
   abbrev pub has_isbn : Bool
   has_isbn = list_any is_isbn identifiers_in
+
+  -- notes on the others
+  abbrev pub identifier_notes : List Note
+  identifier_notes = flat_map (λ i. identifier_note i has_isbn) identifiers_in
 
 -- the record of a Product of this NotificationType, with these types and values
 abbrev pub product_record : List ℕ → Fields → Nodes → Fields

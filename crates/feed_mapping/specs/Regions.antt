@@ -23,6 +23,11 @@ is_part_of_country (a ∷ b ∷ c ∷ rest) =
     then list_all is_capital_or_digit rest else false
 is_part_of_country other = false
 
+-- two letters A to Z, which are no region but a country
+abbrev pub is_two_letters : List ℕ → Bool
+is_two_letters (a ∷ b ∷ []) = is_ascii_uppercase a && is_ascii_uppercase b
+is_two_letters other = false
+
 module _ (country : List ℕ) where
   -- the United Kingdom and Greece, as some write them by another code than that of ISO 3166
   abbrev pub is_other_name : Bool
@@ -43,9 +48,18 @@ module _ (text : List ℕ) where
   abbrev pub other_regions : List (List ℕ)
   other_regions = filter (λ region. not (is_world region)) (words_of text)
 
-  -- the first region that is no part of a country
+  -- the first region that is neither a part of a country nor two letters
   abbrev pub region_of_no_country : Option (List ℕ)
-  region_of_no_country = find (λ region. not (is_part_of_country region)) (words_of text)
+  region_of_no_country =
+      find (λ region. not (is_part_of_country region || is_two_letters region)) (words_of text)
+
+  -- the first region that is not two letters
+  abbrev pub first_region : Option (List ℕ)
+  first_region = find (λ region. not (is_two_letters region)) (words_of text)
+
+  -- the first region that is two letters
+  abbrev pub two_letters_in : Option (List ℕ)
+  two_letters_in = find is_two_letters (words_of text)
 
   -- the countries by another code, in order
   abbrev pub other_names : List (List ℕ)

@@ -1,23 +1,27 @@
 -- Where a Market or a Price holds: what its Territory says, and what of that the desk supports.
-use Rattle.std.specs.Prelude.{ℕ, ◌||◌, List, [], ◌∷◌, ◌++◌, Option, None}
+use Rattle.std.specs.Prelude.{ℕ, Bool, not, ◌||◌, ◌&&◌, List, [], ◌∷◌, ◌++◌, Option, Some, None}
 use Rattle.std.specs.Prelude.{if◌then◌else◌, is_some, map, option_map}
 use Rattle.std.specs.Option.{option_map_or, option_or}
 use Rattle.feed_xml.specs.Grammar.{is_filled}
 use Rattle.feed_outline.specs.Nodes.{Nodes}
 use Rattle.onix_records.specs.Supply.{supply_of}
 use Rattle.onix_records.specs.declared.parts.ProductSupply.{ProductSupply}
-use Rattle.onix_terms.specs.Territory.{countries_of, words_of, world_text}
+use Rattle.onix_terms.specs.Territory.{countries_of, world_text}
+use Rattle.feed_mapping.specs.Again.{again_in}
 use Rattle.feed_mapping.specs.Elements.{Element, below_at, each_at, element_view, first}
 use Rattle.feed_mapping.specs.Elements.{text_at}
-use Rattle.feed_mapping.specs.Notes.{Note, Reason, Reasons, foreign, note}
+use Rattle.feed_mapping.specs.Notes.{Note, Reason, Reasons, foreign, note, wrong}
+use Rattle.feed_mapping.specs.PriceViews.{text_view}
 use Rattle.feed_mapping.specs.Records.{Fields, desk_reason, parsed, parsed_term, invalid}
 use Rattle.feed_mapping.specs.Regions.{IsRenamed, countries_written, names_world, other_names}
-use Rattle.feed_mapping.specs.Regions.{other_regions, region_of_no_country}
+use Rattle.feed_mapping.specs.Regions.{first_region, is_two_letters, other_regions}
+use Rattle.feed_mapping.specs.Regions.{region_of_no_country, two_letters_in}
 use Rattle.feed_mapping.specs.declared.notes.Foreign.{Foreign}
 use Rattle.feed_mapping.specs.declared.notes.Foreign.TheVariants.{CountryName, RegionIncluded}
 use Rattle.feed_mapping.specs.declared.notes.Foreign.TheVariants.{RegionExcluded, RegionAlone}
 use Rattle.feed_mapping.specs.declared.notes.Foreign.TheVariants.{RegionOfNoCountry}
-use Rattle.feed_mapping.specs.declared.notes.Wrong.TheVariants.{CountriesExcluded}
+use Rattle.feed_mapping.specs.declared.notes.Wrong.TheVariants.{ComesAgain, CountriesExcluded}
+use Rattle.feed_mapping.specs.declared.notes.Wrong.TheVariants.{CountryAsRegion, EmptyTerritory}
 use Rattle.feed_mapping.specs.declared.notes.Wrong.TheVariants.{CountriesIncluded, Territory}
 use Rattle.feed_mapping.specs.declared.territories.Area.{Area as Lent}
 use Rattle.feed_mapping.specs.declared.territories.Renamed.{Renamed}
@@ -30,6 +34,8 @@ pub record Area : Type 0 where
   pub regions_included : List ℕ
   pub excluded : List ℕ
   pub regions_excluded : List ℕ
+  -- an element that comes again in the Market or the Price, though it does not repeat
+  pub again : Option (List ℕ)
 
 -- where a Market or a Price with these elements holds: its first Territory says it
 abbrev pub area_in : Nodes → Area
@@ -41,6 +47,7 @@ area_in nodes =
       regions_included = text_at "RegionsIncluded" below;
       excluded = text_at "CountriesExcluded" below;
       regions_excluded = text_at "RegionsExcluded" below;
+      again = again_in nodes;
     }
 
 -- ---- what the desk does not support
@@ -49,17 +56,48 @@ area_in nodes =
 abbrev pub word_notes : Element → Foreign → List (List ℕ) → List Note
 word_notes element kind words = map (λ word. note element (foreign kind word)) words
 
+-- why a region is left out of its territory, which is of this kind; two letters are a country
+abbrev pub region_reason : Foreign → List ℕ → Reason
+region_reason kind region =
+    if is_two_letters region then wrong CountryAsRegion region else foreign kind region
+
+-- a note for each of some regions
+abbrev pub region_notes : Element → Foreign → List (List ℕ) → List Note
+region_notes element kind regions = map (λ r. note element (region_reason kind r)) regions
+
 -- the countries that a text names
 abbrev pub parsed_countries : List ℕ → Option (List (List ℕ))
 parsed_countries text = parsed_term countries_of (countries_written text)
 
 module _ (a : Area) where
-  -- the first of the regions that are included, where neither a country nor the world is: without
-  -- them the territory would be the world
+  -- whether a country or the world is included: a region beside it makes the territory no smaller
+  abbrev pub has_country : Bool
+  has_country = is_filled a.included || names_world a.regions_included
+
+  -- the first of the regions that are included, but for two letters, where neither a country nor
+  -- the world is: without them the territory would be the world
   abbrev pub region_alone : Option (List ℕ)
-  region_alone =
-      if is_filled a.included || names_world a.regions_included then None
-      else first (words_of a.regions_included)
+  region_alone = if has_country then None else first_region a.regions_included
+
+  -- two letters among the regions, without which the territory would hold where it must not: where
+  -- neither a country nor the world is included, or among those that are excluded
+  abbrev pub country_as_region : Option (List ℕ)
+  country_as_region =
+      option_or (if has_country then None else two_letters_in a.regions_included)
+      (two_letters_in a.regions_excluded)
+
+  -- whether it has no text
+  abbrev pub is_silent : Bool
+  is_silent =
+      not (is_filled a.included || (is_filled a.regions_included
+      || (is_filled a.excluded || is_filled a.regions_excluded)))
+
+  -- why it does not say where, or says it in a form that does not count, each where it holds
+  abbrev pub form_reasons : Reasons
+  form_reasons =
+      option_map (wrong ComesAgain) a.again
+      ∷ (if is_some a.territory && is_silent then Some (wrong EmptyTerritory []) else None)
+      ∷ option_map (wrong CountryAsRegion) country_as_region ∷ []
 
   -- why the desk does not support a territory, whatever is left out of it: it would be another one,
   -- and not only a smaller one or one without whole countries
@@ -81,8 +119,8 @@ module _ (a : Area) where
   -- included is left out, and one that is excluded is a part of a country.
   abbrev pub territory_notes : List Note
   territory_notes =
-      option_map_or (λ e. word_notes e RegionIncluded (other_regions a.regions_included)
-      ++ (word_notes e RegionExcluded (other_regions a.regions_excluded)
+      option_map_or (λ e. region_notes e RegionIncluded (other_regions a.regions_included)
+      ++ (region_notes e RegionExcluded (other_regions a.regions_excluded)
       ++ (word_notes e CountryName (other_names a.included)
       ++ word_notes e CountryName (other_names a.excluded)))) a.territory []
 
@@ -110,6 +148,7 @@ area_view a = record {
   regions_included = a.regions_included.now;
   excluded = a.excluded.now;
   regions_excluded = a.regions_excluded.now;
+  again = text_view a.again;
 }
 
 -- what is renamed of the countries of a territory

@@ -7,12 +7,14 @@ ghost use Rattle.std.specs.Result.{result_map_both};
 ghost use Rattle.std.specs.Str.{bytes_eq};
 ghost use Rattle.feed_mapping.specs.Elements.{element_view};
 ghost use Rattle.feed_mapping.specs.DateViews.{dated_view, days_read};
-ghost use Rattle.feed_mapping.specs.Dates.{and_days, date_in, parsed_day, days_in, days_of, parsed_days, digits_by, digits_in, format_in, formats, graver, in_day, in_format, in_month, in_year, is_time, or_days, role_days, two_days};
+ghost use Rattle.feed_mapping.specs.PriceViews.{text_view};
+ghost use Rattle.feed_mapping.specs.Dates.{and_days, are_one, date_in, days_by_role, unless_again, parsed_day, days_in, days_of, parsed_days, digits_by, digits_in, format_in, formats, graver, in_day, in_format, in_month, in_year, is_time, or_days, role_days, two_days};
 ghost use Rattle.feed_mapping.specs.Notes.{foreign, reason_view, wrong};
 ghost use Rattle.feed_mapping.specs.Records.{first_some};
 ghost use Rattle.feed_mapping.specs.declared.notes.Foreign.TheVariants.{DateFormat};
 ghost use Rattle.feed_mapping.specs.declared.notes.Wrong.TheVariants as bad;
 
+use crate::again::again_in;
 use crate::elements::{next_composite, text_or_empty};
 use crate::notes::{Foreign, Reason, ReasonKind, Wrong};
 use crate::records::utf8_text;
@@ -342,9 +344,18 @@ fn both_days<'a>(role: &'a [u8], elements: &Elements<'a>) -> Result<Days, Reason
     }
 }
 
+fn other_role<'a>(role: &'a [u8]) -> Reason<'a>
+    ensures { reason_view result ≡ wrong bad.DateRole role.now }
+{
+    Reason {
+        kind: ReasonKind::Wrong(Wrong::DateRole),
+        text: role,
+    }
+}
+
 // What a PriceDate says by its role.
 fn read_role<'a>(elements: &Elements<'a>) -> Result<Days, Reason<'a>>
-    ensures { days_read result ≡ days_of elements.now }
+    ensures { days_read result ≡ days_by_role elements.now }
 {
     let role = text_or_empty(b"PriceDateRole", elements);
     if role == b"14".as_slice() {
@@ -364,7 +375,30 @@ fn read_role<'a>(elements: &Elements<'a>) -> Result<Days, Reason<'a>>
     if role == b"24".as_slice() {
         return both_days(role, elements);
     }
-    Ok(NO_DAYS)
+    Err(other_role(role))
+}
+
+// That this element comes again.
+fn comes_again(name: &'static [u8]) -> Reason<'static>
+    ensures { reason_view result ≡ wrong bad.ComesAgain name.now }
+{
+    Reason {
+        kind: ReasonKind::Wrong(Wrong::ComesAgain),
+        text: name,
+    }
+}
+
+// Days, unless an element comes again.
+fn unless_again<'a>(name: Option<&'static [u8]>, days: Days) -> Dated<'a>
+    ensures { dated_view result ≡ unless_again (text_view name.entry) (Ok days) }
+{
+    match name {
+        None => Dated { days, wrong: None },
+        Some(name) => Dated {
+            days: NO_DAYS,
+            wrong: Some(comes_again(name)),
+        },
+    }
 }
 
 // What a PriceDate says.
@@ -372,7 +406,7 @@ fn days_of<'a>(elements: &Elements<'a>) -> Dated<'a>
     ensures { dated_view result ≡ days_of elements.now }
 {
     match read_role(elements) {
-        Ok(days) => Dated { days, wrong: None },
+        Ok(days) => unless_again(again_in(elements), days),
         Err(reason) => Dated {
             days: NO_DAYS,
             wrong: Some(reason),
@@ -390,13 +424,43 @@ fn former(one: Option<Day>, other: Option<Day>) -> Option<Day>
     }
 }
 
-// Of two first days the former counts, and so of last days.
-fn or_days(days: Days, more: Days) -> Days
-    ensures { result ≡ or_days days more }
+// Whether two days are one, where both are there.
+fn are_one(one: Option<Day>, other: Option<Day>) -> bool
+    ensures { result ≡ are_one one other }
 {
-    Days {
-        first: former(days.first, more.first),
-        last: former(days.last, more.last),
+    match one {
+        None => true,
+        Some(one) => match other {
+            None => true,
+            Some(other) => !(one < other || other < one),
+        },
+    }
+}
+
+// That there are two first or two last days.
+fn other_day() -> Reason<'static>
+    ensures { reason_view result ≡ wrong bad.OtherDay [] }
+{
+    Reason {
+        kind: ReasonKind::Wrong(Wrong::OtherDay),
+        text: b"",
+    }
+}
+
+// The days of both, where they give no first and no last day that is another.
+fn or_days<'a>(days: Days, more: Days) -> Dated<'a>
+    ensures { dated_view result ≡ or_days days more }
+{
+    if are_one(days.first, more.first) && are_one(days.last, more.last) {
+        let days = Days {
+            first: former(days.first, more.first),
+            last: former(days.last, more.last),
+        };
+        return Dated { days, wrong: None };
+    }
+    Dated {
+        days: NO_DAYS,
+        wrong: Some(other_day()),
     }
 }
 
@@ -411,33 +475,36 @@ fn graver<'a>(one: Reason<'a>, other: Reason<'a>) -> Reason<'a>
     }
 }
 
-// What two PriceDates say that follow each other.
+// What one more PriceDate says behind others.
 fn and_days<'a>(one: &Dated<'a>, other: &Dated<'a>) -> Dated<'a>
     ensures { dated_view result ≡ and_days (dated_view one.now) (dated_view other.now) }
 {
-    let days = or_days(one.days, other.days);
     match one.wrong {
-        None => Dated {
-            days,
-            wrong: other.wrong,
+        None => match other.wrong {
+            None => or_days(one.days, other.days),
+            Some(reason) => Dated {
+                days: NO_DAYS,
+                wrong: Some(reason),
+            },
         },
         Some(reason) => match other.wrong {
             None => Dated {
-                days,
+                days: NO_DAYS,
                 wrong: Some(reason),
             },
             Some(second) => Dated {
-                days,
+                days: NO_DAYS,
                 wrong: Some(graver(reason, second)),
             },
         },
     }
 }
 
-/// What the PriceDates among the elements say: by its role each gives the first day
-/// (14), the last day (15) or both (24), and of several the first counts. They leave their Price
-/// out where one of these roles has no Date, has a format that is not its own, or a Date that has
-/// not the form of its format: for the first reason that is foreign, else for the first.
+/// What the PriceDates among the elements say: by its role each gives the first day (14), the last
+/// day (15) or both (24). They leave their Price out where one has another role, has no Date, has a
+/// format that is not that of its role, or a Date that has not the form of its format, where an
+/// element comes again in one, or where two give two first or two last days: for the first reason
+/// that is foreign, else for the first.
 pub fn days_in<'a>(elements: &Elements<'a>) -> Dated<'a>
     ensures { dated_view result ≡ days_in elements.now }
 {

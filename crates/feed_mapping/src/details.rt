@@ -1,10 +1,10 @@
 //! SupplyDetails.
 
-ghost use Rattle.std.specs.Prelude.{◌≡◌, ◌++◌, ◌∷◌, ◌+◌, ◌<◌, [], ℕ, List, None, Some, IfOk, OnOk, true, is_some, map, codes};
+ghost use Rattle.std.specs.Prelude.{◌≡◌, ◌++◌, ◌∷◌, ◌+◌, ◌<◌, [], ℕ, List, None, Some, IfOk, OnOk, true, is_some, map, codes, option_map};
 ghost use Rattle.std.specs.List.{list_all};
 ghost use Rattle.std.specs.Option.{unwrap_or};
 ghost use Rattle.std.specs.Str.{is_utf8};
-ghost use Rattle.feed_mapping.specs.Details.{context_in, default_minimum, detail_fields, detail_outcome, detail_reasons, detail_reason, identifier_reasons, name_reason, price_in, prices_in, supplier_id, supplier_in, unpriced_in, unpriced_price};
+ghost use Rattle.feed_mapping.specs.Details.{context_by, context_in, default_minimum, old_supply, detail_fields, detail_outcome, detail_reasons, detail_reason, identifier_reasons, name_reason, price_in, prices_in, supplier_id, supplier_in, unpriced_in, unpriced_price};
 ghost use Rattle.feed_mapping.specs.Elements.{composites, first, text_or_empty, below_of};
 ghost use Rattle.feed_mapping.specs.Notes.{note_views, reason_view, wrong};
 ghost use Rattle.feed_mapping.specs.Outcomes.{all_notes, all_records, notes_below, outcome_reason, outcome_records, written_unless};
@@ -24,7 +24,9 @@ use crate::elements::{elements_in, next_composite, text_or_empty};
 use crate::identifiers::{SUPPLIER, choose_identifier, is_there};
 use crate::notes::{Note, Reason, ReasonKind, Wrong};
 use crate::parties::{NO_PAIR, Pair};
-use crate::prices::{PriceContext, add_price, fill_record};
+use crate::prices::{
+    Key, PriceContext, add_price, because_old, closing_keys, fill_record, first_with_text,
+};
 use crate::records::{former, is_field, may_be_empty, parsed_code, parsed_quantity, unless};
 use csv_records::buffer::RecordBuffer;
 use csv_records::fields::FieldBuffer;
@@ -36,17 +38,22 @@ use onix_records::parts::SupplyDetail;
 use onix_records::row::{Opening, RowFault};
 use std::alloc::{AllocError, Global};
 
-// The UnpricedItemType of a Price without an amount.
+// The UnpricedItemType of a Price without an amount, where it is a code.
 fn unpriced_price<'a>(elements: &Elements<'a>) -> Option<&'a [u8]>
     ensures { text_view result ≡ unpriced_price elements.now }
 {
     if text_in(b"PriceAmount", elements).is_some() {
         return None;
     }
-    text_in(b"UnpricedItemType", elements)
+    let text = text_in(b"UnpricedItemType", elements)?;
+    if parsed_code(text).is_some() {
+        Some(text)
+    } else {
+        None
+    }
 }
 
-// The first UnpricedItemType of the Prices that have no amount.
+// The first such UnpricedItemType of the Prices.
 fn unpriced_prices<'a>(elements: &Elements<'a>) -> Option<&'a [u8]>
     ensures { text_view result
         ≡ first_some (map (λ c. unpriced_price c.below) (composites (codes "Price") elements.now)) }
@@ -139,8 +146,23 @@ fn take_texts(alloc: Global, fields: &mut FieldBuffer, texts: &[&[u8]]) -> Resul
     }
 }
 
+// That there is an element of ONIX 2.1 that says where a SupplyDetail holds.
+fn old_supply(elements: &Elements<'_>) -> Option<Reason<'static>>
+    ensures { reason_read result ≡ option_map (wrong bad.OldElement) (old_supply elements.now) }
+{
+    because_old(first_with_text(
+        &[
+            b"SupplyToCountry",
+            b"SupplyToRegion",
+            b"SupplyToCountryExcluded",
+            b"SupplyToTerritory",
+        ],
+        elements,
+    ))
+}
+
 // Adds the record of a SupplyDetail whose supplier has this identifier, or gives the reason for
-// which the desk would not take it.
+// which it is left out.
 fn write_detail<'a>(
     alloc: Global,
     supplier: Pair<'a>,
@@ -157,6 +179,9 @@ fn write_detail<'a>(
         (written_unless (detail_reason preferred elements.now)
         ((codes "SupplyDetail" ∷ detail_fields preferred elements.now) ∷ []) [])) }
 {
+    if let Some(reason) = old_supply(elements) {
+        return Ok(Some(reason));
+    }
     if take_texts(alloc, fields, &detail_texts(supplier, elements))? {
         records.push(&fields.as_record())?;
         return Ok(None);
@@ -282,21 +307,26 @@ fn default_minimum<'a>(elements: &Elements<'a>) -> Option<&'a [u8]>
     }
 }
 
-// The context of the Prices of a SupplyDetail.
-fn context_in<'a, 'b>(opening: &'a Opening, elements: &Elements<'b>) -> PriceContext<'a, 'b>
-    ensures { context_view result ≡ context_in opening.now elements.now }
+// The context of the Prices of a SupplyDetail, by what closes them.
+fn context_by<'a, 'b, 'c>(
+    opening: &'a Opening,
+    closed: &'c [Key],
+    elements: &Elements<'b>,
+) -> PriceContext<'a, 'b, 'c>
+    ensures { context_view result ≡ context_by opening.now closed.now elements.now }
 {
     PriceContext {
         opening,
         is_unpriced: unpriced_in(elements).is_some(),
         minimum: default_minimum(elements),
+        closed,
     }
 }
 
 // Adds what comes of the Prices of a SupplyDetail.
 fn add_prices<'a>(
     alloc: Global,
-    context: &PriceContext<'_, '_>,
+    context: &PriceContext<'_, '_, '_>,
     elements: &Elements<'a>,
     fields: &mut FieldBuffer,
     records: &mut RecordBuffer,
@@ -340,7 +370,8 @@ pub(crate) fn add_detail<'a>(
     let supplier = supplier_id(preferred, elements);
     let left_out = write_detail(alloc, supplier, elements, fields, records)?;
     if left_out.is_none() {
-        let context = context_in(opening, elements);
+        let closed = closing_keys(alloc, &context_by(opening, &[], elements), elements, fields)?;
+        let context = context_by(opening, closed.as_slice(), elements);
         add_prices(alloc, &context, elements, fields, records, notes)?;
     }
     Ok(left_out)

@@ -1,11 +1,11 @@
 //! The Header.
 
-ghost use Rattle.std.specs.Prelude.{◌≡◌, ◌+◌, ◌∷◌, ◌<◌, List, ℕ, Err, IsErrOf, OnOk, Some, true, false, codes, decimal, map, option_map};
+ghost use Rattle.std.specs.Prelude.{◌≡◌, ◌+◌, ◌∷◌, ◌<◌, List, ℕ, Err, IsErrOf, OnOk, Some, true, false, codes, decimal, is_some, map, option_map};
 ghost use Rattle.std.specs.Option.{ok_or, option_map_or};
 ghost use Rattle.std.specs.Str.{is_utf8};
 ghost use Rattle.std.specs.List.{list_all, list_any};
-ghost use Rattle.feed_mapping.specs.Elements.{composites};
-ghost use Rattle.feed_mapping.specs.Header.{added, addressee_ids, addressee_pair, addressee_in, first_number, heading_in, if_whole, meant, message_fields, number_in, parsed_opening, sender_in, sender_of};
+ghost use Rattle.feed_mapping.specs.Elements.{composites, first};
+ghost use Rattle.feed_mapping.specs.Header.{added, are_identified, behind_zeros, picked, repeat_in, addressee_ids, addressee_pair, addressee_in, first_number, heading_in, if_whole, meant, message_fields, number_in, parsed_opening, sender_in, sender_of};
 ghost use Rattle.feed_mapping.specs.HeaderViews.{choices_view, pair_read, IsHeading, IsOpening};
 ghost use Rattle.feed_mapping.specs.PartyViews.{pair_view};
 ghost use Rattle.feed_mapping.specs.Identifiers.{identifiers_in};
@@ -24,6 +24,7 @@ use feed_outline::{Elements, Line, text_in};
 use itoa::Buffer;
 use onix_records::opening::read_opening;
 use onix_records::row::{Opening, RowFault};
+use onix_terms::digits::read_digits;
 use onix_terms::number::Number;
 use std::alloc::Global;
 
@@ -195,6 +196,41 @@ fn meant<'a>(pair: Pair<'_>, elements: &Elements<'a>) -> Result<Elements<'a>, He
     Err(HeaderRefusal::NoSuchAddressee)
 }
 
+// Whether an addressee with these elements has an identifier.
+fn is_identified(elements: &Elements<'_>) -> bool
+    ensures { result ≡ is_some (first (addressee_ids elements.now)) }
+{
+    next_identifier(ADDRESSEE, elements).is_some()
+}
+
+// Whether one of the addressees has an identifier.
+fn are_identified(elements: &Elements<'_>) -> bool
+    ensures { result ≡ are_identified (composites (codes "Addressee") elements.now) }
+{
+    let mut rest = elements.copy();
+    while let Some((found, behind)) = next_composite(b"Addressee", &rest) {
+        if is_identified(&found.below) {
+            return true;
+        }
+        rest = behind;
+    }
+    false
+}
+
+// What stands in the addressee of several that the caller means.
+fn picked<'a>(
+    pair: Option<Pair<'_>>,
+    elements: &Elements<'a>,
+) -> Result<Elements<'a>, HeaderRefusal>
+    ensures { result ≡ picked (option_map pair_view pair.entry)
+        (composites (codes "Addressee") elements.now) }
+{
+    match pair {
+        Some(pair) => meant(pair, elements),
+        None => Err(HeaderRefusal::SeveralAddressees),
+    }
+}
+
 // What stands in the addressee.
 fn addressee_in<'a>(
     pair: Option<Pair<'_>>,
@@ -208,9 +244,10 @@ fn addressee_in<'a>(
     };
     match next_composite(b"Addressee", &behind) {
         None => Ok(one.below),
-        Some(_) => match pair {
-            Some(pair) => meant(pair, elements),
-            None => Err(HeaderRefusal::SeveralAddressees),
+        Some(_) => if are_identified(elements) {
+            picked(pair, elements)
+        } else {
+            Ok(Elements::none())
         },
     }
 }
@@ -239,6 +276,20 @@ fn read_number(text: &[u8]) -> Result<Number, HeaderRefusal>
     }
 }
 
+// A text behind its leading zeros.
+fn behind_zeros(text: &[u8]) -> &[u8]
+    ensures { result.now ≡ behind_zeros text.now }
+{
+    let mut rest = text;
+    while let [byte, tail @ ..] = rest {
+        if *byte != b'0' {
+            return rest;
+        }
+        rest = tail;
+    }
+    rest
+}
+
 // The number of the Header with what is added to it.
 fn added(offset: u32, text: Option<&[u8]>) -> Result<Number, HeaderRefusal>
     ensures { result ≡ added offset (text_view text.entry) }
@@ -246,7 +297,7 @@ fn added(offset: u32, text: Option<&[u8]>) -> Result<Number, HeaderRefusal>
     let Some(text) = text else {
         return Err(HeaderRefusal::NoNumber);
     };
-    let number = read_number(text)?;
+    let number = read_number(behind_zeros(text))?;
     match number.value().checked_add(offset) {
         Some(sum) => Number::from_value(sum).ok_or(HeaderRefusal::NumberTooGreat),
         None => Err(HeaderRefusal::NumberTooGreat),
@@ -277,6 +328,21 @@ fn number_in(choices: &Choices<'_>, elements: &Elements<'_>) -> Result<u32, Head
     }
 }
 
+// The MessageRepeat, empty where it is not 1 to 9 digits.
+fn repeat_in<'a>(elements: &Elements<'a>) -> &'a [u8]
+    ensures { result.now ≡ repeat_in elements.now }
+{
+    let text = text_or_empty(b"MessageRepeat", elements);
+    match utf8_text(text) {
+        Some(digits) => if read_digits(digits).is_some() {
+            text
+        } else {
+            b""
+        },
+        None => b"",
+    }
+}
+
 // The texts of the record with which a part of this number begins.
 fn message_texts<'a>(
     sender: Pair<'a>,
@@ -287,7 +353,7 @@ fn message_texts<'a>(
     ensures { map (λ t. t.now) result ≡ message_fields
         (pair_view sender.entry) (pair_view addressee.entry) number.now elements.now }
 {
-    let repeat: &'a [u8] = text_or_empty(b"MessageRepeat", elements);
+    let repeat: &'a [u8] = repeat_in(elements);
     let sent: &'a [u8] = text_or_empty(b"SentDateTime", elements);
     let price_type: &'a [u8] = text_or_empty(b"DefaultPriceType", elements);
     let currency: &'a [u8] = text_or_empty(b"DefaultCurrencyCode", elements);

@@ -1,6 +1,7 @@
 //! What an ONIX message in XML says to the desk, by the outlines of its Header and Products.
 #![tactic(auto)]
 
+mod again;
 pub mod dates;
 pub mod details;
 mod discounts;

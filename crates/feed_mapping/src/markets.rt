@@ -4,18 +4,20 @@ ghost use Rattle.std.specs.Prelude.{◌≡◌, ◌++◌, ◌∷◌, ◌<◌, ◌
 ghost use Rattle.std.specs.List.{flat_map, list_any};
 ghost use Rattle.std.specs.Option.{option_or};
 ghost use Rattle.feed_mapping.specs.Elements.{composites};
-ghost use Rattle.feed_mapping.specs.Markets.{IsFilled, IsKept, first_kept, kept_area, kept_fields, kept_outcome, is_foreign_market, market_notes, markets_outcome, no_market, some_outcome, supply_record, territories_of, territory_of};
+ghost use Rattle.feed_mapping.specs.Markets.{IsFilled, IsKept, early_market_reasons, first_kept, kept_area, kept_fields, kept_outcome, is_foreign_market, market_notes, markets_outcome, no_market, some_outcome, supply_record, territories_of, territory_of};
 ghost use Rattle.feed_mapping.specs.Notes.{Note as Said, foreign, note_views, reason_view};
 ghost use Rattle.feed_mapping.specs.Outcomes.{notes_below, outcome_reason, outcome_records};
 ghost use Rattle.feed_mapping.specs.PriceViews.{reason_read};
+ghost use Rattle.feed_mapping.specs.Records.{first_some};
 ghost use Rattle.feed_mapping.specs.Territories.{area_view};
 ghost use Rattle.feed_mapping.specs.declared.notes.Foreign.TheVariants.{LongMarkets};
 
 use crate::elements::{Composite, next_composite};
 use crate::notes::{Foreign, Note, Reason, ReasonKind, Wrong, push_note};
+use crate::records::{former as or_reason, unless};
 use crate::territories::{
-    Area, area_in, countries_reason, fill_as_it_stands, fill_as_union, push_territory_notes,
-    read_market, renamed_in, unsupported,
+    Area, area_in, countries_reason, fill_as_it_stands, fill_as_union, form_reason,
+    push_territory_notes, read_market, renamed_in, unsupported,
 };
 use crate::unions::union;
 use csv_records::buffer::RecordBuffer;
@@ -26,6 +28,15 @@ use onix_terms::items::Items;
 use onix_terms::territory::Territory;
 use std::alloc::{AllocError, Global};
 
+// Why a Market is left out, whatever countries it names.
+fn early_reason<'a>(area: &Area<'a>) -> Option<Reason<'a>>
+    ensures { reason_read result ≡ first_some (early_market_reasons (area_view area.now)) }
+{
+    let absent = unless(area.line.is_some(), Wrong::NoTerritory, b"");
+    let formed = or_reason(form_reason(area), or_reason(absent, None));
+    or_reason(unsupported(area), formed)
+}
+
 // Where a Market holds, or why it is left out.
 fn read_territory<'a>(
     alloc: Global,
@@ -33,7 +44,7 @@ fn read_territory<'a>(
 ) -> Result<Result<Territory, Reason<'a>>, AllocError>
     ensures { IfOk result (λ r. IsKept r (area_view area.now)) }
 {
-    if let Some(reason) = unsupported(area) {
+    if let Some(reason) = early_reason(area) {
         return Ok(Err(reason));
     }
     let renamed = renamed_in(alloc, area)?;

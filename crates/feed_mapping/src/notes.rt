@@ -24,12 +24,17 @@ pub enum Foreign {
     CurrencyZone,
     /// A Price with an EpubLicense.
     EpubLicense,
+    /// A Price with an EpubLicenseWithDate.
+    EpubLicenseWithDate,
     /// A Price with a PriceDate in a format that its role does not have: the format is the text.
     DateFormat,
     /// A Price whose amount, the text, has more than three decimals.
     MoreDecimals,
     /// A Price whose amount, the text, is 0.
     NoCharge,
+    /// A Price of a type and a currency of which another Price beside it is left out for its
+    /// PriceDates alone, and may stand in its place.
+    BesideDates,
     /// A Price or Market that holds in a region, the text, without a country and without the
     /// world.
     RegionAlone,
@@ -55,6 +60,10 @@ pub enum Foreign {
     LongMarkets,
     /// A Product of which no ProductSupply is left: the first that had a SupplyDetail is foreign.
     NoSupplyLeft,
+    /// A ProductIdentifier whose type, the text, is no code, beside a GTIN-13 or an ISBN-13.
+    IdentifierType,
+    /// A ProductIdentifier whose value, the text, the desk would not take, beside such a one.
+    IdentifierValue,
     /// A Product without a GTIN-13 or ISBN-13 of thirteen digits, by which the desk would find it.
     NoIsbn,
     /// A Product of a NotificationType, the text, that the desk ignores.
@@ -64,8 +73,21 @@ pub enum Foreign {
 /// What the desk would not take.
 #[derive(Clone, Copy, Debug, PartialEq, Eq)]
 pub enum Wrong {
-    /// A Price with an element of ONIX 2.1, whose name is the text.
+    /// A Price or SupplyDetail with an element of ONIX 2.1, whose name is the text.
     OldElement,
+    /// A Price or Market in which an element that does not repeat comes again: the text is its name.
+    ComesAgain,
+    /// A Market without a Territory.
+    NoTerritory,
+    /// A Price or Market whose Territory says nothing.
+    EmptyTerritory,
+    /// A region, the text, that is the two letters of a country: of a Price or Market, or of a
+    /// Territory that is written without it.
+    CountryAsRegion,
+    /// A Price with a PriceDate whose role, the text, does not count; it is empty where it has none.
+    DateRole,
+    /// A Price with two PriceDates that give two first or two last days.
+    OtherDay,
     /// A Price with a PriceDate without Date, whose role is the text.
     NoDate,
     /// A Price with a PriceDate that is to have two days: the text, its Date, is not 16 bytes long.
@@ -120,7 +142,7 @@ pub enum Wrong {
     /// A Product of which no identifier is left.
     NoIdentifierLeft,
     /// A Product with a stranger: an element that is called as one that counts there, and does not
-    /// count.
+    /// there.
     OtherNamespace,
     /// A Product of which no ProductSupply is left: the first that had a SupplyDetail is wrong.
     NoSupplyLeft,

@@ -1,7 +1,7 @@
 //! Prices.
 
-ghost use Rattle.std.specs.Prelude.{◌≡◌, ◌++◌, ◌∷◌, ◌<◌, [], ℕ, List, None, Some, IfOk, IsErrOf, OnOk, false, true, find, is_some, map, not, codes, option_map};
-ghost use Rattle.std.specs.List.{list_all};
+ghost use Rattle.std.specs.Prelude.{◌≡◌, ◌++◌, ◌∷◌, ◌<◌, [], ℕ, List, None, Some, IfOk, IsErrOf, OnOk, false, true, ◌&&◌, if◌then◌else◌, find, is_none, is_some, map, not, codes, option_map};
+ghost use Rattle.std.specs.List.{list_all, list_any};
 ghost use Rattle.std.specs.Option.{option_or, option_to_list};
 ghost use Rattle.std.specs.Result.{result_err, result_unwrap_or};
 ghost use Rattle.std.specs.Str.{is_utf8};
@@ -11,7 +11,7 @@ ghost use Rattle.feed_mapping.specs.Elements.{composites, first, text_or_empty};
 ghost use Rattle.feed_mapping.specs.Notes.{foreign, is_wrong, note_views, wrong};
 ghost use Rattle.feed_mapping.specs.Outcomes.{notes_below, outcome_notes, outcome_records};
 ghost use Rattle.feed_mapping.specs.PriceViews.{reason_read, text_view};
-ghost use Rattle.feed_mapping.specs.Prices.{amount_written, context_view, behind_digits, cut_zeros, early_reasons, eight_fields, has_more_decimals, is_long_part, is_nothing, is_other, is_zero, late_reasons, old_element, outcome_of, own_minimum, point_in, price_fields, price_outcome, price_reasons, record_reason, right_days};
+ghost use Rattle.feed_mapping.specs.Prices.{amount_written, are_same, closed_reason, closing_key, closing_keys, context_view, first_with_text, greater_of, is_greater, is_key, is_other_qualifier, is_taken, key_in, last_reason, behind_digits, cut_zeros, early_reasons, eight_fields, has_more_decimals, is_long_part, is_nothing, is_other, is_zero, late_reasons, old_element, outcome_of, own_minimum, point_in, price_fields, price_outcome, price_reasons, right_days};
 ghost use Rattle.feed_mapping.specs.Records.{first_some, option_filter, parsed};
 ghost use Rattle.feed_mapping.specs.Territories.{AreRenamed, area_in, area_view};
 ghost use Rattle.feed_mapping.specs.declared.notes.Wrong.TheVariants.{OldElement};
@@ -25,9 +25,12 @@ use crate::discounts::push_discounts;
 use crate::elements::{Composite, first_composite, next_composite, text_or_empty};
 use crate::notes::{Foreign, Note, Reason, ReasonKind, Wrong, push_reason};
 use crate::reasons::{field_reason, or_price};
-use crate::records::{are_zeros, former, parsed_amount, push_texts};
+use crate::records::{
+    are_zeros, former, parsed_amount, parsed_code, parsed_currency, parsed_quantity, push_texts,
+    value_or_default,
+};
 use crate::territories::{
-    Area, Renamed, area_fields, area_in, push_territory_notes, renamed_in, unsupported,
+    Area, Renamed, area_fields, area_in, form_reason, push_territory_notes, renamed_in, unsupported,
 };
 use csv_records::buffer::RecordBuffer;
 use csv_records::fields::FieldBuffer;
@@ -38,23 +41,50 @@ use onix_records::parts::Price;
 use onix_records::price::read_price;
 use onix_records::row::{Opening, RowFault};
 use onix_terms::ascii::are_digits;
+use onix_terms::code::{Code2, Currency};
 use onix_terms::day::Day;
+use onix_terms::items::Items;
+use onix_terms::quantity::Quantity;
 use onix_terms::text::Text;
 use std::alloc::{AllocError, Global};
 
+/// The letters of the price type and of the currency of a Price, each where it is one.
+#[derive(Clone, Copy, Debug)]
+pub struct Key {
+    pub price_type: Option<[u8; 2]>,
+    pub currency: Option<[u8; 3]>,
+}
+
 /// The context of a Price: what its message begins with, whether the record of its SupplyDetail
-/// has an UnpricedItemType, and the quantity that stands for a minimum that it does not have.
+/// has an UnpricedItemType, the quantity that stands for a minimum that is not greater, and the
+/// types and currencies of which a Price beside it is left out for its PriceDates alone.
 #[derive(Clone, Copy)]
-pub struct PriceContext<'a, 'b> {
+pub struct PriceContext<'a, 'b, 'c> {
     pub opening: &'a Opening,
     pub is_unpriced: bool,
     pub minimum: Option<&'b [u8]>,
+    pub closed: &'c [Key],
 }
 
 fn is_other(code: &[u8]) -> bool
     ensures { result ≡ is_other code.now }
 {
     code != b"00".as_slice()
+}
+
+// A PriceQualifier that is not that of the ordinary price.
+fn other_qualifier<'a>(elements: &Elements<'a>) -> Option<&'a [u8]>
+    ensures { text_view result
+        ≡ option_filter is_other_qualifier (text_in (codes "PriceQualifier") elements.now) }
+{
+    match text_in(b"PriceQualifier", elements) {
+        Some(text) => if text == b"00".as_slice() || text == b"05".as_slice() {
+            None
+        } else {
+            Some(text)
+        },
+        None => None,
+    }
 }
 
 // The text of an element, where it is another than 00.
@@ -189,23 +219,40 @@ fn has_text(name: &[u8], elements: &Elements<'_>) -> bool
     text_in(name, elements).is_some()
 }
 
+/// The first of these names by which an element has a text.
+pub(crate) fn first_with_text(
+    names: &[&'static [u8]],
+    elements: &Elements<'_>,
+) -> Option<&'static [u8]>
+    ensures { text_view result ≡ first_with_text elements.now (map (λ n. n.now) names.now) }
+{
+    let mut rest = names;
+    while let [name, tail @ ..] = rest {
+        if has_text(name, elements) {
+            return Some(*name);
+        }
+        rest = tail;
+    }
+    None
+}
+
 // The first of the elements of ONIX 2.1 that is there.
 fn old_element(elements: &Elements<'_>) -> Option<&'static [u8]>
     ensures { text_view result ≡ old_element elements.now }
 {
-    if has_text(b"PriceTypeCode", elements) {
-        return Some(b"PriceTypeCode");
-    }
-    if has_text(b"PriceEffectiveFrom", elements) {
-        return Some(b"PriceEffectiveFrom");
-    }
-    if has_text(b"PriceEffectiveUntil", elements) {
-        return Some(b"PriceEffectiveUntil");
-    }
-    if has_text(b"CountryCode", elements) {
-        return Some(b"CountryCode");
-    }
-    None
+    first_with_text(
+        &[
+            b"PriceTypeCode",
+            b"ClassOfTrade",
+            b"PriceEffectiveFrom",
+            b"PriceEffectiveUntil",
+            b"CountryCode",
+            b"CountryExcluded",
+            b"TerritoryExcluded",
+            b"(j303)",
+        ],
+        elements,
+    )
 }
 
 // A foreign reason, where there is a text that is one.
@@ -221,7 +268,8 @@ fn because<'a>(kind: Foreign, text: Option<&'a [u8]>) -> Option<Reason<'a>>
     }
 }
 
-fn because_old(text: Option<&'static [u8]>) -> Option<Reason<'static>>
+/// That there is an element of ONIX 2.1, which has this name.
+pub(crate) fn because_old(text: Option<&'static [u8]>) -> Option<Reason<'static>>
     ensures { reason_read result ≡ option_map (wrong OldElement) (text_view text.entry) }
 {
     match text {
@@ -286,13 +334,13 @@ fn late_reason<'a>(
     wrong_date: Option<Reason<'a>>,
     elements: &Elements<'a>,
 ) -> Option<Reason<'a>>
-    ensures { area_view area.now ≡ area_in elements.now
-        → reason_read wrong_date.entry ≡ result_err (days_in elements.now)
-        → reason_read result ≡ first_some (late_reasons elements.now) }
+    ensures { area_view area.now ≡ area_in elements.now → reason_read result
+        ≡ first_some (late_reasons (reason_read wrong_date.entry) elements.now) }
 {
     let amount = amount_written(elements);
     let old = because_old(old_element(elements));
-    let dated = former(old, former(if_wrong(wrong_date), None));
+    let formed = former(form_reason(area), former(if_wrong(wrong_date), None));
+    let dated = former(old, formed);
     let free = because(Foreign::NoCharge, no_charge(amount));
     let charged = former(free, former(if_foreign(wrong_date), dated));
     let long = because(Foreign::MoreDecimals, long_amount(amount));
@@ -305,11 +353,12 @@ fn early_reason<'a>(
     wrong_date: Option<Reason<'a>>,
     elements: &Elements<'a>,
 ) -> Option<Reason<'a>>
-    ensures { area_view area.now ≡ area_in elements.now
-        → reason_read wrong_date.entry ≡ result_err (days_in elements.now)
-        → reason_read result ≡ first_some (early_reasons elements.now) }
+    ensures { area_view area.now ≡ area_in elements.now → reason_read result
+        ≡ first_some (early_reasons (reason_read wrong_date.entry) elements.now) }
 {
     let late = late_reason(area, wrong_date, elements);
+    let mark = mark_in(b"EpubLicenseWithDate", elements);
+    let dated_license = because(Foreign::EpubLicenseWithDate, mark);
     let license = because(Foreign::EpubLicense, mark_in(b"EpubLicense", elements));
     let zone = because(Foreign::CurrencyZone, text_in(b"CurrencyZone", elements));
     let coded = because(Foreign::PriceCoded, mark_in(b"PriceCoded", elements));
@@ -322,23 +371,16 @@ fn early_reason<'a>(
         other_type(b"PriceCondition", b"PriceConditionType", elements),
     );
     let per = because(Foreign::PricePer, other_in(b"PricePer", elements));
-    let qualifier = because(
-        Foreign::PriceQualifier,
-        other_in(b"PriceQualifier", elements),
-    );
-    let typed = former(
-        condition,
-        former(
-            constraint,
-            former(coded, former(zone, former(license, late))),
-        ),
-    );
+    let qualifier = because(Foreign::PriceQualifier, other_qualifier(elements));
+    let licensed = former(license, former(dated_license, late));
+    let marked = former(coded, former(zone, licensed));
+    let typed = former(condition, former(constraint, marked));
     former(qualifier, former(per, typed))
 }
 
 // Whether a Price is nothing: it has no amount and no PriceCoded, and the record of its
 // SupplyDetail an UnpricedItemType.
-fn is_nothing(context: &PriceContext<'_, '_>, elements: &Elements<'_>) -> bool
+fn is_nothing(context: &PriceContext<'_, '_, '_>, elements: &Elements<'_>) -> bool
     ensures { result ≡ is_nothing (context_view context.now) elements.now }
 {
     context.is_unpriced
@@ -404,13 +446,33 @@ pub(crate) fn own_minimum<'a>(elements: &Elements<'a>) -> Option<&'a [u8]>
     if are_zeros(text) { None } else { Some(text) }
 }
 
-// A minimum, or the other one where there is none.
-fn or_text<'b>(one: Option<&'b [u8]>, other: Option<&'b [u8]>) -> Option<&'b [u8]>
-    ensures { text_view result ≡ option_or (text_view one.entry) (text_view other.entry) }
+// Whether a quantity is greater than another, where both are quantities.
+fn is_greater(one: Option<Quantity>, other: Option<Quantity>) -> bool
+    ensures { result ≡ is_greater one other }
 {
     match one {
-        Some(text) => Some(text),
-        None => other,
+        Some(one) => match other {
+            Some(other) => one.value() > other.value(),
+            None => false,
+        },
+        None => false,
+    }
+}
+
+// A minimum, or the other one where that is greater or there is none.
+fn greater_of<'b>(own: Option<&'b [u8]>, other: Option<&'b [u8]>) -> Option<&'b [u8]>
+    ensures { text_view result ≡ greater_of (text_view own.entry) (text_view other.entry) }
+{
+    let Some(own) = own else {
+        return other;
+    };
+    let Some(other) = other else {
+        return Some(own);
+    };
+    if is_greater(parsed_quantity(other), parsed_quantity(own)) {
+        Some(other)
+    } else {
+        Some(own)
     }
 }
 
@@ -503,7 +565,7 @@ fn take_price(
 // and says whether the desk takes it.
 fn take_texts(
     alloc: Global,
-    context: &PriceContext<'_, '_>,
+    context: &PriceContext<'_, '_, '_>,
     owned: &Owned,
     area: &Area<'_>,
     elements: &Elements<'_>,
@@ -518,10 +580,9 @@ fn take_texts(
         → AreRenamed owned.now.renamed (area_view area.now)
         → owned.now.first ≡ day_field (right_days elements.now).first
         → owned.now.last ≡ day_field (right_days elements.now).last → IfOk result (λ is. is
-        ≡ is_some (parsed (price_of context.now.opening.now)
-        (price_fields (context_view context.now) elements.now))) }
+        ≡ is_taken (context_view context.now) elements.now) }
 {
-    let minimum = or_text(own_minimum(elements), context.minimum);
+    let minimum = greater_of(own_minimum(elements), context.minimum);
     take_price(
         alloc,
         context.opening,
@@ -531,11 +592,123 @@ fn take_texts(
     )
 }
 
-// Adds the record of a Price with these days in this territory, or gives the reason for which the
-// desk would not take it.
+// The letters of a price type.
+fn type_letters(code: Option<Code2>) -> Option<[u8; 2]>
+    ensures { result ≡ code }
+{
+    match code {
+        Some(code) => match code.as_str().as_bytes() {
+            [a, b] => Some([*a, *b]),
+            _ => None,
+        },
+        None => None,
+    }
+}
+
+// The letters of a currency.
+fn currency_letters(code: Option<Currency>) -> Option<[u8; 3]>
+    ensures { result ≡ code }
+{
+    match code {
+        Some(code) => match code.as_str().as_bytes() {
+            [a, b, c] => Some([*a, *b, *c]),
+            _ => None,
+        },
+        None => None,
+    }
+}
+
+// The price type and the currency of a Price.
+fn key_in(opening: &Opening, elements: &Elements<'_>) -> Key
+    ensures { result ≡ key_in opening.now elements.now }
+{
+    let price_type = text_or_empty(b"PriceType", elements);
+    let currency = text_or_empty(b"CurrencyCode", elements);
+    let types = value_or_default(
+        opening.header.default_type,
+        price_type,
+        parsed_code(price_type),
+    );
+    let currencies = value_or_default(
+        opening.header.default_currency,
+        currency,
+        parsed_currency(currency),
+    );
+    Key {
+        price_type: type_letters(types),
+        currency: currency_letters(currencies),
+    }
+}
+
+// Whether two price types are there and the same.
+fn are_same_types(one: Option<[u8; 2]>, other: Option<[u8; 2]>) -> bool
+    ensures { result ≡ are_same one other }
+{
+    match one {
+        Some(one) => match other {
+            Some(other) => one.as_slice() == other.as_slice(),
+            None => false,
+        },
+        None => false,
+    }
+}
+
+// Whether two currencies are there and the same.
+fn are_same_currencies(one: Option<[u8; 3]>, other: Option<[u8; 3]>) -> bool
+    ensures { result ≡ are_same one other }
+{
+    match one {
+        Some(one) => match other {
+            Some(other) => one.as_slice() == other.as_slice(),
+            None => false,
+        },
+        None => false,
+    }
+}
+
+fn is_key(one: &Key, other: &Key) -> bool
+    ensures { result ≡ is_key one.now other.now }
+{
+    are_same_types(one.price_type, other.price_type)
+        && are_same_currencies(one.currency, other.currency)
+}
+
+// Whether one of the keys is this one.
+fn has_key(key: &Key, keys: &[Key]) -> bool
+    ensures { result ≡ list_any (is_key key.now) keys.now }
+{
+    let mut rest = keys;
+    while let [first, tail @ ..] = rest {
+        if is_key(key, first) {
+            return true;
+        }
+        rest = tail;
+    }
+    false
+}
+
+// That a Price beside this one, of its type and currency, is left out for its PriceDates alone.
+fn closed_reason(
+    context: &PriceContext<'_, '_, '_>,
+    elements: &Elements<'_>,
+) -> Option<Reason<'static>>
+    ensures { reason_read result ≡ closed_reason (context_view context.now) elements.now }
+{
+    let key = key_in(context.opening, elements);
+    if !has_key(&key, context.closed) {
+        return None;
+    }
+    Some(Reason {
+        kind: ReasonKind::Foreign(Foreign::BesideDates),
+        text: b"",
+    })
+}
+
+// Adds the record of a Price with these days in this territory, or gives the reason for which it is
+// left out.
 fn write_price<'a>(
     alloc: Global,
-    context: &PriceContext<'_, '_>,
+    context: &PriceContext<'_, '_, '_>,
     elements: &Elements<'a>,
     area: &Area<'a>,
     days: Days,
@@ -544,17 +717,22 @@ fn write_price<'a>(
 ) -> Result<Option<Reason<'a>>, AllocError>
     ensures reason { area_view area.now ≡ area_in elements.now → days ≡ right_days elements.now
         → IfOk result (λ reason. reason_read reason
-        ≡ record_reason (context_view context.now) elements.now) }
+        ≡ last_reason (context_view context.now) elements.now) }
     ensures record { area_view area.now ≡ area_in elements.now → days ≡ right_days elements.now
         → OnOk result (records.new ≡ records.old ++ outcome_records
-        (outcome_of (record_reason (context_view context.now) elements.now)
+        (outcome_of (last_reason (context_view context.now) elements.now)
         (context_view context.now) elements.now)) }
 {
     let owned = owned_texts(alloc, area, days)?;
     let is_taken = take_texts(alloc, context, &owned, area, elements, fields)?;
     if is_taken {
-        records.push(&fields.as_record())?;
-        return Ok(None);
+        return match closed_reason(context, elements) {
+            Some(reason) => Ok(Some(reason)),
+            None => {
+                records.push(&fields.as_record())?;
+                Ok(None)
+            }
+        };
     }
     let field = field_reason(alloc, context.opening, area, &owned.renamed, elements)?;
     Ok(Some(or_price(field)))
@@ -564,7 +742,7 @@ fn write_price<'a>(
 // the desk would not take it.
 fn add_known<'a>(
     alloc: Global,
-    context: &PriceContext<'_, '_>,
+    context: &PriceContext<'_, '_, '_>,
     elements: &Elements<'a>,
     area: &Area<'a>,
     days: Days,
@@ -574,14 +752,14 @@ fn add_known<'a>(
 ) -> Result<Option<Reason<'a>>, AllocError>
     ensures reason { area_view area.now ≡ area_in elements.now → days ≡ right_days elements.now
         → IfOk result (λ reason. reason_read reason
-        ≡ record_reason (context_view context.now) elements.now) }
+        ≡ last_reason (context_view context.now) elements.now) }
     ensures records { area_view area.now ≡ area_in elements.now → days ≡ right_days elements.now
         → OnOk result (records.new ≡ records.old ++ outcome_records
-        (outcome_of (record_reason (context_view context.now) elements.now)
+        (outcome_of (last_reason (context_view context.now) elements.now)
         (context_view context.now) elements.now)) }
     ensures notes { area_view area.now ≡ area_in elements.now → days ≡ right_days elements.now
         → OnOk result (note_views notes.new.items ≡ note_views notes.old.items ++ notes_below
-        (outcome_of (record_reason (context_view context.now) elements.now)
+        (outcome_of (last_reason (context_view context.now) elements.now)
         (context_view context.now) elements.now)) }
 {
     let left_out = write_price(alloc, context, elements, area, days, fields, records)?;
@@ -595,7 +773,7 @@ fn add_known<'a>(
 // Adds what comes of a Price that is something: its record, or the reason for which it is left out.
 fn add_priced<'a>(
     alloc: Global,
-    context: &PriceContext<'_, '_>,
+    context: &PriceContext<'_, '_, '_>,
     elements: &Elements<'a>,
     fields: &mut FieldBuffer,
     records: &mut RecordBuffer,
@@ -628,11 +806,109 @@ fn add_priced<'a>(
     }
 }
 
+// Whether the desk takes the record of a Price with these days in this territory.
+fn is_taken_then(
+    alloc: Global,
+    context: &PriceContext<'_, '_, '_>,
+    elements: &Elements<'_>,
+    area: &Area<'_>,
+    days: Days,
+    fields: &mut FieldBuffer,
+) -> Result<bool, AllocError>
+    ensures { area_view area.now ≡ area_in elements.now → days ≡ right_days elements.now
+        → IfOk result (λ is. is ≡ is_taken (context_view context.now) elements.now) }
+{
+    let owned = owned_texts(alloc, area, days)?;
+    take_texts(alloc, context, &owned, area, elements, fields)
+}
+
+// The type and currency of a Price that would be written but for its PriceDates, which are wrong.
+fn undated_key(
+    alloc: Global,
+    context: &PriceContext<'_, '_, '_>,
+    dated: &Dated<'_>,
+    elements: &Elements<'_>,
+    fields: &mut FieldBuffer,
+) -> Result<Option<Key>, AllocError>
+    ensures { dated_view dated.now ≡ days_in elements.now → IfOk result (λ key. key
+        ≡ (if is_none (first_some (early_reasons None elements.now))
+        && is_taken (context_view context.now) elements.now
+        then Some (key_in context.now.opening.now elements.now) else None)) }
+{
+    let area = area_in(elements);
+    if early_reason(&area, None, elements).is_some() {
+        return Ok(None);
+    }
+    let is_taken = is_taken_then(alloc, context, elements, &area, right_days(dated), fields)?;
+    if is_taken {
+        Ok(Some(key_in(context.opening, elements)))
+    } else {
+        Ok(None)
+    }
+}
+
+// The type and currency of a Price that would be written but for its PriceDates.
+fn closing_key(
+    alloc: Global,
+    context: &PriceContext<'_, '_, '_>,
+    elements: &Elements<'_>,
+    fields: &mut FieldBuffer,
+) -> Result<Option<Key>, AllocError>
+    ensures { IfOk result
+        (λ key. key ≡ closing_key (context_view context.now) elements.now) }
+{
+    let dated = days_in(elements);
+    if is_nothing(context, elements) || dated.wrong.is_none() {
+        return Ok(None);
+    }
+    undated_key(alloc, context, &dated, elements, fields)
+}
+
+// Adds the type and currency of a Price that would be written but for its PriceDates.
+fn add_closing_key(
+    alloc: Global,
+    context: &PriceContext<'_, '_, '_>,
+    elements: &Elements<'_>,
+    fields: &mut FieldBuffer,
+    keys: &mut Items<Key>,
+) -> Result<(), AllocError>
+    ensures { OnOk result (keys.new ≡ keys.old
+        ++ option_to_list (closing_key (context_view context.now) elements.now)) }
+{
+    match closing_key(alloc, context, elements, fields)? {
+        Some(key) => {
+            keys.push(key)?;
+            Ok(())
+        }
+        None => Ok(()),
+    }
+}
+
+/// The types and currencies of those Prices of a SupplyDetail that would be written but for their
+/// PriceDates. The list takes fields.
+pub(crate) fn closing_keys(
+    alloc: Global,
+    context: &PriceContext<'_, '_, '_>,
+    elements: &Elements<'_>,
+    fields: &mut FieldBuffer,
+) -> Result<Items<Key>, AllocError>
+    ensures { IfOk result (λ keys. keys
+        ≡ closing_keys (context_view context.now) (composites (codes "Price") elements.now)) }
+{
+    let mut keys = Items::new(alloc);
+    let mut rest = elements.copy();
+    while let Some((price, behind)) = next_composite(b"Price", &rest) {
+        add_closing_key(alloc, context, &price.below, fields, &mut keys)?;
+        rest = behind;
+    }
+    Ok(keys)
+}
+
 /// Adds what comes of a Price: its record, where it has one, and notes on what is left out. The
 /// list takes the fields of the record.
 pub(crate) fn add_price<'a>(
     alloc: Global,
-    context: &PriceContext<'_, '_>,
+    context: &PriceContext<'_, '_, '_>,
     price: &Composite<'a>,
     fields: &mut FieldBuffer,
     records: &mut RecordBuffer,

@@ -4,10 +4,10 @@ ghost use Rattle.std.specs.Prelude.{◌≡◌, ◌++◌, ◌<◌, ◌||◌, ℕ,
 ghost use Rattle.std.specs.Char.{is_ascii_digit};
 ghost use Rattle.std.specs.List.{list_all};
 ghost use Rattle.std.specs.Str.{chars};
-ghost use Rattle.feed_mapping.specs.Notes.{note_views};
+ghost use Rattle.feed_mapping.specs.Notes.{note_views, reason_view};
 ghost use Rattle.feed_mapping.specs.PriceViews.{reason_read};
 ghost use Rattle.std.specs.Prelude.{[], not};
-ghost use Rattle.feed_mapping.specs.Products.{MayBe, are_some, digit_byte, dropping, has_isbn, has_strange_identifier, identifier_note, identifier_notes, is_blank, is_deletion, is_gtin_type, is_hyphen, is_isbn, is_strange, is_thirteen, notification_in, or_reference, own_reasons, pair_reason, product_record, reference_in, right_pair, right_pairs, thirteen_of, type_of, value_of, without_marks, written_value};
+ghost use Rattle.feed_mapping.specs.Products.{MayBe, are_some, beside_isbn, graded, identifiers_in, digit_byte, dropping, has_isbn, has_strange_identifier, identifier_note, identifier_notes, is_blank, is_deletion, is_gtin_type, is_hyphen, is_isbn, is_strange, is_thirteen, notification_in, or_reference, own_reasons, pair_reason, product_record, reference_in, right_pair, right_pairs, thirteen_of, type_of, value_of, without_marks, written_value};
 ghost use Rattle.feed_mapping.specs.Records.{first_some, option_filter, parsed_term, unless, invalid};
 ghost use Rattle.feed_mapping.specs.declared.notes.Wrong.TheVariants as bad;
 ghost use Rattle.onix_terms.specs.Code.{code2_of};
@@ -17,7 +17,7 @@ ghost use Rattle.feed_outline.specs.Composites.{has_stranger};
 ghost use Rattle.feed_outline.specs.Names.{stranger};
 
 use crate::elements::{Composite, next_composite, text_or_empty};
-use crate::notes::{Note, Reason, Wrong, push_note};
+use crate::notes::{Foreign, Note, Reason, ReasonKind, Wrong, push_note};
 use crate::records::{former, is_field, parsed_code, push_texts, unless, utf8_text};
 use csv_records::fields::FieldBuffer;
 use feed_outline::{Elements, Line, has_stranger};
@@ -185,6 +185,31 @@ fn pair_reason<'a>(id_type: &'a [u8], written: &[u8], stands: &'a [u8]) -> Optio
     former(typed, former(valued, None))
 }
 
+// What is wrong with an identifier is foreign beside one by which the product is found.
+fn beside_isbn(kind: ReasonKind) -> ReasonKind
+    ensures { result ≡ beside_isbn kind }
+{
+    match kind {
+        ReasonKind::Wrong(Wrong::IdentifierType) => ReasonKind::Foreign(Foreign::IdentifierType),
+        ReasonKind::Wrong(Wrong::IdentifierValue) => ReasonKind::Foreign(Foreign::IdentifierValue),
+        _ => kind,
+    }
+}
+
+fn graded<'a>(is_found: bool, reason: Reason<'a>) -> Reason<'a>
+    ensures { reason_view result ≡ graded is_found (reason_view reason.entry) }
+{
+    let kind = if is_found {
+        beside_isbn(reason.kind)
+    } else {
+        reason.kind
+    };
+    Reason {
+        kind,
+        text: reason.text,
+    }
+}
+
 // Adds texts that are UTF-8 to the fields of a record.
 fn push_utf8(fields: &mut FieldBuffer, texts: &[&[u8]]) -> Result<(), AllocError>
     ensures { OnOk result (fields.new ≡ fields.old ++ map (λ t. t.now) texts.now) }
@@ -217,30 +242,53 @@ fn value_of<'a>(identifier: &Composite<'a>) -> &'a [u8]
     text_or_empty(b"IDValue", &identifier.below)
 }
 
-// Takes an identifier, and adds a note on it where it is left out.
+// Whether the desk would find the product by an identifier as an ISBN.
+fn is_isbn(alloc: Global, identifier: &Composite<'_>) -> Result<bool, AllocError>
+    ensures { IfOk result (λ is. is ≡ is_isbn identifier.now) }
+{
+    let id_type = type_of(identifier);
+    let value = value_of(identifier);
+    let digits = digits_of(alloc, id_type, value)?;
+    Ok(is_gtin_type(id_type) && is_thirteen(or_value(&digits, value)))
+}
+
+// Whether the desk would find the product by an ISBN.
+fn has_isbn(alloc: Global, elements: &Elements<'_>) -> Result<bool, AllocError>
+    ensures { IfOk result (λ has. has ≡ has_isbn elements.now) }
+{
+    let mut rest = elements.copy();
+    while let Some((identifier, behind)) = next_composite(b"ProductIdentifier", &rest) {
+        if is_isbn(alloc, &identifier)? {
+            return Ok(true);
+        }
+        rest = behind;
+    }
+    Ok(false)
+}
+
+// Takes an identifier, and adds a note on it where it is left out; whether the product is found by
+// an ISBN decides how grave that is.
 fn take_identifier<'a>(
     alloc: Global,
+    is_found: bool,
     identifier: &Composite<'a>,
-    taken: &mut Identifiers,
+    pairs: &mut FieldBuffer,
     notes: &mut Vec<Note<'a>>,
 ) -> Result<(), AllocError>
-    ensures pairs { OnOk result (taken.new.pairs ≡ taken.old.pairs ++ right_pair identifier.now) }
-    ensures isbn { OnOk result
-        (taken.new.has_isbn ≡ (taken.old.has_isbn || is_isbn identifier.now)) }
+    ensures pairs { OnOk result (pairs.new ≡ pairs.old ++ right_pair identifier.now) }
     ensures notes { OnOk result (note_views notes.new.items
-        ≡ note_views notes.old.items ++ identifier_note identifier.now) }
+        ≡ note_views notes.old.items ++ identifier_note identifier.now is_found) }
 {
     let id_type = type_of(identifier);
     let value = value_of(identifier);
     let digits = digits_of(alloc, id_type, value)?;
     let written = or_value(&digits, value);
-    taken.has_isbn = taken.has_isbn || (is_gtin_type(id_type) && is_thirteen(written));
     if id_type.is_empty() && value.is_empty() {
         return Ok(());
     }
     match pair_reason(id_type, written, value) {
-        None => push_utf8(&mut taken.pairs, &[id_type, written]),
-        Some(reason) => push_note(notes, identifier.line, reason),
+        None => push_utf8(pairs, &[id_type, written]),
+        Some(reason) => push_note(notes, identifier.line, graded(is_found, reason)),
     }
 }
 
@@ -256,16 +304,14 @@ pub(crate) fn take_identifiers<'a>(
     ensures notes { OnOk result (note_views notes.new.items
         ≡ note_views notes.old.items ++ identifier_notes elements.now) }
 {
-    let mut taken = Identifiers {
-        pairs: FieldBuffer::new(alloc),
-        has_isbn: false,
-    };
+    let has_isbn = has_isbn(alloc, elements)?;
+    let mut pairs = FieldBuffer::new(alloc);
     let mut rest = elements.copy();
     while let Some((identifier, behind)) = next_composite(b"ProductIdentifier", &rest) {
-        take_identifier(alloc, &identifier, &mut taken, notes)?;
+        take_identifier(alloc, has_isbn, &identifier, &mut pairs, notes)?;
         rest = behind;
     }
-    Ok(taken)
+    Ok(Identifiers { pairs, has_isbn })
 }
 
 // Adds these types and values; where there are none, the type 01 and the reference.

@@ -3,14 +3,14 @@
 ghost use Rattle.std.specs.Prelude.{◌≡◌, ◌++◌, ◌<◌, IfOk, IfSome, OnOk, length, map, option_map};
 ghost use Rattle.std.specs.List.{list_all, list_any};
 ghost use Rattle.feed_mapping.specs.Elements.{element_view};
-ghost use Rattle.feed_mapping.specs.Notes.{note_views};
+ghost use Rattle.feed_mapping.specs.Notes.{note_views, reason_view};
 ghost use Rattle.feed_mapping.specs.Regions.{IsRenamed, country_code, countries_written, is_other_name, other_names, spaced};
-ghost use Rattle.feed_mapping.specs.Territories.{word_notes};
+ghost use Rattle.feed_mapping.specs.Territories.{region_notes, region_reason, word_notes};
 ghost use Rattle.feed_mapping.specs.declared.notes.Foreign.TheVariants.{CountryName};
 ghost use Rattle.onix_terms.specs.Territory.{words_of};
-ghost use Rattle.feed_mapping.specs.Regions.{first_space, front_to, is_capital_or_digit, is_part_of_country, is_world, names_world, other_regions, region_of_no_country, rest_from, IsNextWord};
+ghost use Rattle.feed_mapping.specs.Regions.{first_region, first_space, front_to, is_two_letters, two_letters_in, is_capital_or_digit, is_part_of_country, is_world, names_world, other_regions, region_of_no_country, rest_from, IsNextWord};
 
-use crate::notes::{Foreign, Note, Reason, ReasonKind};
+use crate::notes::{Foreign, Note, Reason, ReasonKind, Wrong};
 use feed_outline::Line;
 use std::alloc::{AllocError, Global};
 
@@ -92,18 +92,68 @@ fn is_part_of_country(region: &[u8]) -> bool
     false
 }
 
-/// The first region that is no part of a country.
-pub(crate) fn region_of_no_country(text: &[u8]) -> Option<&[u8]>
-    ensures { option_map (λ r. r.now) result ≡ region_of_no_country text.now }
+// Whether a region is two letters A to Z, which are a country.
+fn is_two_letters(region: &[u8]) -> bool
+    ensures { result ≡ is_two_letters region.now }
+{
+    let [a, b] = region else {
+        return false;
+    };
+    a.is_ascii_uppercase() && b.is_ascii_uppercase()
+}
+
+/// The first region that is not two letters.
+pub(crate) fn first_region(text: &[u8]) -> Option<&[u8]>
+    ensures { option_map (λ r. r.now) result ≡ first_region text.now }
 {
     let mut rest = text;
     while let Some((region, behind)) = next_word(rest) {
-        if !is_part_of_country(region) {
+        if !is_two_letters(region) {
             return Some(region);
         }
         rest = behind;
     }
     None
+}
+
+/// The first region that is two letters.
+pub(crate) fn two_letters_in(text: &[u8]) -> Option<&[u8]>
+    ensures { option_map (λ r. r.now) result ≡ two_letters_in text.now }
+{
+    let mut rest = text;
+    while let Some((region, behind)) = next_word(rest) {
+        if is_two_letters(region) {
+            return Some(region);
+        }
+        rest = behind;
+    }
+    None
+}
+
+/// The first region that is neither a part of a country nor two letters.
+pub(crate) fn region_of_no_country(text: &[u8]) -> Option<&[u8]>
+    ensures { option_map (λ r. r.now) result ≡ region_of_no_country text.now }
+{
+    let mut rest = text;
+    while let Some((region, behind)) = next_word(rest) {
+        if !(is_part_of_country(region) || is_two_letters(region)) {
+            return Some(region);
+        }
+        rest = behind;
+    }
+    None
+}
+
+// Why a region is left out, which is of this kind; two letters are a country.
+fn region_reason<'a>(kind: Foreign, region: &'a [u8]) -> Reason<'a>
+    ensures { reason_view result ≡ region_reason kind region.now }
+{
+    let kind = if is_two_letters(region) {
+        ReasonKind::Wrong(Wrong::CountryAsRegion)
+    } else {
+        ReasonKind::Foreign(kind)
+    };
+    Reason { kind, text: region }
 }
 
 /// Adds a note on each of the regions but WORLD, as often as it stands there.
@@ -114,17 +164,14 @@ pub(crate) fn push_regions<'a>(
     text: &'a [u8],
 ) -> Result<(), AllocError>
     ensures { OnOk result (note_views notes.new.items ≡ note_views notes.old.items
-        ++ word_notes (element_view line.now) kind (other_regions text.now)) }
+        ++ region_notes (element_view line.now) kind (other_regions text.now)) }
 {
     let mut rest = text;
     while let Some((region, behind)) = next_word(rest) {
         if !is_world(region) {
             notes.push(Note {
                 line,
-                reason: Reason {
-                    kind: ReasonKind::Foreign(kind),
-                    text: region,
-                },
+                reason: region_reason(kind, region),
             })?;
         }
         rest = behind;

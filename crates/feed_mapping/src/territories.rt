@@ -1,12 +1,12 @@
 //! Where a Market or a Price holds.
 
-ghost use Rattle.std.specs.Prelude.{◌≡◌, ◌++◌, ◌<◌, [], IfOk, OnOk, is_some, map, option_map};
+ghost use Rattle.std.specs.Prelude.{◌≡◌, ◌++◌, ◌<◌, ◌&&◌, [], None, Some, IfOk, OnOk, if◌then◌else◌, is_some, map, option_map};
 ghost use Rattle.std.specs.Option.{unwrap_or};
 ghost use Rattle.feed_mapping.specs.Markets.{IsFilled, supply_record, union_fields};
 ghost use Rattle.feed_mapping.specs.Notes.{note_views, reason_view, wrong};
-ghost use Rattle.feed_mapping.specs.PriceViews.{reason_read};
+ghost use Rattle.feed_mapping.specs.PriceViews.{reason_read, text_view};
 ghost use Rattle.feed_mapping.specs.Records.{clean, first_some, parsed_term};
-ghost use Rattle.feed_mapping.specs.Territories.{AreRenamed, area_fields, area_in, area_reasons, area_reason, area_view, market_of, region_alone, territory_notes, unsupported};
+ghost use Rattle.feed_mapping.specs.Territories.{AreRenamed, area_fields, area_in, area_reasons, area_reason, area_view, country_as_region, form_reasons, has_country, is_silent, market_of, region_alone, territory_notes, unsupported};
 ghost use Rattle.feed_mapping.specs.declared.notes.Wrong.TheVariants as bad;
 ghost use Rattle.onix_records.specs.Fields.{territory_fields};
 ghost use Rattle.onix_records.specs.Gives.{Gives};
@@ -14,12 +14,13 @@ ghost use Rattle.onix_records.specs.Supply.{supply_of};
 ghost use Rattle.feed_mapping.specs.Regions.{names_world};
 ghost use Rattle.onix_terms.specs.Territory.{countries_of, world_text};
 
+use crate::again::again_in;
 use crate::elements::{first_composite, text_or_empty};
 use crate::notes::{Foreign, Note, Reason, ReasonKind, Wrong};
 use crate::records::{former, push_texts, unless, utf8_text};
 use crate::regions::{
-    countries_written, names_world, next_word, push_other_names, push_regions,
-    region_of_no_country, renamed,
+    countries_written, first_region, names_world, push_other_names, push_regions,
+    region_of_no_country, renamed, two_letters_in,
 };
 use csv_records::fields::FieldBuffer;
 use feed_outline::{Elements, Line};
@@ -31,8 +32,9 @@ use onix_terms::countries::{countries_text, read_countries};
 use onix_terms::territory::{TermFault, Territory};
 use std::alloc::{AllocError, Global};
 
-/// Where a Market or a Price holds: the line of its Territory, where it has one, and the four
-/// texts in that, each empty where it has none.
+/// Where a Market or a Price holds: the line of its Territory, where it has one, the four texts in
+/// that, each empty where it has none, and the name of an element of the Market or the Price that
+/// comes again, though it does not repeat.
 #[derive(Clone, Copy)]
 pub struct Area<'a> {
     pub line: Option<&'a Line>,
@@ -40,6 +42,7 @@ pub struct Area<'a> {
     pub regions_included: &'a [u8],
     pub excluded: &'a [u8],
     pub regions_excluded: &'a [u8],
+    pub again: Option<&'static [u8]>,
 }
 
 /// Where a Market or a Price holds, by the elements in it. Without a
@@ -47,6 +50,7 @@ pub struct Area<'a> {
 pub fn area_in<'a>(elements: &Elements<'a>) -> Area<'a>
     ensures { area_view result ≡ area_in elements.now }
 {
+    let again = again_in(elements);
     match first_composite(b"Territory", elements) {
         None => Area {
             line: None,
@@ -54,6 +58,7 @@ pub fn area_in<'a>(elements: &Elements<'a>) -> Area<'a>
             regions_included: b"",
             excluded: b"",
             regions_excluded: b"",
+            again,
         },
         Some(territory) => Area {
             line: Some(territory.line),
@@ -61,21 +66,88 @@ pub fn area_in<'a>(elements: &Elements<'a>) -> Area<'a>
             regions_included: text_or_empty(b"RegionsIncluded", &territory.below),
             excluded: text_or_empty(b"CountriesExcluded", &territory.below),
             regions_excluded: text_or_empty(b"RegionsExcluded", &territory.below),
+            again,
         },
     }
 }
 
-// The first of the regions that are included, where neither a country nor the world is.
+// Whether a country or the world is included.
+fn has_country(area: &Area<'_>) -> bool
+    ensures { result ≡ has_country (area_view area.now) }
+{
+    !area.included.is_empty() || names_world(area.regions_included)
+}
+
+// The first of the regions that are included, but for two letters, where neither a country nor the
+// world is.
 fn region_alone<'a>(area: &Area<'a>) -> Option<&'a [u8]>
     ensures { option_map (λ r. r.now) result ≡ region_alone (area_view area.now) }
 {
-    if !area.included.is_empty() || names_world(area.regions_included) {
-        return None;
+    if has_country(area) {
+        None
+    } else {
+        first_region(area.regions_included)
     }
-    match next_word(area.regions_included) {
-        Some((region, _)) => Some(region),
+}
+
+// Two letters among the regions, without which the territory would hold where it must not.
+fn country_as_region<'a>(area: &Area<'a>) -> Option<&'a [u8]>
+    ensures { option_map (λ r. r.now) result ≡ country_as_region (area_view area.now) }
+{
+    if !has_country(area) {
+        if let Some(region) = two_letters_in(area.regions_included) {
+            return Some(region);
+        }
+    }
+    two_letters_in(area.regions_excluded)
+}
+
+// Whether a territory has no text.
+fn is_silent(area: &Area<'_>) -> bool
+    ensures { result ≡ is_silent (area_view area.now) }
+{
+    area.included.is_empty()
+        && area.regions_included.is_empty()
+        && area.excluded.is_empty()
+        && area.regions_excluded.is_empty()
+}
+
+// A reason for what the desk would not take, where there is a text that is one.
+fn because<'a>(kind: Wrong, text: Option<&'a [u8]>) -> Option<Reason<'a>>
+    ensures { reason_read result ≡ option_map (wrong kind) (text_view text.entry) }
+{
+    match text {
+        Some(text) => Some(Reason {
+            kind: ReasonKind::Wrong(kind),
+            text,
+        }),
         None => None,
     }
+}
+
+// That a Territory has no text.
+fn empty_reason(area: &Area<'_>) -> Option<Reason<'static>>
+    ensures { reason_read result
+        ≡ (if is_some (area_view area.now).territory && is_silent (area_view area.now)
+        then Some (wrong bad.EmptyTerritory []) else None) }
+{
+    if area.line.is_some() && is_silent(area) {
+        Some(Reason {
+            kind: ReasonKind::Wrong(Wrong::EmptyTerritory),
+            text: b"",
+        })
+    } else {
+        None
+    }
+}
+
+/// Why a territory does not say where, or says it in a form that does not count.
+pub(crate) fn form_reason<'a>(area: &Area<'a>) -> Option<Reason<'a>>
+    ensures { reason_read result ≡ first_some (form_reasons (area_view area.now)) }
+{
+    let country = because(Wrong::CountryAsRegion, country_as_region(area));
+    let again = because(Wrong::ComesAgain, area.again);
+    former(again, former(empty_reason(area), former(country, None)))
 }
 
 /// Why the desk does not support a territory, whatever is left out of it.

@@ -6,7 +6,7 @@ ghost use Rattle.feed_outline.specs.Views.{word_views};
 
 use feed_outline::{Word, words};
 
-static WORDS: [Word; 64] = words! {
+static WORDS: [Word; 73] = words! {
     b"ONIXMessage": b"Header" = b"header", b"Product" = b"product", b"NoProduct" = b"x507";
     b"Header": b"Sender" = b"sender", b"Addressee" = b"addressee", b"MessageNumber" = b"m180",
         b"MessageRepeat" = b"m181", b"SentDateTime" = b"x307", b"DefaultPriceType" = b"x310",
@@ -23,7 +23,9 @@ static WORDS: [Word; 64] = words! {
     b"Territory": b"CountriesIncluded" = b"x449", b"RegionsIncluded" = b"x450",
         b"CountriesExcluded" = b"x451", b"RegionsExcluded" = b"x452";
     b"SupplyDetail": b"OrderQuantityMinimum" = b"x532", b"Supplier" = b"supplier",
-        b"ProductAvailability" = b"j396", b"UnpricedItemType" = b"j192", b"Price" = b"price";
+        b"ProductAvailability" = b"j396", b"UnpricedItemType" = b"j192", b"Price" = b"price",
+        b"SupplyToCountry" = b"j138", b"SupplyToRegion" = b"j139",
+        b"SupplyToCountryExcluded" = b"j140", b"SupplyToTerritory" = b"j397";
     b"Supplier": b"SupplierRole" = b"j292", b"SupplierIdentifier" = b"supplieridentifier",
         b"SupplierName" = b"j137";
     b"SupplierIdentifier": b"SupplierIDType" = b"j345", b"IDValue" = b"b244";
@@ -31,13 +33,15 @@ static WORDS: [Word; 64] = words! {
         b"PriceCondition" = b"pricecondition", b"PriceConstraint" = b"priceconstraint",
         b"MinimumOrderQuantity" = b"j263", b"PriceCoded" = b"pricecoded", b"PriceAmount" = b"j151",
         b"UnpricedItemType" = b"j192", b"CurrencyCode" = b"j152", b"CurrencyZone" = b"x475",
-        b"EpubLicense" = b"epublicense", b"PriceTypeCode" = b"j148",
-        b"PriceEffectiveFrom" = b"j161", b"PriceEffectiveUntil" = b"j162",
-        b"CountryCode" = b"b251", b"Territory" = b"territory", b"PriceDate" = b"pricedate",
-        b"Discount" ~ b"discount", b"DiscountCoded" ~ b"discountcoded";
+        b"EpubLicense" = b"epublicense", b"EpubLicenseWithDate" = b"epublicensewithdate",
+        b"PriceTypeCode" = b"j148", b"ClassOfTrade" = b"j149", b"PriceEffectiveFrom" = b"j161",
+        b"PriceEffectiveUntil" = b"j162", b"CountryCode" = b"b251", b"CountryExcluded" = b"j304",
+        b"TerritoryExcluded" = b"j308", b"(j303)" = b"j303", b"Territory" = b"territory",
+        b"PriceDate" = b"pricedate";
     b"PriceCondition": b"PriceConditionType" = b"x463";
     b"PriceConstraint": b"PriceConstraintType" = b"x529";
     b"PriceDate": b"PriceDateRole" = b"x476", b"DateFormat" = b"j260", b"Date" = b"b306";
+    b"Price": b"Discount" ~ b"discount", b"DiscountCoded" ~ b"discountcoded";
 };
 
 /// The elements that say something to the desk.

@@ -1,6 +1,6 @@
 -- The names of ONIX for Books, release 3.0 and 3.1, as far as they are read.
 use Prim.Native.String.{String}
-use Rattle.std.specs.Prelude.{ℕ, Bool, not, ◌&&◌, ◌||◌, List, [], ◌∷◌, Option}
+use Rattle.std.specs.Prelude.{ℕ, Bool, true, false, not, ◌&&◌, ◌||◌, List, [], ◌∷◌, Option}
 use Rattle.std.specs.Prelude.{◌==◌, if◌then◌else◌, codes, map, option_map}
 use Rattle.std.specs.List.{after_first, before_first, find, flat_map, list_any, slice_split}
 use Rattle.std.specs.Str.{bytes_eq, str_eq_ignore_ascii_case, str_to_ascii_lowercase}
@@ -40,24 +40,30 @@ is_called_among words composite name =
     list_any
     (λ w. bytes_eq w.composite composite && (not w.is_counted_alone && is_called name w)) words
 
--- A word of a composite, by its reference name, and its short tag behind = where that is not the
--- name in small letters; behind ~ that is so, and it is counted alone.
-abbrev pub word : List ℕ → List ℕ → Word
-word composite text =
+-- a word of a composite, which is counted alone or not, by its reference name, and its short tag
+-- behind = where that is not the name in small letters
+abbrev pub word : Bool → List ℕ → List ℕ → Word
+word is_counted_alone composite text =
     let tag = after_first (λ b. b == 61) text in
-    let reference = before_first (λ b. b == 61 || b == 126) text in
-    let short = if is_filled tag then tag else str_to_ascii_lowercase reference in
+    let reference = before_first (λ b. b == 61) text in
+    let short = if is_filled tag then tag else str_to_ascii_lowercase text in
     record {
       composite = composite;
       reference = reference;
       short = short;
-      is_counted_alone = list_any (λ b. b == 126) text;
+      is_counted_alone = is_counted_alone;
     }
 
 -- the words of a composite, whose name goes before theirs
-abbrev pub children : List (List ℕ) → List Word
-children [] = []
-children (composite ∷ names) = map (word composite) names
+abbrev pub children : Bool → List (List ℕ) → List Word
+children is_counted_alone [] = []
+children is_counted_alone (composite ∷ names) = map (word is_counted_alone composite) names
+
+-- words, by rows: of each composite its name, and then its children
+abbrev pub words_of : Bool → List String → List Word
+words_of is_counted_alone rows =
+    flat_map
+    (λ row. children is_counted_alone (slice_split (λ b. b == 32) (codes row))) rows
 
 -- the root, by its reference name
 abbrev pub root : List ℕ
@@ -65,7 +71,11 @@ root = codes "ONIXMessage"
 
 -- a vocabulary, by rows: of each composite its name, and then its children
 abbrev pub vocabulary_of : List String → List Word
-vocabulary_of rows = flat_map (λ row. children (slice_split (λ b. b == 32) (codes row))) rows
+vocabulary_of rows = words_of false rows
+
+-- the same of elements that are counted and nothing else
+abbrev pub counted_alone_of : List String → List Word
+counted_alone_of rows = words_of true rows
 
 -- the root of a message: its name tells which kind of names it has
 abbrev pub naming_of_root : List ℕ → Option Naming

@@ -15,9 +15,14 @@ LETTERS = "abcXYZ019 ,\"'&<>;#é€žЖ’\u00a0\u2003📖"
 COUNTRIES = ["GB", "IE", "FR", "DE", "US", "CA"]
 
 # Regions beside countries or the world; parts of countries, which can be excluded; and what cannot.
-REGIONS = ["GB-NIR", "GB-AIR", "CA-QC", "ECZ", "ROW", "world"]
+REGIONS = ["GB-NIR", "GB-AIR", "CA-QC", "ECZ", "ROW", "world", "GB", "gb"]
 PARTS = ["CA-QC", "GB-NIR", "US-NY2", "FR-1"]
 NO_PARTS = ["ECZ", "ROW", "WORLD", "GB", "gb-nir", "GB-nir", "GB-", "G-NIR", "GBR-X", "-NIR", "GB-N-R"]
+
+# Elements that do not repeat.
+AGAIN_IN_TERRITORIES = ["Territory", "CountriesIncluded", "RegionsExcluded"]
+AGAIN_IN_PRICES = ["PriceType", "PriceAmount", "CurrencyCode", "MinimumOrderQuantity", "PriceQualifier", "CountryCode"]
+AGAIN_IN_DATES = ["PriceDateRole", "DateFormat", "Date"]
 
 CONTROL = "\x7f"
 
@@ -32,7 +37,7 @@ BAD_YEARS = ["0000", "25", "20255", "2025T"]
 BAD_NUMBERS = ["", "0", "000", "1234567890", "0000000001", "12a", "+1", "1.0", "999999999"]
 
 # What a price can be made odd by.
-ODD_PRICES = ["text", "condition", "constraint", "coded", "licence", "old", "default", "zero"]
+ODD_PRICES = ["text", "condition", "constraint", "coded", "licence", "dated licence", "old", "default", "zero", "again"]
 
 # What a price can be changed to so that it is left out, by element.
 BAD_TEXTS = {
@@ -40,7 +45,7 @@ BAD_TEXTS = {
     "currency": ["gbp", "EURO", "€", "GB"],
     "quantity": ["1234567", "1.5", "-1", "7" * 1025],
     "price_type": BAD_CODES,
-    "qualifier": ["05", "6"],
+    "qualifier": ["01", "6"],
     "per": ["01", "x"],
     "zone": ["EUR"],
 }
@@ -50,9 +55,25 @@ BAD_TEXTS = {
 PASSED_OVER = ["PriceStatus", "EpubTechnicalProtection"]
 
 # Elements of a price that ONIX 2.1 had.
-OLD = {"PriceTypeCode": "02", "PriceEffectiveFrom": "20250101", "PriceEffectiveUntil": "20251231", "CountryCode": "GB"}
+OLD = {
+    "PriceTypeCode": "02",
+    "ClassOfTrade": "retail",
+    "PriceEffectiveFrom": "20250101",
+    "PriceEffectiveUntil": "20251231",
+    "CountryCode": "GB",
+    "CountryExcluded": "IE",
+    "TerritoryExcluded": "ROW",
+}
 
-WRONG_DETAILS = ["supplier", "role", "name", "identifier", "availability", "unpriced", "price"]
+# Those of a SupplyDetail.
+OLD_OF_DETAIL = {
+    "SupplyToCountry": "GB",
+    "SupplyToRegion": "004",
+    "SupplyToCountryExcluded": "US",
+    "SupplyToTerritory": "WORLD",
+}
+
+WRONG_DETAILS = ["supplier", "role", "name", "identifier", "availability", "unpriced", "price", "old"]
 
 # What may stand between the digits of an ISBN.
 SEPARATORS = "- \u00ad\u2010\u2011\u2012\u2013\u2014\u2015\u2212\u00a0\u2009\u202f"
@@ -87,6 +108,10 @@ OF_PRICE = [
 
 
 Made = TypeVar("Made")
+
+
+def is_filled_in(territory: Territory) -> bool:
+    return any([territory.included, territory.regions, territory.excluded, territory.excluded_regions])
 
 
 class Maker:
@@ -164,12 +189,16 @@ class Maker:
             territory.regions = self.random.choice(["WORLD", "WORLD WORLD"])
         if self.is_one_of(30):
             territory.included = f"{territory.included} {territory.included}".strip()
-        return territory
+        if self.is_one_of(60):
+            territory.again = self.random.choice(AGAIN_IN_TERRITORIES)
+        return territory if is_filled_in(territory) or self.is_one_of(4) else Territory("GB")
 
     def odd_territory(self) -> Territory:
         """One with regions or with countries that are none."""
         territory = self.territory()
-        kind = self.random.choice(["beside", "beside", "part", "part", "alone", "no part", "countries"])
+        kind = self.random.choice(["beside", "beside", "part", "part", "alone", "no part", "countries", "silent"])
+        if kind == "silent":
+            return Territory()
         if kind == "beside":
             regions = [territory.regions, *self.random.sample(REGIONS, self.random.randint(1, 2))]
             self.random.shuffle(regions)
@@ -201,11 +230,20 @@ class Maker:
     # Prices.
 
     def price_date(self) -> PriceDate:
-        role = self.random.choice(["14", "14", "15", "15", "24", "24", "13", ""])
+        role = self.random.choice(["14", "14", "15", "15", "24"])
         if role == "24":
             return self.formatted(PriceDate(role, self.day() + self.day()), "06")
         text, date_format = self.day_month_or_year()
         return self.formatted(PriceDate(role, text), date_format)
+
+    def price_dates(self) -> list[PriceDate]:
+        """None, one, or two of which the second is mostly one that gives the day that the other does not."""
+        dates = self.some(self.price_date, 2)
+        if len(dates) == 2 and not self.is_one_of(6):
+            roles = {"14": "15", "15": "14"}
+            first, other = dates[0], roles.get(dates[0].role)
+            return [first, PriceDate(other, self.day())] if other else [first, first]
+        return dates
 
     def day_month_or_year(self) -> tuple[str, str]:
         """A text and its format."""
@@ -232,7 +270,11 @@ class Maker:
 
     def bad_date(self) -> PriceDate:
         role = self.random.choice(["14", "15", "24"])
-        kind = self.random.choice(["format", "day", "day", "none"])
+        kind = self.random.choice(["format", "day", "day", "none", "role", "again"])
+        if kind == "role":
+            return PriceDate(self.random.choice(["", "13", "015", "01"]), self.day())
+        if kind == "again":
+            return PriceDate(role if role != "24" else "14", self.day(), again=self.random.choice(AGAIN_IN_DATES))
         if kind == "format":
             other = ["02", "03", "6", "20", "1", "13"] if role == "24" else ["02", "03", "6", "20", "06"]
             return self.formatted(PriceDate(role, self.day()), self.random.choice(other))
@@ -262,9 +304,9 @@ class Maker:
             "EUR" if not message.currency else self.maybe("GBP"),
             self.quantity(),
             self.any_territory() if self.is_one_of(3) else None,
-            self.some(self.price_date, 2),
+            self.price_dates(),
             "" if has_amount else self.maybe(self.code()),
-            self.usual(),
+            self.random.choice(["00", "05"]) if self.is_one_of(5) else "",
             self.usual(),
             ["00"] if self.is_one_of(9) else [],
             ["00"] if self.is_one_of(9) else [],
@@ -303,6 +345,10 @@ class Maker:
                 price.amount = self.random.choice(["0", "0.00", "000.0000"])
             if kind == "licence":
                 price.is_licensed = True
+            if kind == "dated licence":
+                price.has_dated_licence = True
+            if kind == "again":
+                price.again = self.random.choice(AGAIN_IN_PRICES)
             if kind == "old":
                 name = self.random.choice(list(OLD))
                 price.old[name] = OLD[name]
@@ -341,6 +387,8 @@ class Maker:
             detail.availability = self.bad_code()
         if kind == "unpriced":
             detail.unpriced = self.random.choice(BAD_CODES)
+        if kind == "old":
+            detail.old = dict([self.random.choice(list(OLD_OF_DETAIL.items()))])
         if kind == "price":
             detail.unpriced = ""
             detail.prices.insert(0, Price("", "", "", unpriced=self.random.choice(BAD_CODES)))

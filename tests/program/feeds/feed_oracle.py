@@ -4,10 +4,14 @@ it is refused."""
 import re
 from dataclasses import dataclass, field
 
-from tests.program.feeds.feed_prices import REGION, foreign_reasons, gives_nothing, price_record, wrong_reasons
-from tests.program.feeds.feed_terms import is_code, is_currency, is_empty_or, is_field, is_filled, is_number, is_repeat, matches
+from tests.program.feeds.feed_prices import (
+    REGION, closes, foreign_reasons, gives_nothing, has_foreign_date, is_dated, key_of, price_record, wrong_reasons,
+)
+from tests.program.feeds.feed_terms import (
+    is_code, is_country, is_currency, is_empty_or, is_field, is_filled, is_number, is_repeat, matches,
+)
 from tests.program.feeds.feed_territories import (
-    are_taken, read_as_others, regions_in_the_way, regions_left_out, territory_fields, union_fields,
+    are_taken, read_as_others, regions_in_the_way, regions_left_out, territory_fields, union_fields, wrong_in,
 )
 from tests.program.feeds.feed_trees import Detail, Identifier, Market, Message, Price, Product, Supply, Territory, Words
 
@@ -136,6 +140,8 @@ def sender_of(message: Message, words: Words) -> list[str]:
 
 def addressee_of(message: Message, words: Words) -> list[str]:
     addressees = message.addressees
+    if not any(map(those_there, addressees)):
+        return ["", ""]
     if len(addressees) > 1:
         wanted = words.addressee
         addressees = [each for each in addressees if wanted in [(one.id_type, one.value) for one in each]]
@@ -149,7 +155,7 @@ def addressee_of(message: Message, words: Words) -> list[str]:
 
 def number_of(message: Message, words: Words) -> int:
     """The number of the first of the messages that are written."""
-    text = words.number or message.number
+    text = words.number or message.number.lstrip("0")
     if not is_number(text):
         raise Refused
     number = int(text) + int(words.offset or "0")
@@ -164,14 +170,14 @@ def opening_of(message: Message, words: Words) -> tuple[int, list[str], list[str
         raise Refused
     sender, addressee = sender_of(message, words), addressee_of(message, words)
     number = number_of(message, words)
+    repeat = message.repeat if is_repeat(message.repeat) else ""
     if not (
-        is_empty_or(is_repeat, message.repeat)
-        and is_field(message.sent)
+        is_field(message.sent)
         and is_empty_or(is_code, message.price_type)
         and is_empty_or(is_currency, message.currency)
     ):
         raise Refused
-    behind = [message.repeat, message.sent, message.price_type, message.currency]
+    behind = [repeat, message.sent, message.price_type, message.currency]
     return number, ["Message", "2", *sender, *addressee], behind
 
 
@@ -221,7 +227,7 @@ class Judge:
     def note_territory(self, territory: Territory | None) -> None:
         """What of a territory that is written is left out or read as something else."""
         for region in regions_left_out(territory) if territory else []:
-            self.note(territory, REGION, names=(region,))
+            self.note(territory, REGION, names=(region,), is_wrong=is_country(region))
         for country in read_as_others(territory) if territory else []:
             self.note(territory, "country", names=(country,))
 
@@ -283,12 +289,13 @@ class Judge:
 
     def identifiers(self) -> list[Identifier]:
         kept = []
+        is_found = any(finds_article(as_article(each)) for each in self.product.identifiers)
         for each in those_there(self.product.identifiers):
             article = as_article(each)
             if is_identifier(article.id_type, article.value):
                 kept.append(article)
             else:
-                self.note(each, "IDType", "IDValue", is_wrong=True)
+                self.note(each, "IDType", "IDValue", is_wrong=not is_found)
         return kept
 
     def supply(self, supply: Supply) -> list[Record]:
@@ -325,7 +332,7 @@ class Judge:
         role = "" if detail.identifiers is None else detail.role
         name = "" if detail.identifiers is None else detail.name
         supplier = chosen(detail.identifiers or [], self.words)
-        codes = [price.unpriced for price in detail.prices if price.amount == "" and price.unpriced]
+        codes = [price.unpriced for price in detail.prices if price.amount == "" and is_code(price.unpriced)]
         unpriced = detail.unpriced or (codes + [""])[0]
         found = {
             "SupplierRole": not is_code(role),
@@ -335,6 +342,7 @@ class Judge:
             "SupplierName": not is_field(name),
             "ProductAvailability": not is_code(detail.availability),
             "UnpricedItemType": not is_empty_or(is_code, unpriced),
+            **dict.fromkeys(detail.old, True),
         }
         if any(found.values()):
             return Wrong(tuple(reason for reason, is_so in found.items() if is_so))
@@ -346,18 +354,23 @@ class Judge:
             return []
         unpriced = record[-1]
         priced = [price for price in detail.prices if not gives_nothing(price, unpriced)]
-        return [record, *(one for price in priced for one in self.price(price, detail))]
+        closed = {key_of(price, self.message) for price in priced if closes(price, self.message, unpriced)}
+        return [record, *(one for price in priced for one in self.price(price, detail, closed))]
 
-    def price(self, price: Price, detail: Detail) -> list[Record]:
-        foreign = foreign_reasons(price)
+    def price(self, price: Price, detail: Detail, closed: set[tuple[str, str]]) -> list[Record]:
+        """Its record, if it is not left out, as those of these types and currencies are."""
+        foreign = foreign_reasons(price) + ["Date"] * has_foreign_date(price)
         if foreign:
             names: tuple[str, ...] = ANY
             if price.territory and foreign == [REGION]:
                 names = tuple(regions_in_the_way(price.territory))
             self.note(price, *foreign, names=names)
             return []
-        if wrong := wrong_reasons(price, self.message):
+        if wrong := wrong_reasons(price, self.message) + ["Date"] * (not is_dated(price)):
             self.note(price, *wrong, is_wrong=True)
+            return []
+        if key_of(price, self.message) in closed:
+            self.note(price, "PriceDates")
             return []
         self.note_territory(price.territory)
         self.discounts += price.discounts
@@ -366,8 +379,12 @@ class Judge:
 
 def market_fields(market: Market) -> list[str] | Wrong | None:
     """Its fields, None where the desk has none for it."""
-    if regions_in_the_way(market.territory or Territory()):
+    if market.territory is None:
+        return Wrong(("Territory",))
+    if regions_in_the_way(market.territory):
         return None
+    if wrong := wrong_in(market.territory):
+        return Wrong(tuple(wrong))
     fields = territory_fields(market.territory)
     return fields if are_taken(fields) else Wrong(("CountriesIncluded", "CountriesExcluded"))
 

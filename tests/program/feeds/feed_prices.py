@@ -4,7 +4,7 @@ import calendar
 import re
 
 from tests.program.feeds.feed_terms import is_amount, is_code, is_currency, is_day, is_empty_or, is_quantity, matches
-from tests.program.feeds.feed_territories import are_taken, regions_in_the_way, territory_fields
+from tests.program.feeds.feed_territories import are_taken, regions_in_the_way, territory_fields, wrong_in
 from tests.program.feeds.feed_trees import Detail, Message, Price, PriceDate
 
 # The reason where a region is in the way.
@@ -27,6 +27,10 @@ FORMS = {
     MONTH: r"([0-9]{4})([0-9]{2})|([0-9]{4})-([0-9]{2})",
     YEAR: r"([0-9]{4})",
 }
+
+
+# PriceQualifiers of the ordinary price, which is also the consumer's.
+ORDINARY = ("", "00", "05")
 
 
 def is_unusual(code: str) -> bool:
@@ -58,7 +62,7 @@ def days_of_date(date: PriceDate) -> dict[str, str]:
 
 
 def days_of(price: Price) -> list[str]:
-    """The first day and the last one, of dates in formats that count: of several the first."""
+    """The first day and the last one, of dates in formats that count."""
     days = {FIRST: "", LAST: ""}
     for date in reversed(dates_of(price)):
         days |= days_of_date(date)
@@ -74,8 +78,16 @@ def has_other_format(date: PriceDate) -> bool:
 
 
 def is_dated(price: Price) -> bool:
-    """Whether each of its dates has the form of its format."""
-    return all(is_day(day) for date in dates_of(price) for day in days_of_date(date).values())
+    """Whether each of its dates has a role that counts and the form of its format, no element in one comes again, and
+    none gives another first or last day than one before it."""
+    found: dict[str, set[str]] = {FIRST: set(), LAST: set()}
+    for date in dates_of(price):
+        for role, day in ({} if has_other_format(date) else days_of_date(date)).items():
+            found[role].add(day)
+    are_days = all(is_day(day) for days in found.values() for day in days)
+    are_single = all(len(days) <= 1 for days in found.values())
+    counts = all(date.role in FORMATS and not date.again for date in price.dates)
+    return counts and are_days and are_single
 
 
 def amount_of(price: Price) -> str:
@@ -90,25 +102,33 @@ def own_quantity(price: Price) -> str:
 
 
 def quantity_of(price: Price, detail: Detail) -> str:
-    return own_quantity(price) or (detail.minimum if is_quantity(detail.minimum) else "")
+    """Its own, or that of its SupplyDetail where that is greater or there is none."""
+    own, other = own_quantity(price), detail.minimum
+    if not is_quantity(other):
+        return own
+    return other if own == "" or is_quantity(own) and int(other) > int(own) else own
 
 
 def gives_nothing(price: Price, unpriced: str) -> bool:
-    """Whether it says that there is no price, by itself or by the UnpricedItemType of its SupplyDetail."""
-    return price.amount == "" and not price.is_coded and (price.unpriced or unpriced) != ""
+    """Whether it says that there is no price, by itself or by the UnpricedItemType in the record of its SupplyDetail."""
+    return price.amount == "" and not price.is_coded and (is_code(price.unpriced) or unpriced != "")
+
+
+def has_foreign_date(price: Price) -> bool:
+    return any(map(has_other_format, dates_of(price)))
 
 
 def foreign_reasons(price: Price) -> list[str]:
-    """What of it the desk has no field for."""
+    """What of it the desk has no field for, but for its dates."""
     found = {
-        "PriceQualifier": is_unusual(price.qualifier),
+        "PriceQualifier": price.qualifier not in ORDINARY,
         "PricePer": is_unusual(price.per),
         "PriceCondition": any(each != "00" for each in price.conditions),
         "PriceConstraint": any(each != "00" for each in price.constraints),
         "PriceCoded": price.is_coded,
         "EpubLicense": price.is_licensed,
+        "EpubLicenseWithDate": price.has_dated_licence,
         "CurrencyZone": price.zone != "",
-        "Date": any(map(has_other_format, dates_of(price))),
         "decimals": matches(r"[0-9]+\.[0-9]{4,}", amount_of(price)),
         "PriceAmount": is_amount(amount_of(price)) and float(price.amount) == 0,
         REGION: price.territory is not None and regions_in_the_way(price.territory) != [],
@@ -117,7 +137,7 @@ def foreign_reasons(price: Price) -> list[str]:
 
 
 def wrong_reasons(price: Price, message: Message) -> list[str]:
-    """What of it the desk would not take, where it has a field for all of it."""
+    """What of it the desk would not take, where it has a field for all of it, but for its dates."""
     included, _world, excluded = territory_fields(price.territory)
     found = {
         "PriceType": not is_code(price.price_type or message.price_type),
@@ -126,9 +146,22 @@ def wrong_reasons(price: Price, message: Message) -> list[str]:
         "MinimumOrderQuantity": not is_empty_or(is_quantity, own_quantity(price)),
         "CountriesIncluded": not are_taken([included, "", ""]),
         "CountriesExcluded": not are_taken(["", "", excluded]),
-        "Date": not is_dated(price),
+        "comes again": price.again != "",
     }
-    return [reason for reason, is_so in found.items() if is_so] + list(price.old)
+    wrong = wrong_in(price.territory) if price.territory else []
+    return [reason for reason, is_so in found.items() if is_so] + list(price.old) + wrong
+
+
+def key_of(price: Price, message: Message) -> tuple[str, str]:
+    """Its type and currency, by which it closes others."""
+    return price.price_type or message.price_type, price.currency or message.currency
+
+
+def closes(price: Price, message: Message, unpriced: str) -> bool:
+    """Whether it would be written but for its dates."""
+    if gives_nothing(price, unpriced) or is_dated(price) and not has_foreign_date(price):
+        return False
+    return not foreign_reasons(price) and not wrong_reasons(price, message)
 
 
 def price_record(price: Price, detail: Detail) -> list[str]:

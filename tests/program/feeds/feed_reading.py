@@ -29,7 +29,14 @@ TWO_COLONS = re.compile(rb"</?[^<>\s/:]*:[^<>\s/:]*:|</?:|<[^<>\s/]*:[\s/>]")
 
 REFERENCE_NAMES = {tag: name for name, tag in SHORT_TAGS.items()}
 
-OLD = ["PriceTypeCode", "PriceEffectiveFrom", "PriceEffectiveUntil", "CountryCode"]
+OLD = [
+    "PriceTypeCode", "ClassOfTrade", "PriceEffectiveFrom", "PriceEffectiveUntil", "CountryCode", "CountryExcluded",
+    "TerritoryExcluded", "(j303)",
+]
+OLD_OF_DETAIL = ["SupplyToCountry", "SupplyToRegion", "SupplyToCountryExcluded", "SupplyToTerritory"]
+
+# What repeats in a Price, or is counted alone.
+REPEATABLE = ["PriceCondition", "PriceConstraint", "PriceDate", *DISCOUNTS]
 
 OF_XML = "http://www.w3.org/XML/1998/namespace"
 
@@ -90,6 +97,12 @@ class Element:
     def text(self, name: str) -> str:
         """That of the first of this name that has one."""
         return next(filter(None, (each.own_text() for each in self.all(name))), "")
+
+    def again(self) -> str:
+        """The name of an element that does not repeat and comes again, but in a PriceDate; empty where there is none."""
+        names = [each.name for each in self.below if each.name not in REPEATABLE]
+        again = [name for name in names if names.count(name) > 1]
+        return next(iter(again + [each.again() for each in self.below if each.name != "PriceDate" and each.again()]), "")
 
     def all_strangers(self) -> list[Stranger]:
         return self.strangers + [stranger for each in self.below for stranger in each.all_strangers()]
@@ -210,7 +223,9 @@ class Trees:
         price.conditions = [each.text("PriceConditionType") for each in of.all("PriceCondition")]
         price.constraints = [each.text("PriceConstraintType") for each in of.all("PriceConstraint")]
         price.is_coded, price.is_licensed = bool(of.all("PriceCoded")), bool(of.all("EpubLicense"))
-        price.old = {name: of.text(name) for name in OLD if of.text(name)}
+        price.has_dated_licence = bool(of.all("EpubLicenseWithDate"))
+        price.again = of.again()
+        price.old = {name.strip("()"): of.text(name) for name in OLD if of.text(name)}
         price.discounts = [name for name in DISCOUNTS for _ in of.all(name)]
         return self.at(of, price)
 
@@ -221,10 +236,17 @@ class Trees:
         prices = [self.price(each) for each in of.all("Price")]
         availability, unpriced = map(of.text, ("ProductAvailability", "UnpricedItemType"))
         minimum = of.text("OrderQuantityMinimum")
-        return self.at(of, Detail(role, identifiers, name, availability, unpriced, prices, minimum))
+        old = {name: of.text(name) for name in OLD_OF_DETAIL if of.text(name)}
+        return self.at(of, Detail(role, identifiers, name, availability, unpriced, prices, minimum, old))
+
+    def market(self, of: Element) -> Market:
+        market = Market(self.territory(of))
+        if market.territory:
+            market.territory.again = of.again()
+        return self.at(of, market)
 
     def supply(self, of: Element) -> Supply:
-        markets = [self.at(each, Market(self.territory(each))) for each in of.all("Market")]
+        markets = [self.market(each) for each in of.all("Market")]
         return self.at(of, Supply(markets, [self.detail(each) for each in of.all("SupplyDetail")]))
 
     def product(self, of: Element) -> Product:
@@ -259,6 +281,7 @@ def date_of(element: Element) -> PriceDate:
         element.text("Date"),
         dates[0].date_format if dates else "",
         element.text("DateFormat"),
+        element.again(),
     )
 
 

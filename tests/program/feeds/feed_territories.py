@@ -25,12 +25,32 @@ def is_part_of_a_country(region: str) -> bool:
     return is_country(country) and hyphen == "-" and matches("[A-Z0-9]+", part)
 
 
+def regions_alone(territory: Territory) -> list[str]:
+    """The regions that are included without a country and without the world."""
+    included = regions_of(territory.regions)
+    return included if territory.included == "" and WORLD not in included else []
+
+
 def regions_in_the_way(territory: Territory) -> list[str]:
     """The regions for which the desk cannot hold a territory."""
-    included = regions_of(territory.regions)
-    alone = included if territory.included == "" and WORLD not in included else []
-    excluded = regions_of(territory.excluded_regions)
+    alone = [region for region in regions_alone(territory) if not is_country(region)]
+    excluded = [region for region in regions_of(territory.excluded_regions) if not is_country(region)]
     return alone + [region for region in excluded if not is_part_of_a_country(region)]
+
+
+def countries_in_the_way(territory: Territory) -> list[str]:
+    """The countries among the regions, for which the desk would not take a territory."""
+    return [region for region in regions_alone(territory) + regions_of(territory.excluded_regions) if is_country(region)]
+
+
+def is_silent(territory: Territory) -> bool:
+    return not (territory.included or territory.regions or territory.excluded or territory.excluded_regions)
+
+
+def wrong_in(territory: Territory) -> list[str]:
+    """What is wrong with a territory but for its countries: a reason each."""
+    silent = ["Territory"] if is_silent(territory) else []
+    return silent + (["comes again"] if territory.again else []) + countries_in_the_way(territory)
 
 
 def regions_left_out(territory: Territory) -> list[str]:

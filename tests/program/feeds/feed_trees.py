@@ -19,6 +19,8 @@ class Territory:
     regions: str = ""
     excluded: str = ""
     excluded_regions: str = ""
+    # An element in it that comes again, or the name of itself, where there is another behind it.
+    again: str = ""
 
 
 @dataclass(eq=False)
@@ -38,13 +40,14 @@ class PriceDate:
     text: str
     attribute: str = ""
     element: str = ""
+    again: str = ""
 
 
 @dataclass(eq=False)
 class Price:
-    """A price. `conditions` and `constraints` have the type of each PriceCondition and PriceConstraint,
-    which may be empty; `old` has the texts of elements of ONIX 2.1 by their names; `discounts` names the elements that
-    are counted, and `passed_over` those that are not looked at."""
+    """A price. `again` is the name of an element that comes again in it. `conditions` and `constraints` have the type of
+    each PriceCondition and PriceConstraint, which may be empty; `old` has the texts of elements of ONIX 2.1 by their
+    names; `discounts` names the elements that are counted, and `passed_over` those that are not looked at."""
 
     price_type: str
     amount: str
@@ -59,7 +62,10 @@ class Price:
     constraints: list[str] = field(default_factory=list)
     is_coded: bool = False
     is_licensed: bool = False
+    # With an EpubLicenseWithDate, as ONIX 3.1 has it.
+    has_dated_licence: bool = False
     zone: str = ""
+    again: str = ""
     old: dict[str, str] = field(default_factory=dict)
     discounts: list[str] = field(default_factory=list)
     passed_over: list[str] = field(default_factory=list)
@@ -67,7 +73,8 @@ class Price:
 
 @dataclass(eq=False)
 class Detail:
-    """A SupplyDetail. `identifiers` is None where it has no Supplier; `minimum` is its OrderQuantityMinimum."""
+    """A SupplyDetail. `identifiers` is None where it has no Supplier; `minimum` is its OrderQuantityMinimum; `old` has
+    the texts of elements of ONIX 2.1 by their names."""
 
     role: str
     identifiers: list[Identifier] | None
@@ -76,6 +83,7 @@ class Detail:
     unpriced: str
     prices: list[Price]
     minimum: str = ""
+    old: dict[str, str] = field(default_factory=dict)
 
 
 class Stranger(NamedTuple):

@@ -3,6 +3,7 @@
 import codecs
 from bisect import bisect_right
 from collections.abc import Callable, Iterable
+from functools import partial
 from html.entities import codepoint2name
 from random import Random
 from re import finditer
@@ -77,12 +78,14 @@ COUNTED = {
     "ProductSupply": "Market SupplyDetail",
     "Market": "Territory",
     "Territory": "CountriesIncluded RegionsIncluded CountriesExcluded RegionsExcluded",
-    "SupplyDetail": "OrderQuantityMinimum Supplier ProductAvailability UnpricedItemType Price",
+    "SupplyDetail": "OrderQuantityMinimum Supplier ProductAvailability UnpricedItemType Price SupplyToCountry"
+    " SupplyToRegion SupplyToCountryExcluded SupplyToTerritory",
     "Supplier": "SupplierRole SupplierIdentifier SupplierName",
     "SupplierIdentifier": "SupplierIDType IDValue",
     "Price": "PriceType PriceQualifier PricePer PriceCondition PriceConstraint MinimumOrderQuantity PriceCoded"
-    " PriceAmount UnpricedItemType CurrencyCode CurrencyZone EpubLicense PriceTypeCode PriceEffectiveFrom"
-    " PriceEffectiveUntil CountryCode Territory PriceDate Discount DiscountCoded",
+    " PriceAmount UnpricedItemType CurrencyCode CurrencyZone EpubLicense EpubLicenseWithDate PriceTypeCode"
+    " ClassOfTrade PriceEffectiveFrom PriceEffectiveUntil CountryCode CountryExcluded TerritoryExcluded (j303) Territory"
+    " PriceDate Discount DiscountCoded",
     "PriceCondition": "PriceConditionType",
     "PriceConstraint": "PriceConstraintType",
     "PriceDate": "PriceDateRole DateFormat Date",
@@ -236,11 +239,21 @@ class Writer:
         if name in COUNTED.get(self.around[-1], "").split():
             self.size += ELEMENT_BYTES + len(text.encode())
 
+    def may_come_again(self) -> bool:
+        """Whether a second element changes nothing here."""
+        return not {"Price", "Market"} & {*self.around}
+
+    def again(self, name: str) -> None:
+        """An element that comes again, and is empty, if there is one of that name."""
+        for _ in range(2 if name else 0):
+            self.weigh(name)
+            self.put(f"<{self.name(name)}/>")
+
     def element(self, name: str, text: str, attributes: str = "") -> None:
         """An element with that text; one without a text may be there or not. One that is empty may stand
-        before it, and another behind it does not count."""
+        before it, and another behind it does not count, where that changes nothing."""
         tag = self.name(name)
-        if text and self.is_one_of(30):
+        if text and self.may_come_again() and self.is_one_of(30):
             self.weigh(name)
             self.put(f"<{tag}/>")
         if text:
@@ -248,7 +261,7 @@ class Writer:
             with self.names.declared(self.local(name), 40) as (own, declarations):
                 written = f"<{own}{declarations}{attributes}>{self.text(text)}</{own}>"
             self.put(written)
-            if self.is_one_of(20):
+            if self.may_come_again() and self.is_one_of(20):
                 self.weigh(name, "7")
                 self.put(f"<{tag}>7</{tag}>")
         elif self.is_one_of(8):
@@ -300,10 +313,11 @@ class Writer:
                 lambda: self.element("RegionsIncluded", territory.regions),
                 lambda: self.element("CountriesExcluded", territory.excluded),
                 lambda: self.element("RegionsExcluded", territory.excluded_regions),
+                lambda: self.again(territory.again if territory.again != "Territory" else ""),
             ),
             of=territory,
         )
-        if territory.included and self.is_one_of(20):
+        if territory.again == "Territory":
             self.composite("Territory", lambda: self.element("CountriesIncluded", "ZZ"))
 
     def price_date(self, date: PriceDate) -> None:
@@ -314,6 +328,7 @@ class Writer:
                 lambda: self.element("PriceDateRole", date.role),
                 lambda: self.element("DateFormat", date.element),
                 lambda: self.element("Date", date.text, attributes),
+                lambda: self.again(date.again),
             ),
         )
 
@@ -330,6 +345,8 @@ class Writer:
         def licence() -> None:
             if price.is_licensed:
                 self.composite("EpubLicense", lambda: self.element("EpubLicenseName", "x"))
+            if price.has_dated_licence:
+                self.composite("EpubLicenseWithDate")
 
         def discounts() -> None:
             for name in price.discounts:
@@ -355,6 +372,7 @@ class Writer:
                 lambda: self.each(self.territory, [price.territory] if price.territory else []),
                 lambda: self.each(self.price_date, price.dates),
                 passed_over,
+                lambda: self.again(price.again),
                 licence,
                 discounts,
                 old,
@@ -397,6 +415,7 @@ class Writer:
                 lambda: self.element("ProductAvailability", detail.availability),
                 lambda: self.element("UnpricedItemType", detail.unpriced),
                 lambda: self.element("OrderQuantityMinimum", detail.minimum),
+                *(partial(self.element, name, text) for name, text in detail.old.items()),
                 lambda: self.each(self.price, detail.prices),
             ),
             of=detail,

@@ -29,11 +29,13 @@ FOLDER = TESTS / "conversions"
 
 WHOLE_FILE = "file"
 
-# The reference names that count, with their short tags, as ONIX has them.
+# The reference names that count, with their short tags, as ONIX has them. In ONIX 2.1 the Territory of a Price had
+# another one.
 SHORT_TAGS = dict(
     pair.split("=")
     for pair in """
-    ONIXMessage=ONIXmessage NoProduct=x507 Header=header Sender=sender SenderIdentifier=senderidentifier
+    ONIXMessage=ONIXmessage NoProduct=x507
+    Header=header Sender=sender SenderIdentifier=senderidentifier
     SenderIDType=m379 IDValue=b244 Addressee=addressee AddresseeIdentifier=addresseeidentifier
     AddresseeIDType=m380 MessageNumber=m180 MessageRepeat=m181 SentDateTime=x307 DefaultPriceType=x310
     DefaultCurrencyCode=m186 Product=product RecordReference=a001 NotificationType=a002
@@ -44,8 +46,10 @@ SHORT_TAGS = dict(
     UnpricedItemType=j192 Price=price PriceType=x462 PriceQualifier=j261 PricePer=j239
     PriceCondition=pricecondition PriceConditionType=x463 PriceConstraint=priceconstraint
     PriceConstraintType=x529 MinimumOrderQuantity=j263 PriceCoded=pricecoded PriceAmount=j151
-    CurrencyCode=j152 CurrencyZone=x475 EpubLicense=epublicense PriceTypeCode=j148 PriceEffectiveFrom=j161
-    PriceEffectiveUntil=j162 CountryCode=b251 OrderQuantityMinimum=x532 PriceDate=pricedate PriceDateRole=x476
+    CurrencyCode=j152 CurrencyZone=x475 EpubLicense=epublicense EpubLicenseWithDate=epublicensewithdate
+    PriceTypeCode=j148 ClassOfTrade=j149 PriceEffectiveFrom=j161 PriceEffectiveUntil=j162 CountryCode=b251
+    CountryExcluded=j304 TerritoryExcluded=j308 (j303)=j303 SupplyToCountry=j138 SupplyToRegion=j139
+    SupplyToCountryExcluded=j140 SupplyToTerritory=j397 OrderQuantityMinimum=x532 PriceDate=pricedate PriceDateRole=x476
     DateFormat=j260 Date=b306 Discount=discount DiscountCoded=discountcoded
     """.split()
 )

@@ -44,12 +44,12 @@ def notes_on(file: str, count: int, qualifier: str) -> list[str]:
 
 def bounded(room: Room) -> Iterator[Outcome]:
     """Each file has its lines, and the summary counts the notes of all."""
-    room.write("a.xml", prices(LINES, "05"))
-    room.write("b.xml", prices(LINES + 1, "05"))
+    room.write("a.xml", prices(LINES, "06"))
+    room.write("b.xml", prices(LINES + 1, "06"))
     room.write("c.xml", prices(LINES + 500, "07"))
     came = convert(room, "-o", ".", "a.xml", "b.xml", "c.xml")
-    summary = ["Price left out: PriceQualifier 05: 2001", "Price left out: PriceQualifier 07: 1500", "3501 notes"]
-    lines = notes_on("a.xml", LINES, "05") + notes_on("b.xml", LINES, "05") + notes_on("c.xml", LINES, "07")
+    summary = ["Price left out: PriceQualifier 06: 2001", "Price left out: PriceQualifier 07: 1500", "3501 notes"]
+    lines = notes_on("a.xml", LINES, "06") + notes_on("b.xml", LINES, "06") + notes_on("c.xml", LINES, "07")
     found = came.status, came.errors.decode().splitlines()
     yield Outcome("files of many notes", found, (0, said(lines + summary).decode().splitlines()))
 
@@ -57,7 +57,7 @@ def bounded(room: Room) -> Iterator[Outcome]:
 def products_besides(room: Room) -> Iterator[Outcome]:
     """Lines on products that are left out or emptied have a bound of their own, behind a thousand others too."""
     frame = FRAMES["prices"]
-    others = PRICE.format("05") * (LINES + 200)
+    others = PRICE.format("06") * (LINES + 200)
     wrong = "<Product><RecordReference>W{}</RecordReference></Product>\n"
     products = "".join(wrong.format(number) for number in range(LINES + 2))
     text = f"{frame.before}\n{others}{frame.behind}".replace("</ONIXMessage>", f"\n{products}</ONIXMessage>")
@@ -73,7 +73,7 @@ def products_besides(room: Room) -> Iterator[Outcome]:
 
 def refused(room: Room) -> Iterator[Outcome]:
     """Of a file that is refused there is one line, and nothing is counted."""
-    bad = prices(3, "05").replace(b"</ONIXMessage>", b"</Product>")
+    bad = prices(3, "06").replace(b"</ONIXMessage>", b"</Product>")
     room.write("a.xml", bad)
     room.write("b.xml", prices(1, "07"))
     came = convert(room, "-o", ".", "a.xml", "b.xml")

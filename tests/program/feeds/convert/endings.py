@@ -91,7 +91,7 @@ NUMBER = "is not a number of 1 to 9 digits, not all zero; --number N gives one"
 NUMBERS = [
     numbered("0", f"MessageNumber 0 {NUMBER}"),
     numbered("0", f"MessageNumber 0 {NUMBER}", "--number-offset", "5"),
-    numbered("0000000070", f"MessageNumber 0000000070 {NUMBER}"),
+    numbered("01000000070", f"MessageNumber 01000000070 {NUMBER}"),
     numbered("٧", f"MessageNumber ٧ {NUMBER}"),
     numbered("7" * 200, f"MessageNumber {'7' * 100}.. {NUMBER}"),
     numbered(

@@ -59,7 +59,7 @@ def few(wrong: int, products: int, few_go: bool, none_go: bool, room: Room) -> I
 
 
 # A Price that is left out since it is foreign, and one that is wrong.
-FOREIGN_PRICE = "<Price><PriceQualifier>05</PriceQualifier><PriceAmount>1</PriceAmount></Price>"
+FOREIGN_PRICE = "<Price><PriceQualifier>06</PriceQualifier><PriceAmount>1</PriceAmount></Price>"
 WRONG_PRICE = "<Price><PriceAmount>1,00</PriceAmount></Price>"
 
 

@@ -1,0 +1,29 @@
+-- Elements that come again though they do not repeat.
+use Rattle.std.specs.Prelude.{ℕ, Bool, not, ◌&&◌, List, [], ◌∷◌, Option, Some, None}
+use Rattle.std.specs.Prelude.{if◌then◌else◌, codes, is_some}
+use Rattle.std.specs.List.{list_any}
+use Rattle.std.specs.Option.{option_or}
+use Rattle.std.specs.Str.{bytes_eq}
+use Rattle.feed_outline.specs.Names.{stranger}
+use Rattle.feed_outline.specs.Nodes.{Nodes, no_nodes, node}
+use Rattle.feed_mapping.specs.Elements.{composites, first}
+
+-- what repeats in a Price or a Market, or is counted alone
+abbrev pub is_repeatable : List ℕ → Bool
+is_repeatable name =
+    list_any (bytes_eq name)
+    (codes "PriceCondition" ∷ codes "PriceConstraint" ∷ codes "PriceDate" ∷ codes "Discount"
+    ∷ codes "DiscountCoded" ∷ stranger ∷ [])
+
+-- whether an element of this name does not repeat, and comes again among these
+abbrev pub is_again : List ℕ → Nodes → Bool
+is_again name rest = not (is_repeatable name) && is_some (first (composites name rest))
+
+-- The name of the first element that comes again though it does not repeat, at whatever depth; what
+-- stands in a PriceDate is looked at with its date.
+abbrev pub again_in : Nodes → Option (List ℕ)
+again_in no_nodes = None
+again_in (node n tag text below rest) =
+    if is_again n rest then Some n
+    else option_or (if bytes_eq n (codes "PriceDate") then None else again_in below)
+    (again_in rest)

@@ -47,12 +47,13 @@ impl<'a, T: Target> Model for Converter<'a, T> {
     ghost view = { λ c. state c.options.now (T.parts c.target) (T.notes c.target) c.stage };
 }
 
-// Counts a product with these notes, and hands them on.
+// Counts a product with these notes, and hands it on with its records.
 fn note_product<T: Target>(
     alloc: Global,
     begun: &mut OpenParts,
     target: &mut T,
     product: &Composite<'_>,
+    records: &RecordBuffer,
     notes: &[Note<'_>],
 ) -> Result<(), AllocError>
     ensures { OnOk result
@@ -61,8 +62,7 @@ fn note_product<T: Target>(
         (stored (begun_view begun.old) (T.parts target.old) (T.notes target.old))) }
 {
     count_product(alloc, &mut begun.tally, product, notes)?;
-    let reference = text_or_empty(b"RecordReference", &product.below);
-    target.product(reference, notes)
+    target.product(product, records, notes)
 }
 
 // Puts the records of a form of a product into a part, and hands on the notes on it. It is false
@@ -85,7 +85,7 @@ fn keep_variant<T: Target>(
 {
     let is_kept = keep(alloc, most, begun, target, product.line.place, records)?;
     if is_kept {
-        note_product(alloc, begun, target, product, notes)?;
+        note_product(alloc, begun, target, product, records, notes)?;
     }
     Ok(is_kept)
 }
@@ -105,7 +105,15 @@ fn leave_out<T: Target>(
     let kind = ReasonKind::Wrong(Wrong::TooLarge);
     let line = product.line;
     let reason = Reason { kind, text: b"" };
-    note_product(alloc, begun, target, product, &[Note { line, reason }])
+    let none = RecordBuffer::new(alloc);
+    note_product(
+        alloc,
+        begun,
+        target,
+        product,
+        &none,
+        &[Note { line, reason }],
+    )
 }
 
 // Takes the smallest form of a product, with its reference in place of its identifiers.

@@ -1,6 +1,7 @@
 //! What takes the messages.
 
-use feed_mapping::Note;
+use csv_records::buffer::RecordBuffer;
+use feed_mapping::{Composite, Note};
 use std::alloc::AllocError;
 
 /// What takes the texts of the parts of a message, in order, and the notes on what is left out of
@@ -10,6 +11,7 @@ pub trait Target {
     ghost use Rattle.feed_mapping.specs.Notes.{note_views};
     ghost use Rattle.feed_conversion.specs.Keeping.{Keeping};
     ghost use Rattle.feed_conversion.specs.Packing.{product_notes};
+    ghost use Rattle.feed_mapping.specs.Products.{reference_in};
 
     /// The values of this type are what it makes of parts. Where it is `Items<Items<u8>>` and
     /// `with_part` adds the text at the end, the clause of `convert` says that just these parts
@@ -33,10 +35,15 @@ pub trait Target {
         ensures part { OnOk result (parts self.new ≡ keeping.with_part (parts self.old) text.now) }
         ensures notes { OnOk result (notes self.new ≡ notes self.old) };
 
-    /// Takes the notes on the next product, which has this RecordReference, in order, also where
-    /// there are none. After an error nothing more is handed to it.
-    fn product(&mut self, reference: &[u8], on_it: &[Note<'_>]) -> Result<(), AllocError>
+    /// Takes the next product, the records that are written of it, and the notes on it, in order,
+    /// also where there are none. After an error nothing more is handed to it.
+    fn product(
+        &mut self,
+        product: &Composite<'_>,
+        written: &RecordBuffer,
+        on_it: &[Note<'_>],
+    ) -> Result<(), AllocError>
         ensures notes { OnOk result (notes self.new ≡ fold keeping.with_note (notes self.old)
-            (product_notes reference.now (note_views on_it.now))) }
+            (product_notes (reference_in product.now.below) (note_views on_it.now))) }
         ensures parts { OnOk result (parts self.new ≡ parts self.old) };
 }

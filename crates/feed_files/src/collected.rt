@@ -4,8 +4,9 @@ ghost use Rattle.std.specs.Prelude.{◌≡◌};
 
 use crate::notes::Notes;
 use crate::store::Store;
+use csv_records::buffer::RecordBuffer;
 use feed_conversion::Target;
-use feed_mapping::Note;
+use feed_mapping::{Composite, Note};
 use program_files::FileFault;
 use std::alloc::AllocError;
 
@@ -41,7 +42,12 @@ impl<'a, S: Store + Drop> Target for Collected<'a, S> {
         }
     }
 
-    fn product(&mut self, reference: &[u8], on_it: &[Note<'_>]) -> Result<(), AllocError> {
-        self.notes.add(reference, on_it)
+    fn product(
+        &mut self,
+        product: &Composite<'_>,
+        written: &RecordBuffer,
+        on_it: &[Note<'_>],
+    ) -> Result<(), AllocError> {
+        self.notes.add(product, written, on_it)
     }
 }

@@ -6,6 +6,7 @@
 mod collected;
 mod converted;
 mod converting;
+mod counts;
 pub mod ended;
 mod fault;
 mod kinds;

@@ -335,8 +335,8 @@ pub(crate) fn is_of_product(kind: ReasonKind) -> bool {
     matches!(kind, ReasonKind::Wrong(Wrong::RecordReference)) || is_emptied(kind)
 }
 
-// Whether a Product is emptied for this reason: it is written without its supplies.
-fn is_emptied(kind: ReasonKind) -> bool {
+/// Whether a Product is emptied for this reason: it is written without its supplies.
+pub(crate) fn is_emptied(kind: ReasonKind) -> bool {
     matches!(
         kind,
         ReasonKind::Foreign(Foreign::NoSupplyLeft)

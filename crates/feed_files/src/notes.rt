@@ -1,9 +1,11 @@
 //! Notes on what is left out of the message of a FILE.
 
+use crate::counts::ProductCounts;
 use crate::note_texts::{Saying, is_counted_alone, is_of_product, push_saying, saying_of};
 use crate::shown::{push_reference, push_shown};
 use crate::summary::Summary;
-use feed_mapping::Note;
+use csv_records::buffer::RecordBuffer;
+use feed_mapping::{Composite, Note, text_or_empty};
 use feed_xml::Position;
 use std::alloc::{AllocError, Global};
 
@@ -108,9 +110,17 @@ impl<'a> Notes<'a> {
         }
     }
 
-    /// Adds the notes on a product of that reference.
-    pub(crate) fn add(&mut self, reference: &[u8], notes: &[Note<'_>]) -> Result<(), AllocError> {
+    /// Adds the notes on a product, of which these records are written.
+    pub(crate) fn add(
+        &mut self,
+        product: &Composite<'_>,
+        written: &RecordBuffer,
+        notes: &[Note<'_>],
+    ) -> Result<(), AllocError> {
+        let reference = text_or_empty(b"RecordReference", &product.below);
         let is_wrong = has_wrong(notes);
+        self.summary
+            .count_product(&ProductCounts::of(product, written, notes));
         for note in notes.iter() {
             let saying = saying_of(*note);
             let has_lines = !is_counted_alone(note.reason.kind);

@@ -1,5 +1,6 @@
 //! How often each reason was given.
 
+use crate::counts::ProductCounts;
 use crate::note_texts::{Saying, push_saying};
 use std::alloc::{AllocError, Global};
 
@@ -18,14 +19,54 @@ struct Counted {
     count: u64,
 }
 
+const WITHOUT_PRICE: &str = "left without a Price";
+
+const WITH_RIGHTS: &str = "for the world without a Market, with SalesRights, not read";
+
+// How many products there are, and how many of them are wrong, are emptied, have lost all their
+// prices, and are for the world though they have SalesRights; and how many elements come again.
+#[derive(Clone, Copy)]
+struct Products {
+    all: u64,
+    wrong: u64,
+    emptied: u64,
+    without_price: u64,
+    with_rights: u64,
+    again: u64,
+}
+
+const NO_PRODUCTS: Products = Products {
+    all: 0,
+    wrong: 0,
+    emptied: 0,
+    without_price: 0,
+    with_rights: 0,
+    again: 0,
+};
+
 /// How many notes there are for each reason, how often there is what is counted without a line, and
-/// how many products are wrong. A reason holds no text of a feed but a code of two digits, so that
+/// what is counted of products. A reason holds no text of a feed but a code of two digits, so that
 /// they stay few.
 #[derive(Drop)]
 pub struct Summary {
     alloc: Global,
     counts: Vec<Counted>,
-    wrong: u64,
+    products: Products,
+}
+
+// A count of products, as 1 of 40 products.
+fn push_of(
+    text: &mut String,
+    prefix: &str,
+    count: u64,
+    all: u64,
+    what: &str,
+) -> Result<(), AllocError> {
+    if count == 0 {
+        return Ok(());
+    }
+    let products = if all == 1 { "product" } else { "products" };
+    write!(text, "{prefix}{count} of {all} {products} {what}\n")
 }
 
 // The text of a reason where it is a code of two digits.
@@ -43,7 +84,7 @@ impl Summary {
         Summary {
             alloc,
             counts: Vec::new(alloc),
-            wrong: 0,
+            products: NO_PRODUCTS,
         }
     }
 
@@ -80,7 +121,31 @@ impl Summary {
 
     /// Counts so many wrong products.
     pub(crate) fn count_wrong(&mut self, wrong: u32) {
-        self.wrong = self.wrong.saturating_add(u64::from(wrong));
+        self.products.wrong = self.products.wrong.saturating_add(u64::from(wrong));
+    }
+
+    /// Counts a product, and what is counted of it.
+    pub(crate) fn count_product(&mut self, counts: &ProductCounts) {
+        let one = Products {
+            all: 1,
+            wrong: 0,
+            emptied: u64::from(counts.is_emptied),
+            without_price: u64::from(counts.has_lost_prices),
+            with_rights: u64::from(counts.has_rights),
+            again: counts.again,
+        };
+        self.add_products(one);
+    }
+
+    // Counts more products.
+    fn add_products(&mut self, more: Products) {
+        let all = &mut self.products;
+        all.all = all.all.saturating_add(more.all);
+        all.wrong = all.wrong.saturating_add(more.wrong);
+        all.emptied = all.emptied.saturating_add(more.emptied);
+        all.without_price = all.without_price.saturating_add(more.without_price);
+        all.with_rights = all.with_rights.saturating_add(more.with_rights);
+        all.again = all.again.saturating_add(more.again);
     }
 
     /// Counts all that another has counted.
@@ -88,7 +153,7 @@ impl Summary {
         for counted in other.counts.iter() {
             self.count(counted.kind, counted.count)?;
         }
-        self.wrong = self.wrong.saturating_add(other.wrong);
+        self.add_products(other.products);
         Ok(())
     }
 
@@ -132,21 +197,36 @@ impl Summary {
 
     // Adds how many products are wrong, where some are.
     fn push_wrong(&self, text: &mut String) -> Result<(), AllocError> {
-        if self.wrong == 0 {
+        let wrong = self.products.wrong;
+        if wrong == 0 {
             return Ok(());
         }
-        let products = if self.wrong == 1 {
-            "product"
-        } else {
-            "products"
-        };
-        write!(text, ", {} {products} wrong", self.wrong)
+        let products = if wrong == 1 { "product" } else { "products" };
+        write!(text, ", {wrong} {products} wrong")
     }
 
-    /// Adds the lines of the summary: one for each reason, the most frequent first, and, where
-    /// there are notes, the count of all and of wrong products.
+    // Adds what is counted of products, each where there are some.
+    fn push_products(&self, prefix: &str, text: &mut String) -> Result<(), AllocError> {
+        let products = self.products;
+        let all = products.all;
+        push_of(text, prefix, products.emptied, all, "emptied")?;
+        push_of(text, prefix, products.without_price, all, WITHOUT_PRICE)?;
+        push_of(text, prefix, products.with_rights, all, WITH_RIGHTS)?;
+        if products.again == 0 {
+            return Ok(());
+        }
+        write!(
+            text,
+            "{prefix}an element comes again, not read: {}\n",
+            products.again
+        )
+    }
+
+    /// Adds the lines of the summary: one for each reason, the most frequent first, what is counted
+    /// of products, and, where there are notes, the count of all and of wrong products.
     pub(crate) fn push_lines(&self, prefix: &str, text: &mut String) -> Result<(), AllocError> {
         self.push_reasons(prefix, text)?;
+        self.push_products(prefix, text)?;
         let total = self.total();
         if total == 0 {
             return Ok(());

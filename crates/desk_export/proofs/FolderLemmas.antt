@@ -5,7 +5,7 @@ use Rattle.program_files.specs.Holdings.{Holdings, MayName, NamedText, Names}
 
 -- nothing was done
 pub none_named : (files : List NamedText) (holds : Holdings) → MayName files holds holds
-none_named files holds = record { kept = λ name text has. has; alone = λ name text has. inl has }
+none_named files holds = record { kept = λ name text has. inl has; alone = λ name text has. inl has }
 
 -- whether there was a fault or not, the names may have been given
 pub may_either : {A E : Type 0} (files : List NamedText) (before after : Holdings) (r : Result A E) → OnOk r (Names files before after) → OnErr r (MayName files before after) → MayName files before after

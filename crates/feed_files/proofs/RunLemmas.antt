@@ -1,7 +1,7 @@
 -- A run over FILEs, one after the other.
 use Rattle.std.proofs.Common.{◌≡◌, ◌≢◌, ◌<◌, ◌++◌, ◌∷◌, ◌∙◌, ℕ, zero, suc, List, [], Option, Bool, true, false, refl, sym, ap, subst, arith, append-nil, append_assoc, length, map, drop}
 use Rattle.std.specs.Borrow.{Bor}
-use Rattle.std.specs.Prelude.{codes, max, slice_index_or, if◌then◌else◌}
+use Rattle.std.specs.Prelude.{◌&&◌, codes, max, slice_index_or}
 use Rattle.std.specs.List.{concat}
 use Rattle.std.proofs.lemmas.List.{map-append}
 use Rattle.std.proofs.lemmas.List.Folds.{concat-append}
@@ -9,7 +9,7 @@ use Rattle.std.proofs.lemmas.List.Sums.{fold-append}
 use Rattle.program_files.specs.Holdings.{Holdings}
 use Rattle.feed_files.specs.Ends.{Asking, FileEnd, IsEnd, is_converted, status_of}
 use Rattle.feed_files.specs.Runs.{AreEnds, outputs, status_of_all}
-use Rattle.feed_files.specs.Titles.{converted_names}
+use Rattle.feed_files.specs.Titles.{are_converted}
 
 -- the names from one on
 pub names_from : (files : List (Bor (List ℕ))) (i : ℕ) (other : Bor (List ℕ)) → i < length files
@@ -48,16 +48,12 @@ continues_more a told before names left mid rest ends name others bytes still e 
     subst (AreEnds a told before after names) (sym (append_assoc ends (e ∷ []) more))
     (so_far (e ∷ more) after (subst (λ r. AreEnds a left mid after r (e ∷ more)) (sym is) one))
 
--- the names of those that were converted, behind others
-abbrev pub Notes : List (List ℕ) → List (List ℕ) → List FileEnd → List (List ℕ) → Type 0
-Notes names rest ends noted = (more : List FileEnd) → converted_names names (ends ++ more) ≡ noted ++ converted_names rest more
-
--- with one FILE more
-pub notes_more : (names rest : List (List ℕ)) (ends : List FileEnd) (noted : List (List ℕ)) (name : List ℕ) (others : List (List ℕ)) (e : FileEnd)
-    → Notes names rest ends noted → rest ≡ name ∷ others → Notes names others (ends ++ e ∷ []) (noted ++ (if is_converted e.ended then name ∷ [] else []))
-notes_more names rest ends noted name others e so_far is more =
-    ap (converted_names names) (append_assoc ends (e ∷ []) more) ∙ so_far (e ∷ more) ∙ ap (λ r. noted ++ converted_names r (e ∷ more)) is ∙ go (is_converted e.ended)
+-- each was converted, and one FILE more
+pub all_more : (ends : List FileEnd) (e : FileEnd) → are_converted (ends ++ e ∷ []) ≡ (is_converted e.ended && are_converted ends)
+all_more [] e = refl
+all_more (f ∷ ends) e = ap (λ b. is_converted f.ended && b) (all_more ends e) ∙ turned (is_converted f.ended) (is_converted e.ended) (are_converted ends)
   where
-    go : (b : Bool) → noted ++ (if b then name ∷ converted_names others more else converted_names others more) ≡ (noted ++ (if b then name ∷ [] else [])) ++ converted_names others more
-    go true = sym (append_assoc noted (name ∷ []) (converted_names others more))
-    go false = ap (λ n. n ++ converted_names others more) (sym (append-nil noted))
+    turned : (a b c : Bool) → (a && (b && c)) ≡ (b && (a && c))
+    turned true b c = refl
+    turned false true c = refl
+    turned false false c = refl

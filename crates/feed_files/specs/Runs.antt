@@ -40,8 +40,10 @@ module _ (a : Asking) (told : Option (List ℕ)) (before after : Holdings)
       (ends : List FileEnd) × AreEnds a told before after names ends × such ends
       × (status ≡ status_of_all ends)
 
-  -- How a run ends with this status: as its FILEs end; or, with 3, before the first, where the
-  -- folder is none.
+  -- a run ends with 3 before the first FILE, where the folder is none
+  abbrev pub NoneBegins : Type 0
+  NoneBegins = (is_some a.folder ≡ true) × (status ≡ 3) × such [] × (after ≡ before)
+
+  -- How a run ends with this status: as its FILEs end, or before the first.
   abbrev pub RunEnds : Type 0
-  RunEnds =
-      AllEnd ⊎ ((is_some a.folder ≡ true) × (status ≡ 3) × such [] × (after ≡ before))
+  RunEnds = AllEnd ⊎ NoneBegins

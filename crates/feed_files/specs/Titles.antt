@@ -1,7 +1,7 @@
 -- How the titles of FILEs end.
-use Rattle.std.specs.Prelude.{◌≡◌, ◌⊎◌, ℕ, ◌++◌, Bool, true, List, [], ◌∷◌, Option, Some, None, max}
-use Rattle.std.specs.Prelude.{if◌then◌else◌}
-use Rattle.std.specs.List.{concat}
+use Rattle.std.specs.Prelude.{◌≡◌, ◌⊎◌, ℕ, ◌++◌, Bool, true, false, List, [], ◌∷◌, Option, Some}
+use Rattle.std.specs.Prelude.{None, max}
+use Rattle.std.specs.List.{concat, list_all}
 use Rattle.feed_xml.specs.declared.position.Position.{Position}
 use Rattle.feed_xml.specs.EncodingNames.{IsTextOf}
 use Rattle.feed_xml.specs.Tree.{Content}
@@ -12,7 +12,7 @@ use Rattle.program_files.specs.Holdings.{Holdings, MayName, Names, named}
 use Rattle.feed_titles.specs.Titles.{title_texts}
 use Rattle.feed_titles.specs.Vocabulary.{title_vocabulary}
 use Rattle.feed_files.specs.Ends.{Asking, FileEnd, is_converted}
-use Rattle.feed_files.specs.Runs.{RunEnds, outputs}
+use Rattle.feed_files.specs.Runs.{AllEnd, NoneBegins, RunEnds, outputs}
 
 -- The bytes, where they are told, are an ONIX message, whose titles have these lines.
 pub record HasTitles (bytes : Option (List ℕ)) (lines : List (List ℕ)) : Type 0 where
@@ -24,12 +24,9 @@ pub record HasTitles (bytes : Option (List ℕ)) (lines : List (List ℕ)) : Typ
   pub message : IsMessage title_vocabulary text dialect place inside
   pub titles : title_texts (nodes_in title_vocabulary dialect [] place inside) ≡ lines
 
--- of these FILEs, which ended so, the names of those that were converted
-abbrev pub converted_names : List (List ℕ) → List FileEnd → List (List ℕ)
-converted_names (name ∷ names) (e ∷ ends) =
-    if is_converted e.ended then name ∷ converted_names names ends
-    else converted_names names ends
-converted_names names ends = []
+-- each of these FILEs, which ended so, was converted
+abbrev pub are_converted : List FileEnd → Bool
+are_converted ends = list_all (λ e. is_converted e.ended) ends
 
 -- the text has the titles of what these names hold, one FILE after the other
 abbrev pub AreTitles : Holdings → List (List ℕ) → List ℕ → Type 0
@@ -48,16 +45,24 @@ TitlesEnd is_told file names before after status =
     ⊎ ((status ≡ 3) × ((after ≡ before) ⊎ ((text : List ℕ) × AreTitles before names text
     × (is_told ≡ true → MayName (named file text ∷ []) before after))))
 
--- How a run over FILEs ends whose titles go into that file: as one does, and then their titles, of
--- those that were converted. The greater status counts.
+-- The same behind FILEs, each of which was converted or not: if not, there are none, and no name
+-- holds anything else.
+abbrev pub TitlesFollow : Bool → List ℕ → List (List ℕ) → Bool → Holdings → Holdings → ℕ → Type 0
+TitlesFollow is_told file names all before after status =
+    (all ≡ true → TitlesEnd is_told file names before after status)
+    × (all ≡ false → (after ≡ before) × (status ≡ 0))
+
+-- How a run over FILEs ends whose titles go into that file: as one does, and then their titles,
+-- where each FILE was converted. The greater status counts.
 abbrev pub TitledRunEnds : Asking → List ℕ → Option (List ℕ) → Holdings → Holdings
     → List (List ℕ) → (List ℕ → Type 0) → ℕ → Type 0
 TitledRunEnds a file told before after names written status =
-    (between : Holdings) × (one other : ℕ)
-    × RunEnds a told before between names
+    ((between : Holdings) × (one other : ℕ)
+    × AllEnd a told before between names
     (λ ends. written (outputs ends)
-    × TitlesEnd a.is_told file (converted_names names ends) between after other) one
-    × (status ≡ max one other)
+    × TitlesFollow a.is_told file names (are_converted ends) between after other) one
+    × (status ≡ max one other))
+    ⊎ NoneBegins a told before after names (λ ends. written (outputs ends)) status
 
 module _ (a : Asking) (told : Option (List ℕ)) (before after : Holdings)
     (names : List (List ℕ)) (written : List ℕ → Type 0) (status : ℕ) where

@@ -1,6 +1,6 @@
 //! A run over FILEs.
 
-ghost use Rattle.std.specs.Prelude.{◌≡◌, ◌≢◌, ◌⊎◌, ◌<◌, ◌≤◌, ℕ, List, [], Option, IfErr, IfOk, OnOk, codes, is_some, map, max, option_map, true, false};
+ghost use Rattle.std.specs.Prelude.{◌≡◌, ◌≢◌, ◌⊎◌, ◌<◌, ◌≤◌, ◌&&◌, ℕ, List, [], Option, IfErr, IfOk, OnOk, codes, is_some, map, max, option_map, true, false};
 ghost use Rattle.std.specs.Io.KnownBytes.{Appends};
 ghost use Rattle.program_files.specs.Holdings.{MayName, Names};
 ghost use Rattle.program_files.specs.PartFiles.{files_of, place};
@@ -8,10 +8,9 @@ ghost use Rattle.program_files.specs.Texts.{with_file};
 ghost use Rattle.feed_conversion.specs.Views.{options_view};
 ghost use Rattle.feed_files.specs.Ends.{IsEnd, IsTaken, IsUnconverted, asking, file_end, is_converted};
 ghost use Rattle.feed_files.specs.Runs.{AllEnd, outputs, run_asking};
-ghost use Rattle.feed_files.specs.Titles.{EndsWith, TitlesEnd, converted_names};
+ghost use Rattle.feed_files.specs.Titles.{EndsWith, TitlesEnd, are_converted};
 
 use crate::collected::Collected;
-use crate::converted::ConvertedNames;
 use crate::ended::Ended;
 use crate::fault::write_fault;
 use crate::notes::{Notes, PREFIX};
@@ -408,24 +407,27 @@ fn convert_file<F: NamedFiles, R: Read, W: Write, E: Write>(
     }
 }
 
-// Writes the titles of the FILEs that were noted, where all are.
-fn write_noted<F: NamedFiles, E: Write>(
+// Writes the titles of FILEs, where each of these was converted.
+fn titles_behind<F: NamedFiles, E: Write>(
     alloc: Global,
     titles: &str,
-    converted: &ConvertedNames<'_>,
+    are_converted: bool,
+    names: &[&str],
     files: &mut F,
     errors: &mut E,
 ) -> u8
-    ensures end { (names : List (List ℕ)) → (converted.now.is_whole ≡ true
-        → map (λ name. name.now) converted.now.names.items ≡ names)
-        → TitlesEnd F.is_told titles.now names (F.holds files.old) (F.holds files.new) result }
+    ensures end { are_converted ≡ true
+        → TitlesEnd F.is_told titles.now (map (λ name. name.now) names.now)
+        (F.holds files.old) (F.holds files.new) result }
+    ensures none { are_converted ≡ false
+        → (F.holds files.new ≡ F.holds files.old) × (result ≡ 0) }
     ensures most { result ≤ 3 }
 {
-    if converted.is_whole {
-        return write_titles(alloc, titles, converted.names.as_slice(), files, errors);
+    if are_converted {
+        write_titles(alloc, titles, names, files, errors)
+    } else {
+        0
     }
-    write_fault(alloc, &FileFault::Memory, errors);
-    3
 }
 
 // Writes the summary of a run. Where memory runs out, it is lost.
@@ -443,33 +445,37 @@ fn greater(one: u8, other: u8) -> u8
     if one < other { other } else { one }
 }
 
-// Converts each FILE in turn, notes those that were converted, and gives the greatest status.
-fn convert_each<'a, F: NamedFiles, R: Read, W: Write, E: Write>(
+fn both(one: bool, other: bool) -> bool
+    ensures { result ≡ (one && other) }
+{
+    one && other
+}
+
+// Converts each FILE in turn, and gives the greatest status and whether each was converted.
+fn convert_each<F: NamedFiles, R: Read, W: Write, E: Write>(
     rt: &HostRuntime,
     run: &Run<'_>,
-    names: &[&'a str],
+    names: &[&str],
     files: &mut F,
     input: &mut R,
     output: &mut W,
     summary: &mut Summary,
-    converted: &mut ConvertedNames<'a>,
     errors: &mut E,
-) -> u8
-    requires { map (λ name. name.now) converted.old.names.items ≡ [] }
+) -> (u8, bool)
     ensures end { AllEnd (run_asking F.is_told run.now) (R.remaining input.old)
         (F.holds files.old) (F.holds files.new) (map (λ name. name.now) names.now)
         (λ ends. Appends (W.contents output.old) (W.contents output.new) (outputs ends)
-        × (converted.new.is_whole ≡ true → map (λ name. name.now) converted.new.names.items
-        ≡ converted_names (map (λ name. name.now) names.now) ends)) result }
-    ensures most { result ≤ 3 }
+        × (result.1 ≡ are_converted ends)) result.0 }
+    ensures most { result.0 ≤ 3 }
 {
     let mut status = 0;
+    let mut are_converted = true;
     for file in names {
         let ended = convert_file(rt, run, file, files, input, output, summary, errors);
         status = greater(status, ended.status());
-        converted.note(file, ended);
+        are_converted = both(ended.is_converted(), are_converted);
     }
-    status
+    (status, are_converted)
 }
 
 // Whether the folder that is to take messages is one; a line says so where it is none.
@@ -495,7 +501,7 @@ fn has_folder<F: NamedFiles, E: Write>(
 /// where a file could not be read or written or memory ran out, which outweighs 1. What one ends
 /// in does not keep the others from being converted.
 ///
-/// Where titles are asked for, those of the FILEs that were converted then go into a new file of
+/// Where titles are asked for and each FILE was converted, their titles then go into a new file of
 /// that path, each FILE opened again by its name. Where that cannot be, the records stand, a line
 /// says why, and the status is 3.
 pub fn convert_files<F: NamedFiles, R: Read, W: Write, E: Write>(
@@ -519,8 +525,7 @@ pub fn convert_files<F: NamedFiles, R: Read, W: Write, E: Write>(
         return 3;
     }
     let mut summary = Summary::new(alloc);
-    let mut converted = ConvertedNames::new(alloc);
-    let status = convert_each(
+    let (status, are_converted) = convert_each(
         rt,
         run,
         names,
@@ -528,14 +533,13 @@ pub fn convert_files<F: NamedFiles, R: Read, W: Write, E: Write>(
         input,
         output,
         &mut summary,
-        &mut converted,
         errors,
     );
     write_summary(alloc, &summary, errors);
     match titles {
         None => status,
         Some(titles) => {
-            let titled = write_noted(alloc, titles, &converted, files, errors);
+            let titled = titles_behind(alloc, titles, are_converted, names, files, errors);
             greater(status, titled)
         }
     }

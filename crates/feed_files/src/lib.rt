@@ -4,11 +4,11 @@
 #![tactic(auto)]
 
 mod collected;
-mod converted;
 mod converting;
 mod counts;
 pub mod ended;
 mod fault;
+mod garbled;
 mod kinds;
 mod note_texts;
 mod notes;

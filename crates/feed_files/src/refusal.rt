@@ -1,9 +1,9 @@
 //! Why the message of a FILE is refused.
 
-use crate::kinds::other_kind;
+use crate::garbled::push_garbled;
 use crate::notes::{Notes, push_place};
 use crate::numbers::push_number;
-use crate::shown::{push_reference, push_shown_bytes};
+use crate::shown::{push_reference, push_shown, push_shown_bytes};
 use crate::unread;
 use crate::watched::Seen;
 use feed_conversion::{Fault, Options, Refusal};
@@ -21,10 +21,7 @@ const OTHER_NAMESPACE: &str =
     "an element is in another namespace, of the other kind of names, or in other letters than one that counts in its place";
 
 const AGREED: &str =
-    "the number of parts is a part of the agreement on the series, and with another one its numbers no longer follow each other (ONIX.md)";
-
-const NO_TEXT: &str =
-    "a byte that its encoding has not, or a character that no XML has; another encoding may be meant, as windows-1252";
+    "the number of parts is a part of the agreement on the series, and with another one its numbers no longer follow each other: agree on --parts before the first message, or see Large messages in ONIX.md";
 
 /// What is known of a FILE that was not converted, beside its fault.
 #[derive(Clone, Copy)]
@@ -40,7 +37,7 @@ pub struct RefusedFile<'a> {
 fn push_no_text(line: &mut String, seen: &Seen) -> Result<(), AllocError> {
     match seen.kind {
         Some(kind) => write!(line, "no XML, but {kind}"),
-        None => line.push_str(NO_TEXT),
+        None => push_garbled(line, seen.garbled),
     }
 }
 
@@ -53,9 +50,13 @@ fn push_unread(
 ) -> Result<(), AllocError> {
     match fault {
         feed_xml::Fault::NotText => push_no_text(line, seen),
-        feed_xml::Fault::TooDeep => line.push_str("too many elements within one another"),
-        feed_xml::Fault::TooLong => line.push_str("a tag or name that is too long"),
-        feed_xml::Fault::LargeTag => line.push_str("a tag with too many attributes"),
+        feed_xml::Fault::TooDeep => line.push_str("more than 1,000 elements within one another"),
+        feed_xml::Fault::TooLong => line.push_str(
+            "a tag, name or comment of more than 4,194,304 bytes",
+        ),
+        feed_xml::Fault::LargeTag => {
+            line.push_str("a tag with more than 64 attributes, or 65,536 bytes of them")
+        }
         feed_xml::Fault::UnknownEncoding(name) => unread::push_encoding(line, name.as_slice()),
         _ => unread::push_malformed(line, told, seen),
     }
@@ -81,6 +82,19 @@ fn push_pair(line: &mut String, pair: Option<Pair<'_>>) -> Result<(), AllocError
     push_shown_bytes(line, pair.id_value)
 }
 
+// Adds that a Header has no sender, and whether it has no number either.
+fn push_no_sender(
+    line: &mut String,
+    number: &[u8],
+    known: &RefusedFile<'_>,
+) -> Result<(), AllocError> {
+    line.push_str("no sender identifier; --sender TYPE,VALUE gives one")?;
+    if number.is_empty() && known.options.choices.number.is_none() {
+        line.push_str("; no MessageNumber either; --number N gives one")?;
+    }
+    Ok(())
+}
+
 // Adds why a message is refused for its Header, which has this MessageNumber.
 fn push_header(
     line: &mut String,
@@ -89,9 +103,7 @@ fn push_header(
     known: &RefusedFile<'_>,
 ) -> Result<(), AllocError> {
     match refusal {
-        HeaderRefusal::NoSender => line.push_str(
-            "no sender identifier; --sender TYPE,VALUE gives one",
-        ),
+        HeaderRefusal::NoSender => push_no_sender(line, number, known),
         HeaderRefusal::SeveralAddressees => {
             line.push_str("several addressees; --addressee TYPE,VALUE picks one")
         }
@@ -223,9 +235,19 @@ pub(crate) fn push_refusal(
     line.push_str("\n")
 }
 
+// What unpacks a file of this name.
+fn unpacking(file: &str) -> &'static str {
+    match file.as_bytes() {
+        [.., b'z' | b'Z', b'i' | b'I', b'p' | b'P'] => "unzip -p",
+        _ => "gunzip -c",
+    }
+}
+
 /// Adds the line of a FILE that is packed by its name.
 pub(crate) fn push_packed(line: &mut String, file: &str) -> Result<(), AllocError> {
     push_start(line, file, Position::first())?;
-    line.push_str("packed, to be unpacked before: ")?;
-    line.push_str("a pipe hands it in by standard input\n")
+    let command = unpacking(file);
+    write!(line, "packed, to be unpacked before: {command} ")?;
+    push_shown(line, file)?;
+    line.push_str(" | onixdesk convert\n")
 }

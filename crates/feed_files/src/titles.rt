@@ -1,6 +1,6 @@
 //! The titles of FILEs, which a second reading writes into one file.
 
-ghost use Rattle.std.specs.Prelude.{◌≡◌, ◌⊎◌, ◌∷◌, ℕ, List, [], IfOk, OnErr, OnOk, map, true, fold};
+ghost use Rattle.std.specs.Prelude.{◌≡◌, ◌⊎◌, ◌≤◌, ◌∷◌, ℕ, List, [], IfOk, OnErr, OnOk, map, true, fold};
 ghost use Rattle.program_files.specs.Holdings.{MayName, Names, named};
 ghost use Rattle.program_files.specs.Texts.{with_waiting};
 ghost use Rattle.feed_files.specs.Titles.{AreTitles, HasTitles, TitlesEnd};
@@ -155,7 +155,8 @@ fn place_titles<F: NamedFiles>(
 
 /// Writes the titles of the FILEs of these names, each opened again, into a new file of that path,
 /// and gives the status: 0, or 3 after a fault, with a line on it. The file gets its name when it
-/// is whole, and replaces none: one that has the name has to have the same bytes.
+/// is whole, and replaces none: one that has the name has to have the same bytes, or to be empty,
+/// which counts as not there.
 pub(crate) fn write_titles<F: NamedFiles, E: Write>(
     alloc: Global,
     path: &str,
@@ -165,6 +166,7 @@ pub(crate) fn write_titles<F: NamedFiles, E: Write>(
 ) -> u8
     ensures end { TitlesEnd F.is_told path.now (map (λ name. name.now) names.now)
         (F.holds files.old) (F.holds files.new) result }
+    ensures most { result ≤ 3 }
 {
     match place_titles(alloc, path, names, files) {
         Ok(()) => 0,

@@ -44,13 +44,22 @@ pub(crate) fn push_encoding(line: &mut String, name: &[u8]) -> Result<(), AllocE
     line.push_str(ENCODINGS)
 }
 
+// Why a reference stands for nothing, by what stands between `&` and `;`.
+fn why_unknown(body: &[u8]) -> &'static str {
+    match body {
+        [b'#', ..] => "no character of XML has this number",
+        _ => "it is no entity of HTML, and what a DOCTYPE declares is not read",
+    }
+}
+
 /// Adds that a reference stands for nothing, and which.
 pub(crate) fn push_reference(line: &mut String, told: &RefusalHints) -> Result<(), AllocError> {
     match &told.reference {
         Some(body) => {
             line.push_str("&")?;
             push_shown_bytes(line, body)?;
-            line.push_str("; stands for nothing")
+            line.push_str("; stands for nothing: ")?;
+            line.push_str(why_unknown(body))
         }
         None => line.push_str("a reference that stands for nothing"),
     }
@@ -101,13 +110,13 @@ pub(crate) fn push_release(
     told: &RefusalHints,
 ) -> Result<(), AllocError> {
     match release {
-        None => line.push_str("no release")?,
+        None => line.push_str("no attribute release, which is to be 3.0 or 3.1")?,
         Some(release) => {
             line.push_str("release ")?;
             push_shown_bytes(line, release.as_slice())?;
+            line.push_str(", not 3.0 or 3.1")?;
         }
     }
-    line.push_str(", not 3.0 or 3.1")?;
     if looks_old(release, address, told) {
         line.push_str(OLD)?;
     }

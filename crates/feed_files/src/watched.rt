@@ -2,6 +2,7 @@
 
 ghost use Rattle.std.specs.Prelude.{◌≡◌};
 
+use crate::garbled::{Garbled, garbled_in};
 use crate::kinds::other_kind;
 use crate::progress::Progress;
 use feed_xml::HEAD;
@@ -17,6 +18,8 @@ const FIRST: usize = 4_096;
 pub struct Seen {
     /// What it is in place of XML, where its first bytes tell that.
     pub kind: Option<&'static str>,
+    /// Why it is no text, where it is none.
+    pub garbled: Garbled,
     /// Whether the reader of XML has asked for more behind its end.
     pub is_at_end: bool,
     /// Why a read failed.
@@ -32,6 +35,8 @@ pub struct Watched<'a, R> {
     reader: R,
     progress: Progress<'a>,
     first: Vec<u8>,
+    // What was read last.
+    last: Vec<u8>,
     count: u64,
     ends: u32,
     fault: Option<FileFault>,
@@ -48,6 +53,7 @@ impl<'a, R: Read + Drop> Watched<'a, R> {
             reader,
             progress: Progress::new(rt, file),
             first: Vec::new(rt.alloc()),
+            last: Vec::new(rt.alloc()),
             count: 0,
             ends: 0,
             fault: None,
@@ -60,6 +66,7 @@ impl<'a, R: Read + Drop> Watched<'a, R> {
         self.progress.clear();
         Seen {
             kind: other_kind(self.first.as_slice()),
+            garbled: garbled_in(self.first.as_slice(), self.last_bytes()),
             is_at_end: self.ends > 1 || self.ends == 1 && self.count >= HEAD as u64,
             fault: self.fault,
         }
@@ -67,8 +74,17 @@ impl<'a, R: Read + Drop> Watched<'a, R> {
 }
 
 impl<'a, R> Watched<'a, R> {
-    // Keeps bytes that follow those that are kept, as far as there is room. Without memory none are
-    // kept any more.
+    // The bytes that were read last, or all, where these are few.
+    fn last_bytes(&self) -> &[u8] {
+        if self.first.len() as u64 == self.count {
+            self.first.as_slice()
+        } else {
+            self.last.as_slice()
+        }
+    }
+
+    // Keeps bytes that follow those that are kept, as far as there is room, and the last ones.
+    // Without memory none are kept any more.
     fn keep(&mut self, bytes: &[u8])
         ensures { self.new.reader ≡ self.old.reader }
     {
@@ -77,6 +93,10 @@ impl<'a, R> Watched<'a, R> {
             let _ = self
                 .first
                 .extend_from_slice(bytes.get(..room).unwrap_or(bytes));
+        }
+        if !bytes.is_empty() {
+            self.last.clear();
+            let _ = self.last.extend_from_slice(bytes);
         }
         self.count = self.count.saturating_add(bytes.len() as u64);
         self.ends = self.ends.saturating_add(u32::from(bytes.is_empty()));

@@ -9,11 +9,14 @@ use std::io::Read;
 /// of it for the whole, and that get their own names when all are whole. Hidden names are none of
 /// those that hold texts here.
 pub trait NamedFiles {
-    ghost use Rattle.std.specs.Prelude.{◌≡◌, ◌++◌, Bool, List, [], Option, Some, ℕ, IfOk, OnOk, OnErr, true};
-    ghost use Rattle.program_files.specs.Holdings.{GivesName, TakesAway, named, told_bytes, told_text};
+    ghost use Rattle.std.specs.Prelude.{◌≡◌, ◌++◌, ◌∷◌, Bool, List, [], Option, Some, None, ℕ, IfOk, OnOk, OnErr, true};
+    ghost use Rattle.program_files.specs.Holdings.{Clears, GivesName, TakesAway, named, told_bytes, told_text};
 
     /// Whether it is told what files hold.
     ghost is_told: { Bool };
+
+    /// Whether a name that was given can be taken back.
+    ghost takes: { Bool };
 
     /// What the file of each name holds, where there is one and that is told.
     ghost holds: { Self → List ℕ → Option (List ℕ) };
@@ -75,8 +78,14 @@ pub trait NamedFiles {
         ensures { OnOk result
             (text_of made.new ≡ text_of made.old ++ told_text is_told text.now) };
 
-    /// A fault where the name has a file with another text, as far as that can be seen.
+    /// A fault where the name has a file with another text, as far as that can be seen. An empty
+    /// file is none.
     fn check_name(&self, made: &Self::Made, name: &str) -> Result<(), FileFault>;
+
+    /// Takes the name away from an empty file, which counts as not there: from a regular one that
+    /// has the name itself, and is not reached by a link.
+    fn clear_name(&mut self, name: &str)
+        ensures { Clears (name.now ∷ []) (holds self.old) (holds self.new) };
 
     /// Gives a file that was made its name too, and says whether it was free. A file with the same
     /// text that has the name stays; one with another text is a fault.
@@ -91,7 +100,8 @@ pub trait NamedFiles {
 
     /// Takes a name away from its file, as far as that can be done.
     fn take_name(&mut self, name: &str)
-        ensures { TakesAway name.now (holds self.old) (holds self.new) };
+        ensures away { TakesAway name.now (holds self.old) (holds self.new) }
+        ensures gone { takes ≡ true → holds self.new name.now ≡ None };
 
     /// Removes the hidden name of a file.
     fn unhide(&self, made: &Self::Made);

@@ -3,7 +3,7 @@
 use crate::fault::FileFault;
 use crate::files::NamedFiles;
 use crate::hidden::Hidden;
-use crate::host_calls::{create_beside, create_new, is_same, or_fault};
+use crate::host_calls::{create_beside, create_new, is_empty, is_same, or_fault};
 use crate::names::path_in;
 use std::env::temp_dir;
 use std::fs::{self, File, OpenOptions};
@@ -72,13 +72,18 @@ fn has_no_links(error: &Error) -> bool {
 }
 
 // Renames a file where none can have two names. A renaming replaces what has the name, so that an
-// empty file of our own takes it first.
+// empty file of our own takes it first. It goes where the renaming fails; a signal may leave it.
 fn rename(rt: &HostRuntime, hidden: &str, name: &str) -> Result<bool, FileFault> {
     if create_new(rt, name)?.is_none() {
         return Err(taken(rt, name));
     }
-    or_fault(rt, name, fs::rename(rt, hidden, name))?;
-    Ok(true)
+    match fs::rename(rt, hidden, name) {
+        Ok(()) => Ok(true),
+        Err(error) => {
+            let _ = fs::remove_file(rt, name);
+            Err(FileFault::of(rt.alloc(), name, &error))
+        }
+    }
 }
 
 // Gives a file its name too. Whether it was free.
@@ -109,6 +114,8 @@ impl<'a> NamedFiles for HostFiles<'a> {
     ghost use Rattle.std.specs.Prelude.{[], None, false};
 
     ghost is_told = { false };
+
+    ghost takes = { false };
 
     ghost holds = { λ files name. None };
 
@@ -179,8 +186,14 @@ impl<'a> NamedFiles for HostFiles<'a> {
 
     fn check_name(&self, made: &HiddenFile, name: &str) -> Result<(), FileFault> {
         match fs::exists(self.rt, name) {
-            Ok(true) => check_same(self.rt, made.path.as_str(), name),
+            Ok(true) if !is_empty(self.rt, name) => check_same(self.rt, made.path.as_str(), name),
             _ => Ok(()),
+        }
+    }
+
+    fn clear_name(&mut self, name: &str) {
+        if is_empty(self.rt, name) {
+            let _ = fs::remove_file(self.rt, name);
         }
     }
 

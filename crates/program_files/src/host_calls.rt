@@ -55,6 +55,14 @@ pub(crate) fn create_beside(rt: &HostRuntime, path: &str) -> Result<(String, Fil
     Err(FileFault::new(rt.alloc(), path, "is there"))
 }
 
+/// Whether a name is that of an empty regular file, itself and not by a link.
+pub(crate) fn is_empty(rt: &HostRuntime, name: &str) -> bool {
+    match fs::symlink_metadata(rt, name) {
+        Ok(found) => found.is_file() && found.len() == 0,
+        Err(_) => false,
+    }
+}
+
 // Whether the second is a file as long as the first.
 fn has_same_length(rt: &HostRuntime, one: &str, other: &str) -> bool {
     match (fs::metadata(rt, one), fs::metadata(rt, other)) {

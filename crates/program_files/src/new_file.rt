@@ -1,7 +1,7 @@
 //! One file that is written under a hidden name, and gets its own when it is whole.
 
 ghost use Rattle.std.specs.Prelude.{◌≡◌, ◌++◌, ◌∷◌, [], IfOk, OnErr, OnOk, true};
-ghost use Rattle.program_files.specs.Holdings.{MayName, Names, named, told_text};
+ghost use Rattle.program_files.specs.Holdings.{MayName, Names, ShowsSame, named, told_text};
 ghost use Rattle.program_files.specs.Texts.{with_waiting};
 
 use crate::fault::FileFault;
@@ -103,7 +103,7 @@ impl<'a, F: NamedFiles> NewFile<'a, F> {
 
 impl<F: NamedFiles> WholeFile<F> {
     /// Gives the file its name. One that has the name already keeps it: that is a fault, unless it
-    /// has the same text.
+    /// has the same text, or is empty, which counts as not there.
     pub fn place(&self, alloc: Global, files: &mut F, path: &str) -> Result<(), FileFault>
         ensures ok { F.is_told ≡ true → OnOk result
             (Names (named path.now (F.text_of self.now.made) ∷ [])
@@ -111,6 +111,8 @@ impl<F: NamedFiles> WholeFile<F> {
         ensures err { F.is_told ≡ true → OnErr result
             (MayName (named path.now (F.text_of self.now.made) ∷ [])
             (F.holds files.old) (F.holds files.new)) }
+        ensures none { F.is_told ≡ true → F.takes ≡ true
+            → OnErr result (ShowsSame (F.holds files.old) (F.holds files.new)) }
     {
         let (folder, _) = split_path(path);
         let name = String::from_str(alloc, path)?;

@@ -1,7 +1,7 @@
 //! The parts of a message as files of a folder, made under hidden names.
 
 ghost use Rattle.std.specs.Prelude.{◌≡◌, ◌+◌, ◌++◌, ◌∷◌, [], IfOk, OnErr, OnOk, length, map, true};
-ghost use Rattle.program_files.specs.Holdings.{MayName, Names, told_text};
+ghost use Rattle.program_files.specs.Holdings.{MayName, Names, ShowsSame, told_text};
 ghost use Rattle.program_files.specs.PartFiles.{files_of, numbered, place};
 
 use crate::fault::FileFault;
@@ -98,7 +98,8 @@ impl<'a, F: NamedFiles> PartFiles<'a, F> {
 impl<F: NamedFiles> MadeFiles<F> {
     /// Gives the files the names of the parts of a message of this NAME in so many parts, in that
     /// folder: all of them or, with a fault, none where those that were given can be taken back. A
-    /// file that has such a name already keeps it: that is a fault, unless it has the same text.
+    /// file that has such a name already keeps it: that is a fault, unless it has the same text, or
+    /// is empty, which counts as not there.
     pub fn place(
         &self,
         files: &mut F,
@@ -112,6 +113,8 @@ impl<F: NamedFiles> MadeFiles<F> {
         ensures err { F.is_told ≡ true → OnErr result
             (MayName (files_of (place folder.now name.now parts)
             (map F.text_of self.now.made.items)) (F.holds files.old) (F.holds files.new)) }
+        ensures none { F.is_told ≡ true → F.takes ≡ true
+            → OnErr result (ShowsSame (F.holds files.old) (F.holds files.new)) }
     {
         let names = PartNames::OfMessage { name, parts };
         let targets = targets_of(self.alloc, self.made.as_slice(), folder, names)?;
@@ -126,6 +129,8 @@ impl<F: NamedFiles> MadeFiles<F> {
         ensures err { F.is_told ≡ true → OnErr result
             (MayName (files_of (numbered folder.now) (map F.text_of self.now.made.items))
             (F.holds files.old) (F.holds files.new)) }
+        ensures none { F.is_told ≡ true → F.takes ≡ true
+            → OnErr result (ShowsSame (F.holds files.old) (F.holds files.new)) }
     {
         let names = PartNames::Numbers;
         let targets = targets_of(self.alloc, self.made.as_slice(), folder, names)?;

@@ -1,7 +1,7 @@
 //! Giving the files of a message their names, all of them or none.
 
-ghost use Rattle.std.specs.Prelude.{◌≡◌, [], OnOk, OnErr, map, true};
-ghost use Rattle.program_files.specs.Holdings.{AreFree, MayName, Names, TakesAllAway};
+ghost use Rattle.std.specs.Prelude.{◌≡◌, ◌∷◌, ℕ, List, [], OnOk, OnErr, map, string_bytes, true};
+ghost use Rattle.program_files.specs.Holdings.{Adds, AreFree, Clears, IsNoted, MayAdd, MayName, Names, SameBut, ShowsSame, TakesAllAway};
 ghost use Rattle.program_files.specs.PartFiles.{target_view};
 
 use crate::fault::FileFault;
@@ -17,6 +17,44 @@ fn check_names<F: NamedFiles>(files: &F, targets: &[Target<'_, F::Made>]) -> Res
     Ok(())
 }
 
+// Takes the names away from empty files, which count as not there.
+fn clear_names<F: NamedFiles>(files: &mut F, targets: &[Target<'_, F::Made>])
+    ensures { Clears (map (λ target. string_bytes target.name) targets.now)
+        (F.holds files.old) (F.holds files.new) }
+{
+    for target in targets {
+        files.clear_name(target.name.as_str());
+    }
+}
+
+// Gives a file its name, and adds the name where it was free.
+fn give_one<'a, F: NamedFiles>(
+    files: &mut F,
+    target: &'a Target<'_, F::Made>,
+    given: &mut Vec<&'a str>,
+) -> Result<(), FileFault>
+    ensures ok { F.is_told ≡ true → OnOk result (Adds (target_view F.text_of target.entry.now ∷ [])
+        (F.holds files.old) (F.holds files.new)) }
+    ensures err { OnErr result (F.holds files.new ≡ F.holds files.old) }
+    ensures noted { F.is_told ≡ true → IsNoted (string_bytes target.entry.now.name)
+        (map (λ name. name.now) given.old.items) (map (λ name. name.now) given.new.items)
+        (F.holds files.old) (F.holds files.new) }
+{
+    // Before it is given, so that none is forgotten.
+    given.push(target.name.as_str())?;
+    match files.give_name(target.made, target.name.as_str()) {
+        Ok(true) => Ok(()),
+        Ok(false) => {
+            given.pop();
+            Ok(())
+        }
+        Err(fault) => {
+            given.pop();
+            Err(fault)
+        }
+    }
+}
+
 // Gives each file its name, and adds the names that were free.
 fn give_names<'a, F: NamedFiles>(
     files: &mut F,
@@ -25,27 +63,28 @@ fn give_names<'a, F: NamedFiles>(
 ) -> Result<(), FileFault>
     requires { given.old.items ≡ [] }
     ensures ok { F.is_told ≡ true → OnOk result
-        (Names (map (target_view F.text_of) targets.entry.now)
+        (Adds (map (target_view F.text_of) targets.entry.now)
         (F.holds files.old) (F.holds files.new)) }
     ensures err { F.is_told ≡ true → OnErr result
-        (MayName (map (target_view F.text_of) targets.entry.now)
+        (MayAdd (map (target_view F.text_of) targets.entry.now)
         (F.holds files.old) (F.holds files.new)) }
     ensures free { F.is_told ≡ true
         → AreFree (map (λ name. name.now) given.new.items) (F.holds files.old) }
+    ensures same { F.is_told ≡ true → SameBut (map (λ name. name.now) given.new.items)
+        (F.holds files.old) (F.holds files.new) }
 {
-    given.reserve(targets.len())?;
     for target in targets {
-        if files.give_name(target.made, target.name.as_str())? {
-            given.push(target.name.as_str())?;
-        }
+        give_one(files, target, given)?;
     }
     Ok(())
 }
 
 // Takes names away from their files.
 fn take_names<F: NamedFiles>(files: &mut F, names: &[&str])
-    ensures { TakesAllAway (map (λ name. name.now) names.now)
+    ensures away { TakesAllAway (map (λ name. name.now) names.now)
         (F.holds files.old) (F.holds files.new) }
+    ensures gone { F.takes ≡ true
+        → AreFree (map (λ name. name.now) names.now) (F.holds files.new) }
 {
     for name in names {
         files.take_name(name);
@@ -61,21 +100,48 @@ fn name_for_good<'a, F: NamedFiles>(
 ) -> Result<(), FileFault>
     requires { given.old.items ≡ [] }
     ensures ok { F.is_told ≡ true → OnOk result
-        (Names (map (target_view F.text_of) targets.entry.now)
+        (Adds (map (target_view F.text_of) targets.entry.now)
         (F.holds files.old) (F.holds files.new)) }
     ensures err { F.is_told ≡ true → OnErr result
-        (MayName (map (target_view F.text_of) targets.entry.now)
+        (MayAdd (map (target_view F.text_of) targets.entry.now)
         (F.holds files.old) (F.holds files.new)) }
     ensures free { F.is_told ≡ true
         → AreFree (map (λ name. name.now) given.new.items) (F.holds files.old) }
+    ensures same { F.is_told ≡ true → SameBut (map (λ name. name.now) given.new.items)
+        (F.holds files.old) (F.holds files.new) }
 {
     give_names(files, targets, given)?;
     files.sync_folder(folder)
 }
 
+// The same of files whose names no empty file has. With a fault the names that were given are taken
+// back.
+fn name_or_none<F: NamedFiles>(
+    alloc: Global,
+    files: &mut F,
+    folder: &str,
+    targets: &[Target<'_, F::Made>],
+) -> Result<(), FileFault>
+    ensures ok { F.is_told ≡ true → OnOk result
+        (Adds (map (target_view F.text_of) targets.now) (F.holds files.old) (F.holds files.new)) }
+    ensures err { F.is_told ≡ true → OnErr result
+        (MayAdd (map (target_view F.text_of) targets.now) (F.holds files.old) (F.holds files.new)) }
+    ensures none { F.is_told ≡ true → F.takes ≡ true → OnErr result
+        ((name : List ℕ) → F.holds files.new name ≡ F.holds files.old name) }
+{
+    let mut given = Vec::new(alloc);
+    match name_for_good(files, folder, targets, &mut given) {
+        Ok(()) => Ok(()),
+        Err(fault) => {
+            take_names(files, given.as_slice());
+            Err(fault)
+        }
+    }
+}
+
 /// Gives files of this folder their names, all of them or, with a fault, none where those that were
 /// given can be taken back. A file that has a name already keeps it: that is a fault, unless it has
-/// the same text.
+/// the same text, or is empty, which counts as not there.
 pub(crate) fn name_all<F: NamedFiles>(
     alloc: Global,
     files: &mut F,
@@ -88,14 +154,10 @@ pub(crate) fn name_all<F: NamedFiles>(
     ensures err { F.is_told ≡ true → OnErr result
         (MayName (map (target_view F.text_of) targets.now)
         (F.holds files.old) (F.holds files.new)) }
+    ensures none { F.is_told ≡ true → F.takes ≡ true
+        → OnErr result (ShowsSame (F.holds files.old) (F.holds files.new)) }
 {
     check_names(files, targets)?;
-    let mut given = Vec::new(alloc);
-    match name_for_good(files, folder, targets, &mut given) {
-        Ok(()) => Ok(()),
-        Err(fault) => {
-            take_names(files, given.as_slice());
-            Err(fault)
-        }
-    }
+    clear_names(files, targets);
+    name_or_none(alloc, files, folder, targets)
 }

@@ -184,10 +184,10 @@ def full_parts(room: Room) -> Iterator[Outcome]:
 
 def names_of_parts(room: Room) -> Iterator[Outcome]:
     """What has the name of a part keeps it: the same bytes are taken, and others are a fault, after which no part has
-    its name."""
+    its name. An empty file counts as not there."""
     first, second = large_desk(room)
     for name, text in [("1.csv", first), ("2.csv", second)]:
-        for other, status in [(text, 0), (text[:-1], 3), (text[:-1] + b"x", 3), (b"", 3)]:
+        for other, status in [(text, 0), (text[:-1], 3), (text[:-1] + b"x", 3), (b"", 0)]:
             folder = f"{name} {status} {len(other)} {other[-1:]!r}".replace("/", "")
             room.path(folder).mkdir()
             room.write(f"{folder}/{name}", other)
@@ -196,7 +196,8 @@ def names_of_parts(room: Room) -> Iterator[Outcome]:
             yield Outcome(f"parts: {folder}", into(room, folder), Ran(status, b"", errors))
             wanted = {name: other} if status else {"1.csv": first, "2.csv": second}
             yield Outcome(f"parts: {folder}: its files", held(room, folder), wanted)
-            yield Outcome(f"parts: {folder}: the file", room.path(f"{folder}/{name}").stat().st_ino, number)
+            is_kept = room.path(f"{folder}/{name}").stat().st_ino == number
+            yield Outcome(f"parts: {folder}: the file", is_kept, other != b"")
 
 
 def folders(room: Room) -> Iterator[Outcome]:

@@ -127,6 +127,42 @@ NUMBERS += [
 ]
 
 
+NO_SENDER = "no sender identifier; --sender TYPE,VALUE gives one"
+NEITHER = message_with("<Header></Header>")
+
+# What a Header lacks is said in one line; what is given is not asked for again.
+LACKING = [
+    Case("neither a sender nor a number", NEITHER, f"{NO_SENDER}; no MessageNumber either; --number N gives one"),
+    Case("no sender beside a given number", NEITHER, NO_SENDER, ["--number", "7"]),
+    Case("no sender", message_with(HEADER.format("")), NO_SENDER),
+    Case("no number", NEITHER, "no MessageNumber; --number N gives one", ["--sender", "06,S"]),
+]
+
+# Beyond the limits that docs/ONIX.md has.
+BEYOND = [
+    Case("elements within one another", BEGUN.encode() + b"<a>" * 1_000, "more than 1,000 elements within one another"),
+    Case(
+        "attributes",
+        BEGUN.encode() + b"<a " + b" ".join(b"a%d=''" % number for number in range(65)) + b"/>",
+        "a tag with more than 64 attributes, or 65,536 bytes of them",
+    ),
+    Case(
+        "a comment",
+        BEGUN.encode() + b"<!--" + b" " * 5_000_000 + b"-->",
+        "a tag, name or comment of more than 4,194,304 bytes",
+    ),
+]
+
+
+def packed(room: Room) -> Iterator[Outcome]:
+    """A FILE that is packed by its name is refused with the command that converts it."""
+    for name, command in [("a.xml.gz", "gunzip -c"), ("A.GZ", "gunzip -c"), ("a.zip", "unzip -p"), ("A.Zip", "unzip -p")]:
+        room.write(name, b"")
+        why = f"packed, to be unpacked before: {command} {name} | onixdesk convert"
+        wanted = Ran(1, b"", f"onixdesk: {name}:1:1: refused: {why}\n".encode())
+        yield Outcome(f"convert: packed, {name}", room.run("convert", name), wanted)
+
+
 def refused(cases: list[Case], room: Room) -> Iterator[Outcome]:
     """Why each is refused, as a file and by standard input."""
     for case in cases:
@@ -279,6 +315,8 @@ GROUPS = [
     Group("convert: files that are no message", partial(refused, [*feeds()])),
     Group("convert: files that end too early", partial(refused, ENDS)),
     Group("convert: numbers that are refused", partial(refused, NUMBERS)),
+    Group("convert: Headers that lack something", partial(refused, LACKING)),
+    Group("convert: beyond the limits", partial(refused, BEYOND)),
     *(
         Group(f"convert: {number.name}", partial(stopped, number))
         for number in (signal.SIGTERM, signal.SIGINT, signal.SIGKILL)

@@ -129,6 +129,31 @@ def links(room: Room) -> Iterator[Outcome]:
     yield Outcome("convert: the message beside a link", is_there, message_of("R1"))
 
 
+def empty_files(room: Room) -> Iterator[Outcome]:
+    """An empty regular file counts as not there; a link to one, and what is no regular file, does not."""
+    room.write("a.xml", ONE)
+    room.write("empty", b"")
+    place = room.path("a.csv")
+    wanted = Ran(3, b"", said(["a.csv: is there, with other bytes"]))
+    place.symlink_to("empty")
+    yield Outcome("convert: a link to an empty file", (convert(room, "-o", ".", "a.xml"), place.is_symlink()), (wanted, True))
+    place.unlink()
+    os.mkfifo(place)
+    yield Outcome("convert: a pipe", (convert(room, "-o", ".", "a.xml"), place.is_fifo()), (wanted, True))
+    place.unlink()
+    place.write_bytes(b"")
+    found = convert(room, "-o", ".", "a.xml"), place.read_bytes()
+    yield Outcome("convert: an empty file", found, (Ran(0), message_of("R1")))
+    room.path("out").mkdir()
+    room.write("out/a.part-01.csv", b"")
+    room.write("out/a.part-03.csv", b"other")
+    came = convert(room, "--parts", "3", "-o", "out", "a.xml")
+    wanted = Ran(3, b"", said(["out/a.part-03.csv: is there, with other bytes"]))
+    left = names(room.path("out")), room.path("out/a.part-03.csv").read_bytes()
+    yield Outcome("convert: an empty file beside another", (came, left[1]), (wanted, b"other"))
+    yield Outcome("convert: no part beside another file", "a.part-02.csv" in left[0], False)
+
+
 def came_meanwhile(room: Room) -> Iterator[Outcome]:
     """A file that comes while a message is read is not written over, and no part of the message is placed."""
     process = begun(room, "--parts", "2")

@@ -20,7 +20,7 @@ FRAME = FRAMES["products"]
 # What is said of parts to the person who has to act.
 AGREED = (
     "the number of parts is a part of the agreement on the series, and with another one its numbers no"
-    " longer follow each other (ONIX.md)"
+    " longer follow each other: agree on --parts before the first message, or see Large messages in ONIX.md"
 )
 
 

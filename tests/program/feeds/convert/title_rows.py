@@ -243,16 +243,22 @@ def records_beside_titles(room: Room) -> Iterator[Outcome]:
 
 
 def titles_of_several(room: Room) -> Iterator[Outcome]:
-    """Those of the FILEs that were converted, one after the other, also where products of one are wrong."""
-    files = {"a.xml": TWO, "b.xml": BAD, "w.xml": WRONG, "n.xml": b"", FEED: ONE.replace(b">1<", b">2<")}
-    for name, data in files.items():
+    """Those of each FILE, one after the other, also where products of one are wrong; none where a FILE is not converted,
+    so that the run, repeated once that is mended, has them."""
+    files = {"a.xml": TWO, "w.xml": WRONG, FEED: ONE.replace(b">1<", b">2<")}
+    others = {"b.xml": BAD, "n.xml": b"", "o.xml": b"a"}
+    for name, data in [*files.items(), *others.items()]:
         room.write(name, data)
     room.path("to").mkdir()
+    for other, status in [*((name, 1) for name in others), ("absent.xml", 3)]:
+        came = room.run("convert", "-o", "to", "--titles", TITLES, "a.xml", other, *files)
+        left = came.status, names_in(room)
+        yield Outcome(f"titles: none beside {other}", left, (status, sorted([*files, *others, "to"])))
     came = room.run("convert", "-o", "to", "--titles", TITLES, *files)
     wanted = [row(Row(), "R1"), row(Row(), "R2"), row(Row(), ""), row(Row(), "R2"), row(Row(), number="2")]
     found = came.status, rows_in(room.path(TITLES).read_bytes())
     yield Outcome("titles: of several files", found, (1, wanted))
-    yield Outcome("titles: the files beside them", names_in(room), sorted([*files, "to", TITLES]))
+    yield Outcome("titles: the files beside them", names_in(room), sorted([*files, *others, "to", TITLES]))
     made = sorted(path.name for path in room.path("to").iterdir())
     yield Outcome("titles: the messages", made, ["a.csv", "feed.csv", "w.csv"])
 
@@ -274,8 +280,8 @@ def faults_of_titles(room: Room) -> Iterator[Outcome]:
     yield Outcome("titles: another file stays", room.path(TITLES).read_bytes(), b"other")
     came = room.run("convert", "-o", "none", "--titles", "new.csv", FEED)
     yield Outcome("titles: no folder", (came.status, names_in(room)), (3, sorted([FEED, TITLES])))
-    room.path(TITLES).unlink()
-    for time in "once", "again":
+    room.write(TITLES, b"")
+    for time in "over an empty file", "again":
         came = room.run("convert", "--titles", TITLES, FEED)
         yield Outcome(f"titles: {time}", (came, names_in(room)), (Ran(0, records), sorted([FEED, TITLES])))
 

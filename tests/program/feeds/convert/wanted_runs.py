@@ -141,9 +141,16 @@ CASES = [
     ),
     Case(
         "the file of a later part is there with other bytes, and no part is written",
-        {"a.xml": ONE, "a.part-02.csv": b""},
+        {"a.xml": ONE, "a.part-02.csv": b"other"},
         ["--parts", "2", "-o", ".", "a.xml"],
         ends(3, "a.part-02.csv: is there, with other bytes"),
+    ),
+    Case(
+        "an empty file, as a signal may leave it, counts as not there",
+        {"a.xml": ONE, "a.part-02.csv": b""},
+        ["--parts", "2", "-o", ".", "a.xml"],
+        Ran(0),
+        {"a.part-01.csv": message_of("R1"), "a.part-02.csv": message_of(number=2)},
     ),
     Case(
         "a file that becomes the same as another",

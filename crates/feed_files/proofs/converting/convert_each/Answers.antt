@@ -1,13 +1,13 @@
 use Rattle.std.proofs.Common.{◌≡◌, ◌++◌, ◌∷◌, ◌∙◌, ℕ, suc, List, [], append-nil, ap, arith, drop, length, map, refl, subst, sym}
 use Rattle.std.specs.Borrow.{Bor}
-use Rattle.std.specs.Prelude.{max, slice_index_or}
+use Rattle.std.specs.Prelude.{◌&&◌, max, slice_index_or}
 use Rattle.std.proofs.Math.Numerals.{add-one}
 use Rattle.std.proofs.KnownBytes.{Appends-nil, Appends-trans}
 use Rattle.std.proofs.lemmas.List.{length-map}
-use Rattle.feed_files.specs.Ends.{file_end}
+use Rattle.feed_files.specs.Ends.{file_end, is_converted}
 use Rattle.feed_files.specs.Runs.{AreEnds, run_asking, status_of_all}
-use Rattle.feed_files.specs.Titles.{converted_names}
-use Rattle.feed_files.proofs.RunLemmas.{Continues, Notes, continues_more, names_from, none_left, notes_more, outputs_more, status_more}
+use Rattle.feed_files.specs.Titles.{are_converted}
+use Rattle.feed_files.proofs.RunLemmas.{Continues, all_more, continues_more, names_from, none_left, outputs_more, status_more}
 use Rattle.feed_files.proofs.converting.convert_each.Goals as goal
 
 abbrev nameless : Bor (List ℕ)
@@ -18,7 +18,7 @@ loop-file-init g c = record {
   ends = [];
   so_far = λ more after are. are;
   written = Appends-nil (g.W.Write.contents c.args.output.now);
-  noted = λ whole more. ap (λ (n : List (List ℕ)). n ++ converted_names (map (λ (f : Bor (List ℕ)). f.now) c.args.names.now) more) (sym c.requires);
+  all = refl;
   status_is = refl;
   most = omega arith;
 }
@@ -45,10 +45,8 @@ loop-file-preserved g c =
           (names_from c.args.names.now i nameless c.loop-file-test.true) ran.2
           (λ other. (ap g.R.Read.remaining (c.convert_file-ended.ensures.untouched other), ran.3 other)) refl ran.5);
       written = rw (outputs_more inv.ends e) (Appends-trans _ _ _ _ _ inv.written ran.4);
-      noted = λ whole. subst (λ k. Notes names (drop k names) more (map (λ (f : Bor (List ℕ)). f.now) c.note.new.self.names.items)) (sym (add-one i))
-          (subst (Notes names (drop (suc i) names) more) (sym (c.note.ensures.noted whole))
-          (notes_more names (drop i names) inv.ends _ name (drop (suc i) names) e (inv.noted (c.note.ensures.before whole))
-          (names_from c.args.names.now i nameless c.loop-file-test.true)));
+      all = c.both-are_converted.ensures ∙ ap (λ b. b && c.loop-file.are_converted) c.is_converted.ensures
+          ∙ ap (λ b. is_converted c.convert_file-ended.result && b) inv.all ∙ sym (all_more inv.ends e);
       status_is = c.greater-status.ensures.is ∙ ap (λ s. max s c.status.result) inv.status_is ∙ ap (λ s. max (status_of_all inv.ends) s) c.status.ensures.is ∙ sym (status_more inv.ends e);
       most = c.greater-status.ensures.most inv.most c.status.ensures.most;
     }
@@ -62,12 +60,11 @@ returns-clause-end g c =
     let after = g.F.NamedFiles.holds c.loop-file.files in
     let names : List (List ℕ) = map (λ (f : Bor (List ℕ)). f.now) c.args.names.now in
     let count = length-map c.args.names.now (λ (f : Bor (List ℕ)). f.now) in
-    let noted : List (List ℕ) = map (λ (f : Bor (List ℕ)). f.now) c.loop-file.converted.names.items in
     let at_end : c.loop-file.file-index ≡ length names = omega (arith, count) in
     let none : drop c.loop-file.file-index names ≡ [] = ap (λ k. drop k names) at_end ∙ none_left names in (
       inv.ends,
       subst (AreEnds a (g.R.Read.remaining c.args.input.now) before after names) (append-nil inv.ends)
           (inv.so_far [] after (subst (λ rest. AreEnds a left after after rest []) (sym none) refl)),
-      (inv.written, λ whole. sym (ap (λ es. converted_names names es) (sym (append-nil inv.ends)) ∙ inv.noted whole [] ∙ ap (λ ns. noted ++ converted_names ns []) none ∙ append-nil noted)),
+      (inv.written, inv.all),
       inv.status_is,
     )

@@ -11,6 +11,7 @@ ghost use Rattle.sqlite_trees.specs.Tree.{Trees};
 ghost use Rattle.sqlite_wal.specs.Files.{image_at};
 ghost use Rattle.sqlite_wal.specs.Reads.{AreClean};
 ghost use Rattle.desk_rows.specs.Desks.{AreRowsOf, KeepsRequests};
+ghost use Rattle.desk_versions.specs.Creation.{IsChosen, SparesOther};
 ghost use Rattle.desk_versions.specs.Openings.{AreFilesOf, AreItsTrees, HasNoMeta, HoldRowsOf, IsFaultFor, IsOther, IsReady, KeepsFiles, KeepsStore, LeavesOne, MakesIndex, ShowsOnly, Spares, TakesFound, TellsFiles, TellsFound, left_in};
 ghost use Rattle.desk_rows.specs.Seen.{in_tables};
 ghost use Rattle.series_rules.specs.Views.{LeavesOnly};
@@ -24,7 +25,7 @@ use desk_rows::questions::{ask_catalogue, ask_gaps, ask_offers, collect_offers};
 use desk_tables::rows::fault::fault_of;
 use desk_tables::rows::laws::same_trees_hold_the_same_rows;
 use desk_tables::tables::Tables;
-use desk_versions::opening::{OpenFault, connect, prepare};
+use desk_versions::opening::{Creation, OpenFault, OpenOptions, connect, prepare};
 use onix_message::{Agreement, StoreFault};
 use onix_terms::isbn13::Isbn13;
 use onix_terms::items::Items;
@@ -36,7 +37,7 @@ use price_rules::offer::Offer;
 use series_rules::answers::{AgreeAnswer, DeliveryAnswer, GapReport, WaiveAnswer};
 use series_rules::desk::Desk;
 use series_rules::listing::ListedDesk;
-use sqlite::{Alter, Connection, FileFrom, FileStore, Files, Leftover, MemStore, Options, Start};
+use sqlite::{Alter, Connection, FileFrom, FileStore, Files, Leftover, MemStore, Start};
 use sqlite_disk::Disk;
 use std::alloc::Global;
 use std::rt::HostRuntime;
@@ -178,15 +179,15 @@ impl<D: Disk + Drop> DeskStore<FileStore<D>> {
         ensures left { IfErr result (λ e. IsCleanLeft e.1
             → KeepsFiles (λ were. were ≡ files) MakesIndex (image_of D.Disk files) e.1) }
     {
-        DeskStore::open_files_with(alloc, files, Options::new(1))
+        DeskStore::open_files_with(alloc, files, OpenOptions::new(1, Creation::Anywhere))
     }
 
-    /// The same under options of `sqlite`: how many pages stay in memory, how long the log grows, and
-    /// the random number for the log's salts, which is always the same one in `open_files`.
+    /// The same under options, which in `open_files` are always the same. A database that has no desk,
+    /// and in which none is to be created, is `Unusable` and stays.
     pub fn open_files_with(
         alloc: Global,
         files: Files<D>,
-        options: Options,
+        options: OpenOptions,
     ) -> Result<DeskStore<FileStore<D>>, (OpenFault, Leftover<D>)>
         requires log { IsTrue (D.Disk.is_usable files.log) }
         requires db { IsTrue (D.Disk.is_usable files.db) }
@@ -204,6 +205,10 @@ impl<D: Disk + Drop> DeskStore<FileStore<D>> {
             → TellsFiles IsFaultFor (image_of D.Disk files) (left_in e.1) e.0) }
         ensures left { IfErr result (λ e. IsCleanLeft e.1
             → KeepsFiles (λ were. were ≡ files) MakesIndex (image_of D.Disk files) e.1) }
+        ensures chosen { IfOk result (λ d. HasCleanDisk (file_state d.tables.connection)
+            → IsChosen options.creation (image_of D.Disk files)) }
+        ensures spared { IfErr result (λ e. IsCleanLeft e.1
+            → SparesOther options.creation (image_of D.Disk files) e.1) }
     {
         same_trees_hold_the_same_rows();
         let connection = match connect(alloc, files, options) {

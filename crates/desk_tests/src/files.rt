@@ -8,7 +8,7 @@ use crate::asking::{End, ask_store, end_of_fault, end_of_line};
 use crate::desks::{StoppedDesk, TestDesk};
 use crate::disks::{OPTIONS, TestFiles, copied, failing_files, stop_machine};
 use crate::tables::transcripts::answer_of;
-use desk_store::{DeskStore, OpenFault, migrate_files_with};
+use desk_store::{Creation, DeskStore, OpenFault, OpenOptions, migrate_files_with};
 use desk_tables::rows::fault::fault_of;
 use desk_tables::tables::Tables;
 use onix_message::StoreFault;
@@ -16,6 +16,12 @@ use price_rules::precedence::Precedence;
 use sqlite::{Alter, Connection, FileStore, Files};
 use sqlite_disk::Disk;
 use std::alloc::Global;
+
+// How the files of a desk are opened.
+const OPENING: OpenOptions = OpenOptions {
+    store: OPTIONS,
+    creation: Creation::Anywhere,
+};
 
 /// What is done with files.
 #[derive(Clone, Copy)]
@@ -152,7 +158,7 @@ fn ask<D: Disk + Drop>(
     requires log { IsTrue (D.Disk.is_usable files.log) }
     requires db { IsTrue (D.Disk.is_usable files.db) }
 {
-    match DeskStore::open_files_with(alloc, files, OPTIONS) {
+    match DeskStore::open_files_with(alloc, files, OPENING) {
         Ok(desk) => act_and_close(alloc, Opened::Desk(desk), call, output),
         Err((fault, left)) => (left.into_files(), end_of_opening(fault, output)),
     }
@@ -177,7 +183,7 @@ fn migrate<D: Disk + Drop>(alloc: Global, files: Files<D>, output: &mut Vec<u8>)
     requires log { IsTrue (D.Disk.is_usable files.log) }
     requires db { IsTrue (D.Disk.is_usable files.db) }
 {
-    match migrate_files_with(alloc, files, OPTIONS) {
+    match migrate_files_with(alloc, files, OPENING) {
         Ok((_, files)) => (files, end_of_line("version 2", output)),
         Err((fault, left)) => (left.into_files(), end_of_opening(fault, output)),
     }

@@ -1,3 +1,4 @@
 pub mod Openings
+pub mod Creation
 pub mod Migrations
 pub mod FirstForm

@@ -1,17 +1,21 @@
 //! What is found where a desk is opened.
 
-ghost use Rattle.std.specs.Prelude.{◌≡◌, IfErr, IfOk, IsTrue};
+ghost use Rattle.std.specs.Prelude.{◌≡◌, IfErr, IfOk, IsTrue, true};
 ghost use Rattle.sqlite.specs.Files.{IsCleanLeft, IsOpened, LeavesFiles, file_state, image_of};
 ghost use Rattle.sqlite.specs.Held.{state};
 ghost use Rattle.sqlite.specs.State.{HasCleanDisk};
+ghost use Rattle.sqlite_trees.specs.Tree.{Trees};
 ghost use Rattle.sqlite_wal.specs.Reads.{AreClean};
+ghost use Rattle.desk_versions.specs.Creation as spec;
 ghost use Rattle.desk_versions.specs.Openings.{AreFoundAs, IsCreated, IsIndexed, IsReady, IsVersionRead};
 
 use desk_tables::rows::fault::fault_of;
+use desk_tables::rows::schemas::has_meta;
 use desk_tables::tables::Tables;
 use onix_records::StoreFault;
 use sqlite::{Alter, Connection, FileStore, Files, Leftover, Options};
 use sqlite_disk::Disk;
+use sqlite_schema::schema::Schema;
 use std::alloc::Global;
 use thiserror::Error;
 
@@ -24,6 +28,49 @@ pub enum OpenFault {
     /// The tables are of another version, `found`, than those that are taken: 2, and to migrate 1.
     #[error("other version {found}")]
     OtherVersion { found: u32 },
+}
+
+/// In which databases a desk is created that have none, which is those without a table `meta` of a
+/// desk.
+#[derive(Clone, Copy)]
+pub enum Creation {
+    /// In each, beside other programs' tables too.
+    Anywhere,
+    /// Only in one without a table.
+    InEmpty,
+    /// In none: only a desk is opened.
+    Never,
+}
+
+/// How the files of a desk are opened.
+#[derive(Clone, Copy)]
+pub struct OpenOptions {
+    /// How many pages stay in memory, how long the log grows, and a random number for its salts.
+    pub store: Options,
+    pub creation: Creation,
+}
+
+impl OpenOptions {
+    /// The options of a store with that random number.
+    pub fn new(seed: u64, creation: Creation) -> OpenOptions
+        ensures { result.creation ≡ creation }
+    {
+        OpenOptions {
+            store: Options::new(seed),
+            creation,
+        }
+    }
+}
+
+// Whether a database with that schema is opened.
+fn takes(creation: Creation, schema: &Schema) -> bool
+    ensures { result ≡ spec.takes creation schema.now.tables }
+{
+    match creation {
+        Creation::Anywhere => true,
+        Creation::InEmpty => schema.tables.as_slice().is_empty() || has_meta(schema),
+        Creation::Never => has_meta(schema),
+    }
 }
 
 /// The version of the tables, or `None` where there are none.
@@ -80,11 +127,21 @@ pub fn prepare<S: Alter>(tables: &mut Tables<S>) -> Result<(), OpenFault>
     }
 }
 
-/// A connection to the database that is found in two files, or what is left of them.
+// The store of a connection that was just opened, of which a crash leaves what was found.
+fn unopened<S: Alter + Drop>(connection: Connection<S>) -> S
+    ensures clean { IsTrue (S.Store.view result).is_clean → HasCleanDisk (state S.Store connection) }
+    ensures left { IsTrue (state S.Store connection).is_open → (d : Trees)
+        → S.Store.recovers result d → d ≡ (state S.Store connection).committed.trees }
+{
+    connection.into_store()
+}
+
+/// A connection to the database that is found in two files, or what is left of them. It is
+/// `Unusable` where it has no desk and none is to be created in it.
 pub fn connect<D: Disk + Drop>(
     alloc: Global,
     files: Files<D>,
-    options: Options,
+    options: OpenOptions,
 ) -> Result<Connection<FileStore<D>>, (StoreFault, Leftover<D>)>
     requires log { IsTrue (D.Disk.is_usable files.log) }
     requires db { IsTrue (D.Disk.is_usable files.db) }
@@ -93,10 +150,18 @@ pub fn connect<D: Disk + Drop>(
         → AreClean D.Disk files.log files.db) }
     ensures taken { IfOk result (λ c. HasCleanDisk (file_state c)
         → AreFoundAs (image_of D.Disk files) (file_state c).committed.trees) }
+    ensures chosen { IfOk result (λ c.
+        spec.takes options.creation (file_state c).now.schema.tables ≡ true) }
     ensures left { IfErr result (λ e. IsCleanLeft e.1 → LeavesFiles files e.1) }
 {
-    match Connection::open_files(alloc, files, options) {
-        Ok(connection) => Ok(connection),
+    match Connection::open_files(alloc, files, options.store) {
+        Ok(connection) => {
+            if takes(options.creation, connection.schema()) {
+                Ok(connection)
+            } else {
+                Err((StoreFault::Unusable, Leftover::Store(unopened(connection))))
+            }
+        }
         Err((error, left)) => Err((fault_of(error), left)),
     }
 }

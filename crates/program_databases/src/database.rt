@@ -1,9 +1,10 @@
 //! The database file, looked at before it is opened.
 
 ghost use Rattle.std.specs.Prelude.{◌≡◌, ◌⊎◌, ◌↔◌, IfErr, IsTrue, OnOk};
-ghost use Rattle.program_databases.specs.Found.{IsMissing, IsStray};
+ghost use Rattle.program_databases.specs.Found.{IsEmpty, IsMissing, IsRefused, IsStray, creation_by};
 ghost use Rattle.program_lines.specs.declared.fault.Fault.{Fault};
 
+use desk_store::Creation;
 use program_lines::fault::Fault;
 use program_words::invocation::Database;
 use std::fs::Metadata;
@@ -13,6 +14,18 @@ use std::rt::HostRuntime;
 /// Of a file of more bytes it is said that it is checked, since that takes some seconds.
 const LARGE: u64 = 50_000_000;
 
+/// In which databases the commands create a desk that may change one: by `--existing` only in an
+/// empty one.
+pub fn creation_of(db: &Database<'_>) -> Creation
+    ensures { result ≡ creation_by db.now.is_existing }
+{
+    if db.is_existing {
+        Creation::InEmpty
+    } else {
+        Creation::Anywhere
+    }
+}
+
 // Whether there is no such file.
 fn is_missing(found: &Result<Metadata, Error>) -> bool
     ensures { IsTrue result ↔ IsMissing found.now }
@@ -20,6 +33,27 @@ fn is_missing(found: &Result<Metadata, Error>) -> bool
     match found {
         Ok(_) => false,
         Err(error) => error.kind() == ErrorKind::NotFound,
+    }
+}
+
+// Whether a file has no byte.
+fn is_empty(found: &Result<Metadata, Error>) -> bool
+    ensures { IsTrue result ↔ IsEmpty found.now }
+{
+    match found {
+        Ok(file) => file.len() == 0,
+        Err(_) => false,
+    }
+}
+
+// Whether a file is missing that has to be there, or has no byte where a desk has to be in it.
+fn is_refused(creation: Creation, found: &Result<Metadata, Error>) -> bool
+    ensures { IsTrue result ↔ IsRefused creation found.now }
+{
+    match creation {
+        Creation::Anywhere => false,
+        Creation::InEmpty => is_missing(found),
+        Creation::Never => is_missing(found) || is_empty(found),
     }
 }
 
@@ -46,28 +80,27 @@ fn announce<E: Write>(rt: &HostRuntime, name: &str, bytes: u64, errors: &mut E) 
 
 /// Looks at the database file before it is opened, by what was found of it and of its log: a desk
 /// reads and checks all of it. On a terminal a line says so of one of more than 50 MB.
-/// `StorageUnusable` where the file has to be there and is missing, so that none is made, and where
-/// it is of one byte that no opening has left, since it would be written over.
+/// `StorageUnusable` where the file has to be there and is missing, or has no byte and a desk has to
+/// be in it, so that none is made; and where it is of one byte that no opening has left, since it
+/// would be written over.
 pub fn look_at<E: Write>(
     rt: &HostRuntime,
-    db: &Database<'_>,
+    name: &str,
+    creation: Creation,
     found: &Result<Metadata, Error>,
     log: &Result<Metadata, Error>,
     errors: &mut E,
 ) -> Result<(), Fault>
-    ensures there { OnOk result (IsTrue db.now.is_existing → ¬ IsMissing found.now) }
+    ensures there { OnOk result (¬ IsRefused creation found.now) }
     ensures own { OnOk result (¬ IsStray found.now log.now) }
     ensures err { IfErr result (λ fault. (fault ≡ Fault.StorageUnusable)
-        × ((IsTrue db.now.is_existing × IsMissing found.now) ⊎ IsStray found.now log.now)) }
+        × (IsRefused creation found.now ⊎ IsStray found.now log.now)) }
 {
-    if db.is_existing && is_missing(found) {
-        return Err(Fault::StorageUnusable);
-    }
-    if is_stray(found, log) {
+    if is_refused(creation, found) || is_stray(found, log) {
         return Err(Fault::StorageUnusable);
     }
     if let Ok(file) = found {
-        announce(rt, db.name, file.len(), errors);
+        announce(rt, name, file.len(), errors);
     }
     Ok(())
 }

@@ -1,15 +1,15 @@
 //! Database files, which are opened by their names.
 
-ghost use Rattle.std.specs.Prelude.{IfErr, IfOk, IsTrue};
+ghost use Rattle.std.specs.Prelude.{◌≡◌, IfErr, IfOk, IsTrue};
 ghost use Rattle.program_databases.specs.Databases.{AreSettled};
 ghost use Rattle.program_databases.specs.Leftovers.{HasNoFiles};
 
 use crate::database::look_at;
 use crate::files::FilesLeft;
+use desk_store::{Creation, OpenOptions};
 use onix_records::StoreFault;
 use program_lines::fault::Fault;
-use program_words::invocation::Database;
-use sqlite::{Files, Options};
+use sqlite::Files;
 use sqlite_disk::Disk;
 use std::fs::{Metadata, canonicalize, metadata};
 use std::hash::{BuildHasher, RandomState};
@@ -42,10 +42,12 @@ pub trait Databases {
         ensures settled { IfOk result (AreSettled Self.File.Disk (held self name.now)) };
 }
 
-// How a database is kept, with a random number for its log.
-fn random_options(rt: &HostRuntime) -> Result<Options, Fault> {
+// How a database is opened, with a random number for its log.
+fn random_options(rt: &HostRuntime, creation: Creation) -> Result<OpenOptions, Fault>
+    ensures { IfOk result (λ options. options.creation ≡ creation) }
+{
     match RandomState::new(rt) {
-        Ok(state) => Ok(Options::new(state.hash_one(&0u8))),
+        Ok(state) => Ok(OpenOptions::new(state.hash_one(&0u8), creation)),
         Err(_) => Err(Fault::StorageUnusable),
     }
 }
@@ -59,30 +61,33 @@ fn log_of(rt: &HostRuntime, name: &str) -> Result<Metadata, Error> {
     }
 }
 
-/// Opens the database file that a command line names, once it was looked at. A fault comes with no
-/// files: none was touched, or those of that name could not be opened.
+/// Opens the database file of that name, once it was looked at, and gives the options by which its
+/// desk is opened. A fault comes with no files: none was touched, or those of that name could not be
+/// opened.
 pub fn open_database<O: Databases, E: Write>(
     rt: &HostRuntime,
-    db: &Database<'_>,
+    name: &str,
+    creation: Creation,
     databases: O,
     errors: &mut E,
-) -> Result<(Files<O::File>, Options), (Fault, FilesLeft<O, O::NotOpened, O::File>)>
+) -> Result<(Files<O::File>, OpenOptions), (Fault, FilesLeft<O, O::NotOpened, O::File>)>
     ensures log { IfOk result (λ opened. IsTrue (O.File.is_usable opened.0.log)) }
     ensures db { IfOk result (λ opened. IsTrue (O.File.is_usable opened.0.db)) }
     ensures settled { IfOk result (λ opened.
-        AreSettled O.File.Disk (O.held databases db.now.name.now) opened.0) }
+        AreSettled O.File.Disk (O.held databases name.now) opened.0) }
+    ensures chosen { IfOk result (λ opened. opened.1.creation ≡ creation) }
     ensures none { IfErr result (λ e. HasNoFiles e.1) }
 {
-    let found = metadata(rt, db.name);
-    let log = log_of(rt, db.name);
-    if let Err(fault) = look_at(rt, db, &found, &log, errors) {
+    let found = metadata(rt, name);
+    let log = log_of(rt, name);
+    if let Err(fault) = look_at(rt, name, creation, &found, &log, errors) {
         return Err((fault, FilesLeft::Untouched(databases)));
     }
-    let options = match random_options(rt) {
+    let options = match random_options(rt, creation) {
         Ok(options) => options,
         Err(fault) => return Err((fault, FilesLeft::Untouched(databases))),
     };
-    match databases.open(rt, db.name) {
+    match databases.open(rt, name) {
         Ok(files) => Ok((files, options)),
         Err((fault, none)) => Err((Fault::from(fault), FilesLeft::NotOpened(none))),
     }

@@ -8,9 +8,9 @@ ghost use Rattle.program_databases.specs.MigrationEnd.{MigrateEnds, migration_li
 
 use crate::files::{FilesLeft, fault_of};
 use csv_records::streams::{WriteFault, write_whole};
-use desk_store::{MigrateAnswer, migrate_files_with};
+use desk_store::{MigrateAnswer, OpenOptions, migrate_files_with};
 use program_lines::fault::{Fault, report};
-use sqlite::{Files, Options};
+use sqlite::Files;
 use sqlite_disk::Disk;
 use std::alloc::Global;
 use std::io::Write;
@@ -31,7 +31,7 @@ fn line(answer: MigrateAnswer) -> &'static str
 pub fn migrate<O, U, D: Disk + Drop, W: Write, E: Write>(
     alloc: Global,
     files: Files<D>,
-    options: Options,
+    options: OpenOptions,
     output: &mut W,
     errors: &mut E,
 ) -> (u8, FilesLeft<O, U, D>)

@@ -18,7 +18,7 @@ use csv_records::streams::WriteFault;
 use desk_export::export::ExportFault;
 use desk_export::folder::export_into;
 use desk_export::list_text::{Listed, write_list};
-use desk_store::DeskStore;
+use desk_store::{Creation, DeskStore, OpenOptions};
 use feed_files::write_fault;
 use onix_terms::number::Number;
 use onix_terms::series_name::SeriesName;
@@ -29,7 +29,7 @@ use program_lines::fault::{Fault, report};
 use program_words::invocation::{Database, Listing};
 use series_rules::desk::Desk;
 use series_rules::listing::ListedDesk;
-use sqlite::{FileStore, Files, Options};
+use sqlite::{FileStore, Files};
 use sqlite_disk::Disk;
 use std::alloc::Global;
 use std::io::Write;
@@ -182,7 +182,7 @@ fn list_and_close<O, U, D: Disk + Drop, F: NamedFiles, W: Write, E: Write>(
 fn list_over_files<O, U, D: Disk + Drop, F: NamedFiles, W: Write, E: Write>(
     alloc: Global,
     database: Files<D>,
-    options: Options,
+    options: OpenOptions,
     listing: Listing<'_>,
     files: &mut F,
     output: &mut W,
@@ -226,7 +226,7 @@ pub fn list_file<O: Databases, F: NamedFiles, W: Write, E: Write>(
         F.is_told (F.holds files.old) (F.holds files.new) listing.entry
         (O.held databases db.now.name.now) result.0 result.1 }
 {
-    match open_database(rt, db, databases, errors) {
+    match open_database(rt, db.name, Creation::Never, databases, errors) {
         Ok((database, options)) => {
             list_over_files(
                 rt.alloc(),

@@ -11,12 +11,13 @@ ghost use Rattle.program_databases.specs.MigrationEnd.{MigrateEnds};
 use crate::closing::close_desk;
 use crate::{converting, help, listing};
 use desk_memory::MemoryDesk;
-use desk_store::DeskStore;
+use desk_store::{DeskStore, OpenOptions};
 use price_rules::precedence::Precedence;
 use program_clients::open_desks::OpenDesks;
 use program_clients::port::Bound;
 use program_commands::sending;
 use program_commands::task::{port_of, run_task};
+use program_databases::database::creation_of;
 use program_databases::databases::{Databases, open_database};
 use program_databases::files::{FilesLeft, fault_of};
 use program_databases::migrate_command::migrate;
@@ -26,7 +27,7 @@ use program_rules::checking;
 use program_rules::rules::{RulesFault, open_table, report_rules};
 use program_words::invocation::{self, Action, Database, Invocation, Reading, Task};
 use series_rules::desk::Desk;
-use sqlite::{FileStore, Files, Options};
+use sqlite::{FileStore, Files};
 use sqlite_disk::Disk;
 use std::io::{Read, Write};
 use std::rt::HostRuntime;
@@ -84,7 +85,7 @@ fn run_and_close<O, U, D: Disk + Drop, F: NamedFiles, R: Read, W: Write, E: Writ
 fn run_over_files<O, U, D: Disk + Drop, F: NamedFiles, R: Read, W: Write, E: Write>(
     rt: &HostRuntime,
     database: Files<D>,
-    options: Options,
+    options: OpenOptions,
     precedence: &Precedence,
     bound: Bound<'_>,
     task: &Task<'_>,
@@ -129,7 +130,7 @@ fn run_in_file<O: Databases, F: NamedFiles, R: Read, W: Write, E: Write>(
         (R.remaining input.old) (O.held databases db.now.name.now) result.0 result.1 }
 {
     let bound = port_of(rt, task);
-    match open_database(rt, db, databases, errors) {
+    match open_database(rt, db.name, creation_of(db), databases, errors) {
         Ok((database, options)) => {
             run_over_files(
                 rt, database, options, precedence, bound, task, files, input, output, errors,
@@ -151,7 +152,7 @@ fn migrate_file<O: Databases, W: Write, E: Write>(
     ensures end { MigrateEnds (O.held databases db.now.name.now)
         (Appends (W.contents output.old) (W.contents output.new)) result.0 result.1 }
 {
-    match open_database(rt, db, databases, errors) {
+    match open_database(rt, db.name, creation_of(db), databases, errors) {
         Ok((files, options)) => migrate(rt.alloc(), files, options, output, errors),
         Err((fault, none)) => (report(&fault, errors), none),
     }

@@ -110,7 +110,7 @@ fn agreements<'a>(alloc: Global) -> Command<'a>
         alloc,
         "agreements",
         "Write the agreements of all series",
-        "Writes the agreements of all series, in the order of the bytes of their names, each as the record Agree that a batch takes. The database file is named before the command: onixdesk --db FILE agreements. The desk is only asked.",
+        "Writes the agreements of all series, in the order of the bytes of their names, each as the record Agree that a batch takes. The database file is named before the command: onixdesk --db FILE agreements. The desk is only asked. A missing or empty file, or one that has no desk, is a fault, and no desk is made.",
     )
 }
 
@@ -172,7 +172,7 @@ fn export<'a>(alloc: Global) -> Result<Command<'a>, AllocError>
         alloc,
         "export",
         "Write the desk as a batch that makes it again",
-        "Writes the desk as the batch that makes it again: for each series, in the order of the bytes of their names, its agreement, and then for each number in order the message or the waiver that stands there. A new desk that is given these requests answers every further request as this one does. The database file is named before the command: onixdesk --db FILE export. The desk is only asked. A message of more than 4,194,304 bytes is a fault, since no batch takes it. A batch has at most so many bytes; with -o a larger desk is cut between requests into files that are batches, and a new desk is given them in the order of their numbers. A file that is there is never written over, which is a fault unless it has the same bytes.",
+        "Writes the desk as the batch that makes it again: for each series, in the order of the bytes of their names, its agreement, and then for each number in order the message or the waiver that stands there. A new desk that is given these requests answers every further request as this one does. The database file is named before the command: onixdesk --db FILE export. The desk is only asked. A missing or empty file, or one that has no desk, is a fault, and no desk is made. A message of more than 4,194,304 bytes is a fault, since no batch takes it. A batch has at most so many bytes; with -o a larger desk is cut between requests into files that are batches, and a new desk is given them in the order of their numbers. A file that is there is never written over, which is a fault unless it has the same bytes.",
     );
     with_word(Ok(export), Ok(export_folder(alloc)))
 }
@@ -195,7 +195,7 @@ fn gaps<'a>(alloc: Global) -> Result<Command<'a>, AllocError>
         alloc,
         "gaps",
         "Write which message numbers of a series, or of all, are missing",
-        "Writes the first and the next number of a series, the greatest that has come, how many are held, and the ranges of numbers that are missing. A series that is not agreed, and a name that cannot be one, are answered refused,unknown-series with status 1. Without a NAME this is written of each series of the database file, in the order of the bytes of their names: onixdesk --db FILE gaps.",
+        "Writes the first and the next number of a series, the greatest that has come, how many are held, and the ranges of numbers that are missing. A series that is not agreed, and a name that cannot be one, are answered refused,unknown-series with status 1. Without a NAME this is written of each series of the database file, in the order of the bytes of their names: onixdesk --db FILE gaps. Then a missing or empty file, or one that has no desk, is a fault, and no desk is made.",
     );
     with_word(Ok(gaps), Ok(series(alloc)))
 }
@@ -432,7 +432,7 @@ fn existing<'a>(alloc: Global) -> Result<Arg<'a>, AllocError>
     flag_option(
         alloc,
         "existing",
-        "Take the file of --db only where it is there: a missing one is a fault, and none is made",
+        "Take the file of --db only where it is there, and has a desk or no table: a missing one, or the database of another program, is a fault, and no desk is made",
     )
     .requires_arg("db")
 }

@@ -68,6 +68,7 @@ def again(room: Room) -> Iterator[Outcome]:
 
 def empty_desks(room: Room) -> Iterator[Outcome]:
     """A new desk has nothing to list, and one in memory is none that could be listed."""
+    batch(room, b"")
     for command in LISTS:
         yield Outcome(f"an empty desk: {command}", listed(room, command), Ran(0))
         wanted = Ran(2, b"", b"onixdesk: agreements, export and gaps without a NAME need --db\n")
@@ -202,6 +203,7 @@ def names_of_parts(room: Room) -> Iterator[Outcome]:
 
 def folders(room: Room) -> Iterator[Outcome]:
     """A folder is named in the ways of `convert -o`; one that is not there is a fault."""
+    batch(room, b"")
     room.path("empty").mkdir()
     yield Outcome("a folder: no agreements", into(room, "empty"), Ran(0))
     yield Outcome("a folder: no agreements, its file", held(room, "empty"), {"1.csv": b""})

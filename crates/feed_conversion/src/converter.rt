@@ -384,6 +384,7 @@ impl<'a, T: Target + Drop> Converter<'a, T> {
         ensures { OnOk result (self.new ≡ after_element T.keeping self.old element.now) }
     {
         if element.line.name == b"Header".as_slice() {
+            self.target.notice(element);
             self.take_header(element)
         } else if element.line.name == b"Product".as_slice() {
             self.take_product(element)
@@ -391,6 +392,7 @@ impl<'a, T: Target + Drop> Converter<'a, T> {
             self.take_stranger(element);
             Ok(())
         } else {
+            self.target.notice(element);
             Ok(())
         }
     }

@@ -46,4 +46,10 @@ pub trait Target {
         ensures notes { OnOk result (notes self.new ≡ fold keeping.with_note (notes self.old)
             (product_notes (reference_in product.now.below) (note_views on_it.now))) }
         ensures parts { OnOk result (parts self.new ≡ parts self.old) };
+
+    /// Takes notice of a Header, or of what stands in the place of Products, of which neither parts
+    /// nor notes come.
+    fn notice(&mut self, element: &Composite<'_>)
+        ensures parts { parts self.new ≡ parts self.old }
+        ensures notes { notes self.new ≡ notes self.old };
 }

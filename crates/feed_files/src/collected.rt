@@ -50,4 +50,8 @@ impl<'a, S: Store + Drop> Target for Collected<'a, S> {
     ) -> Result<(), AllocError> {
         self.notes.add(product, written, on_it)
     }
+
+    fn notice(&mut self, element: &Composite<'_>) {
+        self.notes.notice(element);
+    }
 }

@@ -159,10 +159,10 @@ fn end_of_seen<E: Write>(
     end_of(alloc, &known, read, kept, errors)
 }
 
-// Counts the wrong products of a FILE that was converted.
-fn count_wrong(notes: &mut Notes<'_>, read: &Result<u32, Fault>) {
+// Counts a FILE that was converted.
+fn end_notes(notes: &mut Notes<'_>, read: &Result<u32, Fault>) {
     if let Ok(wrong) = read {
-        notes.count_wrong(*wrong);
+        notes.end(*wrong);
     }
 }
 
@@ -191,7 +191,7 @@ fn convert_out<F: NamedFiles, R: Read, W: Write, E: Write>(
     let alloc = rt.alloc();
     let target = Collected {
         store: Spool::new(alloc, files),
-        notes: Notes::new(alloc, file),
+        notes: Notes::new(alloc, file, options.choices.id_type),
         fault: None,
     };
     let mut watched = Watched::new(rt, file, reader);
@@ -202,7 +202,7 @@ fn convert_out<F: NamedFiles, R: Read, W: Write, E: Write>(
         mut notes,
         fault,
     } = target;
-    count_wrong(&mut notes, &ended);
+    end_notes(&mut notes, &ended);
     let ended = end_of_seen(alloc, &notes, &seen, options, &ended, &fault, errors);
     if !ended.is_converted() {
         return ended;
@@ -252,7 +252,7 @@ fn read_parts<'a, F: NamedFiles, R: Read, E: Write>(
     file: &'a str,
     files: &F,
     reader: &mut R,
-    options: &Options<'_>,
+    options: &Options<'a>,
     folder: &str,
     errors: &mut E,
 ) -> (MadeFiles<F>, Notes<'a>, Ended)
@@ -262,7 +262,7 @@ fn read_parts<'a, F: NamedFiles, R: Read, E: Write>(
     let alloc = rt.alloc();
     let target = Collected {
         store: PartFiles::new(alloc, files, folder, name_of(file)),
-        notes: Notes::new(alloc, file),
+        notes: Notes::new(alloc, file, options.choices.id_type),
         fault: None,
     };
     let mut watched = Watched::new(rt, file, reader);
@@ -273,7 +273,7 @@ fn read_parts<'a, F: NamedFiles, R: Read, E: Write>(
         mut notes,
         fault,
     } = target;
-    count_wrong(&mut notes, &ended);
+    end_notes(&mut notes, &ended);
     let ended = end_of_seen(alloc, &notes, &seen, options, &ended, &fault, errors);
     (store.finish(), notes, ended)
 }

@@ -19,7 +19,10 @@ pub struct ProductCounts {
 }
 
 // What repeats, or is counted alone.
-const REPEATABLE: [&[u8]; 14] = [
+const REPEATABLE: [&[u8]; 17] = [
+    b"Addressee",
+    b"SenderIdentifier",
+    b"AddresseeIdentifier",
     b"ProductIdentifier",
     b"ProductSupply",
     b"Market",
@@ -40,25 +43,33 @@ fn is_repeatable(name: &[u8]) -> bool {
     REPEATABLE.iter().any(|repeatable| *repeatable == name)
 }
 
-// Whether nothing comes again in an element without a note: in a Price or a Market it is wrong.
-fn is_noted(name: &[u8]) -> bool {
-    name == b"Price".as_slice() || name == b"Market".as_slice()
+// Whether what stands in an element is not counted: in a Price or a Market a second one is wrong,
+// and has a note; of a deletion supplies are not read.
+fn is_passed_over(name: &[u8], is_deletion: bool) -> bool {
+    name == b"Price".as_slice()
+        || name == b"Market".as_slice()
+        || (is_deletion && name == b"ProductSupply".as_slice())
 }
 
 // How many of the elements come again, and of those in them.
-fn count_again(elements: &Elements<'_>) -> u64 {
+fn count_again(elements: &Elements<'_>, is_deletion: bool) -> u64 {
     let mut count = 0u64;
     let mut rest = elements.copy();
     while let Some(node) = rest.first() {
         let name = node.line.name;
         let comes_again = !is_repeatable(name) && first_composite(name, &node.rest).is_some();
         count = count.saturating_add(u64::from(comes_again));
-        if !is_noted(name) {
-            count = count.saturating_add(count_again(&node.below));
+        if !is_passed_over(name, is_deletion) {
+            count = count.saturating_add(count_again(&node.below, is_deletion));
         }
         rest = node.rest;
     }
     count
+}
+
+/// How many of the elements in a Header come again though they do not repeat.
+pub(crate) fn again_in_header(header: &Composite<'_>) -> u64 {
+    count_again(&header.below, false)
 }
 
 // Whether a SupplyDetail has a Price with an amount.
@@ -144,6 +155,11 @@ fn is_deletion(product: &Elements<'_>) -> bool {
     text_or_empty(b"NotificationType", product) == b"05".as_slice()
 }
 
+// Whether a note says that a Product is emptied.
+fn has_emptied(notes: &[Note<'_>]) -> bool {
+    notes.iter().any(|note| is_emptied(note.reason.kind))
+}
+
 impl ProductCounts {
     /// What is counted of a Product, of which these records are written, with these notes.
     pub(crate) fn of(
@@ -156,9 +172,9 @@ impl ProductCounts {
         let is_priced = !is_deletion && has_priced_supply(below);
         let is_supplied = has_record("ProductSupply", written);
         ProductCounts {
-            is_emptied: notes.iter().any(|note| is_emptied(note.reason.kind)),
+            is_emptied: written.len() != 0 && has_emptied(notes),
             has_lost_prices: is_priced && !has_record("Price", written),
-            again: count_again(below),
+            again: count_again(below, is_deletion),
             has_rights: is_supplied && has_sales_rights(below) && has_world_supply(below, notes),
         }
     }

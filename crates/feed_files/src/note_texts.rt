@@ -1,7 +1,7 @@
 //! The words that say what is left out of a message, and why.
 
 use crate::shown::push_shown_bytes;
-use feed_mapping::{Foreign, Note, ReasonKind, Wrong};
+use feed_mapping::{Foreign, Note, Reason, ReasonKind, Wrong};
 use std::alloc::AllocError;
 
 /// Of a reason its words, with a text of the feed between them where it has one; a space stands
@@ -421,4 +421,10 @@ pub(crate) fn push_saying(
     line.push_str(saying.thing)?;
     line.push_str(saying.verb)?;
     push_words(line, saying.words, text)
+}
+
+/// Adds why the first is left out of several things, all of which are.
+pub(crate) fn push_first(line: &mut String, first: Reason<'_>) -> Result<(), AllocError> {
+    line.push_str(", the first for ")?;
+    push_words(line, words_of(first.kind, first.text), first.text)
 }

@@ -1,11 +1,13 @@
 //! Notes on what is left out of the message of a FILE.
 
-use crate::counts::ProductCounts;
-use crate::note_texts::{Saying, is_counted_alone, is_of_product, push_saying, saying_of};
+use crate::counts::{ProductCounts, again_in_header};
+use crate::note_texts::{
+    Saying, is_counted_alone, is_of_product, push_first, push_saying, saying_of,
+};
 use crate::shown::{push_reference, push_shown};
 use crate::summary::Summary;
 use csv_records::buffer::RecordBuffer;
-use feed_mapping::{Composite, Note, text_or_empty};
+use feed_mapping::{Composite, Note, first_reason, next_composite, text_or_empty};
 use feed_xml::Position;
 use std::alloc::{AllocError, Global};
 
@@ -15,6 +17,14 @@ pub(crate) const PREFIX: &str = "onixdesk: ";
 // The most lines of notes on a FILE, and besides the most on Products that are left out or emptied.
 // Those behind them are only counted.
 const MOST_LINES: u32 = 1_000;
+
+// The FILE that notes are on, and the type of identifier that is preferred.
+#[derive(Clone, Copy)]
+struct Scope<'a> {
+    alloc: Global,
+    file: &'a str,
+    id_type: &'a [u8],
+}
 
 // Lines of notes on a FILE: how many there are, but for those on Products, and how many of those.
 #[derive(Drop)]
@@ -27,12 +37,14 @@ struct Lines {
 /// The notes on a FILE, kept until the whole of it was read.
 #[derive(Drop)]
 pub struct Notes<'a> {
-    file: &'a str,
+    scope: Scope<'a>,
     all: Lines,
     // Those on products that are wrong, with a bound of their own: they are told where the FILE is
     // refused for these.
     of_wrong: Lines,
     summary: Summary,
+    // Whether there is a Product, or what says that there is none.
+    has_products: bool,
 }
 
 /// Adds the beginning of a line on what stands at a place of a FILE.
@@ -42,18 +54,47 @@ pub(crate) fn push_place(text: &mut String, file: &str, place: Position) -> Resu
     write!(text, ":{}:{}: ", place.line, place.column)
 }
 
-// Adds the line of a note on a product of that reference.
+// The ProductSupply of a Product that stands at a place.
+fn supply_at<'a>(product: &Composite<'a>, place: Position) -> Option<Composite<'a>> {
+    let mut rest = product.below.copy();
+    while let Some((supply, behind)) = next_composite(b"ProductSupply", &rest) {
+        if supply.line.place == place {
+            return Some(supply);
+        }
+        rest = behind;
+    }
+    None
+}
+
+// Adds why the first is left out of what a ProductSupply has, where a note says that all of it is.
+fn push_first_reason(
+    text: &mut String,
+    scope: &Scope<'_>,
+    product: &Composite<'_>,
+    note: Note<'_>,
+) -> Result<(), AllocError> {
+    let Some(supply) = supply_at(product, note.line.place) else {
+        return Ok(());
+    };
+    match first_reason(scope.alloc, scope.id_type, note.reason.kind, &supply.below)? {
+        Some(first) => push_first(text, first),
+        None => Ok(()),
+    }
+}
+
+// Adds the line of a note on a product.
 fn push_line(
     text: &mut String,
-    file: &str,
-    reference: &[u8],
+    scope: &Scope<'_>,
+    product: &Composite<'_>,
     note: Note<'_>,
     saying: Saying,
 ) -> Result<(), AllocError> {
-    push_place(text, file, note.line.place)?;
-    push_reference(text, reference)?;
+    push_place(text, scope.file, note.line.place)?;
+    push_reference(text, text_or_empty(b"RecordReference", &product.below))?;
     text.push_str(": ")?;
     push_saying(text, saying, note.reason.text)?;
+    push_first_reason(text, scope, product, note)?;
     text.push_str("\n")
 }
 
@@ -78,12 +119,11 @@ impl Lines {
         }
     }
 
-    // Adds the line of a note on a product of that reference, where there is room for one of its
-    // kind.
+    // Adds the line of a note on a product, where there is room for one of its kind.
     fn add(
         &mut self,
-        file: &str,
-        reference: &[u8],
+        scope: &Scope<'_>,
+        product: &Composite<'_>,
         note: Note<'_>,
         saying: Saying,
     ) -> Result<(), AllocError> {
@@ -93,20 +133,34 @@ impl Lines {
             &mut self.others
         };
         if has_room(count) {
-            push_line(&mut self.text, file, reference, note, saying)?;
+            push_line(&mut self.text, scope, product, note, saying)?;
         }
         Ok(())
     }
 }
 
 impl<'a> Notes<'a> {
-    /// None yet.
-    pub(crate) fn new(alloc: Global, file: &'a str) -> Notes<'a> {
+    /// None yet, of a FILE that is read with this preferred type of identifier.
+    pub(crate) fn new(alloc: Global, file: &'a str, id_type: &'a [u8]) -> Notes<'a> {
         Notes {
-            file,
+            scope: Scope {
+                alloc,
+                file,
+                id_type,
+            },
             all: Lines::new(alloc),
             of_wrong: Lines::new(alloc),
             summary: Summary::new(alloc),
+            has_products: false,
+        }
+    }
+
+    /// Takes notice of a Header, or of what says that there is no Product.
+    pub(crate) fn notice(&mut self, element: &Composite<'_>) {
+        if element.line.name == b"Header".as_slice() {
+            self.summary.count_again(again_in_header(element));
+        } else {
+            self.has_products = true;
         }
     }
 
@@ -117,8 +171,8 @@ impl<'a> Notes<'a> {
         written: &RecordBuffer,
         notes: &[Note<'_>],
     ) -> Result<(), AllocError> {
-        let reference = text_or_empty(b"RecordReference", &product.below);
         let is_wrong = has_wrong(notes);
+        self.has_products = true;
         self.summary
             .count_product(&ProductCounts::of(product, written, notes));
         for note in notes.iter() {
@@ -126,35 +180,35 @@ impl<'a> Notes<'a> {
             let has_lines = !is_counted_alone(note.reason.kind);
             self.summary.add(saying, note.reason.text, has_lines)?;
             if has_lines {
-                self.add_lines(reference, *note, saying, is_wrong)?;
+                self.add_lines(product, *note, saying, is_wrong)?;
             }
         }
         Ok(())
     }
 
-    // Adds the lines of a note on a product of that reference, which is wrong or not.
+    // Adds the lines of a note on a product, which is wrong or not.
     fn add_lines(
         &mut self,
-        reference: &[u8],
+        product: &Composite<'_>,
         note: Note<'_>,
         saying: Saying,
         is_wrong: bool,
     ) -> Result<(), AllocError> {
-        self.all.add(self.file, reference, note, saying)?;
+        self.all.add(&self.scope, product, note, saying)?;
         if is_wrong {
-            self.of_wrong.add(self.file, reference, note, saying)?;
+            self.of_wrong.add(&self.scope, product, note, saying)?;
         }
         Ok(())
     }
 
-    /// Counts so many wrong products.
-    pub(crate) fn count_wrong(&mut self, wrong: u32) {
-        self.summary.count_wrong(wrong);
+    /// Nothing follows in the FILE, of which so many products are wrong.
+    pub(crate) fn end(&mut self, wrong: u32) {
+        self.summary.count_file(wrong, self.has_products);
     }
 
     /// The FILE that they are on.
     pub(crate) fn file(&self) -> &'a str {
-        self.file
+        self.scope.file
     }
 
     /// Their lines.

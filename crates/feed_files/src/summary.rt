@@ -23,8 +23,13 @@ const WITHOUT_PRICE: &str = "left without a Price";
 
 const WITH_RIGHTS: &str = "for the world without a Market, with SalesRights, not read";
 
+const COMING_AGAIN: &str = "an element comes again, not read";
+
+const NO_PRODUCT: &str = "a FILE without a Product";
+
 // How many products there are, and how many of them are wrong, are emptied, have lost all their
-// prices, and are for the world though they have SalesRights; and how many elements come again.
+// prices, and are for the world though they have SalesRights; how many elements come again; and how
+// many FILEs have no Product.
 #[derive(Clone, Copy)]
 struct Products {
     all: u64,
@@ -33,6 +38,7 @@ struct Products {
     without_price: u64,
     with_rights: u64,
     again: u64,
+    files_without: u64,
 }
 
 const NO_PRODUCTS: Products = Products {
@@ -42,6 +48,7 @@ const NO_PRODUCTS: Products = Products {
     without_price: 0,
     with_rights: 0,
     again: 0,
+    files_without: 0,
 };
 
 /// How many notes there are for each reason, how often there is what is counted without a line, and
@@ -67,6 +74,14 @@ fn push_of(
     }
     let products = if all == 1 { "product" } else { "products" };
     write!(text, "{prefix}{count} of {all} {products} {what}\n")
+}
+
+// A count of what these words say.
+fn push_count(text: &mut String, prefix: &str, what: &str, count: u64) -> Result<(), AllocError> {
+    if count == 0 {
+        return Ok(());
+    }
+    write!(text, "{prefix}{what}: {count}\n")
 }
 
 // The text of a reason where it is a code of two digits.
@@ -119,22 +134,34 @@ impl Summary {
         self.count(kind, 1)
     }
 
-    /// Counts so many wrong products.
-    pub(crate) fn count_wrong(&mut self, wrong: u32) {
-        self.products.wrong = self.products.wrong.saturating_add(u64::from(wrong));
+    /// Counts a FILE of which so many products are wrong, and whether it has products, or says that
+    /// it has none.
+    pub(crate) fn count_file(&mut self, wrong: u32, has_products: bool) {
+        self.add_products(Products {
+            wrong: u64::from(wrong),
+            files_without: u64::from(!has_products),
+            ..NO_PRODUCTS
+        });
+    }
+
+    /// Counts so many elements of a Header that come again.
+    pub(crate) fn count_again(&mut self, again: u64) {
+        self.add_products(Products {
+            again,
+            ..NO_PRODUCTS
+        });
     }
 
     /// Counts a product, and what is counted of it.
     pub(crate) fn count_product(&mut self, counts: &ProductCounts) {
-        let one = Products {
+        self.add_products(Products {
             all: 1,
-            wrong: 0,
             emptied: u64::from(counts.is_emptied),
             without_price: u64::from(counts.has_lost_prices),
             with_rights: u64::from(counts.has_rights),
             again: counts.again,
-        };
-        self.add_products(one);
+            ..NO_PRODUCTS
+        });
     }
 
     // Counts more products.
@@ -146,6 +173,7 @@ impl Summary {
         all.without_price = all.without_price.saturating_add(more.without_price);
         all.with_rights = all.with_rights.saturating_add(more.with_rights);
         all.again = all.again.saturating_add(more.again);
+        all.files_without = all.files_without.saturating_add(more.files_without);
     }
 
     /// Counts all that another has counted.
@@ -212,14 +240,8 @@ impl Summary {
         push_of(text, prefix, products.emptied, all, "emptied")?;
         push_of(text, prefix, products.without_price, all, WITHOUT_PRICE)?;
         push_of(text, prefix, products.with_rights, all, WITH_RIGHTS)?;
-        if products.again == 0 {
-            return Ok(());
-        }
-        write!(
-            text,
-            "{prefix}an element comes again, not read: {}\n",
-            products.again
-        )
+        push_count(text, prefix, COMING_AGAIN, products.again)?;
+        push_count(text, prefix, NO_PRODUCT, products.files_without)
     }
 
     /// Adds the lines of the summary: one for each reason, the most frequent first, what is counted

@@ -1,6 +1,6 @@
 -- A SupplyDetail: the records that are written of it and of its Prices.
 use Rattle.std.specs.Prelude.{ℕ, List, [], ◌∷◌, Option, None, if◌then◌else◌, codes, is_some, map}
-use Rattle.std.specs.Prelude.{option_map}
+use Rattle.std.specs.Prelude.{option_and_then, option_map}
 use Rattle.std.specs.Option.{option_or, unwrap_or}
 use Rattle.feed_xml.specs.Grammar.{is_filled}
 use Rattle.feed_outline.specs.Nodes.{Nodes}
@@ -9,7 +9,7 @@ use Rattle.onix_terms.specs.Quantity.{quantity_of}
 use Rattle.onix_records.specs.Detail.{detail_of}
 use Rattle.onix_records.specs.Fields.{optional}
 use Rattle.onix_records.specs.declared.row.Opening.{Opening}
-use Rattle.feed_mapping.specs.Elements.{Composite, below_at, each_at, some_at, text_at}
+use Rattle.feed_mapping.specs.Elements.{Composite, below_at, each_at, first, some_at, text_at}
 use Rattle.feed_mapping.specs.Identifiers.{chosen, identifiers_in}
 use Rattle.feed_mapping.specs.Notes.{Reason, Reasons, wrong}
 use Rattle.feed_mapping.specs.Outcomes.{Outcome, all_notes, all_records, written_unless}
@@ -99,6 +99,11 @@ module _ (preferred : List ℕ) (nodes : Nodes) where
   -- why a SupplyDetail is left out, where it is
   abbrev pub detail_reason : Option Reason
   detail_reason = option_or (option_map (wrong bad.OldElement) (old_supply nodes)) field_reason
+
+-- why the first SupplyDetail among elements is left out, where it is
+abbrev pub first_detail_reason : List ℕ → Nodes → Option Reason
+first_detail_reason preferred nodes =
+    option_and_then (λ c. detail_reason preferred c.below) (first (each_at "SupplyDetail" nodes))
 
 module _ (o : Opening) where
   -- the context of the Prices of a SupplyDetail, by what closes them

@@ -7,7 +7,8 @@ use Rattle.std.specs.Option.{option_map_or, option_or}
 use Rattle.onix_records.specs.Fields.{territory_fields}
 use Rattle.onix_records.specs.Supply.{supply_of}
 use Rattle.onix_terms.specs.declared.territory.Territory.{Territory}
-use Rattle.feed_mapping.specs.Elements.{Composite}
+use Rattle.feed_outline.specs.Nodes.{Nodes}
+use Rattle.feed_mapping.specs.Elements.{Composite, each_at, first}
 use Rattle.feed_mapping.specs.Notes.{Note, Reason, Reasons, foreign, is_wrong, note, reason_view}
 use Rattle.feed_mapping.specs.Notes.{wrong}
 use Rattle.feed_mapping.specs.Outcomes.{Outcome, left_out, written}
@@ -64,6 +65,11 @@ module _ (markets : List Composite) where
   -- the first of them, as it stands
   abbrev pub first_kept : Option Area
   first_kept = first_some (map kept_area markets)
+
+-- why the first Market among elements is left out, where it is
+abbrev pub first_market_reason : Nodes → Option Reason
+first_market_reason nodes =
+    option_and_then (λ m. market_reason (area_in m.below)) (first (each_at "Market" nodes))
 
 -- ---- the record of a ProductSupply
 

@@ -36,5 +36,7 @@ desk_vocabulary =
     ∷ "PriceDate PriceDateRole=x476 DateFormat=j260 Date=b306"
     ∷ [])
     ++ counted_alone_of
-    ("Price Discount DiscountCoded"
+    ("Product PublishingDetail"
+    ∷ "PublishingDetail SalesRights"
+    ∷ "Price Discount DiscountCoded"
     ∷ [])

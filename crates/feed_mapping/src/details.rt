@@ -4,7 +4,7 @@ ghost use Rattle.std.specs.Prelude.{◌≡◌, ◌++◌, ◌∷◌, ◌+◌, ◌
 ghost use Rattle.std.specs.List.{list_all};
 ghost use Rattle.std.specs.Option.{unwrap_or};
 ghost use Rattle.std.specs.Str.{is_utf8};
-ghost use Rattle.feed_mapping.specs.Details.{context_by, context_in, default_minimum, old_supply, detail_fields, detail_outcome, detail_reasons, detail_reason, identifier_reasons, name_reason, price_in, prices_in, supplier_id, supplier_in, unpriced_in, unpriced_price};
+ghost use Rattle.feed_mapping.specs.Details.{context_by, context_in, default_minimum, old_supply, detail_fields, detail_outcome, detail_reasons, detail_reason, first_detail_reason, identifier_reasons, name_reason, price_in, prices_in, supplier_id, supplier_in, unpriced_in, unpriced_price};
 ghost use Rattle.feed_mapping.specs.Elements.{composites, first, text_or_empty, below_of};
 ghost use Rattle.feed_mapping.specs.Notes.{note_views, reason_view, wrong};
 ghost use Rattle.feed_mapping.specs.Outcomes.{all_notes, all_records, notes_below, outcome_reason, outcome_records, written_unless};
@@ -20,7 +20,7 @@ ghost use Rattle.onix_records.specs.Detail.{detail_of};
 ghost use Rattle.onix_records.specs.Gives.{Gives};
 ghost use Rattle.feed_outline.specs.Views.{line_views};
 
-use crate::elements::{elements_in, next_composite, text_or_empty};
+use crate::elements::{elements_in, first_composite, next_composite, text_or_empty};
 use crate::identifiers::{SUPPLIER, choose_identifier, is_there};
 use crate::notes::{Note, Reason, ReasonKind, Wrong};
 use crate::parties::{NO_PAIR, Pair};
@@ -292,6 +292,26 @@ fn detail_reason<'a>(supplier: Pair<'a>, elements: &Elements<'a>) -> Reason<'a>
             kind: ReasonKind::Wrong(Wrong::SupplyDetail),
             text: b"",
         },
+    }
+}
+
+/// Why the first SupplyDetail among the elements is left out, where it is.
+pub(crate) fn first_detail_reason<'a>(
+    alloc: Global,
+    preferred: &[u8],
+    elements: &Elements<'a>,
+) -> Result<Option<Reason<'a>>, AllocError>
+    ensures { IfOk result (λ reason. reason_read reason
+        ≡ first_detail_reason preferred.now elements.now) }
+{
+    match first_composite(b"SupplyDetail", elements) {
+        Some(detail) => {
+            let supplier = supplier_id(preferred, &detail.below);
+            let mut fields = FieldBuffer::new(alloc);
+            let mut records = RecordBuffer::new(alloc);
+            write_detail(alloc, supplier, &detail.below, &mut fields, &mut records)
+        }
+        None => Ok(None),
     }
 }
 

@@ -29,5 +29,6 @@ pub use header::{Choices, HeaderFault, HeaderRefusal, Heading, fill_message, rea
 pub use notes::{Foreign, Note, Reason, ReasonKind, Wrong};
 pub use parties::Pair;
 pub use product_records::{Fate, add_bare, add_large, add_product};
+pub use supplies::first_reason;
 pub use territories::{Area, area_in, unsupported};
 pub use vocabulary::desk_vocabulary;

@@ -4,7 +4,7 @@ ghost use Rattle.std.specs.Prelude.{◌≡◌, ◌++◌, ◌∷◌, ◌<◌, ◌
 ghost use Rattle.std.specs.List.{flat_map, list_any};
 ghost use Rattle.std.specs.Option.{option_or};
 ghost use Rattle.feed_mapping.specs.Elements.{composites};
-ghost use Rattle.feed_mapping.specs.Markets.{IsFilled, IsKept, early_market_reasons, first_kept, kept_area, kept_fields, kept_outcome, is_foreign_market, market_notes, markets_outcome, no_market, some_outcome, supply_record, territories_of, territory_of};
+ghost use Rattle.feed_mapping.specs.Markets.{IsFilled, IsKept, early_market_reasons, first_kept, first_market_reason, kept_area, kept_fields, kept_outcome, is_foreign_market, market_notes, markets_outcome, no_market, some_outcome, supply_record, territories_of, territory_of};
 ghost use Rattle.feed_mapping.specs.Notes.{Note as Said, foreign, note_views, reason_view};
 ghost use Rattle.feed_mapping.specs.Outcomes.{notes_below, outcome_reason, outcome_records};
 ghost use Rattle.feed_mapping.specs.PriceViews.{reason_read};
@@ -12,7 +12,7 @@ ghost use Rattle.feed_mapping.specs.Records.{first_some};
 ghost use Rattle.feed_mapping.specs.Territories.{area_view};
 ghost use Rattle.feed_mapping.specs.declared.notes.Foreign.TheVariants.{LongMarkets};
 
-use crate::elements::{Composite, next_composite};
+use crate::elements::{Composite, first_composite, next_composite};
 use crate::notes::{Foreign, Note, Reason, ReasonKind, Wrong, push_note};
 use crate::records::{former as or_reason, unless};
 use crate::territories::{
@@ -52,6 +52,25 @@ fn read_territory<'a>(
         Ok(supply) => Ok(Ok(supply.market)),
         Err(RowFault::Wrong) => Ok(Err(countries_reason(alloc, area, &renamed)?)),
         Err(RowFault::Memory) => Err(AllocError),
+    }
+}
+
+/// Why the first Market among the elements is left out, where it is.
+pub(crate) fn first_market_reason<'a>(
+    alloc: Global,
+    elements: &Elements<'a>,
+) -> Result<Option<Reason<'a>>, AllocError>
+    ensures { IfOk result (λ reason. reason_read reason ≡ first_market_reason elements.now) }
+{
+    match first_composite(b"Market", elements) {
+        Some(market) => {
+            let area = area_in(&market.below);
+            match read_territory(alloc, &area)? {
+                Ok(_) => Ok(None),
+                Err(reason) => Ok(Some(reason)),
+            }
+        }
+        None => Ok(None),
     }
 }
 

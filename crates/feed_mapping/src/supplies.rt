@@ -8,11 +8,11 @@ ghost use Rattle.feed_mapping.specs.PriceViews.{reason_read};
 ghost use Rattle.feed_mapping.specs.Records.{option_filter};
 ghost use Rattle.feed_mapping.specs.declared.notes.Foreign.TheVariants as other;
 ghost use Rattle.feed_mapping.specs.declared.notes.Wrong.TheVariants as bad;
-ghost use Rattle.feed_mapping.specs.Supplies.{detail_in, details_in, detailed_outcome, first_lost, is_lost, none_left, supplies_reason, supply_in, supply_outcome};
+ghost use Rattle.feed_mapping.specs.Supplies.{detail_in, details_in, detailed_outcome, first_lost, first_reason, is_lost, none_left, supplies_reason, supply_in, supply_outcome};
 
-use crate::details::add_detail;
+use crate::details::{add_detail, first_detail_reason};
 use crate::elements::{Composite, next_composite};
-use crate::markets::add_markets;
+use crate::markets::{add_markets, first_market_reason};
 use crate::notes::{Foreign, Note, Reason, ReasonKind, Wrong, push_note, push_reason};
 use crate::records::former;
 use csv_records::buffer::RecordBuffer;
@@ -282,5 +282,25 @@ pub(crate) fn add_supplies<'a>(
     match lost {
         None => Ok(None),
         Some(first) => Ok(Some(none_left(first))),
+    }
+}
+
+/// Why the first is left out of the Markets or of the SupplyDetails of a ProductSupply, whose
+/// elements these are, where it is left out for a reason of this kind, since all of them are.
+pub fn first_reason<'a>(
+    alloc: Global,
+    preferred: &[u8],
+    kind: ReasonKind,
+    elements: &Elements<'a>,
+) -> Result<Option<Reason<'a>>, AllocError>
+    ensures { IfOk result
+        (λ reason. reason_read reason ≡ first_reason preferred.now kind elements.now) }
+{
+    match kind {
+        ReasonKind::Wrong(Wrong::NoDetailLeft) => first_detail_reason(alloc, preferred, elements),
+        ReasonKind::Wrong(Wrong::NoMarketLeft) | ReasonKind::Foreign(Foreign::NoMarketLeft) => {
+            first_market_reason(alloc, elements)
+        }
+        _ => Ok(None),
     }
 }

@@ -6,7 +6,7 @@ ghost use Rattle.feed_outline.specs.Views.{word_views};
 
 use feed_outline::{Word, words};
 
-static WORDS: [Word; 73] = words! {
+static WORDS: [Word; 75] = words! {
     b"ONIXMessage": b"Header" = b"header", b"Product" = b"product", b"NoProduct" = b"x507";
     b"Header": b"Sender" = b"sender", b"Addressee" = b"addressee", b"MessageNumber" = b"m180",
         b"MessageRepeat" = b"m181", b"SentDateTime" = b"x307", b"DefaultPriceType" = b"x310",
@@ -41,6 +41,8 @@ static WORDS: [Word; 73] = words! {
     b"PriceCondition": b"PriceConditionType" = b"x463";
     b"PriceConstraint": b"PriceConstraintType" = b"x529";
     b"PriceDate": b"PriceDateRole" = b"x476", b"DateFormat" = b"j260", b"Date" = b"b306";
+    b"Product": b"PublishingDetail" ~ b"publishingdetail";
+    b"PublishingDetail": b"SalesRights" ~ b"salesrights";
     b"Price": b"Discount" ~ b"discount", b"DiscountCoded" ~ b"discountcoded";
 };
 

@@ -189,9 +189,6 @@ fn push_stopped(
         feed_outline::Fault::TooLarge => {
             line.push_str("a Header or a Product of more than 4,194,304 bytes")
         }
-        feed_outline::Fault::ManyPrefixes => {
-            line.push_str("more than 64 prefixes stand for the namespace of the root here")
-        }
     }
 }
 

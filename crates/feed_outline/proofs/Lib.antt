@@ -11,5 +11,3 @@ pub mod MessageLaws
 pub mod OutlineLaws
 pub mod Counts
 pub mod NamespaceLaws
-pub mod PrefixLaws
-pub mod ManyLaws

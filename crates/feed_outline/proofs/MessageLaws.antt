@@ -2,7 +2,6 @@
 use Rattle.std.proofs.Common.{◌≡◌, ℕ, Bool, true, false, List, [], Option, Some, None, Result, Ok, Err, refl, sym, ap, ◌∙◌, append-nil, fold, subst}
 use Rattle.std.specs.Prelude.{IfOk, IfErr, IfSome, IsErrOf}
 use Rattle.std.specs.List.{flat_map, list_all}
-use Rattle.std.proofs.lemmas.Bool.{and_parts}
 use Rattle.feed_outline.specs.Names.{Word}
 use Rattle.feed_xml.specs.declared.fault.Fault.{Fault as DocumentFault}
 use Rattle.feed_xml.specs.declared.fault.Fault.TheVariants.{Malformed, NotText, TooDeep, TooLong, LargeTag, Refused, UnknownEncoding, Read, Memory}
@@ -17,13 +16,12 @@ use Rattle.feed_xml.specs.Tree.{Content}
 use Rattle.feed_xml.specs.Trees.{AreDocument, IsTree}
 use Rattle.feed_outline.specs.declared.dialect.Wrong.{Wrong}
 use Rattle.feed_outline.specs.declared.message_reading.Fault.{Fault}
-use Rattle.feed_outline.specs.declared.message_reading.Fault.TheVariants.{Document, Message, Reference, TooLarge, ManyPrefixes}
+use Rattle.feed_outline.specs.declared.message_reading.Fault.TheVariants.{Document, Message, Reference, TooLarge}
 use Rattle.feed_outline.specs.declared.message_reading.Stopped.{Stopped}
 use Rattle.feed_outline.specs.Dialect.{Dialect}
 use Rattle.feed_outline.specs.Nodes.{is_known, nodes_in}
 use Rattle.feed_outline.specs.Outline.{Line, parts_of}
 use Rattle.feed_outline.specs.Sizes.{first_large}
-use Rattle.feed_outline.specs.private.Bounded.{Bounded, bounded, bound, ends, ends_with, first_bounded, goes_on}
 use Rattle.feed_outline.specs.private.Feed.{Feed, feed, first_feed, fits, is_sound, is_sound_with, takes_more, takes_more_with}
 use Rattle.feed_outline.specs.Roots.{root_of, root_place}
 use Rattle.feed_outline.specs.Faults.{Explains, MeetsAt, IsPlaceOf, IsUnknown}
@@ -33,7 +31,6 @@ use Rattle.feed_outline.specs.Message.{IsMessage}
 use Rattle.feed_outline.proofs.FeedLaws.{tree_feeds}
 use Rattle.feed_outline.proofs.KnownLaws.{has_root, known_tree, unknown_among}
 use Rattle.feed_outline.proofs.LargeLaws.{is_stuck, stuck_large}
-use Rattle.feed_outline.proofs.ManyLaws.{bounds, is_many, many_behind, many_root, tree_many}
 use Rattle.feed_outline.proofs.RefusalLaws.{Finds, finds_root, finds_unknown, places, roots}
 use Rattle.feed_outline.proofs.TreeLaws.{is_large, tree_kept}
 
@@ -60,7 +57,8 @@ place_of : (vocabulary : List Word) (P : List Token → Token → Type 0) (bytes
     → IsPlaceOf vocabulary bytes P place
 place_of vocabulary P bytes tokens place begins h = (h.before, h.token, h.behind, rw (sym h.parts) begins, h.holds, h.at)
 
-refuses : (vocabulary : List Word) {T : Type 0} (after : T → List Line → T) (taker : T) (bytes : Option (List ℕ)) (tokens : List Token) → OfText (BeginsWith tokens) bytes
+-- what comes of tokens of which no more are taken
+pub refuses : (vocabulary : List Word) {T : Type 0} (after : T → List Line → T) (taker : T) (bytes : Option (List ℕ)) (tokens : List Token) → OfText (BeginsWith tokens) bytes
     → takes_more (fold (feed vocabulary after) (first_feed taker) tokens) ≡ false → Comes vocabulary after taker bytes (finished (fold (feed vocabulary after) (first_feed taker) tokens))
 refuses vocabulary {T = T} after taker bytes tokens begins refused = go f.root refl f.known refl (fits f.child) refl refused
   where
@@ -102,10 +100,11 @@ finished_is : {T : Type 0} (f : Feed T) (o : Option (Result Dialect Wrong)) (k s
 finished_is f o k small e known size =
     ap (λ r. finished_with r f.known (fits f.child) f) e ∙ ap (λ b. finished_with o b (fits f.child) f) known ∙ ap (λ b. finished_with o k b f) size
 
-comes : (vocabulary : List Word) {T : Type 0} (after : T → List Line → T) (taker : T) (bytes : Option (List ℕ)) (text : List ℕ) (tokens : List Token) (name : List ℕ) (inside : Content)
-    → IsTextOf bytes text → IsDocument text tokens → IsTree tokens name inside → many_behind vocabulary after (first_feed taker) None tokens ≡ None
+-- what comes of a document that was read to its end
+pub comes : (vocabulary : List Word) {T : Type 0} (after : T → List Line → T) (taker : T) (bytes : Option (List ℕ)) (text : List ℕ) (tokens : List Token) (name : List ℕ) (inside : Content)
+    → IsTextOf bytes text → IsDocument text tokens → IsTree tokens name inside
     → Comes vocabulary after taker bytes (finished (fold (feed vocabulary after) (first_feed taker) tokens))
-comes vocabulary {T = T} after taker bytes text tokens name inside is document tree none = go f.root refl f.known refl (fits f.child) refl (refuses vocabulary after taker bytes tokens (all_tokens bytes text tokens is document))
+comes vocabulary {T = T} after taker bytes text tokens name inside is document tree = go f.root refl f.known refl (fits f.child) refl (refuses vocabulary after taker bytes tokens (all_tokens bytes text tokens is document))
   where
     f : Feed T
     f = fold (feed vocabulary after) (first_feed taker) tokens
@@ -133,7 +132,6 @@ comes vocabulary {T = T} after taker bytes text tokens name inside is document t
         begins = refl;
         known = known;
         fits = small;
-        few = sym (tree_many vocabulary after taker d tokens name inside tree e known) ∙ none;
       },
       ap (λ g. g.taker) (tree_feeds vocabulary after taker d tokens name inside tree e known small),
     )
@@ -154,41 +152,6 @@ comes vocabulary {T = T} after taker bytes text tokens name inside is document t
         record { ok = taken d root (known_tree vocabulary after taker d tokens name inside tree root known) size (first_large (nodes_in vocabulary d [] place inside)) refl; err = tt; at = tt }
     go (Some (Ok d)) e true known false size refused = by_refusal (Some (Ok d)) e true known false size refl refused
     go (Some (Ok d)) e false known small size refused = by_refusal (Some (Ok d)) e false known small size refl refused
-
--- ---- within the bound on prefixes
-
-many_refused : (vocabulary : List Word) {T : Type 0} (after : T → List Line → T) (taker : T) (bytes : Option (List ℕ)) (tokens : List Token) (place : Position) → OfText (BeginsWith tokens) bytes
-    → many_behind vocabulary after (first_feed taker) None tokens ≡ Some place → Comes vocabulary after taker bytes (ends_with (Some place) (fold (feed vocabulary after) (first_feed taker) tokens))
-many_refused vocabulary after taker bytes tokens place begins met =
-    let r = many_root vocabulary after (first_feed taker) tokens place met in
-    let many = is_many vocabulary after taker r.0 tokens place (sym (roots vocabulary after (first_feed taker) tokens) ∙ r.1) met in
-    record { ok = tt; err = (tokens, begins, (place, many)); at = (tokens, begins, many) }
-
-ends_is : (vocabulary : List Word) {T : Type 0} (after : T → List Line → T) (taker : T) (tokens : List Token)
-    → ends (fold (bound vocabulary after) (first_bounded taker) tokens) ≡ ends_with (many_behind vocabulary after (first_feed taker) None tokens) (fold (feed vocabulary after) (first_feed taker) tokens)
-ends_is vocabulary after taker tokens = ap ends (bounds vocabulary after (first_feed taker) None tokens)
-
--- what comes of a document that was read to its end
-pub all_comes : (vocabulary : List Word) {T : Type 0} (after : T → List Line → T) (taker : T) (bytes : Option (List ℕ)) (text : List ℕ) (tokens : List Token) (name : List ℕ) (inside : Content)
-    → IsTextOf bytes text → IsDocument text tokens → IsTree tokens name inside → Comes vocabulary after taker bytes (ends (fold (bound vocabulary after) (first_bounded taker) tokens))
-all_comes vocabulary after taker bytes text tokens name inside is document tree =
-    subst (Comes vocabulary after taker bytes) (sym (ends_is vocabulary after taker tokens)) (go (many_behind vocabulary after (first_feed taker) None tokens) refl)
-  where
-    go : (m : Option Position) → many_behind vocabulary after (first_feed taker) None tokens ≡ m → Comes vocabulary after taker bytes (ends_with m (fold (feed vocabulary after) (first_feed taker) tokens))
-    go None e = comes vocabulary after taker bytes text tokens name inside is document tree e
-    go (Some place) e = many_refused vocabulary after taker bytes tokens place (all_tokens bytes text tokens is document) e
-
--- and of tokens of which no more are taken
-pub all_refuses : (vocabulary : List Word) {T : Type 0} (after : T → List Line → T) (taker : T) (bytes : Option (List ℕ)) (tokens : List Token) → OfText (BeginsWith tokens) bytes
-    → goes_on (fold (bound vocabulary after) (first_bounded taker) tokens) ≡ false → Comes vocabulary after taker bytes (ends (fold (bound vocabulary after) (first_bounded taker) tokens))
-all_refuses vocabulary after taker bytes tokens begins refused =
-    subst (Comes vocabulary after taker bytes) (sym (ends_is vocabulary after taker tokens))
-    (go (many_behind vocabulary after (first_feed taker) None tokens) refl (sym (ap goes_on (bounds vocabulary after (first_feed taker) None tokens)) ∙ refused))
-  where
-    go : (m : Option Position) → many_behind vocabulary after (first_feed taker) None tokens ≡ m → goes_on (bounded (fold (feed vocabulary after) (first_feed taker) tokens) m) ≡ false
-        → Comes vocabulary after taker bytes (ends_with m (fold (feed vocabulary after) (first_feed taker) tokens))
-    go None e r = refuses vocabulary after taker bytes tokens begins r
-    go (Some place) e r = many_refused vocabulary after taker bytes tokens place begins e
 
 -- ---- a document that was not read to its end
 
@@ -213,11 +176,11 @@ takes_sound f h = go f.root f.known (fits f.child) h
     go (Some (Ok d)) false small h = h
 
 -- the text goes beyond a bound behind tokens, and they were fed
-abbrev pub Goes : (vocabulary : List Word) {T : Type 0} → (T → List Line → T) → Option (List ℕ) → Bounded T → Bounded T → Bound → Type 0
-Goes vocabulary after bytes start b Limit = (tokens : List Token) × OfText (Meets Limit tokens) bytes × (b ≡ fold (bound vocabulary after) start tokens)
+abbrev pub Goes : (vocabulary : List Word) {T : Type 0} → (T → List Line → T) → Option (List ℕ) → Feed T → Feed T → Bound → Type 0
+Goes vocabulary after bytes start b Limit = (tokens : List Token) × OfText (Meets Limit tokens) bytes × (b ≡ fold (feed vocabulary after) start tokens)
 
 -- what is said of each fault that comes from the reading of the document
-pub record Reasons (vocabulary : List Word) {T R : Type 0} (after : T → List Line → T) (bytes : Option (List ℕ)) (start f : Bounded T) (r : Result R DocumentFault) : Type 0 where
+pub record Reasons (vocabulary : List Word) {T R : Type 0} (after : T → List Line → T) (bytes : Option (List ℕ)) (start f : Feed T) (r : Result R DocumentFault) : Type 0 where
   pub malformed : IsErrOf r Malformed → OfText IsNoDocument bytes
   pub stuck : IsErrOf r Malformed → Goes vocabulary after bytes start f NoneMayStand
   pub garbled : IsErrOf r NotText → OfText IsNoText bytes
@@ -225,15 +188,15 @@ pub record Reasons (vocabulary : List Word) {T R : Type 0} (after : T → List L
   pub large : IsErrOf r LargeTag → Goes vocabulary after bytes start f IsLarge
   pub long : IsErrOf r TooLong → Goes vocabulary after bytes start f IsLong
   pub unknown : (name : List ℕ) → IsErrOf r (UnknownEncoding name) → IfSome bytes (IsOfUnknown name)
-  pub refused : IsErrOf r Refused → goes_on f ≡ false
+  pub refused : IsErrOf r Refused → takes_more f ≡ false
 
-goes_at : (vocabulary : List Word) {T : Type 0} (after : T → List Line → T) (bytes : Option (List ℕ)) (start f : Bounded T) (Limit : Bound)
+goes_at : (vocabulary : List Word) {T : Type 0} (after : T → List Line → T) (bytes : Option (List ℕ)) (start f : Feed T) (Limit : Bound)
     → Goes vocabulary after bytes start f Limit → (place : Position) × MeetsAt vocabulary bytes Limit place
 goes_at vocabulary after bytes start f Limit w = (position_past first_position w.0, (w.0, w.1, refl))
 
 -- a document that was read while more was taken is refused for a reason
-pub document_explained : (vocabulary : List Word) {T R : Type 0} (after : T → List Line → T) (bytes : Option (List ℕ)) (start f : Bounded T) (fault : DocumentFault)
-    → (is_of_text fault ≡ true → goes_on f ≡ true) → Reasons vocabulary {T = T} {R = R} after bytes start f (Err fault) → IsReason vocabulary bytes (Document fault)
+pub document_explained : (vocabulary : List Word) {T R : Type 0} (after : T → List Line → T) (bytes : Option (List ℕ)) (start f : Feed T) (fault : DocumentFault)
+    → (is_of_text fault ≡ true → takes_more f ≡ true) → Reasons vocabulary {T = T} {R = R} after bytes start f (Err fault) → IsReason vocabulary bytes (Document fault)
 document_explained vocabulary after bytes start f Malformed takes r = r.malformed refl
 document_explained vocabulary after bytes start f NotText takes r = r.garbled refl
 document_explained vocabulary after bytes start f TooDeep takes r = goes_at vocabulary after bytes start f IsDeep (r.deep refl)
@@ -245,25 +208,22 @@ document_explained vocabulary after bytes start f Read takes r = tt
 document_explained vocabulary after bytes start f Memory takes r = tt
 
 -- while more is taken, the next token stands behind those that were
-place_is : (vocabulary : List Word) {T : Type 0} (after : T → List Line → T) (taker : T) (b : Bounded T) (tokens : List Token) → goes_on b ≡ true → b ≡ fold (bound vocabulary after) (first_bounded taker) tokens
-    → b.feed.place ≡ position_past first_position tokens
-place_is vocabulary after taker b tokens more is =
-    let f = fold (feed vocabulary after) (first_feed taker) tokens in
-    let whole : b ≡ bounded f (many_behind vocabulary after (first_feed taker) None tokens) = is ∙ bounds vocabulary after (first_feed taker) None tokens in
-    let takes : takes_more f ≡ true = (and_parts _ (takes_more f) (sym (ap goes_on whole) ∙ more)).1 in
-    ap (λ g. g.feed.place) whole ∙ places vocabulary after (first_feed taker) tokens (takes_sound f takes)
+place_is : (vocabulary : List Word) {T : Type 0} (after : T → List Line → T) (taker : T) (f : Feed T) (tokens : List Token) → takes_more f ≡ true → f ≡ fold (feed vocabulary after) (first_feed taker) tokens
+    → f.place ≡ position_past first_position tokens
+place_is vocabulary after taker f tokens more is =
+    ap (λ g. g.place) is ∙ places vocabulary after (first_feed taker) tokens (takes_sound (fold (feed vocabulary after) (first_feed taker) tokens) (sym (ap takes_more is) ∙ more))
 
 -- and so is its place
-pub document_at : (vocabulary : List Word) {T R : Type 0} (after : T → List Line → T) (bytes : Option (List ℕ)) (taker : T) (start f : Bounded T) (fault : DocumentFault) → start ≡ first_bounded taker
-    → (is_of_text fault ≡ true → goes_on f ≡ true) → AtFault ((tokens : List Token) × OfText (BeginsWith tokens) bytes × (f ≡ fold (bound vocabulary after) start tokens)) fault
-    → Reasons vocabulary {T = T} {R = R} after bytes start f (Err fault) → IsAt vocabulary bytes (Document fault) f.feed.place
+pub document_at : (vocabulary : List Word) {T R : Type 0} (after : T → List Line → T) (bytes : Option (List ℕ)) (taker : T) (start f : Feed T) (fault : DocumentFault) → start ≡ first_feed taker
+    → (is_of_text fault ≡ true → takes_more f ≡ true) → AtFault ((tokens : List Token) × OfText (BeginsWith tokens) bytes × (f ≡ fold (feed vocabulary after) start tokens)) fault
+    → Reasons vocabulary {T = T} {R = R} after bytes start f (Err fault) → IsAt vocabulary bytes (Document fault) f.place
 document_at vocabulary {T = T} {R = R} after bytes taker start f fault starts takes h r = go fault takes h r
   where
-    at : goes_on f ≡ true → (tokens : List Token) → f ≡ fold (bound vocabulary after) start tokens → f.feed.place ≡ position_past first_position tokens
-    at more tokens is = place_is vocabulary after taker f tokens more (is ∙ ap (λ g. fold (bound vocabulary after) g tokens) starts)
+    at : takes_more f ≡ true → (tokens : List Token) → f ≡ fold (feed vocabulary after) start tokens → f.place ≡ position_past first_position tokens
+    at more tokens is = place_is vocabulary after taker f tokens more (is ∙ ap (λ g. fold (feed vocabulary after) g tokens) starts)
 
-    go : (e : DocumentFault) → (is_of_text e ≡ true → goes_on f ≡ true) → AtFault ((tokens : List Token) × OfText (BeginsWith tokens) bytes × (f ≡ fold (bound vocabulary after) start tokens)) e
-        → Reasons vocabulary {T = T} {R = R} after bytes start f (Err e) → IsAt vocabulary bytes (Document e) f.feed.place
+    go : (e : DocumentFault) → (is_of_text e ≡ true → takes_more f ≡ true) → AtFault ((tokens : List Token) × OfText (BeginsWith tokens) bytes × (f ≡ fold (feed vocabulary after) start tokens)) e
+        → Reasons vocabulary {T = T} {R = R} after bytes start f (Err e) → IsAt vocabulary bytes (Document e) f.place
     go Malformed t w r = let g = r.stuck refl in (g.0, g.1, at (t refl) g.0 g.2)
     go NotText t w r = (w.0, w.1, at (t refl) w.0 w.2)
     go TooDeep t w r = let g = r.deep refl in (g.0, g.1, at (t refl) g.0 g.2)
@@ -289,7 +249,6 @@ explained vocabulary bytes (Document Memory) place why at = tt
 explained vocabulary bytes (Message wrong) place why at = at
 explained vocabulary bytes Reference place why at = at
 explained vocabulary bytes TooLarge place why at = at
-explained vocabulary bytes ManyPrefixes place why at = at
 
 pub all_explained : (vocabulary : List Word) {T : Type 0} (bytes : Option (List ℕ)) (result : Result T (Stopped T)) → IfErr result (λ s. IsReason vocabulary bytes s.fault) → IfErr result (λ s. IsAt vocabulary bytes s.fault s.place)
     → IfErr result (λ s. Explains vocabulary bytes s.fault s.place)

@@ -16,11 +16,10 @@ use Rattle.feed_xml.specs.Trees.{IsTree}
 use Rattle.feed_outline.specs.declared.dialect.Wrong.{Wrong}
 use Rattle.feed_outline.specs.declared.message_reading.Fault.{Fault}
 use Rattle.feed_outline.specs.declared.message_reading.Fault.TheVariants.{Document, Message, Reference}
-use Rattle.feed_outline.specs.declared.message_reading.Fault.TheVariants.{TooLarge, ManyPrefixes}
+use Rattle.feed_outline.specs.declared.message_reading.Fault.TheVariants.{TooLarge}
 use Rattle.feed_outline.specs.Dialect.{Dialect}
 use Rattle.feed_outline.specs.Names.{Word}
 use Rattle.feed_outline.specs.Nodes.{is_known, nodes_in}
-use Rattle.feed_outline.specs.Prefixes.{first_with_many}
 use Rattle.feed_outline.specs.Sizes.{first_large}
 use Rattle.feed_outline.specs.Roots.{root_of, root_place}
 
@@ -37,10 +36,6 @@ IsFirstAt first tokens place =
 -- a Header or Product that is too large
 abbrev pub IsLargeAt : List Word → List Token → Position → Type 0
 IsLargeAt vocabulary = IsFirstAt (λ d p inside. first_large (nodes_in vocabulary d [] p inside))
-
--- a tag at which too many prefixes hold
-abbrev pub IsManyAt : List Word → List Token → Position → Type 0
-IsManyAt vocabulary = IsFirstAt (λ d p inside. first_with_many vocabulary d [] p inside)
 
 -- the first tag, which is that of a refused root
 abbrev pub IsRefusedRoot : Wrong → List Token → Token → Type 0
@@ -77,9 +72,8 @@ module _ (vocabulary : List Word) (bytes : Option (List ℕ)) where
   -- tokens. Too deep, too long and with a large tag: at the place it goes beyond that bound.
   -- Unknown encoding: its declaration names one that is none of those. Root, release, reference: at
   -- the place stands the tag of another root or release, or a reference that stands for nothing.
-  -- Too large, many prefixes: there begins a Header or Product that goes beyond that bound, or
-  -- stands the tag at which the prefixes do. What comes of a failed read or of want of memory needs
-  -- no reason; no other document is refused.
+  -- Too large: there begins a Header or Product that goes beyond that bound. What comes of a failed
+  -- read or of want of memory needs no reason; no other document is refused.
   abbrev pub Explains : Fault → Position → Type 0
   Explains (Document Malformed) place = OfText IsNoDocument bytes × MeetsAt NoneMayStand place
   Explains (Document NotText) place =
@@ -93,4 +87,3 @@ module _ (vocabulary : List Word) (bytes : Option (List ℕ)) where
   Explains (Message wrong) place = IsPlaceOf (IsRefusedRoot wrong) place
   Explains Reference place = IsPlaceOf IsUnknown place
   Explains TooLarge place = BeginsSo (λ tokens. IsLargeAt vocabulary tokens place)
-  Explains ManyPrefixes place = BeginsSo (λ tokens. IsManyAt vocabulary tokens place)

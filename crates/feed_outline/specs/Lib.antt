@@ -3,7 +3,6 @@ pub mod Spaces
 pub mod Namespaces
 pub mod Dialect
 pub mod Nodes
-pub mod Prefixes
 pub mod Outline
 pub mod Views
 pub mod Sizes

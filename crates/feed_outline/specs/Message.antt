@@ -10,13 +10,12 @@ use Rattle.feed_xml.specs.Trees.{IsTree}
 use Rattle.feed_outline.specs.Dialect.{Dialect}
 use Rattle.feed_outline.specs.Names.{Word}
 use Rattle.feed_outline.specs.Nodes.{is_known, nodes_in}
-use Rattle.feed_outline.specs.Prefixes.{first_with_many}
 use Rattle.feed_outline.specs.Sizes.{first_large}
 use Rattle.feed_outline.specs.Roots.{root_of, root_place}
 
 -- The text is a document. Its root is that of a message of release 3.0 or 3.1 that is written so,
--- and has this in it, from a place on; each reference stands for something, no Header or Product is
--- too large, and nowhere do too many prefixes hold. The vocabulary says which elements count.
+-- and has this in it, from a place on; each reference stands for something, and no Header or Product
+-- is too large. The vocabulary says which elements count.
 pub record IsMessage (vocabulary : List Word) (text : List ℕ) (d : Dialect) (place : Position)
     (inside : Content) : Type 0 where
   pub tokens : List Token
@@ -27,4 +26,3 @@ pub record IsMessage (vocabulary : List Word) (text : List ℕ) (d : Dialect) (p
   pub begins : root_place first_position tokens ≡ place
   pub known : list_all is_known tokens ≡ true
   pub fits : first_large (nodes_in vocabulary d [] place inside) ≡ None
-  pub few : first_with_many vocabulary d [] place inside ≡ None

@@ -6,13 +6,11 @@ ghost use Rattle.feed_outline.specs.Dialect.{address_of, composite_of, counted, 
 ghost use Rattle.feed_outline.specs.private.Growing.{scopes_of};
 ghost use Rattle.feed_outline.specs.Names.{is_called_among, name_among};
 ghost use Rattle.feed_outline.specs.Namespaces.{local_of, prefix_of, scope};
-ghost use Rattle.feed_outline.specs.Prefixes.{has_many};
 ghost use Rattle.feed_outline.specs.Views.{binding_views, word_views};
 
 use crate::grower::Grower;
 use crate::names::{Naming, Word, is_called_among, name_among, naming_of_root, stranger};
 use crate::namespaces::{Binding, address_among, bindings_of, split_name, undeclared};
-use crate::prefixes::are_many_at;
 use crate::spaces::fill;
 use feed_xml::{Attributes, Bytes};
 use std::alloc::{AllocError, Global};
@@ -185,27 +183,6 @@ impl Dialect {
             name_among(self.naming, vocabulary, around.composite(), local)
         } else {
             None
-        }
-    }
-
-    /// Whether too many prefixes stand for the root's address at a tag with these declarations,
-    /// below what a grower has open; of a tag without a declaration it is not asked.
-    #[tactic(auto, using(crate::proofs::PrefixLaws::declaring))]
-    pub(crate) fn has_many(
-        &self,
-        alloc: Global,
-        around: &Grower,
-        bindings: &[Binding],
-    ) -> Result<bool, AllocError>
-        ensures { IfOk result (λ many. many ≡ has_many self.now
-            (scopes_of around.now.opens) (binding_views bindings.now)) }
-    {
-        match bindings {
-            [] => Ok(false),
-            [_first, ..] => {
-                let opens = around.opens();
-                are_many_at(alloc, &self.address, &self.bindings, opens, bindings)
-            }
         }
     }
 }

@@ -188,13 +188,6 @@ impl Grower {
         address_within(prefix, &self.opens)
     }
 
-    /// The open elements, the innermost last.
-    pub(crate) fn opens(&self) -> &[Open]
-        ensures { scopes_of (reverse (open_views result.now)) ≡ scopes_of self.now.opens }
-    {
-        &self.opens
-    }
-
     /// Whether an element that is passed over is open.
     pub(crate) fn is_passing(&self) -> bool
         ensures { result ≡ nat_lt 0 self.now.passed }

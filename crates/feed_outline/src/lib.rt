@@ -2,7 +2,6 @@
 //! how deep an element is, its name and its text, in order.
 #![tactic(auto)]
 
-mod bounded;
 pub mod composites;
 pub mod dialect;
 mod grower;
@@ -13,7 +12,6 @@ pub mod names;
 pub mod namespaces;
 pub mod outliner;
 pub mod outlines;
-mod prefixes;
 pub mod refusal_hints;
 mod spaces;
 

@@ -10,9 +10,8 @@ ghost use Rattle.feed_outline.specs.Message.{IsMessage};
 ghost use Rattle.feed_outline.specs.Nodes.{nodes_in};
 ghost use Rattle.feed_outline.specs.Outline.{parts_of};
 
-use crate::bounded::BoundedOutliner;
 use crate::dialect::Wrong;
-use crate::outliner::Taker;
+use crate::outliner::{Outliner, Taker};
 use crate::refusal_hints::RefusalHints;
 use feed_xml::{Position, read_document};
 use std::alloc::Global;
@@ -30,15 +29,13 @@ pub enum Fault {
     /// A Header or a Product is larger than 4,194,304 bytes: those of the texts and of the
     /// attributes `dateformat` of its elements that count, and 64 for each of them.
     TooLarge,
-    /// At a tag more than 64 prefixes stand for the namespace of the root.
-    ManyPrefixes,
 }
 
 /// Why no message was read, where, and what took the Header and Products until then. The place is
 /// that of the tag of a root that is refused, of a reference that stands for nothing, of the tag of
-/// a Header or Product that is too large, of a tag at which too many prefixes hold, else behind the
-/// last token that was taken, and of a malformed document there no other may follow. It tells
-/// nothing where the encoding is none that is known, a read failed or memory ran out.
+/// a Header or Product that is too large, else behind the last token that was taken, and of a
+/// malformed document there no other may follow. It tells nothing where the encoding is none that is
+/// known, a read failed or memory ran out.
 #[derive(Debug, Drop)]
 pub struct Stopped<T> {
     pub fault: Fault,
@@ -73,7 +70,7 @@ pub fn read_message<R: Read, T: Taker + Drop>(
     ensures refused { IfErr result (λ stopped.
         Explains T.vocabulary (R.remaining reader.old) stopped.fault stopped.place) }
 {
-    let mut outliner = BoundedOutliner::new(alloc, taker);
+    let mut outliner = Outliner::new(alloc, taker);
     match read_document(alloc, reader, &mut outliner) {
         Ok(()) => outliner.finish(),
         Err(fault) => {

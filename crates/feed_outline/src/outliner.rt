@@ -4,7 +4,6 @@ ghost use Rattle.std.specs.Prelude.{◌≡◌, [], IfOk, OnOk, true, unwrap_or, 
 ghost use Rattle.feed_xml.specs.References.{reference_text};
 ghost use Rattle.feed_xml.specs.View.{token_view};
 ghost use Rattle.feed_outline.specs.private.Feed.{feeding, first_feed, begun, ended, emptied, spoken, handed, settled, told, moved, is_sound, takes_more};
-ghost use Rattle.feed_outline.specs.private.Bounded.{many_at};
 ghost use Rattle.feed_outline.specs.private.Finishing.{finished, first_place_of, stopped};
 ghost use Rattle.feed_outline.specs.private.Growing.{closed};
 ghost use Rattle.feed_outline.specs.Outline.{is_part};
@@ -248,33 +247,6 @@ impl<T: Taker + Drop> Outliner<T> {
                 let name = dialect.counted(T::vocabulary(), &self.child, name, &bindings);
                 let format = format_of(self.alloc, attributes)?;
                 self.child.open(name, self.place, format, bindings)
-            }
-        }
-    }
-
-    /// Where a tag stands at which too many prefixes hold, if they do; of one that is passed over
-    /// it is not asked.
-    #[tactic(auto, using(crate::proofs::PrefixLaws::none_passed, crate::proofs::PrefixLaws::none_else))]
-    pub(crate) fn many_at(
-        &self,
-        attributes: &Attributes<'_>,
-    ) -> Result<Option<Position>, AllocError>
-        ensures { IfOk result (λ place. place
-            ≡ many_at self.now.root self.now.child self.now.place attributes.now) }
-    {
-        match &self.root {
-            None => Ok(None),
-            Some(Err(_)) => Ok(None),
-            Some(Ok(dialect)) => {
-                if self.child.is_passing() {
-                    return Ok(None);
-                }
-                let bindings = bindings_of(self.alloc, attributes)?;
-                if dialect.has_many(self.alloc, &self.child, &bindings)? {
-                    Ok(Some(self.place))
-                } else {
-                    Ok(None)
-                }
             }
         }
     }

@@ -19,7 +19,6 @@ fn verdict(fault: &Fault) -> &'static str {
         Fault::Message(Wrong::Release(_, _)) => "another release",
         Fault::Reference => "an unknown reference",
         Fault::TooLarge => "too large",
-        Fault::ManyPrefixes => "too many prefixes",
     }
 }
 

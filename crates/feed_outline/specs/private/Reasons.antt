@@ -13,11 +13,11 @@ use Rattle.feed_xml.specs.Limits.{BeginsWith, IsDeep, IsLarge, IsLong, NoneMaySt
 use Rattle.feed_xml.specs.Documents.{IsNoDocument, IsNoText}
 use Rattle.feed_outline.specs.declared.message_reading.Fault.{Fault}
 use Rattle.feed_outline.specs.declared.message_reading.Fault.TheVariants.{Document, Message, Reference}
-use Rattle.feed_outline.specs.declared.message_reading.Fault.TheVariants.{TooLarge, ManyPrefixes}
+use Rattle.feed_outline.specs.declared.message_reading.Fault.TheVariants.{TooLarge}
 use Rattle.feed_outline.specs.Names.{Word}
 use Rattle.feed_outline.specs.Nodes.{is_known}
 use Rattle.feed_outline.specs.Roots.{root_of}
-use Rattle.feed_outline.specs.Faults.{IsLargeAt, IsManyAt, IsPlaceOf, IsRefusedRoot, IsUnknown}
+use Rattle.feed_outline.specs.Faults.{IsLargeAt, IsPlaceOf, IsRefusedRoot, IsUnknown}
 use Rattle.feed_outline.specs.Faults.{MeetsAt}
 
 -- A place is the one behind the first tokens of the text. Of some faults it tells nothing.
@@ -33,7 +33,6 @@ module _ (vocabulary : List Word) where
   Refuses (Message wrong) tokens = root_of tokens ≡ Some (Err wrong)
   Refuses Reference tokens = list_all is_known tokens ≡ false
   Refuses TooLarge tokens = (place : Position) × IsLargeAt vocabulary tokens place
-  Refuses ManyPrefixes tokens = (place : Position) × IsManyAt vocabulary tokens place
 
   -- the text of the bytes that a reader has left, where it tells them, begins with tokens that are
   -- refused
@@ -55,7 +54,6 @@ module _ (vocabulary : List Word) where
   IsReason bytes (Message wrong) = RefusesText bytes (Message wrong)
   IsReason bytes Reference = RefusesText bytes Reference
   IsReason bytes TooLarge = RefusesText bytes TooLarge
-  IsReason bytes ManyPrefixes = RefusesText bytes ManyPrefixes
 
   -- where it is
   abbrev pub IsAt : Option (List ℕ) → Fault → Position → Type 0
@@ -72,5 +70,3 @@ module _ (vocabulary : List Word) where
   IsAt bytes Reference place = IsPlaceOf vocabulary bytes IsUnknown place
   IsAt bytes TooLarge place =
       (tokens : List Token) × OfText (BeginsWith tokens) bytes × IsLargeAt vocabulary tokens place
-  IsAt bytes ManyPrefixes place =
-      (tokens : List Token) × OfText (BeginsWith tokens) bytes × IsManyAt vocabulary tokens place

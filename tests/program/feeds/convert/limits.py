@@ -150,23 +150,12 @@ def prefixes_of(root: range, product: range, name: range) -> bytes:
 
 
 def prefixes(room: Room) -> Iterator[Outcome]:
-    """At most 64 prefixes, the empty one among them, stand for the namespace of the root at one place."""
-    why = "refused: more than 64 prefixes stand for the namespace of the root here"
-    room.write(FEED, prefixes_of(range(40), range(40, 63), range(0)))
-    yield Outcome("as many prefixes as may stand for the root's namespace", convert(room, FEED), Ran(0, message_of("R1")))
-
+    """As many prefixes may stand for the namespace of the root at one place as tags within their bounds declare."""
     room.write(FEED, prefixes_of(range(40), range(20, 63), range(63)))
-    yield Outcome("as many prefixes, declared again", convert(room, FEED), Ran(0, message_of("R1")))
+    yield Outcome("prefixes that are declared again", convert(room, FEED), Ran(0, message_of("R1")))
 
-    room.write(FEED, prefixes_of(range(40), range(40, 64), range(0)))
-    came = convert(room, FEED)
-    yield Outcome("one prefix more, at a Product", came, Ran(1, b"", said([f"{FEED}:2:1: {why}"])))
-
-    feed = prefixes_of(range(40), range(40, 63), range(63, 64))
-    column = feed.splitlines()[1].index(b"<RecordReference") + 1
-    room.write(FEED, feed)
-    came = convert(room, FEED)
-    yield Outcome("one prefix more, within a Product", came, Ran(1, b"", said([f"{FEED}:2:{column}: {why}"])))
+    room.write(FEED, prefixes_of(range(60), range(60, 120), range(120, 180)))
+    yield Outcome("180 prefixes for the root's namespace", convert(room, FEED), Ran(0, message_of("R1")))
 
 
 def a_whole_product_in_the_next_part(room: Room) -> Iterator[Outcome]:

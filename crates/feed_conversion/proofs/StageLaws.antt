@@ -58,20 +58,10 @@ element_refused {P} {N} k s e c is =
 refused_stays : {P N : Type 0} (k : Keeping P N) → Tell → (s : State P N) (e : Refusal) (nodes : Nodes) → s.stage ≡ refused e → (fold (after_lines k) s (parts_of nodes)).stage ≡ refused e
 refused_stays k tell s e no_nodes is = is
 refused_stays {P} {N} k tell s e (node name tag text below rest) is =
-    go (bytes_eq name (codes "Product")) refl (bytes_eq name (codes "Header")) refl (bytes_eq name stranger) refl (refused_stays k tell s e rest is)
-    (refused_stays k tell (after_lines k s (part name tag text below)) e rest next)
+    refused_stays k tell (after_lines k s (part name tag text below)) e rest next
   where
     next : (after_lines k s (part name tag text below)).stage ≡ refused e
     next = ap (λ (t : State P N). t.stage) (lines_tell k tell s name tag text below) ∙ element_refused k s e (composite name tag text below) is
-
-    go : (p : Bool) → bytes_eq name (codes "Product") ≡ p → (h : Bool) → bytes_eq name (codes "Header") ≡ h → (x : Bool) → bytes_eq name stranger ≡ x
-        → (fold (after_lines k) s (parts_of rest)).stage ≡ refused e
-        → (fold (after_lines k) (after_lines k s (part name tag text below)) (parts_of rest)).stage ≡ refused e
-        → (fold (after_lines k) s (parts_of (node name tag text below rest))).stage ≡ refused e
-    go true f h g x i skipped taken = rw f taken
-    go false f true g x i skipped taken = rw (f, g) taken
-    go false f false g true i skipped taken = rw (f, g, i) taken
-    go false f false g false i skipped taken = rw (f, g, i) skipped
 
 -- ---- in its parts
 
@@ -118,7 +108,13 @@ products_are {P} {N} k tell o h header before (node name tag text below rest) w 
         let step : (after_lines k (state_of o (seen k h header before w)) (part name tag text below)).stage ≡ refused (why.OtherNamespace tag.place) =
         ap (λ (s : State P N). s.stage) (lines_tell k tell (state_of o (seen k h header before w)) name tag text below) ∙ one in
         rw (f, g, i) (refused_stays k tell (after_lines k (state_of o (seen k h header before w)) (part name tag text below)) (why.OtherNamespace tag.place) rest step)
-    go false f false g false i later = rw (f, g, i) (later w)
+    go false f false g false i later =
+        let one : after_element k (state_of o (seen k h header before w)) (composite name tag text below) ≡ state_of o (seen k h header before w) = rw (g, f, i) refl in
+        let step : after_lines k (state_of o (seen k h header before w)) (part name tag text below) ≡ state_of o (seen k h header before w) =
+        lines_tell k tell (state_of o (seen k h header before w)) name tag text below ∙ one in
+        rw (f, g, i)
+        (passed k o h header before rest (after_lines k (state_of o (seen k h header before w)) (part name tag text below)) (state_of o (seen k h header before w))
+        (first_refusal o true rest) (after_products (settings o h header) w (products_in rest)) step (later w))
 
 -- ---- the whole message
 
@@ -218,7 +214,7 @@ decided_is {P} {N} k tell o before (node name tag text below rest) =
         let refusal : first_refusal o false (node name tag text below rest) ≡ headed_by o (composite name tag text below) rest (heading_in o.choices below) = rw (g, j) refl in
         let defined_is : decided o (node name tag text below rest) ≡ whole_by o (products_in rest) (composite name tag text below) (heading_in o.choices below) (headed_by o (composite name tag text below) rest (heading_in o.choices below)) =
         ap (by_refusal o (node name tag text below rest)) refusal ∙ whole_is o (node name tag text below rest) (composite name tag text below) (products_in rest) products first (headed_by o (composite name tag text below) rest (heading_in o.choices below)) in
-        let run_is : finished k (fold (after_lines k) (start o before) (parts_of (node name tag text below rest))) ≡ finished k (fold (after_lines k) (after_lines k (start o before) (part name tag text below)) (parts_of rest)) = rw (f, g) refl in
+        let run_is : finished k (fold (after_lines k) (start o before) (parts_of (node name tag text below rest))) ≡ finished k (fold (after_lines k) (after_lines k (start o before) (part name tag text below)) (parts_of rest)) = refl in
         run_is ∙ after_header k tell o before (composite name tag text below) rest (heading_in o.choices below) (after_lines k (start o before) (part name tag text below)) step
         ∙ ap (result_map (behind k before)) (sym defined_is)
     go false f false g true i z j later =
@@ -228,7 +224,10 @@ decided_is {P} {N} k tell o before (node name tag text below rest) =
         rw (f, g, i) (refused_here k tell rest (after_lines k (start o before) (part name tag text below)) (why.OtherNamespace tag.place) step)
     go false f false g false i z j later =
         let same : decided o (node name tag text below rest) ≡ decided o rest = passed_over o name tag text below rest f g i in
-        let run_is : finished k (fold (after_lines k) (start o before) (parts_of (node name tag text below rest))) ≡ finished k (fold (after_lines k) (start o before) (parts_of rest)) = rw (f, g, i) refl in
+        let one : after_element k (start o before) (composite name tag text below) ≡ start o before = rw (g, f, i) refl in
+        let step : after_lines k (start o before) (part name tag text below) ≡ start o before = lines_tell k tell (start o before) name tag text below ∙ one in
+        let run_is : finished k (fold (after_lines k) (start o before) (parts_of (node name tag text below rest))) ≡ finished k (fold (after_lines k) (start o before) (parts_of rest)) =
+        ap (λ (s : State P N). finished k (fold (after_lines k) s (parts_of rest))) step in
         run_is ∙ later ∙ ap (result_map (behind k before)) (sym same)
 
 -- ---- the whole message, as it is defined

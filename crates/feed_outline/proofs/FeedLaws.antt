@@ -16,7 +16,7 @@ use Rattle.feed_outline.specs.declared.dialect.Wrong.{Wrong}
 use Rattle.feed_outline.specs.Dialect.{Dialect, counted}
 use Rattle.feed_outline.specs.Namespaces.{Binding, scope, bindings_of}
 use Rattle.feed_outline.specs.Nodes.{Nodes, no_nodes, node, Tag, tag_of, is_known, direct_text, with_node, within, content_place, place_behind, nodes_in}
-use Rattle.feed_outline.specs.Outline.{Line, line, outline, is_part, part, parts_of}
+use Rattle.feed_outline.specs.Outline.{Line, line, outline, part, parts_of}
 use Rattle.feed_outline.specs.private.Growing.{Open, growing, open_at, no_lines, change, longer, waits_behind, opened, closed}
 use Rattle.feed_outline.specs.Sizes.{element_size, first_large, is_small, lines_size, nodes_size}
 use Rattle.feed_outline.specs.Spaces.{collapsed}
@@ -56,11 +56,7 @@ are_small name tag text below rest e = go (is_small (element_size tag text + nod
 -- what is handed on of a child of the root
 pub handed_first : {T : Type 0} (after : T → List Line → T) (t : T) (name : List ℕ) (tag : Tag) (text : List ℕ) (below rest : Nodes)
     → fold after (handed after t (part name tag text below)) (parts_of rest) ≡ fold after t (parts_of (node name tag text below rest))
-handed_first after t name tag text below rest = go (is_part name) refl
-  where
-    go : (b : Bool) → is_part name ≡ b → fold after (handed after t (part name tag text below)) (parts_of rest) ≡ fold after t (parts_of (node name tag text below rest))
-    go true e = rw e refl
-    go false e = rw e refl
+handed_first after t name tag text below rest = refl
 
 -- a child of the root that is not too large ends
 pub part_ends : {T : Type 0} (after : T → List Line → T) (t : T) (d : Dialect) (lines : List Line) (p : Position) → is_small (lines_size lines) ≡ true

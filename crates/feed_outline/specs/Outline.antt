@@ -1,7 +1,5 @@
 -- A tree as a list of lines, each indented below the one that it belongs to.
-use Rattle.std.specs.Prelude.{ℕ, suc, Bool, ◌||◌, List, [], ◌∷◌, ◌++◌, codes, if◌then◌else◌}
-use Rattle.std.specs.Str.{bytes_eq}
-use Rattle.feed_outline.specs.Names.{stranger}
+use Rattle.std.specs.Prelude.{ℕ, suc, List, [], ◌∷◌, ◌++◌}
 use Rattle.feed_outline.specs.Nodes.{Nodes, no_nodes, node, Tag}
 
 -- an element: how deep it is, its reference name, its tag and its text
@@ -20,17 +18,11 @@ outline depth no_nodes = []
 outline depth (node name tag text below rest) =
     line depth name tag text ∷ (outline (suc depth) below ++ outline depth rest)
 
--- a Header, a Product, or a stranger that is called so
-abbrev pub is_part : List ℕ → Bool
-is_part name =
-    bytes_eq name (codes "Product") || (bytes_eq name (codes "Header") || bytes_eq name stranger)
-
 -- a child of the root by itself, with all that is in it
 abbrev pub part : List ℕ → Tag → List ℕ → Nodes → List Line
 part name tag text below = line 0 name tag text ∷ outline 1 below
 
--- the Headers, the Products and those strangers among the elements in the root, in order
+-- the elements in the root, each by itself, in order
 abbrev pub parts_of : Nodes → List (List Line)
 parts_of no_nodes = []
-parts_of (node name tag text below rest) =
-    if is_part name then part name tag text below ∷ parts_of rest else parts_of rest
+parts_of (node name tag text below rest) = part name tag text below ∷ parts_of rest

@@ -56,8 +56,8 @@ fn is_of_text(fault: &feed_xml::Fault) -> bool
     }
 }
 
-/// Reads a message, hands on its Header, each of its Products and each stranger that is called so,
-/// in order, and gives back what took them. Its first bytes tell its encoding.
+/// Reads a message, hands on each element in its root that counts, and each stranger there, in
+/// order, and gives back what took them. Its first bytes tell its encoding.
 pub fn read_message<R: Read, T: Taker + Drop>(
     alloc: Global,
     reader: &mut R,

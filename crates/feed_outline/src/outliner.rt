@@ -1,4 +1,4 @@
-//! The tokens of a message, of which each Header and Product becomes an outline.
+//! The tokens of a message, of which each element in the root becomes an outline.
 
 ghost use Rattle.std.specs.Prelude.{◌≡◌, [], IfOk, OnOk, true, unwrap_or, is_some};
 ghost use Rattle.feed_xml.specs.References.{reference_text};
@@ -6,22 +6,21 @@ ghost use Rattle.feed_xml.specs.View.{token_view};
 ghost use Rattle.feed_outline.specs.private.Feed.{feeding, first_feed, begun, ended, emptied, spoken, handed, settled, told, moved, is_sound, takes_more};
 ghost use Rattle.feed_outline.specs.private.Finishing.{finished, first_place_of, stopped};
 ghost use Rattle.feed_outline.specs.private.Growing.{closed};
-ghost use Rattle.feed_outline.specs.Outline.{is_part};
 ghost use Rattle.feed_outline.specs.Views.{line_views};
 
 use crate::dialect::{Dialect, Wrong, format_of};
 use crate::grower::Grower;
 use crate::line::Line;
 use crate::message_reading::{Fault, Stopped};
-use crate::names::{Naming, Word, stranger};
+use crate::names::{Naming, Word};
 use crate::namespaces::bindings_of;
 use crate::refusal_hints::RefusalHints;
 use feed_xml::{Attributes, Bytes, Piece, Position, Sink, Token, push_reference};
 use std::alloc::{AllocError, Global};
 use std::marker::Model;
 
-/// What takes the outlines of a message: that of its Header, of each of its Products, and of each
-/// stranger that is called so, in order.
+/// What takes the outlines of a message: those of the elements that count in its root, as its Header
+/// and its Products, and of the strangers there, in order.
 pub trait Taker {
     ghost use Rattle.std.specs.Prelude.{◌≡◌, List};
     ghost use Rattle.feed_outline.specs.Names.{Word};
@@ -38,7 +37,7 @@ pub trait Taker {
     fn vocabulary() -> &'static [Word]
         ensures { word_views result.now ≡ vocabulary };
 
-    /// Takes an outline, whose first line is the Header, the Product or the stranger itself.
+    /// Takes an outline, whose first line is the element in the root itself.
     fn take(&mut self, lines: &[Line]) -> Result<(), AllocError>
         ensures { OnOk result (self.new ≡ after self.old (line_views lines.now)) };
 }
@@ -81,13 +80,6 @@ fn first_place_of(lines: &[Line], place: Position) -> Position
         [] => place,
         [first, ..] => first.place,
     }
-}
-
-// Whether an element is a Header, a Product, or a stranger that is called so.
-fn is_part(name: &[u8]) -> bool
-    ensures { result ≡ is_part name.now }
-{
-    name == b"Product".as_slice() || name == b"Header".as_slice() || name == stranger()
 }
 
 // The kind of names that a root tells, where it is that of a message.
@@ -204,13 +196,7 @@ impl<T: Taker + Drop> Outliner<T> {
     {
         match self.child.lines() {
             [] => Ok(()),
-            [first, ..] => {
-                if is_part(first.name) {
-                    self.taker.take(self.child.lines())
-                } else {
-                    Ok(())
-                }
-            }
+            lines => self.taker.take(lines),
         }
     }
 

@@ -5,7 +5,6 @@ use Rattle.std.specs.Option.{option_to_list}
 use Rattle.std.specs.Str.{bytes_eq}
 use Rattle.std.proofs.lemmas.List.{map-append}
 use Rattle.std.proofs.lemmas.List.Sums.{fold-append}
-use Rattle.feed_outline.specs.Names.{stranger}
 use Rattle.feed_outline.specs.Nodes.{Nodes, Tag, no_nodes, node}
 use Rattle.feed_outline.specs.Outline.{Line, part, parts_of}
 use Rattle.feed_outline.specs.Outlined.{outlined}
@@ -36,7 +35,7 @@ pub titles_told : {T : Type 0} (with_row : T → List ℕ → T) → Tell → (n
     → (fold (after_lines with_row) s (parts_of nodes)).titles ≡ fold with_row s.titles (map line_of (rows_behind s.number nodes))
 titles_told with_row tell no_nodes s = refl
 titles_told {T} with_row tell (node name tag text below rest) s =
-    go (bytes_eq name (codes "Product")) refl (bytes_eq name (codes "Header")) refl (bytes_eq name stranger) refl (λ t. titles_told with_row tell rest t)
+    go (bytes_eq name (codes "Header")) refl (bytes_eq name (codes "Product")) refl (λ t. titles_told with_row tell rest t)
   where
     next : State T
     next = after_lines with_row s (part name tag text below)
@@ -44,21 +43,17 @@ titles_told {T} with_row tell (node name tag text below rest) s =
     step : next ≡ after_element with_row s (node name tag text below no_nodes)
     step = ap (after_element with_row s) (tell name tag text below)
 
-    go : (p : Bool) → bytes_eq name (codes "Product") ≡ p → (h : Bool) → bytes_eq name (codes "Header") ≡ h → (x : Bool) → bytes_eq name stranger ≡ x
+    go : (h : Bool) → bytes_eq name (codes "Header") ≡ h → (p : Bool) → bytes_eq name (codes "Product") ≡ p
         → ((t : State T) → (fold (after_lines with_row) t (parts_of rest)).titles ≡ fold with_row t.titles (map line_of (rows_behind t.number rest)))
         → (fold (after_lines with_row) s (parts_of (node name tag text below rest))).titles ≡ fold with_row s.titles (map line_of (rows_behind s.number (node name tag text below rest)))
-    go true f true g x i later =
+    go true g p f later =
         let is : next ≡ at_number s below = step ∙ rw g refl in
-        rw (f, g) (behind with_row rest next (at_number s below) _ is (later (at_number s below)))
-    go true f false g x i later =
+        rw g (behind with_row rest next (at_number s below) _ is (later (at_number s below)))
+    go false g true f later =
         let is : next ≡ with_product with_row s below = step ∙ rw (g, f) refl in
-        rw (f, g)
+        rw (g, f)
         (behind with_row rest next (with_product with_row s below) _ is
         (later (with_product with_row s below) ∙ rows_added with_row s.titles (option_to_list (row_in s.number below)) (rows_behind s.number rest)))
-    go false f true g x i later =
-        let is : next ≡ at_number s below = step ∙ rw g refl in
-        rw (f, g) (behind with_row rest next (at_number s below) _ is (later (at_number s below)))
-    go false f false g true i later =
+    go false g false f later =
         let is : next ≡ s = step ∙ rw (g, f) refl in
-        rw (f, g, i) (behind with_row rest next s _ is (later s))
-    go false f false g false i later = rw (f, g, i) (later s)
+        rw (g, f) (behind with_row rest next s _ is (later s))

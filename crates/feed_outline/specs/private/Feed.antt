@@ -9,7 +9,7 @@ use Rattle.feed_outline.specs.declared.dialect.Wrong.{Wrong}
 use Rattle.feed_outline.specs.Dialect.{Dialect, dialect_of, counted}
 use Rattle.feed_outline.specs.Names.{Word}
 use Rattle.feed_outline.specs.Nodes.{token_text, is_known, tag_of}
-use Rattle.feed_outline.specs.Outline.{Line, is_part}
+use Rattle.feed_outline.specs.Outline.{Line}
 use Rattle.feed_outline.specs.private.Growing.{Growing, no_lines, opened, closed, texted, is_idle}
 use Rattle.feed_outline.specs.private.Growing.{scopes_of}
 use Rattle.feed_outline.specs.Namespaces.{bindings_of}
@@ -29,10 +29,10 @@ abbrev pub feeding : {T : Type 0}
 feeding taker root child known place =
     record { taker = taker; root = root; child = child; known = known; place = place }
 
--- the lines of a child of the root are handed on where it is a Header or a Product
+-- the lines of a child of the root are handed on
 abbrev pub handed : {T : Type 0} → (T → List Line → T) → T → List Line → T
 handed after taker [] = taker
-handed after taker (l ∷ lines) = if is_part l.name then after taker (l ∷ lines) else taker
+handed after taker (l ∷ lines) = after taker (l ∷ lines)
 
 -- a child of the root is not too large so far
 abbrev pub fits : Growing → Bool

@@ -51,15 +51,23 @@ fn is_passed_over(name: &[u8], is_deletion: bool) -> bool {
         || (is_deletion && name == b"ProductSupply".as_slice())
 }
 
-// How many of the elements come again, and of those in them.
+// Whether one of the elements is the first of its name.
+fn is_first(line: &Line, elements: &Elements<'_>) -> bool {
+    match first_composite(line.name, elements) {
+        Some(first) => first.line.place == line.place,
+        None => true,
+    }
+}
+
+// How many of the elements come again, and of those in what is read of them: a second one is not.
 fn count_again(elements: &Elements<'_>, is_deletion: bool) -> u64 {
     let mut count = 0u64;
     let mut rest = elements.copy();
     while let Some(node) = rest.first() {
         let name = node.line.name;
-        let comes_again = !is_repeatable(name) && first_composite(name, &node.rest).is_some();
-        count = count.saturating_add(u64::from(comes_again));
-        if !is_passed_over(name, is_deletion) {
+        let is_read = is_repeatable(name) || is_first(node.line, elements);
+        count = count.saturating_add(u64::from(!is_read));
+        if is_read && !is_passed_over(name, is_deletion) {
             count = count.saturating_add(count_again(&node.below, is_deletion));
         }
         rest = node.rest;

@@ -425,6 +425,6 @@ pub(crate) fn push_saying(
 
 /// Adds why the first is left out of several things, all of which are.
 pub(crate) fn push_first(line: &mut String, first: Reason<'_>) -> Result<(), AllocError> {
-    line.push_str(", the first for ")?;
+    line.push_str(", the first for: ")?;
     push_words(line, words_of(first.kind, first.text), first.text)
 }

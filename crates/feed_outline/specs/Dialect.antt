@@ -1,6 +1,6 @@
 -- How a message is written: its kind of names and its namespace. Its root tells both.
 use Rattle.std.specs.Prelude.{ℕ, Bool, false, ◌||◌, List, [], ◌∷◌, Option, Some, None, Result, Ok}
-use Rattle.std.specs.Prelude.{Err, if◌then◌else◌, codes, unwrap_or, option_map, option_and_then}
+use Rattle.std.specs.Prelude.{Err, if◌then◌else◌, codes, unwrap_or, option_and_then}
 use Rattle.std.specs.Str.{bytes_eq}
 use Rattle.feed_xml.specs.Grammar.{Attribute}
 use Rattle.feed_xml.specs.Values.{normalized_value_of}

@@ -23,7 +23,7 @@ use feed_mapping::{
     Choices, Composite, Fate, HeaderFault, Heading, Note, Reason, ReasonKind, Wrong, add_bare,
     add_large, add_product, desk_vocabulary, fill_message, read_heading, text_or_empty,
 };
-use feed_outline::{Elements, Line, Taker, Word, has_stranger, outlined};
+use feed_outline::{Elements, Line, Taker, Vocabulary, has_stranger, outlined};
 use onix_records::row::RowFault;
 use onix_terms::items::Items;
 use std::alloc::{AllocError, Global};
@@ -401,15 +401,15 @@ impl<'a, T: Target + Drop> Converter<'a, T> {
 impl<'a, T: Target + Drop> Taker for Converter<'a, T> {
     ghost use Rattle.feed_mapping.specs.Vocabulary.{desk_vocabulary};
     ghost use Rattle.feed_outline.specs.Outlined.{outlined};
-    ghost use Rattle.feed_outline.specs.Views.{word_views};
+    ghost use Rattle.feed_outline.specs.Views.{vocabulary_view};
     ghost use Rattle.feed_conversion.specs.private.Stages.{after_nodes};
 
     ghost vocabulary = { desk_vocabulary };
 
     ghost after = { λ s lines. after_nodes T.keeping s (outlined lines) };
 
-    fn vocabulary() -> &'static [Word]
-        ensures { word_views result.now ≡ desk_vocabulary }
+    fn vocabulary() -> Vocabulary
+        ensures { vocabulary_view result ≡ desk_vocabulary }
     {
         desk_vocabulary()
     }

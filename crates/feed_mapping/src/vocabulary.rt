@@ -2,11 +2,12 @@
 
 ghost use Rattle.std.specs.Prelude.{◌≡◌};
 ghost use Rattle.feed_mapping.specs.Vocabulary.{desk_vocabulary};
-ghost use Rattle.feed_outline.specs.Views.{word_views};
+ghost use Rattle.feed_outline.specs.Views.{vocabulary_view};
 
-use feed_outline::{Word, words};
+use feed_outline::{Vocabulary, Word, words};
 
-static WORDS: [Word; 75] = words! {
+// Of the message, and of a Product.
+static WORDS: [Word; 43] = words! {
     b"ONIXMessage": b"Header" = b"header", b"Product" = b"product", b"NoProduct" = b"x507";
     b"Header": b"Sender" = b"sender", b"Addressee" = b"addressee", b"MessageNumber" = b"m180",
         b"MessageRepeat" = b"m181", b"SentDateTime" = b"x307", b"DefaultPriceType" = b"x310",
@@ -29,6 +30,10 @@ static WORDS: [Word; 75] = words! {
     b"Supplier": b"SupplierRole" = b"j292", b"SupplierIdentifier" = b"supplieridentifier",
         b"SupplierName" = b"j137";
     b"SupplierIdentifier": b"SupplierIDType" = b"j345", b"IDValue" = b"b244";
+};
+
+// Of a Price, and what is counted alone.
+static OTHER_WORDS: [Word; 32] = words! {
     b"Price": b"PriceType" = b"x462", b"PriceQualifier" = b"j261", b"PricePer" = b"j239",
         b"PriceCondition" = b"pricecondition", b"PriceConstraint" = b"priceconstraint",
         b"MinimumOrderQuantity" = b"j263", b"PriceCoded" = b"pricecoded", b"PriceAmount" = b"j151",
@@ -48,8 +53,11 @@ static WORDS: [Word; 75] = words! {
 
 /// The elements that say something to the desk.
 #[tactic(auto, unfolding(crate::specs::Vocabulary::desk_vocabulary))]
-pub fn desk_vocabulary() -> &'static [Word]
-    ensures { word_views result.now ≡ desk_vocabulary }
+pub fn desk_vocabulary() -> Vocabulary
+    ensures { vocabulary_view result ≡ desk_vocabulary }
 {
-    &WORDS
+    Vocabulary {
+        first: &WORDS,
+        others: &OTHER_WORDS,
+    }
 }

@@ -11,3 +11,4 @@ pub mod MessageLaws
 pub mod OutlineLaws
 pub mod Counts
 pub mod NamespaceLaws
+pub mod NameLaws

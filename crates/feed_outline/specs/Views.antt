@@ -1,7 +1,8 @@
 -- Lines and words without where they lie in memory.
 use Rattle.std.specs.Borrow.{Bor}
-use Rattle.std.specs.Prelude.{List, map, option_map}
+use Rattle.std.specs.Prelude.{List, ◌++◌, map, option_map}
 use Rattle.feed_outline.specs.declared.line.Line.{Line}
+use Rattle.feed_outline.specs.declared.names.Vocabulary.{Vocabulary}
 use Rattle.feed_outline.specs.declared.names.Word.{Word}
 use Rattle.feed_outline.specs.declared.namespaces.Binding.{Binding}
 use Rattle.feed_outline.specs.Namespaces.{Binding as Declared}
@@ -34,6 +35,10 @@ word_view w =
 -- words, as that
 abbrev pub word_views : List Word → List Spelled
 word_views words = map word_view words
+
+-- the words of a vocabulary, those of its first list before the others
+abbrev pub vocabulary_view : Vocabulary → List Spelled
+vocabulary_view v = word_views v.first.now ++ word_views v.others.now
 
 abbrev pub binding_view : Binding → Declared
 binding_view b = record { prefix = b.prefix.items; address = b.address.items }

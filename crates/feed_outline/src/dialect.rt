@@ -6,10 +6,10 @@ ghost use Rattle.feed_outline.specs.Dialect.{address_of, composite_of, counted, 
 ghost use Rattle.feed_outline.specs.private.Growing.{scopes_of};
 ghost use Rattle.feed_outline.specs.Names.{is_called_among, name_among};
 ghost use Rattle.feed_outline.specs.Namespaces.{local_of, prefix_of, scope};
-ghost use Rattle.feed_outline.specs.Views.{binding_views, word_views};
+ghost use Rattle.feed_outline.specs.Views.{binding_views, vocabulary_view};
 
 use crate::grower::Grower;
-use crate::names::{Naming, Word, is_called_among, name_among, naming_of_root, stranger};
+use crate::names::{Naming, Vocabulary, is_called_in, name_in, naming_of_root, stranger};
 use crate::namespaces::{Binding, address_among, bindings_of, split_name, undeclared};
 use crate::spaces::fill;
 use feed_xml::{Attributes, Bytes};
@@ -81,13 +81,13 @@ fn other_release(release: Option<Vec<u8>>, address: Vec<u8>) -> Wrong
 }
 
 // A stranger's name, where an element that does not count is called as one that does.
-fn called(vocabulary: &[Word], around: &Grower, name: &[u8]) -> Option<&'static [u8]>
+fn called(vocabulary: &Vocabulary, around: &Grower, name: &[u8]) -> Option<&'static [u8]>
     ensures { option_map (λ n. n.now) result
-        ≡ or_stranger (is_called_among (word_views vocabulary.now)
+        ≡ or_stranger (is_called_among (vocabulary_view vocabulary.now)
         (composite_of (scopes_of around.now.opens)) (local_of name.now)) None }
 {
     let (_, local) = split_name(name);
-    if is_called_among(vocabulary, around.composite(), local) {
+    if is_called_in(vocabulary, around.composite(), local) {
         Some(stranger())
     } else {
         None
@@ -150,12 +150,12 @@ impl Dialect {
     /// counts in any namespace, kind of names and case of letters.
     pub(crate) fn counted(
         &self,
-        vocabulary: &[Word],
+        vocabulary: &Vocabulary,
         around: &Grower,
         name: &[u8],
         bindings: &[Binding],
     ) -> Option<&'static [u8]>
-        ensures { option_map (λ n. n.now) result ≡ counted (word_views vocabulary.now) self.now
+        ensures { option_map (λ n. n.now) result ≡ counted (vocabulary_view vocabulary.now) self.now
             (scopes_of around.now.opens) name.now (binding_views bindings.now) }
     {
         match self.named(vocabulary, around, name, bindings) {
@@ -167,7 +167,7 @@ impl Dialect {
     // The reference name of an element that counts.
     fn named(
         &self,
-        vocabulary: &[Word],
+        vocabulary: &Vocabulary,
         around: &Grower,
         name: &[u8],
         bindings: &[Binding],
@@ -175,12 +175,12 @@ impl Dialect {
         ensures { option_map (λ n. n.now) result
             ≡ (if bytes_eq (address_of self.now (scope [] (binding_views bindings.now)
             ∷ scopes_of around.now.opens) (prefix_of name.now)) self.now.address
-            then name_among self.now.naming (word_views vocabulary.now)
+            then name_among self.now.naming (vocabulary_view vocabulary.now)
             (composite_of (scopes_of around.now.opens)) (local_of name.now) else None) }
     {
         let (prefix, local) = split_name(name);
         if self.address_of(around, prefix, bindings) == self.address.as_slice() {
-            name_among(self.naming, vocabulary, around.composite(), local)
+            name_in(self.naming, vocabulary, around.composite(), local)
         } else {
             None
         }

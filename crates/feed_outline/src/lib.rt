@@ -20,7 +20,7 @@ pub use dialect::{Dialect, Wrong};
 pub use laws::outlines_tell;
 pub use line::Line;
 pub use message_reading::{Fault, Stopped, read_message};
-pub use names::{Naming, Word};
+pub use names::{Naming, Vocabulary, Word};
 pub use outliner::{Outliner, Taker};
 pub use outlines::{is_outline, outlined};
 pub use refusal_hints::RefusalHints;

@@ -2,7 +2,7 @@
 
 ghost use Rattle.std.specs.Prelude.{◌≡◌, option_map};
 ghost use Rattle.feed_outline.specs.Names.{is_called, is_called_among, name_among, naming_of_root, root, spelled, stranger};
-ghost use Rattle.feed_outline.specs.Views.{word_view, word_views};
+ghost use Rattle.feed_outline.specs.Views.{vocabulary_view, word_view, word_views};
 
 /// The kinds of names that a message may be written in.
 #[derive(Clone, Copy, Debug)]
@@ -48,6 +48,13 @@ macro_rules! is_counted_alone {
     };
 }
 
+/// The elements that count, in two lists, of which neither is too long for the prover.
+#[derive(Clone, Copy, Debug)]
+pub struct Vocabulary {
+    pub first: &'static [Word],
+    pub others: &'static [Word],
+}
+
 // The name of a word in a kind of names.
 fn spelled(naming: Naming, word: &Word) -> &'static [u8]
     ensures { result.now ≡ spelled naming (word_view word.now) }
@@ -58,8 +65,8 @@ fn spelled(naming: Naming, word: &Word) -> &'static [u8]
     }
 }
 
-/// The reference name of the first word of a composite that is spelled so.
-pub(crate) fn name_among(
+// The reference name of the first of some words of a composite that is spelled so.
+fn name_among(
     naming: Naming,
     words: &[Word],
     composite: &[u8],
@@ -78,6 +85,23 @@ pub(crate) fn name_among(
     None
 }
 
+/// The reference name of the first word of a composite that is spelled so.
+#[tactic(auto, using(crate::proofs::NameLaws::named_in_two))]
+pub(crate) fn name_in(
+    naming: Naming,
+    vocabulary: &Vocabulary,
+    composite: &[u8],
+    name: &[u8],
+) -> Option<&'static [u8]>
+    ensures { option_map (λ t. t.now) result
+        ≡ name_among naming (vocabulary_view vocabulary.now) composite.now name.now }
+{
+    match name_among(naming, vocabulary.first, composite, name) {
+        Some(reference) => Some(reference),
+        None => name_among(naming, vocabulary.others, composite, name),
+    }
+}
+
 // Whether an element is called so by one of the names of a word, in whatever case of letters.
 fn is_called(name: &[u8], word: &Word) -> bool
     ensures { result ≡ is_called name.now (word_view word.now) }
@@ -85,9 +109,9 @@ fn is_called(name: &[u8], word: &Word) -> bool
     word.reference.eq_ignore_ascii_case(name) || word.short.eq_ignore_ascii_case(name)
 }
 
-/// Whether an element of a composite is called as one that counts in any namespace, kind of names
-/// and case of letters, and is not only counted.
-pub(crate) fn is_called_among(words: &[Word], composite: &[u8], name: &[u8]) -> bool
+// Whether an element of a composite is called as one of these words, in any namespace, kind of names
+// and case of letters, and one that is not only counted.
+fn is_called_among(words: &[Word], composite: &[u8], name: &[u8]) -> bool
     ensures { result ≡ is_called_among (word_views words.now) composite.now name.now }
 {
     let mut rest = words;
@@ -98,6 +122,17 @@ pub(crate) fn is_called_among(words: &[Word], composite: &[u8], name: &[u8]) -> 
         rest = tail;
     }
     false
+}
+
+/// Whether an element of a composite is called as one that counts in any namespace, kind of names
+/// and case of letters, and is not only counted.
+#[tactic(auto, using(crate::proofs::NameLaws::called_in_two))]
+pub(crate) fn is_called_in(vocabulary: &Vocabulary, composite: &[u8], name: &[u8]) -> bool
+    ensures { result
+        ≡ is_called_among (vocabulary_view vocabulary.now) composite.now name.now }
+{
+    is_called_among(vocabulary.first, composite, name)
+        || is_called_among(vocabulary.others, composite, name)
 }
 
 /// The reference name of the root.

@@ -12,7 +12,7 @@ use crate::dialect::{Dialect, Wrong, format_of};
 use crate::grower::Grower;
 use crate::line::Line;
 use crate::message_reading::{Fault, Stopped};
-use crate::names::{Naming, Word};
+use crate::names::{Naming, Vocabulary};
 use crate::namespaces::bindings_of;
 use crate::refusal_hints::RefusalHints;
 use feed_xml::{Attributes, Bytes, Piece, Position, Sink, Token, push_reference};
@@ -25,7 +25,7 @@ pub trait Taker {
     ghost use Rattle.std.specs.Prelude.{◌≡◌, List};
     ghost use Rattle.feed_outline.specs.Names.{Word};
     ghost use Rattle.feed_outline.specs.Outline.{Line};
-    ghost use Rattle.feed_outline.specs.Views.{word_views};
+    ghost use Rattle.feed_outline.specs.Views.{vocabulary_view};
 
     /// The elements that count for it.
     ghost vocabulary: { List Word };
@@ -34,8 +34,8 @@ pub trait Taker {
     ghost after: { Self → List Line → Self };
 
     /// The elements that count for it.
-    fn vocabulary() -> &'static [Word]
-        ensures { word_views result.now ≡ vocabulary };
+    fn vocabulary() -> Vocabulary
+        ensures { vocabulary_view result ≡ vocabulary };
 
     /// Takes an outline, whose first line is the element in the root itself.
     fn take(&mut self, lines: &[Line]) -> Result<(), AllocError>
@@ -230,7 +230,7 @@ impl<T: Taker + Drop> Outliner<T> {
                     return self.child.pass();
                 }
                 let bindings = bindings_of(self.alloc, attributes)?;
-                let name = dialect.counted(T::vocabulary(), &self.child, name, &bindings);
+                let name = dialect.counted(&T::vocabulary(), &self.child, name, &bindings);
                 let format = format_of(self.alloc, attributes)?;
                 self.child.open(name, self.place, format, bindings)
             }

@@ -7,7 +7,7 @@ ghost use Rattle.feed_outline.specs.Views.{line_view, line_views};
 use crate::lines::with_feeds;
 use crate::shown::Shown;
 use feed_mapping::desk_vocabulary;
-use feed_outline::{Fault, Line, Stopped, Taker, Word, Wrong, read_message};
+use feed_outline::{Fault, Line, Stopped, Taker, Vocabulary, Wrong, read_message};
 use feed_xml::Position;
 use std::alloc::AllocError;
 use std::io;
@@ -110,7 +110,7 @@ impl Taker for Shown {
 
     ghost after = { after };
 
-    fn vocabulary() -> &'static [Word] {
+    fn vocabulary() -> Vocabulary {
         desk_vocabulary()
     }
 

@@ -12,7 +12,7 @@ use csv_records::buffer::RecordBuffer;
 use csv_records::fields::FieldBuffer;
 use csv_records::writing::write_records;
 use feed_mapping::text_or_empty;
-use feed_outline::{Elements, Line, Taker, Word, outlined};
+use feed_outline::{Elements, Line, Taker, Vocabulary, outlined};
 use std::alloc::{AllocError, Global};
 use std::marker::Model;
 
@@ -93,7 +93,7 @@ impl<T: TitleTarget + Drop> Taker for TitleTaker<T> {
 
     ghost after = { λ s lines. after_element T.with_row s (outlined lines) };
 
-    fn vocabulary() -> &'static [Word] {
+    fn vocabulary() -> Vocabulary {
         title_vocabulary()
     }
 

@@ -1,10 +1,10 @@
 //! The elements of ONIX that say what a book is called.
 
 ghost use Rattle.std.specs.Prelude.{◌≡◌};
-ghost use Rattle.feed_outline.specs.Views.{word_views};
+ghost use Rattle.feed_outline.specs.Views.{vocabulary_view};
 ghost use Rattle.feed_titles.specs.Vocabulary.{title_vocabulary};
 
-use feed_outline::{Word, words};
+use feed_outline::{Vocabulary, Word, words};
 
 static WORDS: [Word; 32] = words! {
     b"ONIXMessage": b"Header" = b"header", b"Product" = b"product";
@@ -29,8 +29,11 @@ static WORDS: [Word; 32] = words! {
 
 /// The elements that count.
 #[tactic(auto, unfolding(crate::specs::Vocabulary::title_vocabulary))]
-pub(crate) fn title_vocabulary() -> &'static [Word]
-    ensures { word_views result.now ≡ title_vocabulary }
+pub(crate) fn title_vocabulary() -> Vocabulary
+    ensures { vocabulary_view result ≡ title_vocabulary }
 {
-    &WORDS
+    Vocabulary {
+        first: &WORDS,
+        others: &[],
+    }
 }

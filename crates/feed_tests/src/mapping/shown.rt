@@ -5,7 +5,7 @@ use csv_records::buffer::RecordBuffer;
 use csv_records::fields::FieldBuffer;
 use csv_records::writing::write_records;
 use feed_mapping::{Composite, HeaderFault, Note, add_product, desk_vocabulary, read_heading};
-use feed_outline::{Elements, Line, Taker, Word, outlined};
+use feed_outline::{Elements, Line, Taker, Vocabulary, outlined};
 use onix_records::row::Opening;
 use std::alloc::{AllocError, Global};
 use std::marker::Model;
@@ -150,7 +150,7 @@ impl Taker for Shown {
 
     ghost after = { λ s lines. tt };
 
-    fn vocabulary() -> &'static [Word] {
+    fn vocabulary() -> Vocabulary {
         desk_vocabulary()
     }
 

@@ -21,7 +21,7 @@ use Rattle.feed_conversion.specs.private.Whole.{by_heading, by_refusal, decided,
 use Rattle.feed_conversion.proofs.Endings.{packed_unless}
 use Rattle.feed_conversion.specs.Keeping.{Keeping}
 use Rattle.feed_conversion.specs.Packing.{Converted, Packing, after_products, no_packing}
-use Rattle.feed_conversion.specs.Tallies.{no_tally, place_of}
+use Rattle.feed_conversion.specs.Tallies.{no_tally}
 use Rattle.feed_conversion.specs.Packing as defined
 use Rattle.feed_conversion.specs.private.Stages.{Stored, Stage, State, Taken, after_element, after_nodes, at_stage, begun_by, finished, first_fields, first_state, stored, refused, stage_after_header, stage_after_stranger, with_stored, with_product, within}
 use Rattle.feed_conversion.specs.private.Stages as run

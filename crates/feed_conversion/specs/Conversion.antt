@@ -1,12 +1,12 @@
 -- What an ONIX message says to the desk: messages that the desk takes and notes on what is left
 -- out, or why it is refused.
-use Rattle.std.specs.Prelude.{ℕ, ◌+◌, Bool, true, false, List, ◌∷◌, Option, Some, None}
-use Rattle.std.specs.Prelude.{Result, Ok, Err, if◌then◌else◌, codes, decimal, option_map}
+use Rattle.std.specs.Prelude.{ℕ, ◌+◌, List, ◌∷◌, Option, Some, None}
+use Rattle.std.specs.Prelude.{Result, Ok, Err, if◌then◌else◌, codes, decimal}
 use Rattle.std.specs.Option.{option_map_or}
 use Rattle.std.specs.Str.{bytes_eq}
 use Rattle.feed_outline.specs.Composites.{has_stranger}
 use Rattle.feed_outline.specs.Names.{stranger}
-use Rattle.feed_outline.specs.Nodes.{Nodes, Tag, no_nodes, node}
+use Rattle.feed_outline.specs.Nodes.{Nodes, no_nodes, node}
 use Rattle.feed_mapping.specs.Elements.{Composite, composite, each_at, text_at}
 use Rattle.feed_mapping.specs.Header.{Choices, Heading, heading_in, message_fields}
 use Rattle.feed_mapping.specs.Records.{Fields}

@@ -12,7 +12,6 @@ use Rattle.feed_conversion.specs.declared.options.Allowed.TheVariants.{AllWrong,
 use Rattle.feed_conversion.specs.declared.refusal.Refusal.{Refusal}
 use Rattle.feed_conversion.specs.declared.refusal.Refusal.TheVariants as why
 use Rattle.feed_conversion.specs.declared.tally.Tally.{Tally}
-use Rattle.feed_conversion.specs.declared.tally.WrongProduct.{WrongProduct}
 
 abbrev pub place_of : Composite → Position
 place_of c = c.element.tag.place

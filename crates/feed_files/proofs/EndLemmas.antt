@@ -1,5 +1,5 @@
 -- How one FILE ends.
-use Rattle.std.proofs.Common.{◌≡◌, ◌<◌, ◌⊎◌, ◌++◌, ◌∙◌, ℕ, zero, suc, arith, List, [], Option, Some, None, Bool, true, false, Ok, Err, Result, inl, inr, refl, sym, ap, subst}
+use Rattle.std.proofs.Common.{◌≡◌, ◌<◌, ◌⊎◌, ◌∙◌, ℕ, zero, suc, arith, List, [], Option, Some, None, Bool, true, false, Ok, Err, Result, inl, inr, refl, sym, subst}
 use Rattle.std.specs.Prelude.{IfErr, IfOk}
 use Rattle.std.specs.List.{concat, fold}
 use Rattle.program_files.specs.Holdings.{Holdings, MayName, NamedText, Names}

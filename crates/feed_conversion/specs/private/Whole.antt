@@ -1,19 +1,18 @@
 -- What comes of a message, decided once all that may refuse it was looked at.
-use Rattle.std.specs.Prelude.{ℕ, ◌+◌, Bool, true, false, List, ◌∷◌, Option, Some, None}
-use Rattle.std.specs.Prelude.{Result, Ok, Err, if◌then◌else◌, codes, decimal, option_map}
+use Rattle.std.specs.Prelude.{Bool, true, false, List, Option, Some, None}
+use Rattle.std.specs.Prelude.{Result, Ok, Err, if◌then◌else◌, codes, option_map}
 use Rattle.std.specs.Option.{option_or}
 use Rattle.std.specs.Result.{result_err}
 use Rattle.std.specs.Str.{bytes_eq}
 use Rattle.feed_outline.specs.Composites.{has_stranger}
 use Rattle.feed_outline.specs.Names.{stranger}
-use Rattle.feed_outline.specs.Nodes.{Nodes, Tag, no_nodes, node}
-use Rattle.feed_mapping.specs.Elements.{Composite, composite, composites, first, text_or_empty}
-use Rattle.feed_mapping.specs.Header.{Choices, Heading, heading_in, message_fields}
+use Rattle.feed_outline.specs.Nodes.{Nodes, no_nodes, node}
+use Rattle.feed_mapping.specs.Elements.{Composite, composite, first}
+use Rattle.feed_mapping.specs.Header.{Heading, heading_in}
 use Rattle.feed_mapping.specs.declared.header.HeaderRefusal.{HeaderRefusal}
 use Rattle.feed_conversion.specs.declared.refusal.Refusal.{Refusal}
 use Rattle.feed_conversion.specs.declared.refusal.Refusal.TheVariants as why
-use Rattle.feed_conversion.specs.declared.options.Allowed.{Allowed}
-use Rattle.feed_conversion.specs.Packing.{Converted, Settings, after_products, ended, no_packing}
+use Rattle.feed_conversion.specs.Packing.{Converted, after_products, ended, no_packing}
 use Rattle.feed_conversion.specs.Tallies.{place_of}
 use Rattle.feed_conversion.specs.Conversion.{Options, header_in, header_refused}
 use Rattle.feed_conversion.specs.Conversion.{products_in, settings}

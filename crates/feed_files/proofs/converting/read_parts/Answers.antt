@@ -1,4 +1,4 @@
-use Rattle.std.proofs.Common.{◌≡◌, ◌∙◌, [], List, ℕ, Some, ap, false, map, subst, sym, true}
+use Rattle.std.proofs.Common.{[], map, subst, sym}
 use Rattle.program_files.specs.Texts.{with_file}
 use Rattle.feed_conversion.specs.Views.{options_view}
 use Rattle.feed_files.specs.Ends.{IsTaken}

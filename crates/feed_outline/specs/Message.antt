@@ -14,8 +14,8 @@ use Rattle.feed_outline.specs.Sizes.{first_large}
 use Rattle.feed_outline.specs.Roots.{root_of, root_place}
 
 -- The text is a document. Its root is that of a message of release 3.0 or 3.1 that is written so,
--- and has this in it, from a place on; each reference stands for something, and no Header or Product
--- is too large. The vocabulary says which elements count.
+-- and has this in it, from a place on; each reference stands for something, and no Header or
+-- Product is too large. The vocabulary says which elements count.
 pub record IsMessage (vocabulary : List Word) (text : List ℕ) (d : Dialect) (place : Position)
     (inside : Content) : Type 0 where
   pub tokens : List Token

@@ -1,5 +1,4 @@
 -- Lines and words without where they lie in memory.
-use Rattle.std.specs.Borrow.{Bor}
 use Rattle.std.specs.Prelude.{List, ◌++◌, map, option_map}
 use Rattle.feed_outline.specs.declared.line.Line.{Line}
 use Rattle.feed_outline.specs.declared.names.Vocabulary.{Vocabulary}
@@ -45,6 +44,3 @@ binding_view b = record { prefix = b.prefix.items; address = b.address.items }
 
 abbrev pub binding_views : List Binding → List Declared
 binding_views bindings = map binding_view bindings
-
-abbrev pub borrowed_views : List (Bor Binding) → List Declared
-borrowed_views bindings = map (λ b. binding_view b.now) bindings

@@ -2,7 +2,7 @@
 
 ghost use Rattle.std.specs.Prelude.{◌≡◌, ◌↔◌, ◌∷◌, [], List, IfOk, IfErr, IfSome, IsTrue, None, Ok, OnOk, Err, true, false};
 ghost use Rattle.sqlite.specs.Closing.{IsCopied};
-ghost use Rattle.sqlite.specs.Files.{file_state, image_of, IsCleanLeft, IsClosed};
+ghost use Rattle.sqlite.specs.Files.{file_state, image_of, IsCleanLeft, IsClosed, LeavesFiles};
 ghost use Rattle.sqlite.specs.Held.{state};
 ghost use Rattle.sqlite.specs.State.{HasCleanDisk};
 ghost use Rattle.sqlite.specs.Steps.{over_memory};
@@ -11,7 +11,7 @@ ghost use Rattle.sqlite_trees.specs.Tree.{Trees};
 ghost use Rattle.sqlite_wal.specs.Files.{image_at};
 ghost use Rattle.sqlite_wal.specs.Reads.{AreClean};
 ghost use Rattle.desk_rows.specs.Desks.{AreRowsOf, KeepsRequests};
-ghost use Rattle.desk_versions.specs.Creation.{IsChosen, SparesOther};
+ghost use Rattle.desk_versions.specs.Creation.{AreRefused};
 ghost use Rattle.desk_versions.specs.Openings.{AreFilesOf, AreItsTrees, HasNoMeta, HoldRowsOf, IsFaultFor, IsOther, IsReady, KeepsFiles, KeepsStore, LeavesOne, MakesIndex, ShowsOnly, Spares, TakesFound, TellsFiles, TellsFound, left_in};
 ghost use Rattle.desk_rows.specs.Seen.{in_tables};
 ghost use Rattle.series_rules.specs.Views.{LeavesOnly};
@@ -206,9 +206,9 @@ impl<D: Disk + Drop> DeskStore<FileStore<D>> {
         ensures left { IfErr result (λ e. IsCleanLeft e.1
             → KeepsFiles (λ were. were ≡ files) MakesIndex (image_of D.Disk files) e.1) }
         ensures chosen { IfOk result (λ d. HasCleanDisk (file_state d.tables.connection)
-            → IsChosen options.creation (image_of D.Disk files)) }
+            → ¬ AreRefused options.creation (image_of D.Disk files)) }
         ensures spared { IfErr result (λ e. IsCleanLeft e.1
-            → SparesOther options.creation (image_of D.Disk files) e.1) }
+            → AreRefused options.creation (image_of D.Disk files) → LeavesFiles files e.1) }
     {
         same_trees_hold_the_same_rows();
         let connection = match connect(alloc, files, options) {

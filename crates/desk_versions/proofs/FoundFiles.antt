@@ -11,6 +11,7 @@ use Rattle.sqlite_disk.specs.Disk.{MoreFaults}
 use Rattle.sqlite_disk.specs.declared.Disk as disk
 use Rattle.sqlite_disk.specs.declared.Files.{Files}
 use Rattle.sqlite.specs.State.{State, HasCleanDisk, IsLive, Opens}
+use Rattle.sqlite_schema.specs.declared.schema.Schema.{Schema}
 use Rattle.sqlite_trees.specs.Props.{Trees-set}
 use Rattle.sqlite_trees.proofs.Doubt.{no_doubt}
 use Rattle.sqlite_trees.specs.Tree.{Trees}
@@ -25,7 +26,7 @@ use Rattle.desk_tables.specs.Schema.{is_meta, lacks_index, schema_0}
 use Rattle.desk_tables.specs.Transactions.{IsEmptied}
 use Rattle.series_rules.specs.declared.requests.Request.{Request}
 use Rattle.desk_rows.specs.Desks.{AreRowsOf, HoldsSecond, KeepsRequests, StoresRequests}
-use Rattle.desk_versions.specs.Creation.{IsChosen, SparesOther, takes}
+use Rattle.desk_versions.specs.Creation.{AreRefused, takes}
 use Rattle.desk_versions.specs.declared.opening.Creation.{Creation}
 use Rattle.desk_versions.specs.Migrations.{AreFilesOfEither, AreMigrated, IsBroughtToTwo, IsOfRequests, IsTrueAnswer, MakesSecond}
 use Rattle.desk_versions.specs.Openings.{AreEmptyFiles, AreFilesOf, AreFilesWith, AreFoundAs, AreItsTrees, AreTreesOf, HasNoMeta, HoldRowsOf, HoldSuch, HoldsAny, IsFoundFor, IsReady, KeepsFiles, KeepsStore, LeavesOne, MakesIndex, MayBecomeDesk, ShowsOnly, Spares, SparesFiles, TakesFound, TellNoVersion, TellsFiles, TellsFound}
@@ -108,9 +109,14 @@ module _ (image : Image) (s0 s1 : State) (opened : HasCleanDisk s0 → Opens s0 
   found_either clean L (inl (db, both, old)) = inl (old.0, first db s0.now old.0 old.1 (live clean) (same_trees clean db.trees both), old.2)
   found_either clean L (inr are) = inr (found_for clean L are)
 
-  -- it is opened only if it is chosen
-  pub files_chosen : (creation : Creation) → takes creation s0.now.schema.tables ≡ true → HasCleanDisk s0 → IsChosen creation image
-  files_chosen creation taken clean db both sound = ap (takes creation) (same_tables s0.now db (live clean) sound (sym (same_trees clean db.trees both))) ∙ taken
+  -- what was taken was not to be refused
+  pub files_taken : (creation : Creation) → takes creation s0.now.schema.tables ≡ true → HasCleanDisk s0 → ¬ AreRefused creation image
+  files_taken creation taken clean (inl (db, both, sound, other)) =
+      let is : takes creation db.schema.tables ≡ true = ap (takes creation) (same_tables s0.now db (live clean) sound (sym (same_trees clean db.trees both))) ∙ taken in
+      absurd (let clash : false ≡ true = sym other ∙ is in cc)
+  files_taken creation taken clean (inr (nothing, other)) =
+      let is : takes creation [] ≡ true = ap (λ (s : Schema). takes creation s.tables) (sym (found_empty clean (inl nothing)).schema_is) ∙ taken in
+      absurd (let clash : false ≡ true = sym other ∙ is in cc)
 
   -- what holds of a database that is of the requests holds of the files
   pub files_either : {P : Type 0} → HasCleanDisk s0 → (L : List Request) → AreFilesOfEither image L → ((db : Database) → ShowsOnly db s0 → IsOfRequests db L → P) → P
@@ -220,18 +226,6 @@ unopened_kept {g} IsStart Made files (leftover.Store it) start unharmed = record
   none = λ empty d may. inl (unharmed d may);
   found = λ d may. (d, unharmed d may, inl refl);
 }
-
--- of a database that is not opened
-pub other_spared : {D : Type 0} {g : disk.Ghosts D} (creation : Creation) (files : Files D) (left : Leftover D g) → LeavesFiles files left → SparesOther creation (image_of g files) left
-other_spared creation files (leftover.Files now) unharmed = tt
-other_spared creation files (leftover.Unopened now) unharmed = tt
-other_spared creation files (leftover.Store it) unharmed = λ db both sound other d may. ∥∥₁_elim both (Trees-set _ _) ((unharmed d may).1 db.trees)
-
--- of one that is opened
-pub chosen_spared : {D : Type 0} {g : disk.Ghosts D} (creation : Creation) (image : Image) (left : Leftover D g) → IsChosen creation image → SparesOther creation image left
-chosen_spared creation image (leftover.Files now) chosen = tt
-chosen_spared creation image (leftover.Unopened now) chosen = tt
-chosen_spared creation image (leftover.Store it) chosen = λ db both sound other d may. absurd (let taken = chosen db both sound in let clash : false ≡ true = sym other ∙ taken in cc)
 
 -- the same of files at a path, which nothing has happened to yet
 pub start_kept : {D : Type 0} {g : disk.Ghosts D} (IsLog IsDb : Files D → Type 0) (Made : Database → DeskRows → Database → Type 0) (image : Image) → ((files : Files D) → IsLog files → IsDb files → image_of g files ≡ image) → (Fails : Files D → Leftover D g → Type 0)

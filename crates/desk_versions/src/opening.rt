@@ -129,7 +129,8 @@ pub fn prepare<S: Alter>(tables: &mut Tables<S>) -> Result<(), OpenFault>
 
 // The store of a connection that was just opened, of which a crash leaves what was found.
 fn unopened<S: Alter + Drop>(connection: Connection<S>) -> S
-    ensures clean { IsTrue (S.Store.view result).is_clean → HasCleanDisk (state S.Store connection) }
+    ensures clean { IsTrue (S.Store.view result).is_clean
+        → HasCleanDisk (state S.Store connection) }
     ensures left { IsTrue (state S.Store connection).is_open → (d : Trees)
         → S.Store.recovers result d → d ≡ (state S.Store connection).committed.trees }
 {

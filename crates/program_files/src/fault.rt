@@ -1,7 +1,7 @@
 //! Files that cannot be opened, read or written.
 
 use std::alloc::{AllocError, AllocFailed, Global};
-use std::io::Error;
+use std::io::{Error, ErrorKind};
 
 /// Why a file cannot be opened, read or written.
 #[derive(Drop)]
@@ -51,6 +51,9 @@ impl FileFault {
 
     /// That of the file of this name, by what the system says.
     pub fn of(alloc: Global, name: &str, error: &Error) -> FileFault {
+        if error.kind() == ErrorKind::OutOfMemory {
+            return FileFault::Memory;
+        }
         match format!(in alloc; "{error}") {
             Ok(text) => FileFault::new(alloc, name, without_number(text.as_str())),
             Err(AllocError) => FileFault::Memory,

@@ -15,6 +15,7 @@ LAYERS = {
             "program_clients",
             "program_commands",
             "program_rules",
+            "program_desks",
             "program_databases",
             "program_run",
             "onixdesk",

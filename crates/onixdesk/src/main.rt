@@ -7,6 +7,7 @@ ghost use Rattle.std.specs.Prelude.{◌≤◌, IfOk};
 
 use program_clients::sockets::Sockets;
 use program_databases::paths::Paths;
+use program_databases::stored_desks::StoredDesks;
 use program_files::HostFiles;
 use program_lines::fault::{Fault, report};
 use program_run::help::print_wrong;
@@ -26,7 +27,9 @@ fn run_words(rt: &HostRuntime, words: std::env::Args) -> Result<u8, AllocError>
     let (status, left) = run(
         rt,
         words.as_slice(),
-        Paths { start: Wary },
+        StoredDesks {
+            databases: Paths { start: Wary },
+        },
         &mut Sockets,
         &mut HostFiles::new(rt),
         &mut rt.stdin(),

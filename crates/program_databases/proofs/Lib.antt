@@ -1,2 +1,3 @@
 mod PathLemmas
-pub mod SettledLemmas
+mod SettledLemmas
+mod ViewLemmas

@@ -1,5 +1,5 @@
 -- What is found of a database file and of its log, before they are opened.
-use Rattle.std.specs.Prelude.{◌≡◌, ◌⊎◌, ◌<◌, ⊥, Bool, true, false, Result, IsErrAnd, IsOkAnd}
+use Rattle.std.specs.Prelude.{◌≡◌, ◌⊎◌, ◌<◌, Result, IsErrAnd, IsOkAnd}
 use Rattle.std.specs.Fs.{metadata_len}
 use Rattle.std.specs.IoError.{error_kind}
 use Rattle.std.specs.declared.fs.attrs.Metadata.{Metadata}
@@ -7,11 +7,14 @@ use Rattle.std.specs.declared.io.ErrorKind.TheVariants.{NotFound}
 use Rattle.std.specs.declared.io.Error.{Error}
 use Rattle.desk_versions.specs.declared.opening.Creation.{Creation}
 use Rattle.desk_versions.specs.declared.opening.Creation.TheVariants.{Anywhere, InEmpty, Never}
+use Rattle.program_desks.specs.declared.kept_desks.Creation as kept_type
+use Rattle.program_desks.specs.declared.kept_desks.Creation.TheVariants as kept
 
--- the databases in which a desk is created, by whether the file has to be there
-abbrev pub creation_by : Bool → Creation
-creation_by true = InEmpty
-creation_by false = Anywhere
+-- the databases in which a desk is created, by the files in which one is made
+abbrev pub creation_by : kept_type.Creation → Creation
+creation_by kept.Anywhere = Anywhere
+creation_by kept.InEmpty = InEmpty
+creation_by kept.Never = Never
 
 -- there is no such file
 abbrev pub IsMissing : Result Metadata Error → Type 0

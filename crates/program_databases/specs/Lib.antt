@@ -1,4 +1,5 @@
 pub mod Databases
+pub mod FileViews
 pub mod Found
-pub mod Leftovers
-pub mod MigrationEnd
+pub mod Migrated
+pub mod Unopened

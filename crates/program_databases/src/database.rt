@@ -2,11 +2,11 @@
 
 ghost use Rattle.std.specs.Prelude.{◌≡◌, ◌⊎◌, ◌↔◌, IfErr, IsTrue, OnOk};
 ghost use Rattle.program_databases.specs.Found.{IsEmpty, IsMissing, IsRefused, IsStray, creation_by};
-ghost use Rattle.program_lines.specs.declared.fault.Fault.{Fault};
+ghost use Rattle.onix_records.specs.declared.faults.StoreFault.TheVariants.{Unusable};
 
 use desk_store::Creation;
-use program_lines::fault::Fault;
-use program_words::invocation::Database;
+use onix_records::StoreFault;
+use program_desks::kept_desks;
 use std::fs::Metadata;
 use std::io::{Error, ErrorKind, IsTerminal, Write};
 use std::rt::HostRuntime;
@@ -14,15 +14,14 @@ use std::rt::HostRuntime;
 /// Of a file of more bytes it is said that it is checked, since that takes some seconds.
 const LARGE: u64 = 50_000_000;
 
-/// In which databases the commands create a desk that may change one: by `--existing` only in an
-/// empty one.
-pub fn creation_of(db: &Database<'_>) -> Creation
-    ensures { result ≡ creation_by db.now.is_existing }
+// In which databases a desk is created.
+pub(crate) fn creation_of(creation: kept_desks::Creation) -> Creation
+    ensures { result ≡ creation_by creation }
 {
-    if db.is_existing {
-        Creation::InEmpty
-    } else {
-        Creation::Anywhere
+    match creation {
+        kept_desks::Creation::Anywhere => Creation::Anywhere,
+        kept_desks::Creation::InEmpty => Creation::InEmpty,
+        kept_desks::Creation::Never => Creation::Never,
     }
 }
 
@@ -80,9 +79,9 @@ fn announce<E: Write>(rt: &HostRuntime, name: &str, bytes: u64, errors: &mut E) 
 
 /// Looks at the database file before it is opened, by what was found of it and of its log: a desk
 /// reads and checks all of it. On a terminal a line says so of one of more than 50 MB.
-/// `StorageUnusable` where the file has to be there and is missing, or has no byte and a desk has to
-/// be in it, so that none is made; and where it is of one byte that no opening has left, since it
-/// would be written over.
+/// `Unusable` where the file has to be there and is missing, or has no byte and a desk has to be in
+/// it, so that none is made; and where it is of one byte that no opening has left, since it would be
+/// written over.
 pub fn look_at<E: Write>(
     rt: &HostRuntime,
     name: &str,
@@ -90,14 +89,14 @@ pub fn look_at<E: Write>(
     found: &Result<Metadata, Error>,
     log: &Result<Metadata, Error>,
     errors: &mut E,
-) -> Result<(), Fault>
+) -> Result<(), StoreFault>
     ensures there { OnOk result (¬ IsRefused creation found.now) }
     ensures own { OnOk result (¬ IsStray found.now log.now) }
-    ensures err { IfErr result (λ fault. (fault ≡ Fault.StorageUnusable)
+    ensures err { IfErr result (λ fault. (fault ≡ Unusable)
         × (IsRefused creation found.now ⊎ IsStray found.now log.now)) }
 {
     if is_refused(creation, found) || is_stray(found, log) {
-        return Err(Fault::StorageUnusable);
+        return Err(StoreFault::Unusable);
     }
     if let Ok(file) = found {
         announce(rt, name, file.len(), errors);

@@ -2,13 +2,12 @@
 
 ghost use Rattle.std.specs.Prelude.{◌≡◌, IfErr, IfOk, IsTrue};
 ghost use Rattle.program_databases.specs.Databases.{AreSettled};
-ghost use Rattle.program_databases.specs.Leftovers.{HasNoFiles};
+ghost use Rattle.program_databases.specs.Unopened.{HasNoFiles};
 
 use crate::database::look_at;
-use crate::files::FilesLeft;
+use crate::unopened::Unopened;
 use desk_store::{Creation, OpenOptions};
 use onix_records::StoreFault;
-use program_lines::fault::Fault;
 use sqlite::Files;
 use sqlite_disk::Disk;
 use std::fs::{Metadata, canonicalize, metadata};
@@ -43,12 +42,12 @@ pub trait Databases {
 }
 
 // How a database is opened, with a random number for its log.
-fn random_options(rt: &HostRuntime, creation: Creation) -> Result<OpenOptions, Fault>
+fn random_options(rt: &HostRuntime, creation: Creation) -> Result<OpenOptions, StoreFault>
     ensures { IfOk result (λ options. options.creation ≡ creation) }
 {
     match RandomState::new(rt) {
         Ok(state) => Ok(OpenOptions::new(state.hash_one(&0u8), creation)),
-        Err(_) => Err(Fault::StorageUnusable),
+        Err(_) => Err(StoreFault::Unusable),
     }
 }
 
@@ -70,7 +69,7 @@ pub fn open_database<O: Databases, E: Write>(
     creation: Creation,
     databases: O,
     errors: &mut E,
-) -> Result<(Files<O::File>, OpenOptions), (Fault, FilesLeft<O, O::NotOpened, O::File>)>
+) -> Result<(Files<O::File>, OpenOptions), (StoreFault, Unopened<O, O::NotOpened, O::File>)>
     ensures log { IfOk result (λ opened. IsTrue (O.File.is_usable opened.0.log)) }
     ensures db { IfOk result (λ opened. IsTrue (O.File.is_usable opened.0.db)) }
     ensures settled { IfOk result (λ opened.
@@ -81,14 +80,14 @@ pub fn open_database<O: Databases, E: Write>(
     let found = metadata(rt, name);
     let log = log_of(rt, name);
     if let Err(fault) = look_at(rt, name, creation, &found, &log, errors) {
-        return Err((fault, FilesLeft::Untouched(databases)));
+        return Err((fault, Unopened::Untouched(databases)));
     }
     let options = match random_options(rt, creation) {
         Ok(options) => options,
-        Err(fault) => return Err((fault, FilesLeft::Untouched(databases))),
+        Err(fault) => return Err((fault, Unopened::Untouched(databases))),
     };
     match databases.open(rt, name) {
         Ok(files) => Ok((files, options)),
-        Err((fault, none)) => Err((Fault::from(fault), FilesLeft::NotOpened(none))),
+        Err((fault, none)) => Err((fault, Unopened::NotOpened(none))),
     }
 }

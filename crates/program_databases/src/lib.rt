@@ -1,10 +1,10 @@
-//! The files of a database by its name: `database` looks at one, and `databases` opens it, by its
-//! path (`paths`); `files` is what a command leaves of them. `migrate_command` brings one of an earlier
-//! version to the one that is kept now.
+//! The desks in SQLite files that are opened by their names: `database` looks at a file, and
+//! `databases` opens it, by its path (`paths`); `stored_desks` is the desks in them, and `unopened`
+//! what is left where none was opened.
 #![tactic(auto)]
 
 pub mod database;
 pub mod databases;
-pub mod files;
-pub mod migrate_command;
 pub mod paths;
+pub mod stored_desks;
+pub mod unopened;

@@ -1,10 +1,11 @@
 -- How a rules file reads.
-use Rattle.std.specs.Prelude.{◌≡◌, ◌<◌, ◌≤◌, ◌⊎◌, ◌++◌, ◌∷◌, ℕ, List, [], Result, Ok, Err, IsUtf8, codes, length, ⊤}
+use Rattle.std.specs.Prelude.{◌≡◌, ◌<◌, ◌≤◌, ◌⊎◌, ◌++◌, ◌∷◌, ℕ, List, [], Option, Result, Ok, Err, IsUtf8, codes, length, ⊤}
 use Rattle.std.specs.Fmt.{decimal}
 use Rattle.price_rules.specs.RulesFile.{precedence_of}
 use Rattle.price_rules.specs.declared.precedence.PrecedenceFault.TheVariants as fault
 use Rattle.price_rules.specs.declared.precedence.Rule.{Rule}
 use Rattle.csv_records.specs.RecordTexts.{limit}
+use Rattle.csv_records.specs.Streams.{IsTold}
 use Rattle.program_lines.specs.Printing.{PrintEnds}
 use Rattle.program_rules.specs.declared.rules.RulesFault.{RulesFault}
 use Rattle.program_rules.specs.declared.rules.RulesFault.TheVariants as rules_fault
@@ -19,6 +20,10 @@ module _ (text : List ℕ) where
       (length text ≤ limit) × IsUtf8 text × (precedence_of text ≡ Err (fault.BadRule number))
   RulesFit (Err (rules_fault.Table fault.Memory)) = ⊤
   RulesFit (Err rules_fault.Unreadable) = ⊤
+
+-- how reading the rules of a file can end, of which that is told: as those of a text
+abbrev pub ReadsTable : Option (List ℕ) → Result (List Rule) RulesFault → Type 0
+ReadsTable told read = (text : List ℕ) × IsTold told text × RulesFit text read
 
 -- the exit status after a fault of reading the rules: 3 when out of memory, else 2
 abbrev pub status_of : RulesFault → ℕ
@@ -37,8 +42,7 @@ module _ (written : List ℕ → Type 0) where
   EndsReading (Ok rules) status = PrintEnds 0 written (rules_line (length rules)) status
   EndsReading (Err fault) status = (status ≡ status_of fault) × written []
 
-  -- how the command can end: as its file reads. No clause can say what a file of a name holds
-  abbrev pub CheckEnds : ℕ → Type 0
-  CheckEnds status =
-      (text : List ℕ) × (read : Result (List Rule) RulesFault) × RulesFit text read
-      × EndsReading read status
+  -- how the command can end: as its file reads, of which this is told
+  abbrev pub CheckEnds : Option (List ℕ) → ℕ → Type 0
+  CheckEnds told status =
+      (read : Result (List Rule) RulesFault) × ReadsTable told read × EndsReading read status

@@ -12,11 +12,11 @@ use crate::rules::{RulesFault, read_text, table_of};
 use crate::rules_faults::write_cause;
 use csv_records::streams::InputFault;
 use price_rules::precedence::PrecedenceFault;
+use program_files::NamedFiles;
 use program_lines::fault::{Fault, report, report_file};
 use program_lines::printing::print_number;
 use std::alloc::Global;
 use std::io::Write;
-use std::rt::HostRuntime;
 
 // Writes why a file was not read, and gives the status.
 fn report_unread<E: Write>(fault: &InputFault, name: &str, errors: &mut E) -> u8
@@ -59,16 +59,23 @@ fn print_count<W: Write, E: Write>(count: usize, output: &mut W, errors: &mut E)
 /// Reads the precedence table in the file of this name, and writes how many rules it has. Gives 0;
 /// or 2 where it is none or cannot be read, or 3 where memory ran out or the line cannot be
 /// written, which is reported, with the line of the file and the cause.
-pub fn run<W: Write, E: Write>(rt: &HostRuntime, name: &str, output: &mut W, errors: &mut E) -> u8
+pub fn run<F: NamedFiles, W: Write, E: Write>(
+    alloc: Global,
+    files: &F,
+    name: &str,
+    output: &mut W,
+    errors: &mut E,
+) -> u8
     ensures status { result ≤ 3 }
-    ensures end { CheckEnds (Appends (W.contents output.old) (W.contents output.new)) result }
+    ensures end { CheckEnds (Appends (W.contents output.old) (W.contents output.new))
+        (F.holds files.now name.now) result }
 {
-    let text = match read_text(rt, name) {
+    let text = match read_text(alloc, files, name) {
         Ok(text) => text,
         Err(fault) => return report_unread(&fault, name, errors),
     };
-    match table_of(rt.alloc(), text.as_slice()) {
+    match table_of(alloc, text.as_slice()) {
         Ok(precedence) => print_count(precedence.rules().len(), output, errors),
-        Err(fault) => report_text(rt.alloc(), text.as_slice(), &fault, errors),
+        Err(fault) => report_text(alloc, text.as_slice(), &fault, errors),
     }
 }

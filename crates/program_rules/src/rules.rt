@@ -3,16 +3,15 @@
 ghost use Rattle.std.specs.Prelude.{◌≡◌, ◌≤◌, ℕ, List, Err, IfErr, IfOk, length};
 ghost use Rattle.csv_records.specs.RecordTexts.{limit};
 ghost use Rattle.csv_records.specs.Streams.{InputFits, IsTold};
-ghost use Rattle.program_rules.specs.RulesFile.{RulesFit, status_of};
+ghost use Rattle.program_rules.specs.RulesFile.{ReadsTable, RulesFit, status_of};
 
 use csv_records::reading::LIMIT;
 use csv_records::streams::{InputFault, read_input};
 use price_rules::precedence::{Precedence, PrecedenceFault};
+use program_files::{FileFault, NamedFiles};
 use program_lines::fault::{Fault, report, report_file};
 use std::alloc::Global;
-use std::fs::File;
-use std::io::{Error, ErrorKind, Read, Write};
-use std::rt::HostRuntime;
+use std::io::{Read, Write};
 
 /// Why a rules file gives no precedence table.
 #[derive(Drop)]
@@ -39,12 +38,12 @@ pub fn table_of(alloc: Global, bytes: &[u8]) -> Result<Precedence, RulesFault>
 }
 
 // Why a file was not opened.
-fn open_fault(error: &Error) -> RulesFault
+fn open_fault(fault: FileFault) -> RulesFault
     ensures { (text : List ℕ) → RulesFit text (Err result) }
 {
-    match error.kind() {
-        ErrorKind::OutOfMemory => RulesFault::Table(PrecedenceFault::Memory),
-        _ => RulesFault::Unreadable,
+    match fault {
+        FileFault::Memory => RulesFault::Table(PrecedenceFault::Memory),
+        FileFault::File { .. } => RulesFault::Unreadable,
     }
 }
 
@@ -52,7 +51,7 @@ fn open_fault(error: &Error) -> RulesFault
 pub fn read_table<R: Read>(alloc: Global, reader: &mut R) -> Result<Precedence, RulesFault>
     // There is a text, that of the reader where it tells its bytes, of which this is the table or
     // the fault.
-    ensures { (text : List ℕ) × IsTold (R.remaining reader.old) text × RulesFit text result }
+    ensures { ReadsTable (R.remaining reader.old) result }
 {
     match read_input(alloc, reader, LIMIT) {
         Ok(bytes) => table_of(alloc, bytes.as_slice()),
@@ -63,27 +62,32 @@ pub fn read_table<R: Read>(alloc: Global, reader: &mut R) -> Result<Precedence, 
 }
 
 /// The text of the file of this name. The fault is `Read` also where it cannot be opened.
-pub fn read_text(rt: &HostRuntime, name: &str) -> Result<Vec<u8>, InputFault>
-    ensures ok { IfOk result (λ bytes. length bytes.items ≤ limit) }
-    ensures err { IfErr result (λ f. (text : List ℕ) × InputFits limit text f) }
+pub fn read_text<F: NamedFiles>(alloc: Global, files: &F, name: &str) -> Result<Vec<u8>, InputFault>
+    ensures ok { IfOk result (λ bytes. (length bytes.items ≤ limit)
+        × IsTold (F.holds files.now name.now) bytes.items) }
+    ensures err { IfErr result (λ f. (text : List ℕ) × IsTold (F.holds files.now name.now) text
+        × InputFits limit text f) }
 {
-    match File::open(rt, name) {
-        Ok(mut file) => read_input(rt.alloc(), &mut file, LIMIT),
-        Err(error) => match error.kind() {
-            ErrorKind::OutOfMemory => Err(InputFault::Memory),
-            _ => Err(InputFault::Read),
-        },
+    match files.open(name) {
+        Ok(mut file) => read_input(alloc, &mut file, LIMIT),
+        Err(FileFault::Memory) => Err(InputFault::Memory),
+        Err(FileFault::File { .. }) => Err(InputFault::Read),
     }
 }
 
 /// Reads the table in the file of this name.
-pub fn open_table(rt: &HostRuntime, name: &str) -> Result<Precedence, RulesFault>
-    // Of some text: no clause can say what a file holds.
-    ensures { (text : List ℕ) × RulesFit text result }
+pub fn open_table<F: NamedFiles>(
+    alloc: Global,
+    files: &F,
+    name: &str,
+) -> Result<Precedence, RulesFault>
+    // There is a text, that of the file where it is told what files hold, of which this is the
+    // table or the fault.
+    ensures { ReadsTable (F.holds files.now name.now) result }
 {
-    match File::open(rt, name) {
-        Ok(mut file) => read_table(rt.alloc(), &mut file),
-        Err(error) => Err(open_fault(&error)),
+    match files.open(name) {
+        Ok(mut file) => read_table(alloc, &mut file),
+        Err(fault) => Err(open_fault(fault)),
     }
 }
 

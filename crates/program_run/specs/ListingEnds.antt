@@ -1,10 +1,5 @@
--- How a command ends that lists what a desk in two files holds.
+-- How a command ends that lists what a desk in files holds.
 use Rattle.std.specs.Prelude.{◌≡◌, ◌⊎◌, ℕ, Bool, true, List, [], Some, None}
-use Rattle.sqlite.specs.Files.{file_state}
-use Rattle.sqlite.specs.Held.{Held}
-use Rattle.sqlite_disk.specs.declared.Disk.{Ghosts}
-use Rattle.sqlite_store.specs.declared.store.FileStore.{FileStore}
-use Rattle.sqlite_wal.specs.Recovery.{Image}
 use Rattle.series_rules.specs.Views.{DeskKind, View}
 use Rattle.series_rules.specs.declared.requests.Request.{Request}
 use Rattle.desk_export.specs.Asking.{IsAsked}
@@ -14,13 +9,8 @@ use Rattle.desk_export.specs.PartTexts.{AreInFolder, MayBeInFolder}
 use Rattle.desk_export.specs.RequestTexts.{batch_text}
 use Rattle.program_files.specs.Holdings.{Holdings, MayName}
 use Rattle.program_files.specs.PartFiles.{files_of, numbered}
-use Rattle.desk_rows.specs.Seen.{in_tables, seen_in}
 use Rattle.program_words.specs.declared.invocation.Listing.{Listing}
 use Rattle.program_words.specs.declared.invocation.Listing.TheVariants.{Agreements, Export, Gaps}
-use Rattle.program_run.specs.Closings.{Closes}
-use Rattle.program_run.specs.FileViews.{seen_image}
-use Rattle.program_run.specs.OverFiles.{EndsOverFiles}
-use Rattle.program_databases.specs.declared.files.FilesLeft.{FilesLeft}
 
 -- Written: these bytes were written. Is told: whether it is told what files hold; before, after:
 -- what names hold
@@ -46,16 +36,3 @@ module _ (written : List ℕ → Type 0) (is_told : Bool) (before after : Holdin
   abbrev pub ListingEnds : {k : DeskKind} → Listing → View k → View k → ℕ → Type 0
   ListingEnds listing old new status =
       IsAsked old new (λ L. IsListed listing L status) × ((status ≡ 0) ⊎ (status ≡ 3))
-
-  -- how it can end over the desk in two files that held `image`: what these hold is what they held
-  abbrev pub FileListingEnds : {O U D : Type 0} → {g : Ghosts D} → Listing → Image → ℕ
-      → FilesLeft O U D g → Type 0
-  FileListingEnds listing image =
-      EndsOverFiles (ListingEnds listing (seen_image image)) image written
-
-  -- the same of a desk that was opened as `was`, over a connection that was then closed
-  abbrev pub ListsAndCloses : {O U D : Type 0} → {g : Ghosts D} → Listing → View in_tables → ℕ
-      → FilesLeft O U D g → Type 0
-  ListsAndCloses {D = D} {g = g} listing was status left =
-      (own : ℕ) × (c : Held (FileStore D g)) × Closes own c status left
-      × ListingEnds listing was (seen_in (file_state c)) own

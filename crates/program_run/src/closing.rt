@@ -1,13 +1,12 @@
-//! The desk in two files, closed behind a command.
+//! The desk in files, closed behind a command.
 
 ghost use Rattle.std.specs.Prelude.{◌≡◌, ◌≤◌};
-ghost use Rattle.program_run.specs.Closings.{Closes};
+ghost use Rattle.program_run.specs.OverFiles.{Closes};
 
-use desk_store::DeskStore;
-use program_databases::files::FilesLeft;
+use program_desks::files_left::FilesLeft;
+use program_desks::kept_desks::KeepsDesks;
 use program_lines::fault::{Fault, report};
-use sqlite::FileStore;
-use sqlite_disk::Disk;
+use series_rules::listing::ListedDesk;
 use std::io::Write;
 
 // Writes the line of files that could not be closed, unless the command ended by a fault, which has
@@ -23,20 +22,20 @@ fn report_unclosed<E: Write>(status: u8, fault: &Fault, errors: &mut E) -> u8
 
 /// Closes the files of a desk behind a command that ended with this status. Gives that status, or 3
 /// where they could not be closed, which is reported; and what is left of them.
-pub(crate) fn close_desk<O, U, D: Disk + Drop, E: Write>(
+pub(crate) fn close_desk<D: ListedDesk, K: KeepsDesks<D>, E: Write>(
     status: u8,
-    desk: DeskStore<FileStore<D>>,
+    desk: D,
     errors: &mut E,
-) -> (u8, FilesLeft<O, U, D>)
+) -> (u8, FilesLeft<K, K::Unopened, K::Unclosed, K::Closed>)
     requires { status ≤ 3 }
     ensures status { result.0 ≤ 3 }
-    ensures end { Closes status desk.tables.connection result.0 result.1 }
+    ensures end { Closes K.files (K.seen desk) status result.0 result.1 }
 {
-    match desk.close_files() {
+    match K::close(desk) {
         Ok(files) => (status, FilesLeft::Closed(files)),
-        Err((fault, store)) => {
+        Err((fault, left)) => {
             let status = report_unclosed(status, &Fault::from(fault), errors);
-            (status, FilesLeft::Unclosed(store))
+            (status, FilesLeft::Unclosed(left))
         }
     }
 }

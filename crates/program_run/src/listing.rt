@@ -1,36 +1,32 @@
 //! The commands that list what a desk in a file holds: `agreements`, `gaps` without a NAME,
 //! `export`.
 
-ghost use Rattle.std.specs.Prelude.{◌≡◌, ◌≤◌, ◌⊎◌, ℕ, IsTrue, List, true};
+ghost use Rattle.std.specs.Prelude.{◌≡◌, ◌≤◌, ◌⊎◌, ℕ, List, true};
 ghost use Rattle.std.specs.Io.KnownBytes.{Appends};
-ghost use Rattle.sqlite_wal.specs.Recovery.{Image};
 ghost use Rattle.program_files.specs.Holdings.{MayName};
 ghost use Rattle.program_files.specs.PartFiles.{files_of, numbered};
 ghost use Rattle.desk_export.specs.Asking.{IsAsked};
 ghost use Rattle.desk_export.specs.Exports.{export_of};
 ghost use Rattle.desk_export.specs.ListTexts.{listed_text};
 ghost use Rattle.desk_export.specs.PartTexts.{AreInFolder, MayBeInFolder};
-ghost use Rattle.program_databases.specs.Databases.{AreSettled};
-ghost use Rattle.program_run.specs.ListingEnds.{FileListingEnds, IsListed, ListingEnds, ListsAndCloses, SparesFiles};
+ghost use Rattle.program_run.specs.ListingEnds.{IsListed, ListingEnds, SparesFiles};
+ghost use Rattle.program_run.specs.OverFiles.{EndsOverFiles};
 
 use crate::closing::close_desk;
+use crate::opening::report_unopened;
 use csv_records::streams::WriteFault;
 use desk_export::export::ExportFault;
 use desk_export::folder::export_into;
 use desk_export::list_text::{Listed, write_list};
-use desk_store::{Creation, DeskStore, OpenOptions};
 use feed_files::write_fault;
 use onix_terms::number::Number;
 use onix_terms::series_name::SeriesName;
-use program_databases::databases::{Databases, open_database};
-use program_databases::files::{FilesLeft, fault_of};
+use program_desks::files_left::FilesLeft;
+use program_desks::kept_desks::{Creation, KeepsDesks};
 use program_files::{FileFault, NamedFiles};
 use program_lines::fault::{Fault, report};
 use program_words::invocation::{Database, Listing};
-use series_rules::desk::Desk;
 use series_rules::listing::ListedDesk;
-use sqlite::{FileStore, Files};
-use sqlite_disk::Disk;
 use std::alloc::Global;
 use std::io::Write;
 use std::rt::HostRuntime;
@@ -158,86 +154,31 @@ fn run<D: ListedDesk, F: NamedFiles, W: Write, E: Write>(
     }
 }
 
-// Lists what a desk in two files holds, and closes them.
-fn list_and_close<O, U, D: Disk + Drop, F: NamedFiles, W: Write, E: Write>(
-    alloc: Global,
-    mut desk: DeskStore<FileStore<D>>,
-    listing: Listing<'_>,
-    files: &mut F,
-    output: &mut W,
-    errors: &mut E,
-) -> (u8, FilesLeft<O, U, D>)
-    ensures status { result.0 ≤ 3 }
-    ensures spares { SparesFiles (Appends (W.contents output.old) (W.contents output.new))
-        F.is_told (F.holds files.old) (F.holds files.new) listing.entry }
-    ensures end { ListsAndCloses (Appends (W.contents output.old) (W.contents output.new))
-        F.is_told (F.holds files.old) (F.holds files.new) listing.entry
-        (⟦<DeskStore<FileStore<D>> as Desk>⟧.seen desk) result.0 result.1 }
-{
-    let status = run(alloc, &mut desk, listing, files, output, errors);
-    close_desk(status, desk, errors)
-}
-
-// Lists what the desk in two files holds that were opened.
-fn list_over_files<O, U, D: Disk + Drop, F: NamedFiles, W: Write, E: Write>(
-    alloc: Global,
-    database: Files<D>,
-    options: OpenOptions,
-    listing: Listing<'_>,
-    files: &mut F,
-    output: &mut W,
-    errors: &mut E,
-) -> (u8, FilesLeft<O, U, D>)
-    requires log { IsTrue (D.Disk.is_usable database.log) }
-    requires db { IsTrue (D.Disk.is_usable database.db) }
-    ensures status { result.0 ≤ 3 }
-    ensures spares { SparesFiles (Appends (W.contents output.old) (W.contents output.new))
-        F.is_told (F.holds files.old) (F.holds files.new) listing.entry }
-    ensures end { (image : Image) → AreSettled D.Disk image database
-        → FileListingEnds (Appends (W.contents output.old) (W.contents output.new))
-        F.is_told (F.holds files.old) (F.holds files.new) listing.entry
-        image result.0 result.1 }
-{
-    match DeskStore::open_files_with(alloc, database, options) {
-        Ok(desk) => list_and_close(alloc, desk, listing, files, output, errors),
-        Err((fault, left)) => {
-            let status = report(&fault_of(fault), errors);
-            (status, FilesLeft::Unopened(left))
-        }
-    }
-}
-
 /// Lists what the desk in the database file of a name holds, which is only asked: to the output, or
 /// into a folder. Gives 0, or 3 after a fault, which is reported; and what is left of the files of
 /// the database.
-pub fn list_file<O: Databases, F: NamedFiles, W: Write, E: Write>(
+pub fn list_file<D: ListedDesk, K: KeepsDesks<D>, F: NamedFiles, W: Write, E: Write>(
     rt: &HostRuntime,
     db: &Database<'_>,
-    databases: O,
+    databases: K,
     listing: Listing<'_>,
     files: &mut F,
     output: &mut W,
     errors: &mut E,
-) -> (u8, FilesLeft<O, O::NotOpened, O::File>)
+) -> (u8, FilesLeft<K, K::Unopened, K::Unclosed, K::Closed>)
     ensures status { result.0 ≤ 3 }
     ensures spares { SparesFiles (Appends (W.contents output.old) (W.contents output.new))
         F.is_told (F.holds files.old) (F.holds files.new) listing.entry }
-    ensures end { FileListingEnds (Appends (W.contents output.old) (W.contents output.new))
-        F.is_told (F.holds files.old) (F.holds files.new) listing.entry
-        (O.held databases db.now.name.now) result.0 result.1 }
+    ensures end { EndsOverFiles K.files databases db.now.name.now Creation.Never
+        (Appends (W.contents output.old) (W.contents output.new))
+        (ListingEnds (Appends (W.contents output.old) (W.contents output.new))
+        F.is_told (F.holds files.old) (F.holds files.new) listing.entry) result.0 result.1 }
 {
-    match open_database(rt, db.name, Creation::Never, databases, errors) {
-        Ok((database, options)) => {
-            list_over_files(
-                rt.alloc(),
-                database,
-                options,
-                listing,
-                files,
-                output,
-                errors,
-            )
+    match databases.open(rt, db.name, Creation::Never, errors) {
+        Ok(mut desk) => {
+            let status = run(rt.alloc(), &mut desk, listing, files, output, errors);
+            close_desk(status, desk, errors)
         }
-        Err((fault, none)) => (report(&fault, errors), none),
+        Err((fault, left)) => (report_unopened(fault, errors), FilesLeft::Unopened(left)),
     }
 }

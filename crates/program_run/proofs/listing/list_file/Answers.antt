@@ -1,18 +1,26 @@
 use Rattle.std.proofs.KnownBytes.{Appends-nil}
 use Rattle.std.specs.Io.KnownBytes.{Appends}
-use Rattle.program_run.proofs.ListingLemmas.{listing_unopened, spared}
+use Rattle.program_desks.specs.declared.kept_desks.Creation.TheVariants.{Never}
+use Rattle.program_run.proofs.EndLemmas.{over_files}
+use Rattle.program_run.proofs.ListingLemmas.{asked_seen, listing_between, spared}
+use Rattle.program_run.specs.ListingEnds.{ListingEnds}
 use Rattle.program_run.proofs.listing.list_file.Goals as goal
 
 pub returns-in-Ok-clause-end : goal.returns-in-Ok-clause-end
-returns-in-Ok-clause-end g c = c.list_over_files.ensures.end (g.O.Databases.held c.args.databases c.args.db.now.name.now) c.in-Ok.ensures.settled
+returns-in-Ok-clause-end g c =
+    let seen = g.K.KeepsDesks.seen in
+    let written = Appends (g.W.Write.contents c.args.output.now) (g.W.Write.contents c.run-status.new.output) in
+    let before = g.F.NamedFiles.holds c.args.files.now in
+    let after = g.F.NamedFiles.holds c.run-status.new.files in
+    over_files g.K.KeepsDesks.files c.args.databases c.args.db.now.name.now Never written (ListingEnds written g.F.NamedFiles.is_told before after c.args.listing) (listing_between written g.F.NamedFiles.is_told before after c.args.listing)
+    (seen c.in-Ok.desk) (seen c.run-status.new.desk) c.run-status.result c.close_desk.result.0 c.close_desk.result.1 c.in-Ok.ensures.ok c.close_desk.ensures.end
+    (asked_seen g.D.Desk.kind g.K.KeepsDesks.kind g.D.Desk.seen seen g.met.K.KeepsDesks.same c.in-Ok.desk c.run-status.new.desk _ c.run-status.ensures.end.0, c.run-status.ensures.end.1)
 
 pub returns-in-Err-clause-end : goal.returns-in-Err-clause-end
-returns-in-Err-clause-end g c =
-    listing_unopened (Appends (g.W.Write.contents c.args.output.now) (g.W.Write.contents c.args.output.now)) g.F.NamedFiles.is_told (g.F.NamedFiles.holds c.args.files.now) (g.F.NamedFiles.holds c.args.files.now) c.args.listing g.O.File.Disk (g.O.Databases.held c.args.databases c.args.db.now.name.now) c.report.result
-    c.in-Err.none c.in-Err.ensures.none c.report.ensures (Appends-nil (g.W.Write.contents c.args.output.now))
+returns-in-Err-clause-end g c = (c.report_unopened.ensures, Appends-nil (g.W.Write.contents c.args.output.now), c.in-Err.ensures.err)
 
 pub returns-in-Ok-clause-spares : goal.returns-in-Ok-clause-spares
-returns-in-Ok-clause-spares g c = c.list_over_files.ensures.spares
+returns-in-Ok-clause-spares g c = c.run-status.ensures.spares
 
 pub returns-in-Err-clause-spares : goal.returns-in-Err-clause-spares
 returns-in-Err-clause-spares g c =

@@ -1,0 +1,83 @@
+//! The desks in SQLite files.
+
+use crate::database::creation_of;
+use crate::databases::{Databases, open_database};
+use crate::unopened::{Unopened, fault_of, migration_of};
+use desk_store::{DeskStore, migrate_files_with};
+use onix_records::StoreFault;
+use program_desks::kept_desks::{Creation, KeepsDesks, Migration, OpenFault};
+use sqlite::{FileStore, Files};
+use std::io::Write;
+use std::rt::HostRuntime;
+
+/// The desks in SQLite files that are opened by their names: a database and its log.
+#[derive(Drop)]
+pub struct StoredDesks<O> {
+    pub databases: O,
+}
+
+impl<O: Databases> KeepsDesks<DeskStore<FileStore<O::File>>> for StoredDesks<O> {
+    ghost use Rattle.sqlite.specs.Files.{file_state};
+    ghost use Rattle.desk_rows.specs.Seen.{in_tables, seen_in};
+    ghost use Rattle.program_desks.specs.DeskFiles.{one_way};
+    ghost use Rattle.program_databases.specs.FileViews.{stored_files};
+
+    type Closed = Files<O::File>;
+
+    type Unclosed = FileStore<O::File>;
+
+    type Unopened = Unopened<O, O::NotOpened, O::File>;
+
+    ghost kind = { in_tables };
+
+    ghost files = { stored_files O.File.Disk (λ desks. O.held desks.databases) };
+
+    ghost seen = { λ desk. seen_in (file_state desk.tables.connection) };
+
+    fn open<E: Write>(
+        self,
+        rt: &HostRuntime,
+        name: &str,
+        creation: Creation,
+        errors: &mut E,
+    ) -> Result<DeskStore<FileStore<O::File>>, (OpenFault, Unopened<O, O::NotOpened, O::File>)> {
+        let creation = creation_of(creation);
+        let (files, options) = match open_database(rt, name, creation, self.databases, errors) {
+            Ok(opened) => opened,
+            Err((fault, none)) => return Err((OpenFault::Store(fault), none)),
+        };
+        match DeskStore::open_files_with(rt.alloc(), files, options) {
+            Ok(desk) => Ok(desk),
+            Err((fault, left)) => Err((fault_of(fault), Unopened::Left(left))),
+        }
+    }
+
+    fn close(
+        desk: DeskStore<FileStore<O::File>>,
+    ) -> Result<Files<O::File>, (StoreFault, FileStore<O::File>)> {
+        match desk.close_files() {
+            Ok(files) => Ok(files),
+            Err(fault) => Err(fault),
+        }
+    }
+
+    fn migrate<E: Write>(
+        self,
+        rt: &HostRuntime,
+        name: &str,
+        creation: Creation,
+        errors: &mut E,
+    ) -> Result<(Migration, Files<O::File>), (OpenFault, Unopened<O, O::NotOpened, O::File>)> {
+        let creation = creation_of(creation);
+        let (files, options) = match open_database(rt, name, creation, self.databases, errors) {
+            Ok(opened) => opened,
+            Err((fault, none)) => return Err((OpenFault::Store(fault), none)),
+        };
+        match migrate_files_with(rt.alloc(), files, options) {
+            Ok((answer, files)) => Ok((migration_of(answer), files)),
+            Err((fault, left)) => Err((fault_of(fault), Unopened::Left(left))),
+        }
+    }
+
+    ghost same = { one_way (λ desk. seen_in (file_state desk.tables.connection)) };
+}

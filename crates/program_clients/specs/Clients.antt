@@ -1,5 +1,5 @@
 -- Clients that come one after the other.
-use Rattle.std.specs.Prelude.{◌≡◌, ◌∷◌, ℕ, Bool, true, List, [], IfSome, Option, Some, None, Result, Ok, Err, ⊤}
+use Rattle.std.specs.Prelude.{◌≡◌, ◌++◌, ◌∷◌, ℕ, Bool, true, List, [], IfSome, Option, Some, None, Result, Ok, Err, ⊤}
 use Rattle.program_lines.specs.declared.fault.Fault.{Fault}
 use Rattle.program_clients.specs.declared.clients.Protocol.{Protocol}
 use Rattle.program_clients.specs.declared.clients.Protocol.TheVariants as protocol
@@ -10,6 +10,23 @@ abbrev pub IsNext : Option (List ℕ) → Option (List (List ℕ)) → Option (L
 IsNext sent old new =
     IfSome old (λ clients. (first : List ℕ) × (rest : List (List ℕ)) × (clients ≡ first ∷ rest)
     × (sent ≡ Some first) × (new ≡ Some rest))
+
+-- A client was sent these bytes, and is served no more. Old, new: what the clients were sent that
+-- were served, in order, where that is known; known of all, it was known of all before
+abbrev pub IsReplied : Option (List ℕ) → Option (List (List ℕ)) → Option (List (List ℕ)) → Type 0
+IsReplied sent old new =
+    IfSome new (λ replies. (before : List (List ℕ)) × (last : List ℕ)
+    × (replies ≡ before ++ last ∷ []) × (old ≡ Some before) × (sent ≡ Some last))
+
+-- waiting for a client sends none anything. Of one that came it is told what it is sent from then
+-- on, where it is known of all; one that was gone is none of whom it is. Holds: what a writer tells
+-- of its bytes
+abbrev pub KeepsReplies : {P R W : Type 0} → (W → Option (List ℕ)) → Option (List (List ℕ))
+    → Option (List (List ℕ)) → Result (Option (P × R × W)) Fault → Type 0
+KeepsReplies holds old new (Ok (Some client)) =
+    (new ≡ old) × IfSome new (λ replies. holds client.2 ≡ Some [])
+KeepsReplies holds old new (Ok None) = IfSome new (λ replies. ⊥)
+KeepsReplies holds old new (Err fault) = new ≡ old
 
 -- a client may come by that protocol. Batches: whether these are taken
 abbrev pub MayCome : Bool → Protocol → Type 0

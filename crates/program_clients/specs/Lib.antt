@@ -1,2 +1,3 @@
 pub mod Clients
+pub mod Sent
 pub mod Streams

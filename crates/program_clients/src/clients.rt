@@ -15,7 +15,7 @@ pub enum Protocol {
 /// Clients that come one after the other.
 pub trait Clients {
     ghost use Rattle.std.specs.Prelude.{◌≡◌, Bool, List, Option, ℕ};
-    ghost use Rattle.program_clients.specs.Clients.{Accepts};
+    ghost use Rattle.program_clients.specs.Clients.{Accepts, IsReplied, KeepsReplies};
     ghost use Rattle.program_clients.specs.declared.clients.Protocol.{Protocol};
 
     // Whether some may send batches.
@@ -23,6 +23,9 @@ pub trait Clients {
 
     // What each client sends that is still to come, where that is known.
     ghost coming: { Self → Option (List (List ℕ)) };
+
+    // What each client was sent that was served, in order, where that is known.
+    ghost replied: { Self → Option (List (List ℕ)) };
 
     // By what a client is served that is read so.
     ghost speaks: { Self.Reader → Protocol };
@@ -35,10 +38,14 @@ pub trait Clients {
     /// Waits for the next client, and gives its protocol and the two ways of its connection, or
     /// `None` where it was gone before that was accepted.
     fn accept(&mut self) -> Result<Option<(Protocol, Self::Reader, Self::Writer)>, Fault>
-        ensures { Accepts Self.Reader.remaining speaks Self.Writer.contents takes_batches
-            (coming self.old) (coming self.new) result };
+        ensures client { Accepts Self.Reader.remaining speaks Self.Writer.contents takes_batches
+            (coming self.old) (coming self.new) result }
+        ensures replied { KeepsReplies Self.Writer.contents
+            (replied self.old) (replied self.new) result };
 
-    /// Closes the connection of a client.
+    /// Closes the connection of a client, which was served.
     fn close(&mut self, reader: Self::Reader, writer: Self::Writer)
-        ensures { coming self.new ≡ coming self.old };
+        ensures coming { coming self.new ≡ coming self.old }
+        ensures replied { IsReplied (Self.Writer.contents writer)
+            (replied self.old) (replied self.new) };
 }

@@ -148,6 +148,8 @@ impl<'a> Clients for Doors<'a> {
     // Of what a client sends and is sent over a socket no clause can say which bytes they are.
     ghost coming = { λ doors. None };
 
+    ghost replied = { λ doors. None };
+
     ghost speaks = { λ way. protocol_of way.stream };
 
     type Reader = Timed<'a>;

@@ -57,6 +57,8 @@ impl<'a> Clients for Port<'a> {
     // Of what a client sends and is sent over a socket no clause can say which bytes they are.
     ghost coming = { λ port. None };
 
+    ghost replied = { λ port. None };
+
     ghost speaks = { λ way. protocol_of way.stream };
 
     type Reader = Timed<'a>;

@@ -65,6 +65,8 @@ impl OpenDesks for Sockets {
     // Of what goes and comes over a socket no clause can say which bytes they are.
     ghost answers = { λ sockets name text. None };
 
+    ghost sent = { λ sockets. None };
+
     type Reader = UnixStream;
 
     fn send(&mut self, rt: &HostRuntime, name: &str, text: &[u8]) -> Result<UnixStream, Fault> {

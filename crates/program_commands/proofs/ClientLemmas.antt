@@ -1,5 +1,5 @@
 -- One client that was served, and which clients they were.
-use Rattle.std.proofs.Common.{◌≡◌, ◌++◌, ◌∷◌, ◌∙◌, [], ℕ, Bool, List, Option, Some, None, Result, Ok, Err, map, refl, ap, sym, subst, append_assoc}
+use Rattle.std.proofs.Common.{◌≡◌, ◌++◌, ◌∷◌, ◌∙◌, [], ℕ, Bool, List, Option, Some, None, Result, Ok, Err, map, refl, ap, append-nil, sym, subst, append_assoc}
 use Rattle.std.specs.Prelude.{IfSome, ⊤}
 use Rattle.std.specs.Io.KnownBytes.{Appends}
 use Rattle.std.proofs.lemmas.List.{map-append}
@@ -12,8 +12,8 @@ use Rattle.desk_http.specs.Exchange.{Exchanges}
 use Rattle.desk_http.specs.declared.exchange.HttpFault.{HttpFault}
 use Rattle.desk_http.specs.declared.exchange.HttpFault.TheVariants as fault
 use Rattle.program_commands.proofs.TalkEnds.{batch_as}
-use Rattle.program_commands.specs.ServedClients.{AreFirst, IsOf, ServesClient}
-use Rattle.program_clients.specs.Clients.{IsNext, MayCome}
+use Rattle.program_commands.specs.ServedClients.{AreFirst, AreReplied, IsOf, ServesClient}
+use Rattle.program_clients.specs.Clients.{IsNext, IsReplied, MayCome}
 use Rattle.program_commands.specs.Connections.{Connection, MayEnd}
 use Rattle.program_commands.specs.Serving.{Ending, EndsAs, IsBy, ServesConnection, batch, exchange}
 use Rattle.program_clients.specs.declared.clients.Protocol.{Protocol}
@@ -58,12 +58,23 @@ module _ (written to : List ℕ → Type 0) (f : (text : List ℕ) → written t
   ends_as sent steps (exchange outcome) is = exchanges_as sent steps outcome is
   ends_as sent steps (batch text outcome) is = (is.0, batch_as (λ all. all ≡ steps) (λ all. all ≡ steps) written to (λ all same. same) f text outcome is.1)
 
+-- what a client received that was sent all that its output holds
+pub replied_of : (held holds : Option (List ℕ)) (were now are : Option (List (List ℕ))) → now ≡ were → IfSome now (λ replies. held ≡ Some []) → IsReplied holds now are → IsReplied (received_by held holds) were are
+replied_of held holds were now None same none replied = tt
+replied_of held holds were now (Some replies) same none (before, last, split, was, got) =
+    (before, last, split, sym same ∙ was, ap (λ o. received_by o holds) (subst (λ o. IfSome o (λ replies. held ≡ Some [])) was none) ∙ got)
+
 -- ---- the next one
 
 -- a client of whom it is not known what it sends
 pub unknown_next : (sent : Option (List ℕ)) (old new : Option (List (List ℕ))) → IfSome old (λ clients. ⊥) → IsNext sent old new
 unknown_next sent None new nobody = tt
 unknown_next sent (Some clients) new nobody = absurd nobody
+
+-- nor what it was sent
+pub unknown_reply : (sent : Option (List ℕ)) (old new : Option (List (List ℕ))) → IfSome new (λ replies. ⊥) → IsReplied sent old new
+unknown_reply sent old None nobody = tt
+unknown_reply sent old (Some replies) nobody = absurd nobody
 
 may_end : (batches : Bool) (p : Protocol) (ending : Ending) → MayCome batches p → IsBy p ending → MayEnd batches ending
 may_end batches protocol.Exchange (exchange outcome) may is = tt
@@ -79,10 +90,10 @@ is_of speaks reader protocol.Exchange own (batch text outcome) is = absurd is
 
 -- a client was served by its protocol
 pub client_of : {R : Type 0} (asked : List Step → Type 0) (speaks : R → Protocol) (reader : R) (sent held holds : Option (List ℕ)) (batches : Bool) (coming left : Option (List (List ℕ)))
-    (written : List ℕ → Type 0) (result : Result ⊤ Fault) → IsNext sent coming left → IfSome held (λ bytes. bytes ≡ [])
+    (were are : Option (List (List ℕ))) (written : List ℕ → Type 0) (result : Result ⊤ Fault) → IsNext sent coming left → IsReplied (received_by held holds) were are → IfSome held (λ bytes. bytes ≡ [])
     → (p : Protocol) → p ≡ speaks reader → MayCome batches p → ServesConnection asked p sent (Appends held holds) written result
-    → ServesClient asked speaks batches coming left written result
-client_of asked speaks reader sent held holds batches coming left written result next none p own may it = record {
+    → ServesClient asked speaks batches coming left were are written result
+client_of asked speaks reader sent held holds batches coming left were are written result next replied none p own may it = record {
   connection = record { sent = sent; received = received_by held holds; steps = it.steps; ending = it.ending };
   is_served = (
     may_end batches p it.ending may it.is_by,
@@ -90,6 +101,7 @@ client_of asked speaks reader sent held holds batches coming left written result
   );
   is_of = is_of speaks reader p own it.ending it.is_by;
   next = next;
+  replied = replied;
   were_asked = it.were_asked;
   line = it.line;
 }
@@ -122,3 +134,24 @@ one_more_first (Some clients) now new served c (rest, is, all) next =
 pub first_of : (coming now : Option (List (List ℕ))) (served : List Connection) → AreFirstOf coming now served → AreFirst coming served
 first_of None now served are = tt
 first_of (Some clients) now served are = (are.0, are.2)
+
+-- ---- what they were sent
+
+pub none_replied : (old : Option (List (List ℕ))) → AreReplied old old []
+none_replied None = tt
+none_replied (Some replies) = (replies, refl, append-nil (map Some replies))
+
+pub one_more_replied : (old now new : Option (List (List ℕ))) (served : List Connection) (c : Connection) → AreReplied old now served → IsReplied c.received now new → AreReplied old new (served ++ c ∷ [])
+one_more_replied old now None served c are next = tt
+one_more_replied old now (Some replies) served c are (before, last, split, was, got) =
+    let sent_to : Connection → Option (List ℕ) = λ (c : Connection). c.received in
+    let (first, olds, all) = subst (λ o. AreReplied old o served) was are in (
+      first,
+      olds,
+      ap (λ xs. map Some first ++ xs) (map-append sent_to served (c ∷ []))
+          ∙ sym (append_assoc (map Some first) (map sent_to served) (c.received ∷ []))
+          ∙ ap (λ xs. xs ++ c.received ∷ []) all
+          ∙ ap (λ x. map Some before ++ x ∷ []) got
+          ∙ sym (map-append Some before (last ∷ []))
+          ∙ ap (map Some) (sym split),
+    )

@@ -7,6 +7,7 @@ use Rattle.csv_records.specs.Streams.{IsTold}
 use Rattle.desk_texts.specs.Records.{Records, begins_with}
 use Rattle.desk_texts.specs.Requests.{HasRecords, requests_of}
 use Rattle.program_lines.specs.declared.fault.Fault.{Fault}
+use Rattle.program_clients.specs.Sent.{Message, SendsFront, SendsWhole}
 
 -- the names that begin the answer to a question
 abbrev pub report_names : List String
@@ -54,14 +55,14 @@ TakesAnswers asked came written (Ok refused) =
     × written answers
 TakesAnswers asked came written (Err f) = WritesCame came written
 
--- how the command can end with this status: of the text of the input, sent as a batch, all is
+-- how the command can end with this status: the text of the input was sent as a batch, and all is
 -- answered, with 0, or 1 for a refusal; or a fault ended it, with 3, and a first part of the
--- answers is written. Told: what the input tells of its bytes. Answers: what comes of the desk once
--- it was sent a text, where that is known
-abbrev pub SendEnds : Option (List ℕ) → (List ℕ → Option (List ℕ)) → (List ℕ → Type 0) → ℕ
-    → Type 0
-SendEnds told answers written status =
+-- answers is written. Told: what the input tells of its bytes. Answers: what comes from the desk of
+-- a name once it was sent a text, where that is known; old, new: what was sent to desks
+abbrev pub SendEnds : Option (List ℕ) → (List ℕ → List ℕ → Option (List ℕ))
+    → Option (List Message) → Option (List Message) → (List ℕ → Type 0) → List ℕ → ℕ → Type 0
+SendEnds told answers old new written socket status =
     (text : List ℕ) × IsTold told text
-    × (((refused : Bool) × IsAnsweredThere text (answers text) written refused
-    × (status ≡ (if refused then 1 else 0)))
-    ⊎ ((status ≡ 3) × WritesCame (answers text) written))
+    × (((refused : Bool) × IsAnsweredThere text (answers socket text) written refused
+    × SendsWhole (socket, text) old new × (status ≡ (if refused then 1 else 0)))
+    ⊎ ((status ≡ 3) × SendsFront (socket, text) old new × WritesCame (answers socket text) written))

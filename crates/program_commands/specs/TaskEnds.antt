@@ -13,7 +13,7 @@ use Rattle.desk_batch.specs.Batch.{BatchGives, RunsBatch}
 use Rattle.desk_texts.specs.Requests.{HasRecords}
 use Rattle.desk_batch.specs.Talks.{Talks}
 use Rattle.desk_batch.specs.declared.batch.BatchFault.{BatchFault}
-use Rattle.program_commands.specs.ServedClients.{AreFirst, IsOf}
+use Rattle.program_commands.specs.ServedClients.{AreFirst, AreReplied, IsOf}
 use Rattle.program_commands.specs.Connections.{Connection, IsServed, WritesLines, WritesServed, lines_of}
 use Rattle.program_commands.specs.Deliveries.{TellsTexts, delivery_of}
 use Rattle.program_lines.specs.Printing.{PrintEnds}
@@ -65,12 +65,12 @@ module _ (asked : List Step → Type 0) (written : List ℕ → Type 0) where
   GapsEnds None status = asked [] × PrintEnds 1 written (text_of UnknownSeries) status
 
   -- serving so many clients: the lines of those that were served are written; with 0 they are all,
-  -- and else it is 3. Coming: what the clients send, where that is known. Speaks: by what a client
-  -- is served that is read so
+  -- and else it is 3. Coming: what the clients send, where that is known; old, new: what those that
+  -- were served were sent. Speaks: by what a client is served that is read so
   abbrev pub ConnectionsServed : {R : Type 0} → (R → Protocol) → Bool
-      → Option (List (List ℕ)) → ℕ → ℕ → Type 0
-  ConnectionsServed speaks batches coming count status =
-      (served : List Connection) × AreFirst coming served
+      → Option (List (List ℕ)) → Option (List (List ℕ)) → Option (List (List ℕ)) → ℕ → ℕ → Type 0
+  ConnectionsServed speaks batches coming old new count status =
+      (served : List Connection) × AreFirst coming served × AreReplied old new served
       × All (λ c. IsOf speaks c.ending) served
       × ConnectionsEnd asked batches count served
       × WritesLines written served

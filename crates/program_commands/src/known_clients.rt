@@ -2,8 +2,10 @@
 //! what is said of them is said of something.
 
 ghost use Rattle.std.specs.Io.KnownBytes.{Appends};
-ghost use Rattle.std.specs.Prelude.{Some, false, length, map};
+ghost use Rattle.std.specs.Prelude.{[], Some, false, length, map};
 ghost use Rattle.series_rules.specs.Steps.{Asked};
+ghost use Rattle.program_clients.specs.Clients.{IsReplied};
+ghost use Rattle.program_commands.specs.ServedClients.{texts_of};
 ghost use Rattle.program_commands.specs.TaskEnds.{ConnectionsServed};
 
 use crate::serve::serve_clients;
@@ -21,15 +23,31 @@ use std::rt::HostRuntime;
 pub struct KnownClients<'a> {
     pub alloc: Global,
     pub sent: &'a [&'a [u8]],
+    /// What those were sent that were served; `None` once there was no memory for it.
+    pub replies: Option<Vec<Vec<u8>>>,
+}
+
+// The replies with one more, where there is memory for it.
+fn with_reply(replies: Option<Vec<Vec<u8>>>, reply: Vec<u8>) -> Option<Vec<Vec<u8>>>
+    ensures { IsReplied (Some reply.items) (texts_of replies) (texts_of result) }
+{
+    let mut all = replies?;
+    match all.push(reply) {
+        Ok(()) => Some(all),
+        Err(_) => None,
+    }
 }
 
 impl<'a> Clients for KnownClients<'a> {
     ghost use Rattle.std.specs.Prelude.{Some, false, map};
+    ghost use Rattle.program_commands.specs.ServedClients.{texts_of};
     ghost use Rattle.program_clients.specs.declared.clients.Protocol.TheVariants.{Exchange};
 
     ghost takes_batches = { false };
 
     ghost coming = { λ clients. Some (map (λ bytes. bytes.now) clients.sent.now) };
+
+    ghost replied = { λ clients. texts_of clients.replies };
 
     ghost speaks = { λ reader. Exchange };
 
@@ -50,12 +68,12 @@ impl<'a> Clients for KnownClients<'a> {
 
     fn close(&mut self, reader: &'a [u8], writer: Vec<u8>) {
         drop(reader);
-        drop(writer);
+        self.replies = with_reply(self.replies.take(), writer);
     }
 }
 
-/// Whatever clients send, there are some of whom that is known, and serving them ends as is said of
-/// such.
+/// Whatever clients send and are sent, there are some of whom that is known, and serving them ends
+/// as is said of such. Gives the status, and the replies, where there was memory for them.
 pub fn serve_known<D: Desk, O: Write, E: Write>(
     rt: &HostRuntime,
     routes: &Routes,
@@ -64,18 +82,20 @@ pub fn serve_known<D: Desk, O: Write, E: Write>(
     sent: &[&[u8]],
     output: &mut O,
     errors: &mut E,
-) -> u8
+) -> (u8, Option<Vec<Vec<u8>>>)
     ensures { ConnectionsServed (Asked D.seen precedence.now desk.old desk.new)
         (Appends (O.contents output.old) (O.contents output.new))
         ⟦<KnownClients<'static> as Clients>⟧.speaks false
-        (Some (map (λ bytes. bytes.now) sent.now)) (length sent.now) result }
+        (Some (map (λ bytes. bytes.now) sent.now)) (Some []) (texts_of result.1)
+        (length sent.now) result.0 }
 {
     let mut clients = KnownClients {
         alloc: rt.alloc(),
         sent,
+        replies: Some(Vec::new(rt.alloc())),
     };
     let requests = sent.len() as u64;
-    serve_clients(
+    let status = serve_clients(
         rt,
         routes,
         desk,
@@ -84,5 +104,6 @@ pub fn serve_known<D: Desk, O: Write, E: Write>(
         requests,
         output,
         errors,
-    )
+    );
+    (status, clients.replies.take())
 }

@@ -9,6 +9,7 @@ ghost use Rattle.csv_records.specs.RecordTexts.{records_of};
 ghost use Rattle.csv_records.specs.Streams.{IsTold};
 ghost use Rattle.desk_texts.specs.Records.{begins_with, is_one_of};
 ghost use Rattle.desk_texts.specs.Requests.{HasRecords, requests_of};
+ghost use Rattle.program_clients.specs.Sent.{IsSent};
 ghost use Rattle.program_commands.specs.Sending.{SendEnds, SendFits, TakesAnswers, WritesCame, answer_names, report_names, unanswered};
 
 use csv::StringRecord;
@@ -174,8 +175,9 @@ fn send_batch<K: OpenDesks, W: Write>(
     text: &[u8],
     output: &mut W,
 ) -> Result<bool, Fault>
-    ensures { SendFits text.now (K.answers desks.old socket.now text.now)
+    ensures end { SendFits text.now (K.answers desks.old socket.now text.now)
         (Appends (W.contents output.old) (W.contents output.new)) result }
+    ensures sent { IsSent (socket.now, text.now) (K.sent desks.old) (K.sent desks.new) result }
 {
     let asked = count_requests(rt.alloc(), text)?;
     let mut from = desks.send(rt, socket, text)?;
@@ -206,8 +208,9 @@ pub fn run<K: OpenDesks, R: Read, W: Write, E: Write>(
     errors: &mut E,
 ) -> u8
     ensures status { result ≤ 3 }
-    ensures end { SendEnds (R.remaining input.old) (K.answers desks.old socket.now)
-        (Appends (W.contents output.old) (W.contents output.new)) result }
+    ensures end { SendEnds (R.remaining input.old) (K.answers desks.old)
+        (K.sent desks.old) (K.sent desks.new)
+        (Appends (W.contents output.old) (W.contents output.new)) socket.now result }
 {
     let text = match read_text(rt.alloc(), input) {
         Ok(text) => text,

@@ -32,6 +32,7 @@ fn serve_next<D: Desk, C: Clients, O: Write>(
 ) -> Result<(), Fault>
     ensures { ServesNext (Asked D.seen precedence.now desk.old desk.new) C.speaks
         C.takes_batches (C.coming clients.old) (C.coming clients.new)
+        (C.replied clients.old) (C.replied clients.new)
         (Appends (O.contents output.old) (O.contents output.new)) result }
 {
     match clients.accept() {
@@ -73,7 +74,8 @@ pub fn serve_clients<D: Desk, C: Clients, O: Write, E: Write>(
     // batches.
     ensures end { ConnectionsServed (Asked D.seen precedence.now desk.old desk.new)
         (Appends (O.contents output.old) (O.contents output.new)) C.speaks
-        C.takes_batches (C.coming clients.old) requests result }
+        C.takes_batches (C.coming clients.old) (C.replied clients.old) (C.replied clients.new)
+        requests result }
 {
     'serving: for _served in 0..requests {
         match serve_next(rt, routes, desk, precedence, clients, output) {

@@ -13,6 +13,7 @@ use Rattle.program_run.specs.ConvertEnds.{ConvertEnds}
 use Rattle.program_run.specs.ListingEnds.{ListingEnds, SparesFiles}
 use Rattle.program_run.specs.OverFiles.{EndsOverFiles, IsUntouched, MigrateEnds, creation_by}
 use Rattle.program_lines.specs.Printing.{PrintEnds}
+use Rattle.program_clients.specs.Sent.{Message}
 use Rattle.program_rules.specs.RulesFile.{CheckEnds, ReadsTable, status_of}
 use Rattle.program_commands.specs.Sending.{SendEnds}
 use Rattle.program_commands.specs.TaskEnds.{TaskEnds}
@@ -49,40 +50,48 @@ ReadsRules holds (Some name) read = ReadsTable (holds name.now) read
 
 -- Seen: what is seen of a desk in memory. Files: what is seen of the files that `databases` opens.
 -- Answers: what comes from the desk at the socket of a name once it was sent a text, where that is
--- known. Is told: whether it is told what files hold; before, after: what names hold. Written:
--- these bytes were written. Told: what the input tells of its bytes
+-- known; was sent, sent: what was sent to such desks, before and after. Is told: whether it is told
+-- what files hold; before, after: what names hold. Written: these bytes were written. Told: what
+-- the input tells of its bytes
 module _ {M : Type 0} {m : DeskKind} (seen : M → View m) {K : Type 0} {k : DeskKind}
     {C U N : Type 0} (files : DeskFiles K k C U N) (databases : K)
-    (answers : List ℕ → List ℕ → Option (List ℕ)) (is_told : Bool) (before after : Holdings)
+    (answers : List ℕ → List ℕ → Option (List ℕ)) (was_sent sent : Option (List Message))
+    (is_told : Bool) (before after : Holdings)
     (written : List ℕ → Type 0) (told : Option (List ℕ)) where
-  -- nothing was done: with that status, nothing written, no file of a desk touched, and each name
-  -- holds what it held
+  -- nothing was sent to a desk that is open, and each name holds what it held
+  abbrev pub IsQuiet : Type 0
+  IsQuiet = (sent ≡ was_sent) × (after ≡ before)
+
+  -- nothing was done: with that status, nothing written or sent, no file of a desk touched, and
+  -- each name holds what it held
   abbrev pub IsUndone : ℕ → ℕ → FilesLeft K N U C → Type 0
   IsUndone own status left =
-      (status ≡ own) × written [] × IsUntouched left × (after ≡ before)
+      (status ≡ own) × written [] × IsUntouched left × IsQuiet
 
   -- how an action can end under those rules, with what it leaves of files. Only `export` into a
-  -- folder and `convert` change what names hold
+  -- folder and `convert` change what names hold, and only `--batches` sends anything to a desk that
+  -- is open
   abbrev pub ActionEnds : List Rule → Action → ℕ → FilesLeft K N U C → Type 0
   ActionEnds rules (InMemory task) status left =
-      (after ≡ before) × IsUntouched left × NewDeskEnds rules written task before told seen status
+      IsQuiet × IsUntouched left × NewDeskEnds rules written task before told seen status
   ActionEnds rules (InFile db task) status left =
-      (after ≡ before) × EndsOverFiles files databases db.name.now
+      IsQuiet × EndsOverFiles files databases db.name.now
       (creation_by db.is_existing) written
       (TaskLeads rules written task before told) status left
   ActionEnds rules (Listed db listing) status left =
-      SparesFiles written is_told before after listing
+      (sent ≡ was_sent) × SparesFiles written is_told before after listing
       × EndsOverFiles files databases db.name.now Never written
       (ListingEnds written is_told before after listing) status left
   ActionEnds rules (Migrate db) status left =
-      (after ≡ before)
+      IsQuiet
       × MigrateEnds files databases db.name.now (creation_by db.is_existing) written status left
   ActionEnds rules (Send socket) status left =
-      (after ≡ before) × IsUntouched left × SendEnds told (answers socket.now) written status
+      (after ≡ before) × IsUntouched left
+      × SendEnds told answers was_sent sent written socket.now status
   ActionEnds rules (Convert c) status left =
-      IsUntouched left × ConvertEnds is_told before after told written c status
+      (sent ≡ was_sent) × IsUntouched left × ConvertEnds is_told before after told written c status
   ActionEnds rules (CheckRules file) status left =
-      (after ≡ before) × IsUntouched left × CheckEnds written (before file.now) status
+      IsQuiet × IsUntouched left × CheckEnds written (before file.now) status
 
   -- how the program can end by what a command line asks: under its rules, or, where these cannot be
   -- read, with nothing done
@@ -98,7 +107,7 @@ module _ {M : Type 0} {m : DeskKind} (seen : M → View m) {K : Type 0} {k : Des
   abbrev pub ReadingEnds : Reading → ℕ → FilesLeft K N U C → Type 0
   ReadingEnds (reading.Run invocation) status left = InvocationEnds invocation status left
   ReadingEnds (reading.Help text) status left =
-      PrintEnds 0 written (string_bytes text) status × IsUntouched left × (after ≡ before)
+      PrintEnds 0 written (string_bytes text) status × IsUntouched left × IsQuiet
   ReadingEnds reading.Memory status left = IsUndone 3 status left
   ReadingEnds _ status left = IsUndone 2 status left
 

@@ -105,7 +105,7 @@ fn run_action<
 ) -> (u8, FilesLeft<K, K::Unopened, K::Unclosed, K::Closed>)
     ensures status { result.0 ≤ 3 }
     ensures end { ActionEnds ⟦<MemoryDesk as Desk>⟧.seen K.files databases (O.answers desks.old)
-        F.is_told (F.holds files.old) (F.holds files.new)
+        (O.sent desks.old) (O.sent desks.new) F.is_told (F.holds files.old) (F.holds files.new)
         (Appends (W.contents output.old) (W.contents output.new))
         (R.remaining input.old) precedence.now action.now result.0 result.1 }
 {
@@ -177,7 +177,8 @@ pub fn run_invocation<
 ) -> (u8, FilesLeft<K, K::Unopened, K::Unclosed, K::Closed>)
     ensures status { result.0 ≤ 3 }
     ensures end { InvocationEnds ⟦<MemoryDesk as Desk>⟧.seen K.files databases
-        (O.answers desks.old) F.is_told (F.holds files.old) (F.holds files.new)
+        (O.answers desks.old) (O.sent desks.old) (O.sent desks.new)
+        F.is_told (F.holds files.old) (F.holds files.new)
         (Appends (W.contents output.old) (W.contents output.new))
         (R.remaining input.old) invocation.now result.0 result.1 }
 {
@@ -230,7 +231,7 @@ pub fn run<
 ) -> (u8, FilesLeft<K, K::Unopened, K::Unclosed, K::Closed>)
     ensures status { result.0 ≤ 3 }
     ensures end { RunEnds ⟦<MemoryDesk as Desk>⟧.seen K.files databases (O.answers desks.old)
-        F.is_told (F.holds files.old) (F.holds files.new)
+        (O.sent desks.old) (O.sent desks.new) F.is_told (F.holds files.old) (F.holds files.new)
         (Appends (W.contents output.old) (W.contents output.new))
         (R.remaining input.old) (map (λ word. word.now) words.now) result.0 result.1 }
 {

@@ -2,22 +2,22 @@ use Rattle.std.proofs.Common.{refl}
 use Rattle.program_run.proofs.program.run_action.Goals as goal
 
 pub returns-in-InMemory-clause-end : goal.returns-in-InMemory-clause-end
-returns-in-InMemory-clause-end g c = rw c.in-InMemory.is (refl, tt, c.run_in_memory-status.ensures.end)
+returns-in-InMemory-clause-end g c = rw c.in-InMemory.is ((refl, refl), tt, c.run_in_memory-status.ensures.end)
 
 pub returns-in-InFile-clause-end : goal.returns-in-InFile-clause-end
-returns-in-InFile-clause-end g c = rw c.in-InFile.is (refl, c.run_in_file.ensures.end)
+returns-in-InFile-clause-end g c = rw c.in-InFile.is ((refl, refl), c.run_in_file.ensures.end)
 
 pub returns-in-Listed-clause-end : goal.returns-in-Listed-clause-end
-returns-in-Listed-clause-end g c = rw c.in-Listed.is (c.list_file.ensures.spares, c.list_file.ensures.end)
+returns-in-Listed-clause-end g c = rw c.in-Listed.is (refl, c.list_file.ensures.spares, c.list_file.ensures.end)
 
 pub returns-in-Migrate-clause-end : goal.returns-in-Migrate-clause-end
-returns-in-Migrate-clause-end g c = rw c.in-Migrate.is (refl, c.run.ensures.end)
+returns-in-Migrate-clause-end g c = rw c.in-Migrate.is ((refl, refl), c.run.ensures.end)
 
 pub returns-in-Send-clause-end : goal.returns-in-Send-clause-end
 returns-in-Send-clause-end g c = rw c.in-Send.is (refl, tt, c.run-status.ensures.end)
 
 pub returns-in-Convert-clause-end : goal.returns-in-Convert-clause-end
-returns-in-Convert-clause-end g c = rw c.in-Convert.is (tt, c.run-status-in-Convert.ensures.end)
+returns-in-Convert-clause-end g c = rw c.in-Convert.is (refl, tt, c.run-status-in-Convert.ensures.end)
 
 pub returns-in-CheckRules-clause-end : goal.returns-in-CheckRules-clause-end
-returns-in-CheckRules-clause-end g c = rw c.in-CheckRules.is (refl, tt, c.run-status-in-CheckRules.ensures.end)
+returns-in-CheckRules-clause-end g c = rw c.in-CheckRules.is ((refl, refl), tt, c.run-status-in-CheckRules.ensures.end)

@@ -46,6 +46,20 @@ abbrev pub ReadsRules : Holdings → Option (Bor (List ℕ)) → Result (List Ru
 ReadsRules holds None read = read ≡ Ok []
 ReadsRules holds (Some name) read = ReadsTable (holds name.now) read
 
+-- how words that are no command line can end: with the help that they ask for; with 2 where they
+-- are wrong, and with 3 where memory ran out, and nothing written. Written: these bytes were
+-- written
+abbrev pub UnreadEnds : (List ℕ → Type 0) → Reading → ℕ → Type 0
+UnreadEnds written (reading.Run invocation) status = ⊥
+UnreadEnds written (reading.Help text) status = PrintEnds 0 written (string_bytes text) status
+UnreadEnds written reading.Memory status = (status ≡ 3) × written []
+UnreadEnds written _ status = (status ≡ 2) × written []
+
+-- these words are no command line, and end so
+abbrev pub IsUnread : (List ℕ → Type 0) → List (List ℕ) → ℕ → Type 0
+IsUnread written words status =
+    (read : Reading) × Reads words read × UnreadEnds written read status
+
 -- ---- by what the program is asked
 
 -- Seen: what is seen of a desk in memory. Files: what is seen of the files that `databases` opens.
@@ -102,15 +116,10 @@ module _ {M : Type 0} {m : DeskKind} (seen : M → View m) {K : Type 0} {k : Des
       ⊎ ((fault : RulesFault) × ReadsRules before invocation.rules (Err fault)
       × IsUndone (status_of fault) status left)
 
-  -- how the program can end by how its words read: by what they ask; with the help that they ask
-  -- for; undone with 2 where they are no command line, and with 3 where memory ran out
-  abbrev pub ReadingEnds : Reading → ℕ → FilesLeft K N U C → Type 0
-  ReadingEnds (reading.Run invocation) status left = InvocationEnds invocation status left
-  ReadingEnds (reading.Help text) status left =
-      PrintEnds 0 written (string_bytes text) status × IsUntouched left × IsQuiet
-  ReadingEnds reading.Memory status left = IsUndone 3 status left
-  ReadingEnds _ status left = IsUndone 2 status left
-
-  -- how the program can end on these words, of which the first is its name: as they read
+  -- how the program can end on these words, of which the first is its name: by what they ask; or
+  -- with nothing done, where they are read as no command line
   abbrev pub RunEnds : List (List ℕ) → ℕ → FilesLeft K N U C → Type 0
-  RunEnds words status left = (read : Reading) × Reads words read × ReadingEnds read status left
+  RunEnds words status left =
+      ((invocation : Invocation) × Reads words (reading.Run invocation)
+      × InvocationEnds invocation status left)
+      ⊎ (IsUnread written words status × IsUntouched left × IsQuiet)

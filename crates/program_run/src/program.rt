@@ -1,8 +1,9 @@
 //! The program run on its words: the command line, the rules file, the desk, and then the command.
 
-ghost use Rattle.std.specs.Prelude.{◌≤◌, map};
+ghost use Rattle.std.specs.Prelude.{◌≡◌, ◌≤◌, IfErr, IfOk, map};
 ghost use Rattle.std.specs.Io.KnownBytes.{Appends};
-ghost use Rattle.program_run.specs.FileEnds.{ActionEnds, InvocationEnds, NewDeskEnds, ReadsRules, RunEnds, TaskLeads};
+ghost use Rattle.program_run.specs.FileEnds.{ActionEnds, InvocationEnds, IsUnread, NewDeskEnds, ReadsRules, RunEnds, TaskLeads};
+ghost use Rattle.program_words.specs.Asked.{Reads};
 ghost use Rattle.program_run.specs.OverFiles.{EndsOverFiles, creation_by};
 
 use crate::closing::close_desk;
@@ -205,6 +206,38 @@ pub fn run_invocation<
     ended
 }
 
+// The invocation that the words ask for. If they ask for none, help or a fault of the command line
+// is written, and the exit status comes.
+fn read_words<'a, W: Write, E: Write>(
+    alloc: Global,
+    words: &'a [&'a str],
+    output: &mut W,
+    errors: &mut E,
+) -> Result<Invocation<'a>, u8>
+    ensures ok { IfOk result (λ invocation. (output.new ≡ output.old)
+        × Reads (map (λ word. word.now) words.entry.now) (Reading.Run invocation)) }
+    ensures err { IfErr result (λ status. IsUnread
+        (Appends (W.contents output.old) (W.contents output.new))
+        (map (λ word. word.now) words.entry.now) status) }
+    ensures most { IfErr result (λ status. status ≤ 3) }
+{
+    match invocation::read(alloc, words) {
+        Reading::Run(invocation) => Ok(invocation),
+        Reading::Help(text) => Err(help::print_help(text.as_str(), output, errors)),
+        Reading::Wrong(text) => Err(help::print_wrong(text.as_str(), errors)),
+        Reading::NoDatabase => Err(help::print_wrong("onixdesk: migrate needs --db\n", errors)),
+        Reading::NoDesk => Err(help::print_wrong(
+            "onixdesk: agreements, export and gaps without a NAME need --db\n",
+            errors,
+        )),
+        Reading::NoBatch => Err(help::print_wrong(
+            "onixdesk: --batches goes with batch\n",
+            errors,
+        )),
+        Reading::Memory => Err(report(&Fault::Memory, errors)),
+    }
+}
+
 /// Runs the program on these words, of which the first is its name, and gives its exit status:
 /// 0, or 1 where an answer was a refusal, 2 for a bad command line or rules file, 3 for a fault of
 /// storage, a file, input, output, the port or the socket, or when out of memory. The command line
@@ -235,9 +268,8 @@ pub fn run<
         (Appends (W.contents output.old) (W.contents output.new))
         (R.remaining input.old) (map (λ word. word.now) words.now) result.0 result.1 }
 {
-    let alloc = rt.alloc();
-    match invocation::read(alloc, words) {
-        Reading::Run(invocation) => {
+    match read_words(rt.alloc(), words, output, errors) {
+        Ok(invocation) => {
             run_invocation(
                 rt,
                 &invocation,
@@ -249,30 +281,6 @@ pub fn run<
                 errors,
             )
         }
-        Reading::Help(text) => {
-            let status = help::print_help(text.as_str(), output, errors);
-            (status, FilesLeft::Untouched(databases))
-        }
-        Reading::Wrong(text) => {
-            let status = help::print_wrong(text.as_str(), errors);
-            (status, FilesLeft::Untouched(databases))
-        }
-        Reading::NoDatabase => {
-            let status = help::print_wrong("onixdesk: migrate needs --db\n", errors);
-            (status, FilesLeft::Untouched(databases))
-        }
-        Reading::NoDesk => {
-            let text = "onixdesk: agreements, export and gaps without a NAME need --db\n";
-            let status = help::print_wrong(text, errors);
-            (status, FilesLeft::Untouched(databases))
-        }
-        Reading::NoBatch => {
-            let status = help::print_wrong("onixdesk: --batches goes with batch\n", errors);
-            (status, FilesLeft::Untouched(databases))
-        }
-        Reading::Memory => (
-            report(&Fault::Memory, errors),
-            FilesLeft::Untouched(databases),
-        ),
+        Err(status) => (status, FilesLeft::Untouched(databases)),
     }
 }

@@ -444,6 +444,7 @@ class Maker:
             self.make_odd_product(product)
         if self.is_one_of(30):
             product.stranger = self.random.choice(self.strangers_of(product))
+        product.has_rights = self.is_one_of(4)
         return product
 
     def strangers_of(self, product: Product) -> list[Stranger]:
@@ -481,6 +482,7 @@ class Maker:
             self.maybe("GBP"),
         )
         message.products = self.some(lambda: self.product(message), 4)
+        message.says_none = not message.products and self.is_one_of(2)
         if self.is_one_of(25):
             self.make_bad(message)
         if self.is_one_of(60):

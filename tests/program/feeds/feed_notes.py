@@ -82,25 +82,44 @@ def compared(wanted: list[Note], starts: dict[object, Place], said: Iterable[Sai
     return Compared(missing, surplus)
 
 
+# What the summary counts beside notes.
+NO_NOTES = [
+    "Discount of a Price, not read",
+    "DiscountCoded of a Price, not read",
+    "an element comes again, not read",
+    "a FILE without a Product",
+]
+
+
 class Summary(NamedTuple):
-    """How often each reason was given, and the last line, which counts all notes and wrong products, where there are
-    some."""
+    """How often each reason was given; how many products of how many are counted, by what is said of them; and the last
+    line, which counts all notes and wrong products, where there are some."""
 
     reasons: dict[str, int]
+    products: dict[str, tuple[int, int]]
     last: str
 
 
 def read_summary(lines: list[str]) -> Summary:
     reasons: dict[str, int] = {}
+    products: dict[str, tuple[int, int]] = {}
     has_count = lines and re.fullmatch("[0-9]+ notes?(, [0-9]+ products? wrong)?", lines[-1])
     for line in lines[:-1] if has_count else lines:
-        reason, _, count = line.rpartition(": ")
-        reasons[reason] = int(count)
-    return Summary(reasons, lines[-1] if has_count else "")
+        if found := re.fullmatch("([0-9]+) of ([0-9]+) products? (.*)", line):
+            products[found[3]] = int(found[1]), int(found[2])
+        else:
+            reason, _, count = line.rpartition(": ")
+            reasons[reason] = int(count)
+    return Summary(reasons, products, lines[-1] if has_count else "")
 
 
 def counted(count: int, thing: str) -> str:
     return f"{count} {thing}" if count == 1 else f"{count} {thing}s"
+
+
+def notes_in(summary: Summary) -> dict[str, int]:
+    """The notes that it counts, by their reasons."""
+    return {reason: count for reason, count in summary.reasons.items() if reason not in NO_NOTES}
 
 
 def count_line(notes: int, wrong_products: int = 0) -> str:

@@ -89,11 +89,23 @@ class Part:
 
 
 @dataclass
+class Counts:
+    """How many products there are; and how many of them are emptied, had a Price with an amount and have none now, and
+    are for the world without a Market though they have SalesRights."""
+
+    products: int = 0
+    emptied: int = 0
+    without_price: int = 0
+    with_rights: int = 0
+
+
+@dataclass
 class Verdict:
     parts: list[Part] = field(default_factory=list)
     notes: list[Note] = field(default_factory=list)
     wrong_products: int = 0
     discounts: list[str] = field(default_factory=list)
+    counts: Counts = field(default_factory=Counts)
     refusal: Refused | None = None
 
 
@@ -218,6 +230,8 @@ class Judge:
         # What is written of it where it is emptied.
         self.emptied: list[Record] = []
         self.is_emptied = False
+        # Whether a ProductSupply without a Market is written of it.
+        self.is_of_world = False
 
     def note(
         self, about: object, *reasons: str, names: tuple[str, ...] = ANY, is_wrong: bool = False, of_product: bool = False
@@ -257,6 +271,7 @@ class Judge:
 
     def with_supplies(self, own: Record, identifiers: list[Identifier]) -> list[Record]:
         supplied = [(supply, self.supply(supply)) for supply in self.product.supplies]
+        self.is_of_world = any(records and not supply.markets for supply, records in supplied)
         records = [record for _, records in supplied for record in records]
         lost = [supply for supply, _ in supplied if supply.details]
         if lost and not records:
@@ -436,24 +451,39 @@ class Filling:
         return self.parts
 
 
+def had_price(product: Product) -> bool:
+    """Whether it had a Price with an amount; of a deletion none is looked at."""
+    details = [detail for supply in product.supplies for detail in supply.details]
+    return product.notification != DELETION and any(price.amount for detail in details for price in detail.prices)
+
+
 @dataclass
 class Judged:
-    """What was found of the products of a message: those that are wrong, the notes on each, and the discounts that are
-    counted."""
+    """What was found of the products of a message: those that are wrong, the notes on each, the discounts that are
+    counted, and what is counted of products."""
 
     wrong: list[Product] = field(default_factory=list)
     notes: dict[Product, list[Note]] = field(default_factory=dict)
     discounts: list[str] = field(default_factory=list)
+    counts: Counts = field(default_factory=Counts)
 
     def put(self, one: Judge, filling: Filling) -> None:
         """Adds a product to the messages."""
         records = one.records()
         if records is not None:
-            filling.add(records if filling.have_room(records) else one.records_too_large(filling))
+            records = records if filling.have_room(records) else one.records_too_large(filling)
+            filling.add(records)
+        self.count(one, records or [])
         self.notes[one.product] = one.notes
         self.discounts += one.discounts
         if any(note.is_wrong for note in one.notes):
             self.wrong.append(one.product)
+
+    def count(self, one: Judge, written: list[Record]) -> None:
+        self.counts.products += 1
+        self.counts.emptied += one.is_emptied
+        self.counts.without_price += had_price(one.product) and not any(record[0] == "Price" for record in written)
+        self.counts.with_rights += one.product.has_rights and one.is_of_world and not one.is_emptied
 
     def is_let_through(self, wrong: str) -> bool:
         """Whether there are no more wrong products than that word of the command line lets through."""
@@ -483,7 +513,7 @@ def judge(message: Message, words: Words) -> Verdict:
     except Refused as refusal:
         return Verdict(refusal=refusal)
     notes = [note for found in judged.notes.values() for note in found]
-    return Verdict(parts, notes, len(judged.wrong), judged.discounts)
+    return Verdict(parts, notes, len(judged.wrong), judged.discounts, judged.counts)
 
 
 def effect(products: list[tuple[str, str]], catalogue: set[str]) -> str:

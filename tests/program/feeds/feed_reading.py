@@ -17,7 +17,7 @@ from tests.program.feeds.feed_prices import DISCOUNTS
 from tests.program.feeds.feed_trees import (
     Detail, Identifier, Market, Message, Price, PriceDate, Product, Stranger, Supply, Territory,
 )
-from tests.program.feeds.feed_writing import COUNTED, Place
+from tests.program.feeds.feed_writing import COUNTED, COUNTED_ALONE, Place
 
 DECLARED = re.compile(r"""<\?xml\s+version\s*=\s*["']1\.0["'](?:\s+encoding\s*=\s*["']([A-Za-z][\w.-]*)["'])?""")
 
@@ -180,7 +180,7 @@ class Elements:
         if name in counted and address == self.address:
             return name
         called = [each for each in counted if local.lower() in (each.lower(), SHORT_TAGS[each].lower())]
-        parent.strangers += [Stranger(parent.name, each) for each in called if each not in DISCOUNTS]
+        parent.strangers += [Stranger(parent.name, each) for each in called if each not in COUNTED_ALONE]
         return ""
 
     def end(self) -> None:

@@ -107,12 +107,15 @@ class Product:
     identifiers: list[Identifier]
     supplies: list[Supply] = field(default_factory=list)
     stranger: Stranger | None = None
+    # With a SalesRights in its PublishingDetail, which is counted and not read.
+    has_rights: bool = False
 
 
 @dataclass(eq=False)
 class Message:
     """A message. `sender` is None where it has no Sender; `is_header_first` is false where its Header
-    stands behind its products, and `has_two_headers` true where there is one there too."""
+    stands behind its products, and `has_two_headers` true where there is one there too; `says_none` where it has a
+    NoProduct."""
 
     sender: list[Identifier] | None
     addressees: list[list[Identifier]]
@@ -124,6 +127,7 @@ class Message:
     products: list[Product] = field(default_factory=list)
     is_header_first: bool = True
     has_two_headers: bool = False
+    says_none: bool = False
     stranger: Stranger | None = None
 
 

@@ -12,6 +12,7 @@ from xml.sax.saxutils import escape, quoteattr
 
 from tests.program.feeds.convert.case_files import SHORT_TAGS
 from tests.program.feeds.feed_names import Names
+from tests.program.feeds.feed_prices import DISCOUNTS
 from tests.program.feeds.feed_trees import (
     Detail, Identifier, Market, Message, Price, PriceDate, Product, Stranger, Supply, Territory,
 )
@@ -73,7 +74,8 @@ COUNTED = {
     "SenderIdentifier": "SenderIDType IDValue",
     "Addressee": "AddresseeIdentifier",
     "AddresseeIdentifier": "AddresseeIDType IDValue",
-    "Product": "RecordReference NotificationType ProductIdentifier ProductSupply",
+    "Product": "RecordReference NotificationType ProductIdentifier ProductSupply PublishingDetail",
+    "PublishingDetail": "SalesRights",
     "ProductIdentifier": "ProductIDType IDValue",
     "ProductSupply": "Market SupplyDetail",
     "Market": "Territory",
@@ -90,6 +92,9 @@ COUNTED = {
     "PriceConstraint": "PriceConstraintType",
     "PriceDate": "PriceDateRole DateFormat Date",
 }
+
+# Those of them that are counted alone, and are no strangers.
+COUNTED_ALONE = ["PublishingDetail", "SalesRights", *DISCOUNTS]
 
 # Elements that count somewhere.
 COUNTING = ["Price", "Market", "IDValue", "RecordReference", "PriceAmount", "Territory", "EpubLicense", "Date"]
@@ -111,13 +116,15 @@ class Place(NamedTuple):
 
 
 class Written(NamedTuple):
-    """A feed, the places where the start tags of its composites begin, the places behind their ends, and the size of
-    each composite, by which a Product is bounded."""
+    """A feed, the places where the start tags of its composites begin, the places behind their ends, the size of each
+    composite, by which a Product is bounded, and how many elements that do not repeat come again in what is read, but
+    where that has a note."""
 
     feed: bytes
     starts: dict[object, Place]
     ends: dict[object, Place]
     sizes: dict[object, int]
+    again: int
 
 
 class Writer:
@@ -137,6 +144,9 @@ class Writer:
         self.starts: dict[object, int] = {}
         self.ends: dict[object, int] = {}
         self.sizes: dict[object, int] = {}
+        # How many elements come again, and whether what is written is not read.
+        self.count_of_again = 0
+        self.is_unread = False
 
     def is_one_of(self, count: int) -> bool:
         return self.random.randrange(count) == 0
@@ -243,6 +253,16 @@ class Writer:
         """Whether a second element changes nothing here."""
         return not {"Price", "Market"} & {*self.around}
 
+    def count_again(self) -> None:
+        """Counts an element that comes again, where it is read and has no note."""
+        self.count_of_again += self.may_come_again() and not self.is_unread
+
+    def unread(self, write: Write) -> None:
+        """Writes what is not read."""
+        before, self.is_unread = self.is_unread, True
+        write()
+        self.is_unread = before
+
     def again(self, name: str) -> None:
         """An element that comes again, and is empty, if there is one of that name."""
         for _ in range(2 if name else 0):
@@ -256,6 +276,7 @@ class Writer:
         if text and self.may_come_again() and self.is_one_of(30):
             self.weigh(name)
             self.put(f"<{tag}/>")
+            self.count_again()
         if text:
             self.weigh(name, text)
             with self.names.declared(self.local(name), 40) as (own, declarations):
@@ -264,6 +285,7 @@ class Writer:
             if self.may_come_again() and self.is_one_of(20):
                 self.weigh(name, "7")
                 self.put(f"<{tag}>7</{tag}>")
+                self.count_again()
         elif self.is_one_of(8):
             self.weigh(name)
             self.put(self.random.choice([f"<{tag}/>", f"<{tag}> \n</{tag}>", f"<{tag}><!-- 5 --></{tag}>"]))
@@ -406,7 +428,8 @@ class Writer:
                 ),
             )
             if detail.role and self.is_one_of(20):
-                self.composite("Supplier", lambda: self.element("SupplierName", "second"))
+                self.count_again()
+                self.unread(lambda: self.composite("Supplier", lambda: self.element("SupplierName", "second")))
 
         self.composite(
             "SupplyDetail",
@@ -441,7 +464,17 @@ class Writer:
             of=supply,
         )
 
+    def rights(self, product: Product) -> None:
+        """SalesRights where they are counted, and where they are not."""
+        if product.has_rights:
+            self.composite("PublishingDetail", lambda: self.composite("SalesRights"))
+        elif self.is_one_of(6):
+            self.composite("PublishingDetail", lambda: self.put("<Note><SalesRights/></Note>"))
+
     def product(self, product: Product) -> None:
+        def supplies() -> None:
+            self.each(self.supply, product.supplies)
+
         waiting, self.stranger = self.stranger, product.stranger
         self.composite(
             "Product",
@@ -449,7 +482,8 @@ class Writer:
                 lambda: self.element("RecordReference", product.reference),
                 lambda: self.element("NotificationType", product.notification),
                 lambda: self.identifiers("Product", product.identifiers),
-                lambda: self.each(self.supply, product.supplies),
+                lambda: self.rights(product),
+                lambda: self.unread(supplies) if product.notification == "05" else supplies(),
             ),
             of=product,
         )
@@ -463,7 +497,9 @@ class Writer:
             if message.sender is not None:
                 self.composite("Sender", lambda: self.identifiers("Sender", message.sender or []))
             if message.sender and self.is_one_of(20):
-                self.composite("Sender", lambda: self.identifiers("Sender", [Identifier("06", "second")]))
+                self.count_again()
+                second = [Identifier("06", "second")]
+                self.unread(lambda: self.composite("Sender", lambda: self.identifiers("Sender", second)))
 
         def addressees() -> None:
             for identifiers in message.addressees:
@@ -504,6 +540,8 @@ class Writer:
     def below_root(self, message: Message) -> None:
         if message.is_header_first:
             self.header(message)
+        if message.says_none:
+            self.composite("NoProduct")
         for product in message.products:
             self.product(product)
         if message.has_two_headers or not message.is_header_first:
@@ -519,4 +557,4 @@ class Writer:
 
         starts = {of: place(offset) for of, offset in self.starts.items()}
         ends = {of: place(offset) for of, offset in self.ends.items()}
-        return Written(self.encoding.mark + text.encode(self.encoding.codec), starts, ends, self.sizes)
+        return Written(self.encoding.mark + text.encode(self.encoding.codec), starts, ends, self.sizes, self.count_of_again)

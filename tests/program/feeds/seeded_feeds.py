@@ -15,7 +15,7 @@ from typing import NamedTuple
 from tests.program.feeds.convert.running import convert
 from tests.program.feeds.feed_makers import BAD_CODES, NO_PARTS, PARTS, REGIONS, Maker
 from tests.program.feeds.feed_notes import (
-    Errors, Said, compared, count_line, is_named, miscounted, read_errors, read_summary,
+    NO_NOTES, Errors, Said, compared, count_line, is_named, miscounted, notes_in, read_errors, read_summary,
 )
 from tests.program.feeds.feed_prices import DISCOUNTS
 from tests.program.feeds.feed_territories import WORLD
@@ -82,13 +82,15 @@ SERIES = [
 
 
 class Case(NamedTuple):
-    """A message with its number in the series, its feed, and what is to become of it."""
+    """A message with its number in the series, its feed, and what is to become of it; `is_silent` where it has neither a
+    Product nor a NoProduct."""
 
     name: str
     number: int
     file: str
     written: Written
     verdict: Verdict
+    is_silent: bool
 
 
 def made(seed: int) -> Case:
@@ -103,7 +105,8 @@ def made(seed: int) -> Case:
     message = maker.message(sender, series.addressees, number)
     file = f"{number}{random.choice(ENDINGS)}"
     written = Writer(random).write(message)
-    return Case(f"seed {seed}", number, file, written, verdict_of(message, series.words, written))
+    verdict = verdict_of(message, series.words, written)
+    return Case(f"seed {seed}", number, file, written, verdict, not message.products and not message.says_none)
 
 
 def verdict_of(message: Message, words: Words, written: Written) -> Verdict:
@@ -183,18 +186,40 @@ def refusal_of(case: Case, refusal: Refused, said: list[Said]) -> tuple[object, 
 
 
 def summaries(name: str, cases: list[Case], errors: Errors) -> Iterator[Outcome]:
-    """What the last lines count: all notes, and those of each reason."""
+    """What the last lines count: all notes, those of each reason, and what has no note."""
     notes = [note for case in cases for note in case.verdict.notes]
     summary = read_summary(errors.summary)
-    discounts = Counter(name for case in cases for name in case.verdict.discounts)
-    found_discounts = {each: summary.reasons.pop(f"{each} of a Price, not read", 0) for each in DISCOUNTS}
-    yield Outcome(f"{name}: the discounts", found_discounts, {each: discounts[each] for each in DISCOUNTS})
+    counts = counts_of(cases)
+    yield Outcome(f"{name}: counted alone", {each: summary.reasons.get(each, 0) for each in counts}, counts)
+    yield Outcome(f"{name}: products", summary.products, products_of(cases))
     wrong_products = sum(case.verdict.wrong_products for case in cases)
-    found = summary.last, sum(summary.reasons.values()), miscounted(notes, summary.reasons)
+    of_notes = notes_in(summary)
+    found = summary.last, sum(of_notes.values()), miscounted(notes, of_notes)
     yield Outcome(f"{name}: the summary", found, (count_line(len(notes), wrong_products), len(notes), []))
-    reasons = [READ_AS.sub("", reason) for reason in summary.reasons]
+    reasons = [READ_AS.sub("", reason) for reason in of_notes]
     texts = [text for text in FEED_TEXTS for reason in reasons if is_named(text, reason)]
     yield Outcome(f"{name}: texts of feeds in the summary", texts, [])
+
+
+def counts_of(cases: list[Case]) -> dict[str, int]:
+    """What the summary counts of messages that are written, of which it has no notes."""
+    written = [case for case in cases if case.verdict.parts]
+    discounts = Counter(name for case in written for name in case.verdict.discounts)
+    again = sum(case.written.again for case in written)
+    silent = sum(case.is_silent for case in written)
+    return dict(zip(NO_NOTES, [*(discounts[each] for each in DISCOUNTS), again, silent], strict=True))
+
+
+def products_of(cases: list[Case]) -> dict[str, tuple[int, int]]:
+    """How many products of how many it counts, by what it says of them."""
+    counts = [case.verdict.counts for case in cases]
+    of = sum(each.products for each in counts)
+    found = {
+        "emptied": sum(each.emptied for each in counts),
+        "left without a Price": sum(each.without_price for each in counts),
+        "for the world without a Market, with SalesRights, not read": sum(each.with_rights for each in counts),
+    }
+    return {what: (count, of) for what, count in found.items() if count}
 
 
 def delivered(name: str, cases: list[Case], words: Words, room: Room) -> Iterator[Outcome]:

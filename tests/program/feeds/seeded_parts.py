@@ -52,7 +52,7 @@ def large(number: int, seed: int, words: Words) -> Case:
     message = Message(SENDER, ADDRESSEE, str(number), "", "", "02", "GBP")
     message.products = maker.some(lambda: maker.product(message), 5, least=2)
     written = Writer(random).write(message)
-    return Case(f"large message {seed}", number, f"{number}.xml", written, verdict_of(message, words, written))
+    return Case(f"large message {seed}", number, f"{number}.xml", written, verdict_of(message, words, written), False)
 
 
 def large_messages(room: Room) -> Iterator[Outcome]:

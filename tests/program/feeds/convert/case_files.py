@@ -10,7 +10,7 @@ The cases stand in tests/conversions (`written_cases`), and have these parts:
     -- all-records, of a file, or where those around the place are others
     -- notes      the notes on what the desk has no field for, behind the name of the file
     -- wrong      the notes on what the desk would not take; the status is then 1
-    -- summary    the lines behind the notes, where they are not only added up
+    -- summary    the lines behind the notes, where they are not only added up; none where it is empty
     -- refused    the place in the file, or `anywhere`, and perhaps a part of the line that says why
 
 In each `(PIECE){N}` is N times the piece. A place is a line and a column, as `2:7`, or a line and the first start tag of an element there, as
@@ -51,6 +51,7 @@ SHORT_TAGS = dict(
     CountryExcluded=j304 TerritoryExcluded=j308 (j303)=j303 SupplyToCountry=j138 SupplyToRegion=j139
     SupplyToCountryExcluded=j140 SupplyToTerritory=j397 OrderQuantityMinimum=x532 PriceDate=pricedate PriceDateRole=x476
     DateFormat=j260 Date=b306 Discount=discount DiscountCoded=discountcoded
+    PublishingDetail=publishingdetail SalesRights=salesrights
     """.split()
 )
 
@@ -226,7 +227,7 @@ def case_of(written: Written) -> Case:
     records = None
     if "refused" not in parts:
         records = (parts.get("all-records") or records_of(place, parts["records"])).encode()
-    lines = {key: text.rstrip("\n").split("\n") for key, text in parts.items()}
+    lines = {key: text.rstrip("\n").split("\n") if text else [] for key, text in parts.items()}
     summary = lines.get("summary")
     wanted = Converted(records, lines.get("notes", []), lines.get("wrong", []), parts.get("refused", ""))
     return Case(written.name, place, parts[place], words, wanted, summary)

@@ -48,7 +48,12 @@ def bounded(room: Room) -> Iterator[Outcome]:
     room.write("b.xml", prices(LINES + 1, "06"))
     room.write("c.xml", prices(LINES + 500, "07"))
     came = convert(room, "-o", ".", "a.xml", "b.xml", "c.xml")
-    summary = ["Price left out: PriceQualifier 06: 2001", "Price left out: PriceQualifier 07: 1500", "3501 notes"]
+    summary = [
+        "Price left out: PriceQualifier 06: 2001",
+        "Price left out: PriceQualifier 07: 1500",
+        "3 of 3 products left without a Price",
+        "3501 notes",
+    ]
     lines = notes_on("a.xml", LINES, "06") + notes_on("b.xml", LINES, "06") + notes_on("c.xml", LINES, "07")
     found = came.status, came.errors.decode().splitlines()
     yield Outcome("files of many notes", found, (0, said(lines + summary).decode().splitlines()))
@@ -79,7 +84,8 @@ def refused(room: Room) -> Iterator[Outcome]:
     came = convert(room, "-o", ".", "a.xml", "b.xml")
     errors = came.errors.decode().splitlines()
     found = came.status, refused_lines(came), errors[1:]
-    told = [*notes_on("b.xml", 1, "07"), "Price left out: PriceQualifier 07: 1", "1 note"]
+    counts = ["Price left out: PriceQualifier 07: 1", "1 of 1 product left without a Price", "1 note"]
+    told = [*notes_on("b.xml", 1, "07"), *counts]
     wanted = 1, [("a.xml", 5)], said(told).decode().splitlines()
     yield Outcome("a refused file of notes, and another", found, wanted)
 
@@ -105,7 +111,8 @@ def regions(room: Room) -> Iterator[Outcome]:
     came = convert(room, FEED)
     why = "Price left out: RegionsExcluded {}, which is no part of a country"
     at = FRAMES["price"].before.index("<Price>") + 1
-    told = [f"{FEED}:1:{at}: R1: {why.format('ECZ')}", f"{why.format('..')}: 1", "1 note"]
+    counts = [f"{why.format('..')}: 1", "1 of 1 product left without a Price", "1 note"]
+    told = [f"{FEED}:1:{at}: R1: {why.format('ECZ')}", *counts]
     yield Outcome("a region behind a long one", came, Ran(0, message_of("price"), said(told)))
 
 
@@ -153,5 +160,6 @@ def old_elements(room: Room) -> Iterator[Outcome]:
     room.write(FEED, feed_of("prices", "\n".join(price.format(name) for name in [*names, names[0]])))
     came = convert(room, FEED)
     counts = [f"Price left out: {name} of ONIX 2.1: {1 + (name == names[0])}" for name in names]
-    summary = said([*counts, "5 notes, 1 product wrong"]).decode().splitlines()
+    lines = [*counts, "1 of 1 product left without a Price", "5 notes, 1 product wrong"]
+    summary = said(lines).decode().splitlines()
     yield Outcome("elements of ONIX 2.1 in the summary", (came.status, came.errors.decode().splitlines()[5:]), (1, summary))

@@ -6,16 +6,11 @@ from functools import partial
 from typing import NamedTuple
 
 from tests.program.feeds.convert.case_files import ANYWHERE, FOLDER, PLACE, Case, Converted, Feed, read_cases
-from tests.program.feeds.feed_notes import count_line
+from tests.program.feeds.feed_notes import count_line, notes_in, read_summary
 from tests.program.room import Group, Room
 from tests.running import Outcome
 
 LINE = re.compile(r"([0-9]+)\.xml:([0-9]+:[0-9]+): (refused: )?(.*)")
-COUNTED = re.compile("(.*): ([0-9]+)")
-
-# What is counted in the summary, and is no note.
-NOT_READ = ", not read"
-
 
 class Noted(NamedTuple):
     """A note, in the order of lines and columns."""
@@ -113,10 +108,8 @@ def summed(name: str, feeds: list[Feed], summary: list[str]) -> Iterator[Outcome
     written = [feed.wanted for feed in feeds if feed.wanted.records is not None]
     notes = sum(len(each.notes) + len(each.wrong) for each in written)
     last = count_line(notes, sum(each.wrong_products() for each in written))
-    counts = [found for found in map(COUNTED.fullmatch, summary) if found and not found[1].endswith(NOT_READ)]
-    lines = [line for line in summary if NOT_READ not in line]
-    found = sum(int(each[2]) for each in counts), len(counts), lines[-1:]
-    yield Outcome(f"{name}: the summary", found, (notes, len(lines[:-1]), [last] if last else []))
+    came = read_summary(summary)
+    yield Outcome(f"{name}: the summary", (sum(notes_in(came).values()), came.last), (notes, last))
     if feeds[0].summary is not None:
         yield Outcome(f"{name}: the lines of the summary", summary, feeds[0].summary)
 

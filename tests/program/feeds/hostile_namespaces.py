@@ -52,13 +52,14 @@ CASES = [
         taken=["R1"],
     ),
     Case(
-        "one prefix more of the root's namespace",
-        lambda: feed(AS_MANY, "\n", element(declared(range(60, MOST + 1), ROOT)), PRODUCT.format("R1")),
+        "more prefixes of the root's namespace than a tag may declare",
+        lambda: feed(AS_MANY, "\n", element(declared(range(60, 60 + MOST), ROOT)), PRODUCT.format("R1")),
+        taken=["R1"],
     ),
     Case(
-        "one prefix more in what is passed over",
+        "as many prefixes more at each depth",
         lambda: feed(
-            AS_MANY, element(declared(range(60, MOST), ROOT), element(' xmlns:more="urn:root"')), PRODUCT.format("R1")
+            AS_MANY, *nested([declared(range(MOST), ROOT, f"q{number}x{{}}") for number in range(DEEP)], ""), PRODUCT.format("R1")
         ),
         taken=["R1"],
     ),

@@ -117,12 +117,12 @@ def verdict_of(message: Message, words: Words, written: Written) -> Verdict:
     return judge(message, words)
 
 
-def part_names(number: int, words: Words) -> list[str]:
+def part_names(name: str | int, words: Words) -> list[str]:
     """The files that a message becomes."""
     if words.parts == 1:
-        return [f"{number}.csv"]
+        return [f"{name}.csv"]
     digits = max(2, len(str(words.parts)))
-    return [f"{number}.part-{part:0{digits}}.csv" for part in range(1, words.parts + 1)]
+    return [f"{name}.part-{part:0{digits}}.csv" for part in range(1, words.parts + 1)]
 
 
 def check(place: int, room: Room) -> Iterator[Outcome]:

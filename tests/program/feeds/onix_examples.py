@@ -14,6 +14,7 @@ DOCUMENT = "docs/ONIX.md"
 
 # Where an example stands, by its first element. That of a Market has a SupplyDetail behind it, which is not shown.
 PLACES = {
+    "Header": FRAMES["message"],
     "Product": FRAMES["products"],
     "ProductSupply": FRAMES["product"],
     "Market": within(FRAMES["supply"], "", f"<SupplyDetail>{SUPPLIER}</SupplyDetail>"),
@@ -23,8 +24,9 @@ PLACES = {
 
 NOT_SHOWN = {"Market": ["SupplyDetail,04,,,North,21,"]}
 
-# A note, without its place, or what the summary counts without one.
-NOTE = re.compile(r"onixdesk: (?:[^ ]+:[0-9]+:[0-9]+: (.*)|(.*, not read: [0-9]+))")
+# A note, without its place, or what the summary counts without one; how many products there are of a kind is shown by
+# some examples alone.
+NOTE = re.compile(r"onixdesk: (?:[^ ]+:[0-9]+:[0-9]+: (.*)|(.*, not read: [0-9]+)|([0-9]+ of [0-9]+ products? .*))")
 
 
 class Example(NamedTuple):
@@ -52,7 +54,8 @@ def shown(example: Example, room: Room) -> list[str]:
     frame = example.frame()
     room.write(FEED, f"{frame.before}\n{example.xml}{frame.behind}".encode())
     came = convert(room, FEED)
-    notes = [found[1] or found[2] for found in map(NOTE.fullmatch, came.errors.decode().splitlines()) if found]
+    said = [found for found in map(NOTE.fullmatch, came.errors.decode().splitlines()) if found]
+    notes = [found[1] or found[2] or found[3] for found in said if not found[3] or found[3] in example.lines]
     records = came.output.decode().splitlines()[frame.records.count("\n") : -1]
     behind = NOT_SHOWN.get(example.first, [])
     return notes + records[: len(records) - len(behind)] if records[len(records) - len(behind) :] == behind else records

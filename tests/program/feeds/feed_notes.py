@@ -10,6 +10,9 @@ from tests.program.feeds.feed_writing import Place
 # So many lines of notes a file has at most, and besides so many of products that are left out or emptied.
 MOST_LINES = 1000
 
+# So many characters of a text a line shows.
+MOST_SHOWN = 100
+
 
 class Said(NamedTuple):
     """A line about a place of a file; the column is None where none is named."""
@@ -43,13 +46,18 @@ def is_named(name: str, text: str) -> bool:
     return name == "" or re.search(rf"(?<![\w-]){re.escape(name)}(?![\w-])", text) is not None
 
 
+def shown(name: str) -> str:
+    """A text of a feed as a line shows it."""
+    return name if len(name) <= MOST_SHOWN else f"{name[:MOST_SHOWN]}.."
+
+
 def tells(said: Said, note: Note) -> bool:
     """Whether a line says what the note says: the reference, one of the reasons, and one of the names."""
     is_plain = note.reference.isprintable() and len(note.reference) < 100
     return (
         (not is_plain or note.reference in said.what)
         and any(reason.lower() in said.what.lower() for reason in note.reasons)
-        and any(is_named(name, said.what) for name in note.names)
+        and any(is_named(shown(name), said.what) for name in note.names)
     )
 
 

@@ -321,15 +321,16 @@ class Judge:
         kept = [fields for _, fields in found if isinstance(fields, list)]
         if found and not kept:
             is_wrong = all(isinstance(fields, Wrong) for _, fields in found)
-            self.note(supply, "Market", is_wrong=is_wrong)
+            self.note(supply, "every Market", names=why_market(*found[0]), is_wrong=is_wrong)
             return []
         market = union_fields(kept or [["", "", ""]])
         if not all(map(is_field, market)):
             self.note(supply, "Market")
             return []
         details = [(detail, self.detail_record(detail)) for detail in supply.details]
-        if all(isinstance(record, Wrong) for _, record in details):
-            self.note(supply, "SupplyDetail", is_wrong=True)
+        wrong = [record for _, record in details if isinstance(record, Wrong)]
+        if len(wrong) == len(details):
+            self.note(supply, "every SupplyDetail", names=wrong[0].reasons, is_wrong=True)
             return []
         for each, fields in found:
             self.note_market(each, fields)
@@ -402,6 +403,11 @@ def market_fields(market: Market) -> list[str] | Wrong | None:
         return Wrong(tuple(wrong))
     fields = territory_fields(market.territory)
     return fields if are_taken(fields) else Wrong(("CountriesIncluded", "CountriesExcluded"))
+
+
+def why_market(market: Market, fields: list[str] | Wrong | None) -> tuple[str, ...]:
+    """What a line names that says why a Market is left out, one of these."""
+    return fields.reasons if isinstance(fields, Wrong) else tuple(regions_in_the_way(market.territory or Territory()))
 
 
 def pairs(identifiers: list[Identifier]) -> Record:

@@ -199,13 +199,13 @@ def notes_and_letters(room: Room) -> Iterator[Outcome]:
 
 def notes_that_are_not_written(room: Room) -> Iterator[Outcome]:
     """The converter writes 1,000 notes on what it leaves out of the prices, and counts the rest."""
-    bad = PRICE.replace("<PriceAmount>", "<PriceQualifier>05</PriceQualifier><PriceAmount>")
+    bad = PRICE.replace("<PriceAmount>", "<PriceQualifier>06</PriceQualifier><PriceAmount>")
     room.write("feed.xml", feed([product(0, Article(supplied(bad * 1003), ""))]))
     status, found = table(room, "--notes", "notes.csv", "feed.xml")
     rows = list(csv.reader(room.path("notes.csv").read_text(encoding="utf-8").splitlines()))
     came = status, len(rows), rows[-1], found["Notes by reason"]
     last = ["", "", "", "", "and 3 more notes, which are not written"]
-    wanted = 0, 1002, last, {"Price left out: PriceQualifier 05": "1003"}
+    wanted = 0, 1002, last, {"Price left out: PriceQualifier 06": "1003"}
     yield Outcome("look: notes that are not written", came, wanted)
 
 

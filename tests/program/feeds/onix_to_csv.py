@@ -76,7 +76,7 @@ def packed_file(room: Room) -> Iterator[Outcome]:
     make_shop(room)
     room.write("a.xml.gz", FILES["a.xml.gz"])
     came = room.call(["shop/bin/onix-to-csv", "a.xml.gz"])
-    found = came.status, came.output, refused_lines(came), b"pipe" in came.errors
+    found = came.status, came.output, refused_lines(came), b": gunzip -c a.xml.gz | onixdesk convert" in came.errors
     yield Outcome("onix-to-csv: a packed file", found, (1, b"", [("a.xml.gz", 1)], True))
     came = room.call(["sh", "-c", "gunzip -c a.xml.gz | shop/bin/onix-to-csv"])
     yield Outcome("onix-to-csv: a pipe that unpacks it", came, Ran(0, message_of("R1")))

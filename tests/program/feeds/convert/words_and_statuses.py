@@ -102,7 +102,8 @@ def bad_words(room: Room) -> Iterator[Outcome]:
 
 
 def good_words(room: Room) -> Iterator[Outcome]:
-    room.write(FEED, argument_grammar.feed_of(HEADER.format("<Sender><SenderName>North</SenderName></Sender>")))
+    header = HEADER.format("<Sender><SenderName>North</SenderName></Sender>")
+    room.write(FEED, argument_grammar.feed_of(f"{header}<NoProduct/>"))
     for words, sender, number in argument_grammar.GOOD:
         came = room.run("convert", *words, FEED)
         records = f"Message,2,{sender},,,{number},,,,\nEndMessage,1\n"

@@ -1,9 +1,17 @@
 .DEFAULT_GOAL := help
-.PHONY: help build quick test check lint docs definitions mutants wrong-bodies page-test page-pictures postgres-test \
+.PHONY: help try demo build quick test check lint docs definitions mutants wrong-bodies page-test page-pictures postgres-test \
     package package-test
 
 help: ## this list
 	@awk -F ':.*## ' '/^[a-z-]+:.*## / { printf "make %-13s %s\n", $$1, $$2 }' Makefile
+
+# It says where the program is.
+try: ## in minutes and without any proof: the program, to try it out
+	@tests/try
+
+# It takes the built program, or else the unproved one, and needs no nginx, password or certificate.
+demo: ## the buyers' page with the desk of a shop's week, on this machine alone
+	@tools/demo
 
 # The proofs that it does are kept for 'make test', where the toolchain keeps any.
 build: ## proves and builds the program, crates/onixdesk/out/onixdesk

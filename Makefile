@@ -34,11 +34,11 @@ check: lint ## in minutes: the lints, and the tests of the built program
 lint: ## looks over the Python, the shell, the JavaScript, and the Rattle as far as that needs no proof
 	@tools/lint
 
-docs: definitions ## writes docs/DEFINITIONS.md, which git does not keep, and docs/crates.svg anew
+docs: definitions ## writes docs/DEFINITIONS.md, and docs/crates.svg anew
 	tools/crates-picture
 
 # The package has the page too: packaging/build makes it of the commit.
-definitions:
+definitions: ## writes docs/DEFINITIONS.md, which git does not keep
 	tools/definitions
 
 # The prover must refuse each of them too.

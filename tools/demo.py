@@ -22,6 +22,7 @@ from collections.abc import Iterator
 from pathlib import Path
 
 from tools.root import ROOT
+from tools.words import Word
 
 HOST = "127.0.0.1"
 PORT = 8081
@@ -59,7 +60,7 @@ def free_port() -> int:
 def desk(program: Path) -> Iterator[int]:
     """A desk that has the week, at the port that is given."""
     folder = tempfile.mkdtemp(prefix="onixdesk-")
-    command = [program, "--db", "shop.db", "--rules", RULES]
+    command: list[Word] = [program, "--db", "shop.db", "--rules", RULES]
     subprocess.run([*command, "batch"], cwd=folder, input=requests(), stdout=subprocess.DEVNULL)
     port = free_port()
     serving = subprocess.Popen([*command, "serve", "--port", str(port)], cwd=folder, stdout=subprocess.PIPE)

@@ -206,7 +206,7 @@ def served_as_told(room: Room) -> Iterator[Outcome]:
 def waivers_as_told(room: Room) -> Iterator[Outcome]:
     """The numbers that a change of parts leaves out, as docs/ONIX.md waives them."""
     room.run("--db", "shop.db", "batch", given=AGREEMENT)
-    command, = block("docs/ONIX.md", "seq -f 'Waive,north,")
+    command, = block("docs/ONIX.md", "  seq -f 'Waive,north,")
     came = room.call(["sh", "-c", command], environment=on_path(room))
     lines = came.output.decode().splitlines()
     found = came.status, len(lines), lines[0], lines[-1]

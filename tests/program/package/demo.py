@@ -12,6 +12,7 @@ from tests.program.room import SECONDS, Room
 from tests.program.serving import HOST
 from tests.running import Outcome
 from tools.root import ROOT
+from tools.words import Word
 
 BOOK = "9780140328721"
 
@@ -32,7 +33,7 @@ def chosen(port: int, days: int) -> object:
 
 
 def page_of_a_week(room: Room) -> Iterator[Outcome]:
-    words = [ROOT / "tools/python", "-m", "tools.demo", room.program, "--port", "0"]
+    words: list[Word] = [ROOT / "tools/python", "-m", "tools.demo", room.program, "--port", "0"]
     running = subprocess.Popen(words, cwd=room.folder, stdout=subprocess.PIPE, stderr=subprocess.PIPE)
     try:
         assert running.stdout

@@ -20,7 +20,7 @@ from tools.root import ROOT
 HABITS = {
     "where": re.compile(r"\b[Ww]here\b"),
     # A desk stands for a list, and a crate on another one: terms of their own.
-    "stands": re.compile(r"\b(?:stands?|stood)\b(?! (?:for|on)\b)"),
+    "stands": re.compile(r"(?<!desk )(?<!which it )\b(?:stands?|stood)\b(?! (?:for|on)\b)"),
     "is none": re.compile(r"(?<![Tt]here )\b(?:is|are|was|were|be) none\b"),
     "so many": re.compile(r"\bso many\b"),
     "there": re.compile(r"(?<!What )\b(?:is|are|was|were|be|not) there\b"),

@@ -1,9 +1,17 @@
 .DEFAULT_GOAL := help
-.PHONY: help build quick test check lint docs definitions mutants wrong-bodies page-test page-pictures postgres-test \
+.PHONY: help try demo build quick test check lint docs definitions mutants wrong-bodies page-test page-pictures postgres-test \
     package package-test
 
 help: ## this list
 	@awk -F ':.*## ' '/^[a-z-]+:.*## / { printf "make %-13s %s\n", $$1, $$2 }' Makefile
+
+# It says where the program is.
+try: ## in minutes and without any proof: the program, to try it out
+	@tests/try
+
+# It takes the built program, or else the unproved one, and needs no nginx, password or certificate.
+demo: ## the buyers' page with the desk of a shop's week, on this machine alone
+	@tools/demo
 
 # The proofs that it does are kept for 'make test', where the toolchain keeps any.
 build: ## proves and builds the program, crates/onixdesk/out/onixdesk
@@ -26,11 +34,11 @@ check: lint ## in minutes: the lints, and the tests of the built program
 lint: ## looks over the Python, the shell, the JavaScript, and the Rattle as far as that needs no proof
 	@tools/lint
 
-docs: definitions ## writes docs/DEFINITIONS.md, which git does not keep, and docs/crates.svg anew
+docs: definitions ## writes docs/DEFINITIONS.md, and docs/crates.svg anew
 	tools/crates-picture
 
 # The package has the page too: packaging/build makes it of the commit.
-definitions:
+definitions: ## writes docs/DEFINITIONS.md, which git does not keep
 	tools/definitions
 
 # The prover must refuse each of them too.

@@ -82,7 +82,9 @@ def main() -> int:
     crate = rt.Crate(str(folder), str(ROOT), {})
     known: dict[str, Any] = {}
     clone = given.clone.resolve()
-    others = {each.name: each for each in rt.Crate(f"{clone}/crates/{given.crate}", str(clone), known).below()}
+    # The clone may lack the crate itself, as where that is new.
+    folders = {library.name: clone / "crates" / library.name for library in crate.below()}
+    others = {name: rt.Crate(str(path), str(clone), known) for name, path in folders.items() if path.is_dir()}
     built = take_libraries(crate, others)
     sources = [library.name for library in crate.below() if library.name not in built]
     print(f"bench/check: {len(built)} libraries are built; as sources: {' '.join(sources) or 'none'}", file=sys.stderr)

@@ -15,13 +15,12 @@ import os
 import shutil
 import subprocess
 import sys
-import tempfile
 import threading
 import time
 from collections.abc import Callable, Iterator, Sequence
 from functools import partial
-from pathlib import Path
 
+from tests.commands.try_out import BUILT, CRATE, build_program
 from tests.program import groups_of
 
 from tests.program.desk import batches
@@ -30,15 +29,9 @@ from tests.program.feeds import sample_feeds
 
 from tests.program.feeds.convert import records_and_notes
 from tests.program.room import Group
-from tests.running import PROGRAM, Cases, Counted, Outcome, count_all, run_side_by_side
-from tests.unproved import ENDED, build, run_try
+from tests.running import Cases, Counted, Outcome, count_all, run_side_by_side
+from tests.unproved import ENDED, run_try
 from tools.root import ROOT
-
-CRATE = "onixdesk"
-BUILT = PROGRAM.with_name(f"{PROGRAM.name}.unproved")
-
-# With the name of a file the program reads it, and needs nothing else.
-READING = ["convert"]
 
 # A program that tests crates by the parts of the file beside it.
 TESTS_OF_FEEDS = "feed_tests"
@@ -93,13 +86,10 @@ def lints() -> Iterator[Outcome]:
     yield Outcome("tools/lint", subprocess.run([ROOT / "tools/lint"]).returncode, 0)
 
 
-def build_program() -> Iterator[Outcome]:
-    """Builds the program, without any proof, which the groups of tests/program run from then on."""
+def program_is_built() -> Iterator[Outcome]:
+    """The groups of tests/program run it from then on."""
     Group.program = BUILT
-    BUILT.parent.mkdir(exist_ok=True)
-    BUILT.unlink(missing_ok=True)
-    with tempfile.TemporaryDirectory(prefix="onixdesk-") as folder:
-        build(CRATE, READING, BUILT, Path(folder))
+    build_program()
     yield Outcome("the program is built", BUILT.is_file(), True)
 
 
@@ -116,7 +106,7 @@ def parts() -> list[Part]:
     # A desk in a file takes two seconds to be opened, since this program has its checks and no optimizations.
     longest = [max(cases, key=lambda case: len(case.batch)) for cases in batches.FILES]
     in_turn = batches.groups(batches.in_a_file, longest) + batches.groups(batches.in_memory, batches.CASES)
-    program = Part("the build of the program", [Step(CRATE, build_program)])
+    program = Part("the build of the program", [Step(CRATE, program_is_built)])
     return [
         program,
         Part("the lints", [Step("lints", lints)]),

@@ -23,7 +23,7 @@ LAYERS = {
     ),
     "Ways in": (
         "batches, HTTP, export",
-        ["desk_texts", "desk_batch", "desk_export", "http_requests", "desk_http", "desk_tests"],
+        ["desk_texts", "desk_batch", "desk_example", "desk_export", "http_requests", "desk_http", "desk_tests"],
     ),
     "Feeds": (
         "from XML to messages",

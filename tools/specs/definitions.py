@@ -31,13 +31,14 @@ class Name:
 
 @dataclass
 class File:
-    """A file of specs/: what its first line says of it, and its definitions in their order: the comment of each, what
-    it cites of other files, and the words of its own; and what it hands on."""
+    """A file of specs/: what its first line says of it, and its definitions in their order: the comment of each, its
+    lines, what it cites of other files, and the words of its own; and what it hands on."""
 
     crate: str
     name: str
     about: str
     comments: dict[str, str]
+    formulas: dict[str, list[str]]
     cited: dict[str, set[Name]]
     own: dict[str, set[str]]
     handed_on: set[Name]
@@ -72,7 +73,7 @@ def names_in(text: str, imports: dict[str, tuple[str, str, str]]) -> set[Name]:
 def read_file(crate: str, name: str, text: str) -> File:
     lines = text.splitlines()
     first = COMMENT.match(lines[0])
-    file = File(crate, name, first[1] if first else "", {}, {}, {}, set())
+    file = File(crate, name, first[1] if first else "", {}, {}, {}, {}, set())
     imports = imported(text)
     for line in lines:
         if line.startswith("pub use "):
@@ -87,8 +88,11 @@ def read_file(crate: str, name: str, text: str) -> File:
             file.comments[found[1]] = " ".join(comment)
         if found := found or LEMMA.match(line):
             word = found[1]
+            file.formulas[word] = []
             file.cited[word] = set()
             file.own[word] = set()
+        if word and line and not line.startswith(("use ", "module ")):
+            file.formulas[word].append(line)
         if word and not line.startswith("use "):
             file.cited[word] |= names_in(line, imports)
             file.own[word] |= set(re.split(r"[\s(){}\[\],;.]+", line))

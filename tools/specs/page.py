@@ -14,10 +14,10 @@ PARAMETER = re.compile(r"(?<=\.) [A-Z]\w+: [^.]*\.?")
 INTRODUCTION = """\
 # Definitions
 
-What the contracts speak of, in plain English, crate by crate and file by file of their `specs/`: each \
-definition that a public contract names, and each that these take from another file. The definitions \
-themselves, the steps between them, and those whose names say all stand in the files. `make docs` makes \
-this page of the comments there.
+What the contracts speak of, crate by crate and file by file of their `specs/`: each definition that a public \
+contract names, and each that these take from another file, in plain English and, below that, as it is \
+written. The steps between them, and definitions whose names say all, are in the files only. `make docs` \
+makes this page of the files.
 
 A text is the list of its bytes, a record the list of its fields. A list of requests has its latest \
 first: `r ∷ L` is L and then r. What gives a value or none says both what is read and what is refused.
@@ -55,13 +55,14 @@ def remark(comment: str) -> str:
 
 
 def file_lines(file: File, listed: set[Name]) -> list[str]:
-    """What the page says of a file: nothing, where none of its commented definitions is listed."""
-    remarks = [
-        f"- `{word}`: {remark(comment)}"
-        for word, comment in file.comments.items()
-        if comment and Name(file.crate, file.name, word) in listed
-    ]
-    return [f"**{file.name}.** {file.about}", "", *remarks, ""] if remarks else []
+    """What the page says of a file: nothing, if none of its commented definitions is listed."""
+    remarks = []
+    for word, comment in file.comments.items():
+        if comment and Name(file.crate, file.name, word) in listed:
+            formula = [f"      {line}" for line in file.formulas[word]]
+            remarks += [f"- `{word}`: {remark(comment)}", "", *formula, ""]
+    place = f"crates/{file.crate}/specs/{file.name}.antt"
+    return [f"**{file.name}** ({place}). {file.about}", "", *remarks] if remarks else []
 
 
 def read_all(root: Path) -> tuple[list[File], set[Name]]:

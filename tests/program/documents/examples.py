@@ -1,12 +1,15 @@
 """The examples, which are to be answered as the documents say."""
 
 import os
-import shlex
+import re
+import shutil
+import subprocess
 from collections.abc import Iterator
 
+from tests.commands.try_out import BUILT
 from tests.program.messages import AGREEMENT, bare
 from tests.program.room import Ran, Room
-from tests.program.serving import free_port, posted, serving
+from tests.program.serving import free_port, serving
 from tests.running import Outcome
 from tools.root import ROOT
 
@@ -37,12 +40,65 @@ def example(name: str) -> bytes:
     return (ROOT / name).read_bytes()
 
 
+# What begins a command among lines that also have what it writes.
+COMMAND = re.compile(r"(?:bin/|curl |sqlite3 )")
+
+# A command that ends in `<<'END'` has further lines.
+END = "END"
+
+
+def commands(lines: list[str]) -> list[tuple[str, list[str]]]:
+    """Each command of a block, and the lines that follow it."""
+    found: list[tuple[str, list[str]]] = []
+    is_within = False
+    for line in lines:
+        if is_within or COMMAND.match(line):
+            before = f"{found.pop()[0]}\n" if is_within else ""
+            found.append((f"{before}{line}", []))
+            is_within = line != END if is_within else line.endswith(f"<<'{END}'")
+        else:
+            found[-1][1].append(line)
+    return found
+
+
+def like_the_repository(room: Room) -> None:
+    """The folder of the room with what the commands name, of which bin/onixdesk is the program that is tested."""
+    shutil.copytree(ROOT / "bin", room.path("bin"), ignore=shutil.ignore_patterns("onixdesk"))
+    room.path("bin/onixdesk").symlink_to(room.program)
+    for name in ("examples", "page", "programs"):
+        room.path(name).symlink_to(ROOT / name)
+
+
+def tried(room: Room, page: str, lines: list[str], port: int = 8080) -> Iterator[Outcome]:
+    """Runs each command of a block as the page has it, at a desk of that port, and compares what it writes."""
+    for command, shown in commands(lines):
+        came = room.call(["sh", "-c", command.replace(":8080", f":{port}")])
+        # A reply has no line end, and curl tells how far it is.
+        ended = came.output + (b"\n" if command.startswith("curl ") else b"")
+        yield Outcome(f"{page}: {command}", (came.status, ended), (0, written(shown)))
+
+
 def first_batch(room: Room) -> Iterator[Outcome]:
-    came = room.run("batch", given=example("examples/first.csv"))
-    wanted = Ran(0, written(block("README.md", "agreed,north,1")))
-    yield Outcome("README.md: the first batch", came, wanted)
+    like_the_repository(room)
+    lines = block("README.md", "bin/onixdesk batch < examples/first.csv")
+    yield from tried(room, "README.md", lines + block("README.md", "agreed,north,1"))
     shown = written(block("README.md", "Agree,north,"))
     yield Outcome("README.md: what the first batch says", shown, example("examples/first.csv"))
+
+
+def own_file(room: Room) -> Iterator[Outcome]:
+    """What README.md has for a wholesaler's file, with a feed of the examples."""
+    first, *lines = block("README.md", "alias onixdesk=")
+    yield Outcome("README.md: the unproved program", first, f"alias onixdesk=$PWD/{BUILT.relative_to(ROOT)}")
+    room.write("my.xml", example("examples/shop/onix/north-1.xml"))
+    environment = on_path(room)
+    came = [room.call(["sh", "-c", line], environment=environment) for line in lines]
+    yield Outcome("README.md: one's own file, the statuses", [ran.status for ran in came], [0] * len(lines))
+    _, taken, listed, priced = [ran.output.decode().splitlines() for ran in came]
+    counts = "replaced=2,updated=0,deleted=0,unknown=0,ignored=0"
+    yield Outcome("README.md: one's own file is taken", taken, ["agreed,mine,1", f"applied,mine,1,{counts}"])
+    yield Outcome("README.md: what the desk has of it", listed[0], "catalogue,mine,2")
+    yield Outcome("README.md: the price of an ISBN", priced[0], "price,9781234567897,1")
 
 
 def week(room: Room) -> Iterator[Outcome]:
@@ -57,13 +113,6 @@ def week(room: Room) -> Iterator[Outcome]:
 OF_FEEDS = "examples/shop/onix/README.md"
 
 
-def like_the_repository(room: Room) -> None:
-    """The folder of the room with what the commands name, of which bin/onixdesk is the program that is tested."""
-    room.path("bin").mkdir()
-    room.path("bin/onixdesk").symlink_to(room.program)
-    room.path("examples").symlink_to(ROOT / "examples")
-
-
 def week_in_xml(room: Room) -> Iterator[Outcome]:
     like_the_repository(room)
     for command, *lines in blocks(OF_FEEDS):
@@ -71,38 +120,24 @@ def week_in_xml(room: Room) -> Iterator[Outcome]:
         yield Outcome(f"{OF_FEEDS}: {command}", came, Ran(0, written(lines)))
 
 
-def commands(lines: list[str]) -> list[tuple[list[str], list[str]]]:
-    """The words of each command of a block behind its program, and the lines that follow it."""
-    found: list[tuple[list[str], list[str]]] = []
-    for line in lines:
-        if line.startswith(("bin/onixdesk ", "curl ")):
-            found.append((shlex.split(line)[1:], []))
-        else:
-            found[-1][1].append(line)
-    return found
+TOUR = "docs/TOUR.md"
 
 
 def desk_in_a_file(room: Room) -> Iterator[Outcome]:
-    """A desk on two days, and then over HTTP."""
-    monday = block("docs/TOUR.md", "bin/onixdesk --db shop.db batch < examples/shop/monday.csv")
-    tuesday = block("docs/TOUR.md", "bin/onixdesk --db shop.db gaps north")
-    for words, lines in commands(monday) + commands(tuesday):
-        given = b""
-        if "<" in words:
-            *words, _, name = words
-            given = example(name)
-        came = room.run(*words, given=given)
-        yield Outcome(f"docs/TOUR.md: {words}", came, Ran(0, written(lines)))
-
-    questions = commands(block("docs/TOUR.md", "curl "))
-    with serving(room, ["--db", "shop.db"], len(questions)) as desk:
-        for (url,), (body,) in questions:
-            target = url.removeprefix("http://127.0.0.1:8080")
-            reply = desk.reply([f"GET {target} HTTP/1.1\r\n\r\n".encode()])
-            answer = reply.partition(b"\r\n\r\n")[2]
-            yield Outcome(f"docs/TOUR.md: {target}", answer, body.encode())
-        _, *statuses = block("docs/TOUR.md", "listening 8080")
+    """A desk on two days, and then over HTTP; and a feed."""
+    like_the_repository(room)
+    for first in ("db shop.db batch < examples/shop/monday.csv", "db shop.db gaps north", "db shop.db agreements"):
+        yield from tried(room, TOUR, block(TOUR, f"bin/onixdesk --{first}"))
+    with serving(room, ["--db", "shop.db"], 2) as desk:
+        yield from tried(room, TOUR, block(TOUR, "curl "), desk.port)
+        _, *statuses = block(TOUR, "listening 8080")
         yield Outcome("docs/TOUR.md: the lines of serve", desk.ended(), desk.wanted(statuses))
+    looked = room.call(["sh", "-c", *block(TOUR, "bin/onixdesk-look ")])
+    agreement = block(TOUR, "bin/onixdesk --db shop.db agreements")[1].encode()
+    yield Outcome("docs/TOUR.md: a feed is looked at", (looked.status, agreement in looked.output), (0, True))
+    answers = room.run("--db", "shop.db", "batch", given=written(block(TOUR, "AskPrice,9781234567897,20250410")))
+    kinds = [line.partition(b",")[0] for line in answers.output.splitlines() if not line.startswith((b"offer", b"span"))]
+    yield Outcome("docs/TOUR.md: its questions", kinds, [b"price", b"choice", b"calendar"])
 
 
 # A message with a price, and rules that choose its offer.
@@ -117,38 +152,66 @@ EndMessage,5
 RULES = b'[[rule]]\nseries = "north"\ncodes = ["21"]\n'
 
 
-def replies(room: Room, words: list[str], inputs: list[bytes], wanted: list[str]) -> Iterator[Outcome]:
-    """Each input is sent to one desk, and its reply compared with the body that the page shows."""
-    with serving(room, words, len(inputs)) as desk:
-        for input, body in zip(inputs, wanted, strict=True):
-            came = desk.reply([input]).partition(b"\r\n\r\n")[2]
-            yield Outcome(f"docs/HTTP.md: {body[:60]}", came, body.encode())
-
-
-def asked(line: str) -> bytes:
-    """What `curl` sends of a command of the page that asks."""
-    target = shlex.split(line)[-1].removeprefix("http://127.0.0.1:8080")
-    return f"GET {target} HTTP/1.1\r\n\r\n".encode()
+HTTP = "docs/HTTP.md"
 
 
 def page_of_http(room: Room) -> Iterator[Outcome]:
-    """Each request that the page of HTTP shows, to desks in the states that it tells of."""
-    _, *deliveries = block("docs/HTTP.md", "curl -H 'Expect:' --data-binary @message.csv")
-    questions = [lines for lines in blocks("docs/HTTP.md") if lines[0].startswith(("curl 'http", "curl http"))]
+    """Each command that the page of HTTP shows with its reply, to desks in the states that it tells of."""
+    post, *deliveries = block(HTTP, "curl -H 'Expect:' --data-binary @message.csv")
+    questions = [lines for lines in blocks(HTTP) if lines[0].startswith(("curl 'http", "curl http"))]
     of_articles = [lines for lines in questions if "/articles/" in lines[0]]
     of_series = [lines for lines in questions if "/series/" in lines[0]]
 
     room.write("rules.toml", RULES)
     room.run("--db", "priced.db", "batch", given=AGREEMENT)
-    inputs = [posted(PRICED), posted(bare(3)), *(asked(line) for line, _ in of_articles)]
-    wanted = deliveries + [body for _, body in of_articles]
-    yield from replies(room, ["--db", "priced.db", "--rules", "rules.toml"], inputs, wanted)
+    with serving(room, ["--db", "priced.db", "--rules", "rules.toml"], 2 + len(of_articles)) as desk:
+        for message, reply in zip((PRICED, bare(3)), deliveries, strict=True):
+            room.write("message.csv", message)
+            yield from tried(room, HTTP, [post, reply], desk.port)
+        for lines in of_articles:
+            yield from tried(room, HTTP, lines, desk.port)
 
     messages = AGREEMENT + bare(1) + bare(2) + bare(5) + bare(9)
     room.run("--db", "bare.db", "batch", given=messages)
-    inputs, wanted = [asked(line) for line, _ in of_series], [body for _, body in of_series]
-    yield from replies(room, ["--db", "bare.db"], inputs, wanted)
+    with serving(room, ["--db", "bare.db"], len(of_series)) as desk:
+        for lines in of_series:
+            yield from tried(room, HTTP, lines, desk.port)
     yield Outcome("docs/HTTP.md: its questions", (len(of_articles), len(of_series)), (3, 2))
+
+
+def on_path(room: Room) -> dict[str, str]:
+    """An environment in which `onixdesk` is the program that is tested."""
+    room.path("onixdesk").symlink_to(room.program)
+    return {**os.environ, "PATH": f"{room.folder}:{os.environ['PATH']}"}
+
+
+def served_as_told(room: Room) -> Iterator[Outcome]:
+    """The two desks that the page of HTTP starts, at a port of their own, and a batch at the socket of the second."""
+    like_the_repository(room)
+    room.run("--db", "shop.db", "batch", given=AGREEMENT)
+    room.write("agreements.csv", AGREEMENT)
+    serve, batch = block(HTTP, "bin/onixdesk --db shop.db --existing serve --port 8080 --batches desk.socket")
+    for command in (block(HTTP, "bin/onixdesk --db shop.db --existing serve --port 8080")[0], serve):
+        port = free_port()
+        words = ["sh", "-c", f"exec {command.replace('8080', str(port))}"]
+        with subprocess.Popen(words, cwd=room.folder, stdout=subprocess.PIPE) as desk:
+            assert desk.stdout
+            yield Outcome(f"{HTTP}: {command}", desk.stdout.readline(), b"listening %d\n" % port)
+            if command == serve:
+                came = room.call(["sh", "-c", batch])
+                yield Outcome(f"{HTTP}: {batch}", came, Ran(0, b"agreed,north,1\n"))
+            desk.kill()
+
+
+def waivers_as_told(room: Room) -> Iterator[Outcome]:
+    """The numbers that a change of parts leaves out, as docs/ONIX.md waives them."""
+    room.run("--db", "shop.db", "batch", given=AGREEMENT)
+    command, = block("docs/ONIX.md", "  seq -f 'Waive,north,")
+    # The first hundred of them: each is a transaction.
+    came = room.call(["sh", "-c", command.replace(" 18000 ", " 15400 ")], environment=on_path(room))
+    lines = came.output.decode().splitlines()
+    found = came.status, len(lines), lines[0], lines[-1]
+    yield Outcome(f"docs/ONIX.md: {command}", found, (0, 100, "waived,north,15301", "waived,north,15400"))
 
 
 def script(room: Room, name: str, *words: str) -> Ran:

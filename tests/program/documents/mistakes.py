@@ -1,6 +1,8 @@
 """What docs/MISTAKES.md has for mistakes that were made: each of its blocks is run as it is, at a desk and an inbox
-where they were made, and prices are compared before and behind it."""
+where they were made, and prices are compared before and behind it. Each line that it calls wrong is tried too, and
+the right line beside it."""
 
+import re
 from collections.abc import Iterator
 
 from tests.program.documents.examples import blocks, written
@@ -55,6 +57,7 @@ BLOCKS = {
     "a waiver too early": f"{CORRECT} '/^Waive,north,5",
     "a wrong message": f"{CORRECT} '/^Message,[12],06,4012345000009,06,5012345678900,2,",
     "a wholesaler that is gone": "batch() {",
+    "two shops": "awk -F, ",
     "a copy from before it": "desk-restore /var/lib/onixdesk-copies/",
 }
 
@@ -187,6 +190,34 @@ def a_wholesaler_that_is_gone(room: Room) -> Iterator[Outcome]:
         yield Outcome("a wholesaler that is gone: prices", desk.prices(A, B), {A: [], B: []})
 
 
+def two_shops(room: Room) -> Iterator[Outcome]:
+    """The second shop's desk has its series alone, with what was waived."""
+    second = NORTH.replace("5012345678900", "5012345678917")
+    records = agreed() + written([f"Agree,other,{second},1", "Waive,other,2"])
+    records += message(1, (A, "10.00")) + message(1, (B, "20.00"), parties=second) + message(3, (C, "7.00"), parties=second)
+    with machine(room, records) as desk:
+        offered = {isbn: len(found) for isbn, found in desk.prices(A, B, C).items()}
+        yield Outcome("two shops: one desk has both", offered, {A: 1, B: 1, C: 1})
+        ran = desk.run(block_with(BLOCKS["two shops"]))
+        yield Outcome("two shops: the second desk is made", (ran.status, ran.status and ran.errors), (0, 0))
+        asked = "".join(f"AskPrice,{isbn},20250501,GB,GBP,02\n" for isbn in (A, B, C))
+        came = room.run("--db", "var/lib/onixdesk/second.db", "--existing", "batch", given=f"{asked}AskGaps,other\n".encode())
+        wanted = [f"price,{A},0", f"price,{B},1", f"offer,other,R{B[-3:]},1,21,20.000", f"price,{C},1",
+            f"offer,other,R{C[-3:]},1,21,7.000", "gaps,other,first=1,next=4,greatest=3,held=0,missing=0"]
+        yield Outcome("two shops: the second desk", came.output.decode().splitlines(), wanted)
+
+
+def causes(room: Room) -> Iterator[Outcome]:
+    """Each line that the page calls wrong is malformed, and the one beside it is a request."""
+    text = (ROOT / PAGE).read_text(encoding="utf-8")
+    rows = re.findall(r"^\| `(.+?)` \| .+? \| (?:`(.+?)` )?\|$", text, re.M)
+    yield Outcome("why malformed: causes", len(rows), 11)
+    for wrong, right in rows:
+        yield Outcome(f"why malformed: {wrong}", room.run("batch", given=written([wrong])).output, b"refused,malformed,1\n")
+        answer = room.run("batch", given=written([right] if right else [])).output
+        yield Outcome(f"why malformed: {right}", (bool(answer) == bool(right), b"malformed" in answer), (True, False))
+
+
 def what_changes_nothing(room: Room) -> Iterator[Outcome]:
     """The script stops where no line changes, and where the new desk refuses one; the desk goes on as it was."""
     with machine(room, agreed() + message(1, (A, "10.00"))) as desk:
@@ -208,7 +239,7 @@ def what_changes_nothing(room: Room) -> Iterator[Outcome]:
 def each_section(_room: Room) -> Iterator[Outcome]:
     """Each mistake has a block, or a sentence that nothing has to be done; each block is run here, and is one command
     or stops at the first that fails."""
-    _, _, *sections = (ROOT / PAGE).read_text(encoding="utf-8").split("\n## ")
+    _, _, _, *sections = (ROOT / PAGE).read_text(encoding="utf-8").split("\n## ")
     texts = [text for text in sections if "\n\n    " not in text and "nothing has to be done" not in text]
     without = [text.splitlines()[0] for text in texts]
     yield Outcome("sections without a block", (len(sections) >= 7, without), (True, []))

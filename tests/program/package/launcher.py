@@ -6,12 +6,14 @@ import subprocess
 import time
 from collections.abc import Iterator
 
+from tests.program.desk import helps
 from tests.program.room import SECONDS, UNREADABLE, Ran, Room
 from tests.running import Outcome
 from tools.root import ROOT
 
 PROGRAM = "crates/onixdesk/out/onixdesk"
 SOURCE = "crates/onixdesk/src/main.rt"
+VERSION = "crates/program_words/src/commands.rt"
 
 # The program stands on two of the three others.
 FILES = {
@@ -24,6 +26,8 @@ FILES = {
     "crates/low/mutants/more.edit": "",
     "crates/high/specs/High.antt": "",
     "crates/beside/src/lib.rt": "",
+    VERSION: 'const OTHER: &str = "1";\nconst VERSION: &str = "9.8.7";\n',
+    "crates/desk_example/stdin": "",
 }
 
 # What is proved: the program's crates, without their wrong bodies and without what was built of them.
@@ -36,13 +40,14 @@ TO_BUILD = "'make build' proves and builds it, in half an hour or more the first
 UNBUILT = f"the program is not built{{}}; {TO_BUILD}"
 CHANGED = f"a source has changed since the program was built{{}}; {TO_BUILD}"
 BEING_BUILT = "the program is being built{}; 'make build' waits for it"
+TO_TRY = "; 'make try' builds it in minutes, without any proof"
 NO_RT = "the Rattle toolchain's command 'rt' is not on the PATH"
 NOT_OF_THESE = "no program is built of these sources; 'make build' builds it"
 
 BATCH = b"AskGaps,north\nAskGaps,south\n"
 
 # What wants the built program.
-WANTING = ["", "--help", "gaps north", "--db shop.db batch", "--rules batch", "serve --port 8080"]
+WANTING = ["", "help none", "none --help", "gaps north", "--db shop.db batch", "--rules none batch", "serve --port 8080"]
 
 
 def told(*lines: str) -> bytes:
@@ -50,17 +55,17 @@ def told(*lines: str) -> bytes:
 
 
 def unproved(why: str = UNBUILT) -> bytes:
-    return told(why.format(", so this batch is answered without any proof, in about three minutes"))
+    return told(why.format(", so this batch is answered without any proof, in about a minute"))
 
 
 def wanting(why: str = UNBUILT) -> Ran:
-    return Ran(3, b"", told(why.format(", and this wants it")))
+    return Ran(3, b"", told(why.format(", and this wants it") + TO_TRY))
 
 
 def answered(why: str = UNBUILT, given: bytes = BATCH, status: int = 0) -> Ran:
     """A batch that the stand-in has tried."""
     said = unproved(why) + told("a line of the program")
-    return Ran(status, b"in crates/onixdesk: try -- batch\n" + given, said)
+    return Ran(status, b"in crates/desk_example: try\n" + given, said)
 
 
 def lay_out(room: Room) -> None:
@@ -72,6 +77,8 @@ def lay_out(room: Room) -> None:
         room.path(name).parent.mkdir(parents=True, exist_ok=True)
         room.path(name).write_text(text)
     shutil.copy(ROOT / "tests/launcher/rt", room.path("tools/rt"))
+    room.path("tests/help").mkdir(parents=True)
+    shutil.copy(helps.FILE, room.path("tests/help"))
     room.path("tmp").mkdir()
 
 
@@ -108,7 +115,7 @@ def calls(room: Room, verb: str = "") -> list[str]:
 
 def digest(room: Room) -> bytes:
     """The digest of the sources, by other means."""
-    names = f"crates.txt crates/beside/src/lib.rt crates/high/specs/High.antt crates/low/src/lib.rt {SOURCE}"
+    names = f"crates.txt crates/beside/src/lib.rt crates/high/specs/High.antt crates/low/src/lib.rt {SOURCE} {VERSION}"
     return room.call(["sh", "-c", f"sha256sum {names} | sha256sum | cut -d ' ' -f 1"]).output
 
 
@@ -119,14 +126,6 @@ def a_batch_without_a_program(room: Room) -> Iterator[Outcome]:
         room.path("status").write_text(f"{status}\n")
         yield Outcome(f"launcher: a batch of status {status}", launch(room, "batch"), answered(status=status))
     room.path("status").write_text("0")
-    room.path("elsewhere").mkdir()
-    room.write("elsewhere/some rules", b"the rules\n")
-    by_rules = b"the rules\nin crates/onixdesk: try -- --rules rules.toml batch\n" + BATCH
-    for words in (["--rules", "some rules"], ["--rules=some rules"]):
-        came = launch(room, *words, "batch", folder="elsewhere")
-        yield Outcome(f"launcher: {words}", (came.status, came.output), (0, by_rules))
-    came = launch(room, "--rules", "none", "batch")
-    yield Outcome("launcher: no rules file", came, Ran(2, b"", unproved() + told("file: none")))
     for line in WANTING:
         yield Outcome(f"launcher: unbuilt, {line}", launch(room, *line.split()), wanting())
     came = launch(room, "batch", given=UNREADABLE)
@@ -137,6 +136,18 @@ def a_batch_without_a_program(room: Room) -> Iterator[Outcome]:
         yield Outcome(f"launcher: a batch {stream}", found, (3, b"", told(line)))
     yield Outcome("launcher: its temporary files", os.listdir(room.path("tmp")), [])
     yield Outcome("launcher: it builds nothing", calls(room, "ci"), [])
+
+
+def help_without_a_program(room: Room) -> Iterator[Outcome]:
+    """The texts are those with which the program's are compared."""
+    lay_out(room)
+    for words, text in helps.texts():
+        *command, _ = words
+        for asked in (words, ["help", *command]):
+            yield Outcome(f"launcher: unbuilt, {asked}", launch(room, *asked), Ran(0, text))
+    yield Outcome("launcher: unbuilt, -h", launch(room, "-h"), Ran(0, helps.texts()[0][1]))
+    for word in ("--version", "-V"):
+        yield Outcome(f"launcher: unbuilt, {word}", launch(room, word), Ran(0, b"onixdesk 9.8.7\n"))
 
 
 def without_an_answer(room: Room) -> Iterator[Outcome]:
@@ -179,6 +190,7 @@ def a_built_program(room: Room) -> Iterator[Outcome]:
     yield Outcome("tools/build sources: of others", command(room, "tools/build", "sources"), Ran(1, b"", told(NOT_OF_THESE)))
     yield Outcome("launcher: an old program, a batch", launch(room, "batch"), answered(CHANGED))
     yield Outcome("launcher: an old program, a question", launch(room, "gaps", "north"), wanting(CHANGED))
+    shutil.rmtree(room.path("tests"))
     for name in ("tests", "bench", "programs"):
         room.path(name).symlink_to(ROOT / name)
     yield Outcome("tests/run: an old program", refused(room), (2, True))

@@ -1,0 +1,58 @@
+"""docs/REPORTS.md: each of its questions in SQL is asked as it stands there, and its output compared."""
+
+import contextlib
+import json
+import shutil
+import sqlite3
+from collections.abc import Iterator
+
+from tests.program.documents.examples import blocks, commands, example, like_the_repository, written
+from tests.program.room import Ran, Room
+from tests.running import Outcome, left_out
+from tools.root import ROOT
+
+PAGE = "docs/REPORTS.md"
+TITLES = "/var/lib/onixdesk-titles"
+
+# As onixdesk-titles keeps them: series, number, moment, title, subtitle, contributors and publisher.
+KEPT = {"9781234567897": [["north", 2, 1741100000, "A Week of Books", "", "Ann Author", "House"], ["west", 40, 1740000000]]}
+
+
+
+def desks(room: Room) -> Ran:
+    """What the page begins with, and the copies of two days."""
+    like_the_repository(room)
+    room.path("titles/97812").mkdir(parents=True)
+    room.write("titles/97812/97812345.json", json.dumps(KEPT).encode())
+    (batch, copy), *_ = blocks(PAGE)
+    room.call(["sh", "-c", batch])
+    ran = room.call(["sh", "-c", copy])
+    for day in ("monday", "tuesday"):
+        room.run("--db", "days/shop.db", "batch", given=example(f"examples/shop/{day}.csv"))
+        room.call(["bin/desk-copy", "days/shop.db", day])
+    return ran
+
+
+def questions(room: Room) -> Iterator[Outcome]:
+    if not shutil.which("sqlite3"):
+        yield left_out("docs/REPORTS.md, since there is no sqlite3")
+        return
+    room.path("days").mkdir()
+    yield Outcome(f"{PAGE}: the copy", desks(room).status, 0)
+    asked = [lines for lines in blocks(PAGE) if lines[0].startswith("sqlite3 ")]
+    for (command, shown), in map(commands, asked):
+        came = room.call(["sh", "-c", command.replace(TITLES, str(room.folder))])
+        yield Outcome(f"{PAGE}: {command}", came, Ran(0, written(shown)))
+    yield Outcome(f"{PAGE}: its questions", len(asked), 5)
+
+
+def tables(room: Room) -> Iterator[Outcome]:
+    """The page names each table and each column but the one of the version."""
+    text = ROOT.joinpath(PAGE).read_text(encoding="utf-8")
+    room.run("--db", "shop.db", "batch", given=example("examples/shop/monday.csv"))
+    with contextlib.closing(sqlite3.connect(room.path("shop.db"))) as desk:
+        found = [name for name, in desk.execute("SELECT name FROM sqlite_schema WHERE type = 'table' ORDER BY name")]
+        columns = {row[1] for name in found for row in desk.execute(f"PRAGMA table_info({name})")}
+    yield Outcome(f"{PAGE}: the tables", [name for name in found if f"- `{name}`" not in text and f", `{name}`" not in text], [])
+    yield Outcome(f"{PAGE}: the columns", sorted(name for name in columns - {"item"} if f"`{name}`" not in text), [])
+    yield Outcome(f"{PAGE}: the tables of the desk", len(found), 9)

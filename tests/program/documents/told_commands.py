@@ -1,0 +1,171 @@
+"""Every command that a page sets off by a margin: the test that runs it and compares what is shown of its output, or,
+where it needs root or the network, what of `make package-test` runs it, or why nothing does."""
+
+import importlib
+import shutil
+from collections.abc import Iterator
+
+from tests.program.documents.examples import blocks
+from tests.program.room import Room
+from tests.running import Outcome
+from tools.root import ROOT
+
+EXAMPLES, LAID, DEBIAN, SYSTEMD = "documents.examples", "package.without_package", "packaging/try-in-debian", "packaging/under-systemd"
+
+# The units and users of the machine are those of the package.
+OF_PACKAGE = f"{LAID}: without_the_package"
+
+# Of each page the blocks that have commands, by what one of their lines begins with, and where they are run: in a
+# function of a module of tests/program or of a script; or nowhere, and why.
+TOLD: dict[str, dict[str, str]] = {
+    "README.md": {
+        "bin/onixdesk batch < examples/first.csv": f"{EXAMPLES}: first_batch",
+        "alias onixdesk=": f"{EXAMPLES}: own_file",
+        "apt install ./onixdesk_VERSION_amd64.deb": f"{SYSTEMD}: try_service",
+        "make test": "nowhere: it is the gate itself",
+    },
+    "docs/HTTP.md": {
+        "bin/onixdesk --db shop.db --existing serve --port 8080": f"{EXAMPLES}: served_as_told",
+        "bin/onixdesk --batches desk.socket batch": f"{EXAMPLES}: served_as_told",
+        "curl -H 'Expect:' --data-binary @message.csv": f"{EXAMPLES}: page_of_http",
+        "curl 'http://127.0.0.1:8080/articles/9781234567897/price?": f"{EXAMPLES}: page_of_http",
+        "curl 'http://127.0.0.1:8080/articles/9781234567897/choice?": f"{EXAMPLES}: page_of_http",
+        "curl 'http://127.0.0.1:8080/articles/9781234567897/calendar?": f"{EXAMPLES}: page_of_http",
+        "curl http://127.0.0.1:8080/series/north/gaps": f"{EXAMPLES}: page_of_http",
+        "curl http://127.0.0.1:8080/series/north/catalogue": f"{EXAMPLES}: page_of_http",
+        "useradd ": OF_PACKAGE,
+        "onixdesk rules /etc/onixdesk/rules.toml && systemctl": "nowhere: it starts a service again",
+        "runuser -u onixdesk -- onixdesk --batches": f"{SYSTEMD}: try_service",
+        "MAILTO=": f"{EXAMPLES}: gaps_by_night",
+    },
+    "docs/INBOX.md": {
+        "runuser -u onixdesk-inbox -- /usr/share/onixdesk/bin/onixdesk-inbox --let-in": "inbox.stopped_feeds: what_somebody_decides",
+        "sed -i -e '$aTITLES=": "inbox.titles: turned_on",
+        "adduser --system --group --no-create-home --home /nonexistent onixdesk-titles": OF_PACKAGE,
+        "runuser -u onixdesk-inbox -- /usr/share/onixdesk/bin/onixdesk-titles rebuild": f"{SYSTEMD}: try_titles",
+        "addgroup --system onixdesk-north": f"{DEBIAN}: set_up_inbox",
+        "adduser --system --group --no-create-home --home /nonexistent onixdesk-inbox": OF_PACKAGE,
+        "install -d -m 700 /etc/onixdesk/fetch/north.secrets": "nowhere: it reaches a wholesaler's server",
+        "adduser --system --group --no-create-home --home /nonexistent onixdesk-fetch": OF_PACKAGE,
+    },
+    "docs/METRICS.md": {
+        "apt-get install prometheus-node-exporter": "nowhere: it installs a package",
+        "install -m 644 programs/desk-metrics/": OF_PACKAGE,
+        "promtool check rules": "files.desk_metrics: by_promtool",
+    },
+    "docs/MISTAKES.md": {
+        "sed -i 's/^SENDER=06,4012345000008$": "documents.mistakes: a_mistyped_sender",
+        "/usr/share/onixdesk/correct.sh 's/^\\(Agree,north,.*\\),2$/": "documents.mistakes: a_first_number_too_high",
+        "seq -f Waive,north,": "documents.mistakes: a_first_number_too_low",
+        "sed -i 's/^SENDER=06,4012345000009$": "documents.mistakes: another_identifier",
+        "/usr/share/onixdesk/correct.sh '/^Message,[12],06,4012345000009,06,5012345678900,20250401,": "documents.mistakes: a_wrong_number",
+        "/usr/share/onixdesk/correct.sh '/^Waive,north,5": "documents.mistakes: a_waiver_too_early",
+        "/usr/share/onixdesk/correct.sh '/^Message,[12],06,4012345000009,06,5012345678900,2,": "documents.mistakes: a_wrong_message",
+        "batch() {": "documents.mistakes: a_wholesaler_that_is_gone",
+        "awk -F, ": "documents.mistakes: two_shops",
+        "desk-restore /var/lib/onixdesk-copies/": "documents.mistakes: a_copy_from_before_it",
+    },
+    "docs/ONIX.md": {
+        "bin/onixdesk-look --like page/desk.json sample.xml": f"{EXAMPLES}: desk_in_a_file",
+        "seq -f 'Waive,north,%.0f'": f"{EXAMPLES}: waivers_as_told",
+    },
+    "docs/PRICES.md": {
+        "bin/desk-prices --rules rules.toml shop.db FOLDER": "files.desk_prices: of_a_copy",
+        "desk-prices --list stock.csv": "files.desk_prices: batches_for_an_open_desk",
+        "sed -i 's/^  \"price_type\":/": "nowhere: it starts a timer",
+        "printf '9781234567897": "nowhere: it adds to a file of the machine",
+        "install -m 755 programs/desk-prices/": OF_PACKAGE,
+    },
+    "docs/RELIABILITY.md": {
+        "ls /var/lib/onixdesk-copies": f"{SYSTEMD}: try_restore",
+        "chown -R onixdesk-inbox:": "nowhere: it needs a second machine",
+        "desk-copy /var/lib/onixdesk/shop.db friday": "desk.exports: moved",
+        "sed -n '/^Message,2,": "desk.exports: moved",
+        "mkdir parts made": "desk.exports: moved",
+        "sort -u products.csv": "documents.many_records: records_are_deleted",
+        "journalctl -u onixdesk-copy": "nowhere: it opens an editor",
+        "journalctl -u onixdesk -p err": "nowhere: it opens an editor",
+        "sed -i 's/^ADDRESS=": f"{SYSTEMD}: try_mail_unit",
+        "install -m 755 programs/onixdesk-mail/mail.sh": OF_PACKAGE,
+        "file=/var/lib/onixdesk/shop.db": "files.unusable: causes",
+    },
+    "docs/REPORTS.md": {
+        "bin/onixdesk --db shop.db batch < examples/shop/week.csv": "documents.reports: questions",
+        "SELECT a.id_value AS isbn, a.series": "documents.reports: questions",
+        "SELECT a.id_value AS isbn, p.price_type": "documents.reports: questions",
+        "SELECT s.name AS wholesaler": "documents.reports: questions",
+        "WITH title AS": "documents.reports: questions",
+        "ATTACH 'monday/shop.db'": "documents.reports: questions",
+    },
+    "docs/SCALE.md": {
+        "apt-get install postgresql": f"{SYSTEMD}: try_follower",
+    },
+    "docs/TOUR.md": {
+        "bin/onixdesk --db shop.db batch < examples/shop/monday.csv": f"{EXAMPLES}: desk_in_a_file",
+        "bin/onixdesk --db shop.db gaps north": f"{EXAMPLES}: desk_in_a_file",
+        "bin/onixdesk --db shop.db agreements": f"{EXAMPLES}: desk_in_a_file",
+        "bin/onixdesk-look --like page/desk.json examples/": f"{EXAMPLES}: desk_in_a_file",
+        "bin/onixdesk --db shop.db serve --port 8080 --requests 2": f"{EXAMPLES}: desk_in_a_file",
+        "curl ": f"{EXAMPLES}: desk_in_a_file",
+    },
+    "examples/page/README.md": {
+        "apt-get install nginx": f"{SYSTEMD}: try_site",
+        "[ -e /etc/nginx/onixdesk.passwords ]": f"{SYSTEMD}: try_site",
+        "printf 'buyer:%s\\n'": f"{SYSTEMD}: try_site",
+        "nginx -t && systemctl reload nginx": f"{SYSTEMD}: try_site",
+    },
+    "examples/shop/README.md": {"bin/onixdesk --rules examples/shop/rules.toml batch": f"{EXAMPLES}: week"},
+    "examples/shop/onix/README.md": {
+        "mkdir -p week": f"{EXAMPLES}: week_in_xml",
+        "cat examples/shop/onix/agreements.csv": f"{EXAMPLES}: week_in_xml",
+        "bin/onixdesk --db week/shop.db batch": f"{EXAMPLES}: week_in_xml",
+    },
+}
+
+# What begins a command beside the programs of this machine.
+BEGINNINGS = ("(", "[ ", "bin/", "MAILTO=", "alias ", "file=", "/usr/share/", "desk-", "onixdesk ")
+
+# Words that are programs too: they begin a call that docs/ARCHITECTURE.md tells of, or a setting of another program.
+NO_COMMANDS = {"run", "main", "Match", "[Service]"}
+
+
+def is_command(lines: list[str]) -> bool:
+    """Whether a block has commands. The form of a command line, with what may be left out in brackets, has none."""
+    first = lines[0].strip()
+    word = first.split(" ")[0]
+    if " [" in first and not first.startswith("[ "):
+        return False
+    return first.startswith(BEGINNINGS) or (word not in NO_COMMANDS and "/" not in word and bool(shutil.which(word)))
+
+
+def has_line(lines: list[str], beginning: str) -> bool:
+    return any(line.strip().startswith(beginning) for line in lines)
+
+
+def is_run(where: str) -> bool:
+    """Whether there is such a function."""
+    place, _, name = where.partition(": ")
+    if place == "nowhere":
+        return True
+    if "/" in place:
+        return f"\n{name}() {{" in ROOT.joinpath(place).read_text(encoding="utf-8")
+    return hasattr(importlib.import_module(f"tests.program.{place}"), name)
+
+
+def each_command(_room: Room) -> Iterator[Outcome]:
+    pages = [page for pattern in ("*.md", "docs/*.md", "examples/**/*.md") for page in sorted(ROOT.glob(pattern))]
+    names = [page.relative_to(ROOT).as_posix() for page in pages if page.name != "DEFINITIONS.md"]
+    yield Outcome("pages that are not there", sorted(TOLD.keys() - set(names)), [])
+    for name in names:
+        found = [lines for lines in blocks(name) if is_command(lines)]
+        told = TOLD.get(name, {})
+        untold = [lines[0] for lines in found if sum(has_line(lines, beginning) for beginning in told) < 1]
+        yield Outcome(f"{name}: commands of which nobody says where they are run", untold, [])
+        lost = [beginning for beginning in told if not any(has_line(lines, beginning) for lines in found)]
+        yield Outcome(f"{name}: commands that it does not have", lost, [])
+
+
+def where_they_are_run(_room: Room) -> Iterator[Outcome]:
+    places = sorted({where for told in TOLD.values() for where in told.values()})
+    yield Outcome("what is to run commands, and is not there", [where for where in places if not is_run(where)], [])
+    yield Outcome("commands are run", len(places) > 30, True)

@@ -1,0 +1,147 @@
+"""Serves the buyers' page, with a desk behind it that has a shop's week, on 127.0.0.1.
+
+    tools/demo [--port N]
+
+No nginx, no password and no certificate: whoever works on this machine can open the page, and nobody else. The desk
+has the week of examples/shop and the messages of examples/page/demo.csv, whose prices change in twenty days. It is
+kept in a folder that is removed at the end, which Ctrl-C makes.
+"""
+
+import argparse
+import contextlib
+import datetime
+import http.client
+import http.server
+import shutil
+import signal
+import socket
+import subprocess
+import sys
+import tempfile
+from collections.abc import Iterator
+from pathlib import Path
+
+from tools.root import ROOT
+from tools.words import Word
+
+HOST = "127.0.0.1"
+PORT = 8081
+
+# The book of demo.csv.
+VIEW = "#article?isbn=9780140328721&quantity=10"
+
+RULES = ROOT / "examples/shop/rules.toml"
+
+# For how many days the first prices of demo.csv hold.
+DAYS = 20
+
+# The longest wait for a reply of the desk, in seconds.
+SECONDS = 60
+
+
+def day_in(days: int) -> bytes:
+    return f"{datetime.date.today() + datetime.timedelta(days):%Y%m%d}".encode()
+
+
+def requests() -> bytes:
+    """The week and the messages behind it."""
+    more = (ROOT / "examples/page/demo.csv").read_bytes()
+    dated = more.replace(b"LAST", day_in(DAYS)).replace(b"NEXT", day_in(DAYS + 1))
+    return (ROOT / "examples/shop/week.csv").read_bytes() + dated
+
+
+def free_port() -> int:
+    with socket.create_server((HOST, 0)) as found:
+        port: int = found.getsockname()[1]
+        return port
+
+
+@contextlib.contextmanager
+def desk(program: Path) -> Iterator[int]:
+    """A desk that has the week, at the port that is given."""
+    folder = tempfile.mkdtemp(prefix="onixdesk-")
+    command: list[Word] = [program, "--db", "shop.db", "--rules", RULES]
+    subprocess.run([*command, "batch"], cwd=folder, input=requests(), stdout=subprocess.DEVNULL)
+    port = free_port()
+    serving = subprocess.Popen([*command, "serve", "--port", str(port)], cwd=folder, stdout=subprocess.PIPE)
+    try:
+        assert serving.stdout
+        if not serving.stdout.readline():
+            raise SystemExit("demo: the desk does not start")
+        yield port
+    finally:
+        serving.kill()
+        serving.communicate()
+        shutil.rmtree(folder)
+
+
+class Page(http.server.SimpleHTTPRequestHandler):
+    """The files of the page, and the desk's questions below `/desk/`. It takes GET and HEAD alone."""
+
+    desk_port = 0
+    extensions_map = {**http.server.SimpleHTTPRequestHandler.extensions_map, ".js": "text/javascript"}
+
+    def __init__(self, *given: object) -> None:
+        super().__init__(*given, directory=str(ROOT / "page"))  # type: ignore[arg-type]
+
+    def do_GET(self) -> None:
+        target = self.path
+        if target.startswith(("/desk/articles/", "/desk/series/")):
+            self.ask(target.removeprefix("/desk"))
+        elif target == "/rules.toml":
+            self.reply(200, "text/plain; charset=utf-8", RULES.read_bytes())
+        elif target == "/titles.json" or target.startswith("/titles/"):
+            # There are none.
+            self.reply(204, "application/json", b"")
+        else:
+            super().do_GET()
+
+    def ask(self, target: str) -> None:
+        """Hands a question on to the desk, and its reply back."""
+        try:
+            connection = http.client.HTTPConnection(HOST, self.desk_port, timeout=SECONDS)
+            connection.request("GET", target)
+            answer = connection.getresponse()
+            self.reply(answer.status, "application/json", answer.read())
+        except (OSError, http.client.HTTPException):
+            self.reply(502, "application/json", b"")
+
+    def reply(self, status: int, kind: str, body: bytes) -> None:
+        self.send_response(status)
+        self.send_header("Content-Type", kind)
+        self.send_header("Content-Length", str(len(body)))
+        self.end_headers()
+        self.wfile.write(body)
+
+    def end_headers(self) -> None:
+        self.send_header("Cache-Control", "no-store")
+        super().end_headers()
+
+    def log_message(self, *_: object) -> None:
+        pass
+
+
+def page_at(port: int) -> http.server.ThreadingHTTPServer:
+    """The page at that port, or, where another program has it, at one that is free."""
+    try:
+        return http.server.ThreadingHTTPServer((HOST, port), Page)
+    except OSError:
+        return http.server.ThreadingHTTPServer((HOST, 0), Page)
+
+
+def main() -> int:
+    words = argparse.ArgumentParser("tools/demo", usage="tools/demo [--port N]")
+    words.add_argument("program", type=Path)
+    words.add_argument("--port", type=int, default=PORT)
+    given = words.parse_args()
+    signal.signal(signal.SIGTERM, signal.default_int_handler)
+    with contextlib.suppress(KeyboardInterrupt), desk(given.program.resolve()) as Page.desk_port:
+        with page_at(given.port) as page:
+            print(f"http://{HOST}:{page.server_port}/{VIEW}", flush=True)
+            print("demo: the page of a shop with three wholesalers; Ctrl-C ends it", file=sys.stderr, flush=True)
+            page.serve_forever()
+    return 0
+
+
+if __name__ == "__main__":
+    sys.exit(main())

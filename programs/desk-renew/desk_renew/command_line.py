@@ -22,10 +22,9 @@ PROGRAM = "desk-renew"
 RULES = Path("/etc/onixdesk/rules.toml")
 
 DESCRIPTION = """\
-Renews the desk: a new one takes its place whose series begin with the numbers that their catalogues need before the
-next one, without the messages that were applied before. It has the records, and what is held or waived from the next
-numbers on. What is given up is said first, and asked for. Then the inboxes stop, the new desk is made of a copy while
-the desk answers, compared with the copy, and put in place; the old files stay beside it."""
+Puts a new desk in place, without the messages that were applied: its series begin with the numbers that their
+catalogues need before the next one. What is given up is said first, and asked for. Then the inboxes stop, the new desk
+is made of a copy while the desk answers, compared, and put in place; the old files stay beside it."""
 
 STATUSES = """\
 Status 0; 1 where nobody said yes, the desk cannot be renewed, or the new one differs; 2 for a bad command line; 3 where
@@ -61,11 +60,10 @@ def is_wanted(renewals: list[Renewal], is_told: bool) -> bool:
     if is_told:
         return True
     print("renew the desk? (yes) ", end="", flush=True)
-    return sys.stdin.readline().strip() == "yes"
+    return sys.stdin.readline() == "yes\n"
 
 
 def renew_once(run: Renewing, options: argparse.Namespace) -> int:
-    """Renews a desk of which no other run has left anything."""
     with run.at_work():
         run.work.take_copy()
         with opened(run.work.copy) as source:

@@ -1,7 +1,7 @@
 """The folder in which a renewal is at work, beside the desk, and how the new desk gets its place.
 
-The folder has `units`, what was stopped; `copy`; `new`, which is being made; and in place of that `ready.SECOND`, once it
-is whole, compared and on the disk. Whatever a run that was killed has left there tells the next one how far it was.
+It has `units`, what was stopped; `copy`; `new`, which is being made, and in place of that `ready.SECOND` once it is
+whole, compared and on the disk. What a run that was killed has left there tells the next one how far it was.
 """
 
 import shutil
@@ -16,12 +16,9 @@ from desk_restore.placing import exchange_or_go_on
 
 READY = "ready."
 
-Standings = tuple[Standing | None, Standing | None]
-
-
-def standings(database: Path) -> Standings:
+def standings(database: Path) -> list[Standing | None]:
     """How both files of a desk stand."""
-    return standing(database), standing(log_of(database))
+    return [standing(database), standing(log_of(database))]
 
 
 class Work:
@@ -33,10 +30,7 @@ class Work:
         self.folder = database.with_name(f".{database.name}.renewal")
         self.copy = self.folder / "copy" / database.name
         self.new = self.folder / "new" / database.name
-        self.copied: Standings | None = None
-
-    def begin(self) -> None:
-        self.folder.mkdir(mode=0o700)
+        self.copied: list[Standing | None] | None = None
 
     def take_copy(self) -> None:
         """Takes a copy of the desk, unless the one that is there is of what stands there still."""
@@ -70,7 +64,13 @@ class Work:
     def make_ready(self) -> None:
         if not log_of(self.new).exists():
             raise Fault(f"{self.new}: it has no log")
-        put(self.new.parent, self.folder / time.strftime(f"{READY}{NAME}", time.gmtime()))
+        while (second := time.strftime(NAME, time.gmtime())) and self.before(second).exists():
+            time.sleep(0.1)
+        put(self.new.parent, self.folder / f"{READY}{second}")
+
+    def before(self, second: str) -> Path:
+        """The name of what stood there before that second."""
+        return self.database.with_name(f"{self.database.name}.{second}")
 
     def is_between(self) -> bool:
         """Whether no desk stands there, since a run was killed while it put the new one there."""
@@ -86,7 +86,7 @@ class Work:
         """Puts the new desk there, or goes on with that. The name that what stood there has then."""
         ready = self.ready()
         assert ready
-        before = self.database.with_name(f"{self.database.name}.{ready.name.removeprefix(READY)}")
+        before = self.before(ready.name.removeprefix(READY))
         exchange_or_go_on(ready / self.database.name, self.database, before)
         return before
 

@@ -1,10 +1,15 @@
-"""With which numbers a renewed desk begins, and the requests that make it."""
+"""With which numbers a renewed desk begins, and how its own program makes it."""
 
+import itertools
+import tempfile
 from collections.abc import Iterator
 from dataclasses import dataclass
+from pathlib import Path
 
 from command_lines.ending import FAILED, Fault
+from desk_batches.asking import batches
 from desk_follow.source import Source
+from desk_restore.asking import Program
 from message_records.catalogue import TooLarge, contents_in
 from message_records.rows import LARGEST_BATCH, text_of
 
@@ -92,3 +97,14 @@ def requests(source: Source, renewal: Renewal) -> Iterator[str]:
             yield renewal.at(number, contents)
     for number, contents in source.ask(HELD, renewal.series):
         yield renewal.at(number, contents)
+
+
+def make(source: Source, renewals: list[Renewal], database: Path, program: Program) -> None:
+    """Makes the renewed desk. Fault if the program refuses one of its requests."""
+    for text in batches(itertools.chain.from_iterable(requests(source, renewal) for renewal in renewals)):
+        with tempfile.TemporaryFile("w+", dir=database.parent, encoding="utf-8", newline="") as file:
+            file.write(text)
+            file.flush()
+            for answer in program.answers(database, file):
+                if answer[0][0] == "refused":
+                    raise Fault(f"the renewed desk refuses what the desk has: {','.join(answer[0])}")

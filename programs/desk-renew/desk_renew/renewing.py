@@ -10,9 +10,8 @@ from command_lines.ending import Fault
 from desk_copy.comparing import Differs, compare_rows
 from desk_follow.source import OF_RECORDS, opened
 from desk_renew.comparing import compare_answers
-from desk_renew.making import make
 from desk_renew.placing import Work
-from desk_renew.planning import Renewal, renewals_in
+from desk_renew.planning import Renewal, make, renewals_in
 from desk_restore.asking import Program
 from desk_restore.inboxes import inboxes_in
 from desk_restore.placing import is_open
@@ -77,7 +76,7 @@ class Renewing:
     @contextlib.contextmanager
     def at_work(self) -> Iterator[None]:
         """At the end everything runs that did before."""
-        self.work.begin()
+        self.work.folder.mkdir(mode=0o700)
         try:
             yield
         finally:
@@ -90,8 +89,7 @@ class Renewing:
         work.take_copy()
         work.begin_new()
         with opened(work.copy) as source:
-            renewals = renewals_in(source)
-            make(source, renewals, work.new, self.program)
+            make(source, renewals := renewals_in(source), work.new, self.program)
         compare_rows(work.copy, work.new, OF_RENEWED)
         compare_answers(work.copy, work.new, self.program)
         return renewals

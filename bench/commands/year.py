@@ -23,8 +23,12 @@ from bench.figures import year
 from bench.figures.desk import proved_program
 from bench.figures.runs import BenchmarkFault
 from bench.figures.served import HOST, Served, free_port
+from bench.figures.year_picture import Line, picture
 from tools.root import PACKAGES, ROOT
 from tools.words import Word
+
+# The file of the desk, in megabytes, from which on a start takes more than the unit's LimitDATA (docs/SCALE.md).
+START = 840
 
 SYSTEMCTL = """\
 #!/bin/bash
@@ -32,8 +36,9 @@ cd {folder}; word=$1; shift
 case "$word $*" in
 list-units*) echo "onixdesk.service loaded active running"; exit ;;
 "stop "*onixdesk.service*) date +%s.%N >stopped; kill "$(cat pid)"; while [ -e pid ]; do sleep 0.05; done ;;
-"start "*onixdesk.service*) {program} --db shop.db --existing serve --port {port} >lines 2>&1 </dev/null &
-    echo $! >pid; (wait $!; rm pid) & until grep -q listening lines; do sleep 0.05; done; date +%s.%N >started ;;
+"start "*onixdesk.service*) set -- --db shop.db --existing serve --port {port}
+    sh -c 'echo >lines; {program} "$@" >lines & echo $! >pid; wait $!; rm pid' sh "$@" </dev/null >/dev/null 2>&1 &
+    until grep -q listening lines 2>/dev/null; do sleep 0.05; done; date +%s.%N >started ;;
 esac
 """
 
@@ -50,6 +55,7 @@ def words() -> argparse.Namespace:
     parser.add_argument("folder", type=Path, metavar="FOLDER", help="is made")
     parser.add_argument("--desk", type=Path, metavar="PROGRAM", help="measure this one, not the proved one")
     parser.add_argument("--articles", type=int, default=20_000, metavar="N", help="those of a feed")
+    parser.add_argument("--picture", type=Path, metavar="FILE", help="draw the growth of the file into this SVG file")
     parser.add_argument("--days", type=int, default=365, metavar="N", help="as many feeds come")
     return parser.parse_args()
 
@@ -113,8 +119,9 @@ def answer_of(path: Path, text: str) -> str:
         return b"".join(iter(lambda: peer.recv(65_536), b"")).decode()
 
 
-def fill(program: Path, folder: Path, days: int, articles: int) -> None:
-    """Gives the desk its year, as batches at its socket."""
+def fill(program: Path, folder: Path, days: int, articles: int) -> list[tuple[float, float]]:
+    """Gives the desk its year, as batches at its socket; the megabytes of its file after so many requests for a day."""
+    sizes = []
     subprocess.run([program, "--db", "shop.db", "batch"], cwd=folder, input=year.AGREEMENTS, text=True, check=True,
         stdout=subprocess.DEVNULL)
     port = free_port()
@@ -124,10 +131,12 @@ def fill(program: Path, folder: Path, days: int, articles: int) -> None:
             answer = answer_of(folder / "b", request)
             if answer.startswith("refused"):
                 raise BenchmarkFault(f"{request[:60]}: {answer}")
+            sizes.append((folder / "shop.db").stat().st_size / 1e6)
         served.process.send_signal(signal.SIGTERM)
         served.process.wait()
     finally:
         served.kill()
+    return [(place * days / len(sizes), size) for place, size in enumerate(sizes, 1)]
 
 
 def start(program: Path, folder: Path, name: str) -> None:
@@ -173,7 +182,9 @@ def measure(given: argparse.Namespace) -> int:
     given.folder.mkdir(parents=True)
     folder = given.folder.resolve()
     began = time.monotonic()
-    fill(program, folder, given.days, given.articles)
+    growth = fill(program, folder, given.days, given.articles)
+    if given.picture:
+        given.picture.write_text(picture([Line(f"{given.articles:,} articles a day", growth)], START), encoding="utf-8")
     print(f"{given.days} days of {given.articles} articles: {time.monotonic() - began:.0f} s", flush=True)
     start(program, folder, "shop.db")
     said([ROOT / "bin/desk-copy", folder / "shop.db", folder / "copy"], "desk-copy")

@@ -78,7 +78,6 @@ class Work:
         return ready is not None and (ready / self.database.name).exists() and not self.database.exists()
 
     def is_in_place(self) -> bool:
-        """Whether the new one stands there."""
         ready = self.ready()
         return ready is not None and not (ready / self.database.name).exists()
 

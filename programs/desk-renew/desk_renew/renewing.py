@@ -1,5 +1,4 @@
-"""One run: what is stopped, made, compared, put in place and started. Its steps act as the owner of the desk, but for
-units, programs and inboxes."""
+"""One run. Its steps act as the owner of the desk, but for units, programs and inboxes."""
 
 import contextlib
 import re
@@ -18,8 +17,7 @@ from desk_restore.placing import is_open
 from desk_restore.units import BEGIN, OF_INBOX, Units
 from desk_restore.users import acting_as
 
-# What a renewed desk has as the one before, without the first numbers, and what a request that changes a desk changes:
-# the columns of tables.
+# Columns by tables: what a renewed desk has as the one before, and what every request changes that changes anything.
 OF_SERIES = "name, sender_type, sender_value, addressee_type, addressee_value, next_number"
 OF_RENEWED = {"series": OF_SERIES, "held": "*"} | dict.fromkeys(OF_RECORDS, "*")
 OF_CHANGES = {"series": "*", "held": "*"}
@@ -27,7 +25,7 @@ OF_CHANGES = {"series": "*", "held": "*"}
 # How often it begins again where the desk was written to meanwhile.
 TRIES = 5
 
-is_unit = re.compile(r"onixdesk[a-z0-9@-]*\.(service|timer|path)").fullmatch
+is_begun = re.compile(r"onixdesk(\.service|[a-z0-9@-]*\.(timer|path))").fullmatch
 
 
 class Renewing:
@@ -67,7 +65,7 @@ class Renewing:
         if work.is_between():
             work.put_in_place()
         is_done = work.is_in_place()
-        self.units.left = [unit for unit in work.units() if is_unit(unit)]
+        self.units.left = [unit for unit in work.units() if is_begun(unit)]
         self.start()
         self.units = Units()
         work.end()
@@ -80,6 +78,9 @@ class Renewing:
         try:
             yield
         finally:
+            # A signal may end the run amid that. What cannot be ended stays for the next run.
+            if self.work.is_between():
+                self.work.put_in_place()
             self.start()
             self.work.end()
 
@@ -95,7 +96,7 @@ class Renewing:
         return renewals
 
     def has_changed(self) -> bool:
-        """Whether the desk has something that the copy lacks. If not, it does not run any more."""
+        """Whether the desk has something that the copy lacks. If not, it is stopped."""
         if not self.work.is_as_copied():
             return True
         self.stop([unit for unit in self.units.all if unit not in self.units.left])

@@ -6,6 +6,7 @@ import signal
 import sqlite3
 from collections.abc import Iterator
 from contextlib import closing
+from pathlib import Path
 
 from desk_copy.comparing import Differs, compare_rows
 from desk_follow.source import digest_of, opened
@@ -17,7 +18,7 @@ from tests.program.databases import DATABASE, all_rows, batch
 from tests.program.files.desk_restore import UNITS, make_programs
 from tests.program.inbox.inboxes import within
 from tests.program.room import Ran, Room
-from tests.running import Outcome
+from tests.running import Outcome, left_out
 
 # As the program has it, with the programs beside it of this folder, and messages of so many records.
 RUNNING = """
@@ -217,7 +218,7 @@ def step(event, arguments):
     if event in names or event == "open" and str(arguments[1]) in "wx":
         done += 1
         if done == steps:
-            os.kill(os.getpid(), signal.SIGKILL)
+            os.kill(os.getpid(), signal.Signals[os.environ["SIGNAL"]])
 sys.addaudithook(step)
 status = main(Path("programs").absolute())
 Path("steps").write_text(str(done))
@@ -245,8 +246,8 @@ def put_back(room: Room) -> None:
         shutil.copyfile(room.path(f"b-{each}"), room.path(each))
 
 
-def renew_without_program(room: Room, steps: int = 0, waivers: int = 0) -> Ran:
-    os.environ |= {"STEPS": str(steps), "WAIVERS": str(waivers)}
+def renew_without_program(room: Room, steps: int = 0, waivers: int = 0, by: str = "SIGKILL") -> Ran:
+    os.environ |= {"STEPS": str(steps), "WAIVERS": str(waivers), "SIGNAL": by}
     return renew(room, "--yes", units=UNITS, running=WITHOUT_PROGRAM)
 
 
@@ -286,6 +287,41 @@ def killed(room: Room) -> Iterator[Outcome]:
             wrong.append((step, status, ended, sorted(lacks), before))
     yield Outcome("killed: each of them", wrong, [])
     yield Outcome("killed: where none stands", between >= 2, True)
+
+
+def ended_by_a_signal(room: Room) -> Iterator[Outcome]:
+    """Before each of its last steps, in which the new desk gets its place: one stands there, and runs."""
+    prepare(room)
+    put_back(room)
+    old = all_rows(room, DATABASE)
+    renew_without_program(room)
+    new, count = all_rows(room, DATABASE), int(room.path("steps").read_text())
+    wrong = []
+    for step in range(count - 20, count):
+        put_back(room)
+        ran = renew_without_program(room, step, by="SIGTERM")
+        found = all_rows(room, DATABASE) if room.path(DATABASE).exists() else None
+        stopped, started = ([call for call in calls(room) if call.startswith(word) and "onixdesk.service" in call]
+            for word in ("stop ", "start "))  # fmt: skip
+        if ran.status != 143 or found not in (old, new) or len(stopped) > len(started) or [*room.folder.glob(".*")]:
+            wrong.append((step, ran, found is None, stopped, started))
+    yield Outcome("ended by a signal", wrong, [])
+
+
+def of_another_user(room: Room) -> Iterator[Outcome]:
+    """By root, of a desk of another user, whose files the new ones are."""
+    readable = all(path.stat().st_mode & 0o001 for path in [*room.program.parents, *Path(__file__).resolve().parents])
+    if os.geteuid() != 0 or not readable:
+        yield left_out("a desk of another user, since that user cannot be become, or cannot reach this checkout")
+        return
+    batch(room, AGREEMENTS.encode() + message(NORTH, 1, *product("R1")).encode())
+    room.folder.chmod(0o755)
+    for path in [room.folder, *room.folder.iterdir()]:
+        os.chown(path, 65534, 65534)
+    came = renew(room, "--yes")
+    files = [room.path(each).stat() for each in (DATABASE, f"{DATABASE}-wal")]
+    found = came.status, [(file.st_uid, file.st_gid, file.st_mode & 0o777) for file in files]
+    yield Outcome("renewed: files of another user", found, (0, [(65534, 65534, 0o600)] * 2))
 
 
 def written_to_meanwhile(room: Room) -> Iterator[Outcome]:

@@ -303,7 +303,9 @@ def ended_by_a_signal(room: Room) -> Iterator[Outcome]:
         found = all_rows(room, DATABASE) if room.path(DATABASE).exists() else None
         stopped, started = ([call for call in calls(room) if call.startswith(word) and "onixdesk.service" in call]
             for word in ("stop ", "start "))  # fmt: skip
-        if ran.status != 143 or found not in (old, new) or len(stopped) > len(started) or [*room.folder.glob(".*")]:
+        # The signal may come while the folder of the work is removed, after all else.
+        is_left = found != new and any(room.folder.glob(".*"))
+        if ran.status != 143 or found not in (old, new) or len(stopped) > len(started) or is_left:
             wrong.append((step, ran, found is None, stopped, started))
     yield Outcome("ended by a signal", wrong, [])
 

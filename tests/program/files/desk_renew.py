@@ -76,10 +76,10 @@ below the next numbers; corrections of the desk's text (MISTAKES.md) reach back 
 
 
 def renew(room: Room, *words: str, most: int = 20_000, units: str = "", failing: str = "nothing", given: bytes = b"",
-    running: str = RUNNING) -> Ran:  # fmt: skip
+    running: str = RUNNING, **more: str) -> Ran:  # fmt: skip
     programs = make_programs(room, units, failing)
     room.path("calls").unlink(missing_ok=True)
-    environment = {**os.environ, "PATH": f"{programs}:{os.environ['PATH']}"}
+    environment = {**os.environ, "PATH": f"{programs}:{os.environ['PATH']}", **more}
     options = ["--db", DATABASE, "--inboxes", "state", "--rules", "none.toml", *words]
     return room.call(within(running, str(most), "programs", *options), given, environment=environment)
 
@@ -247,8 +247,8 @@ def put_back(room: Room) -> None:
 
 
 def renew_without_program(room: Room, steps: int = 0, waivers: int = 0, by: str = "SIGKILL") -> Ran:
-    os.environ |= {"STEPS": str(steps), "WAIVERS": str(waivers), "SIGNAL": by}
-    return renew(room, "--yes", units=UNITS, running=WITHOUT_PROGRAM)
+    told = {"STEPS": str(steps), "WAIVERS": str(waivers), "SIGNAL": by}
+    return renew(room, "--yes", units=UNITS, running=WITHOUT_PROGRAM, **told)
 
 
 def first_number(room: Room) -> int | None:

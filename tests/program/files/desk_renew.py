@@ -247,8 +247,9 @@ def put_back(room: Room) -> None:
 
 
 def renew_without_program(room: Room, steps: int = 0, waivers: int = 0, by: str = "SIGKILL") -> Ran:
-    told = {"STEPS": str(steps), "WAIVERS": str(waivers), "SIGNAL": by}
-    return renew(room, "--yes", units=UNITS, running=WITHOUT_PROGRAM, **told)
+    return renew(
+        room, "--yes", units=UNITS, running=WITHOUT_PROGRAM, STEPS=str(steps), WAIVERS=str(waivers), SIGNAL=by
+    )
 
 
 def first_number(room: Room) -> int | None:

@@ -24,7 +24,7 @@ if [ "$(cat "$note")" = "$(now)" ]; then
     cat >&2 <<END
 <3>start-memory.sh: $file needs more memory than the desk may have, so it is not started again.
 <3>start-memory.sh: Raise it by systemctl edit onixdesk: below [Service] LimitDATA=${limit}M and MemoryMax=$((limit + 128))M;
-<3>start-memory.sh: then systemctl restart onixdesk (docs/RELIABILITY.md).
+<3>start-memory.sh: then systemctl restart onixdesk, and desk-renew (docs/RELIABILITY.md).
 END
     exit 1
 fi

@@ -70,7 +70,7 @@ def warning(start: Start, limit: float) -> tuple[int, str] | None:
             return priority, (
                 f"{word}: the next start of the desk takes some {megabytes(start.memory)} of memory, for its table"
                 f" {start.table}, of {megabytes(limit)} that it may have: raise the limit by the lines"
-                f" {drop_in(start.memory)}; docs/RELIABILITY.md says more"
+                f" {drop_in(start.memory)}, and renew the desk by desk-renew; docs/RELIABILITY.md says more"
             )
     return None
 

@@ -3,12 +3,15 @@
 import sqlite3
 import subprocess
 from contextlib import closing
+from dataclasses import dataclass
 from pathlib import Path
+from typing import IO
 
 from command_lines.ending import Fault
+from desk_batches.asking import Answer, answers_of_program
 from desk_copy.copying import log_of
 from desk_copy.trying import Unsound, left_alone, opened
-from desk_restore.users import Owner, run_as
+from desk_restore.users import Owner, acting_as, rights_of, run_as
 
 
 def series_in(database: Path) -> list[str]:
@@ -29,9 +32,27 @@ def gaps_of(database: Path, series: list[str], owner: Owner, programs: Path) -> 
     batch = "".join(f"AskGaps,{name}\n" for name in series)
     words: list[str | Path] = [programs / "onixdesk", "--db", database, "--existing", "batch"]
     try:
-        ran = run_as(owner, words, input=batch, stdout=subprocess.PIPE, stderr=subprocess.PIPE, cwd="/")
+        ran = run_as(owner, words, input=batch, stdout=subprocess.PIPE, stderr=subprocess.PIPE)
     except OSError as error:
         raise Fault(f"{programs / 'onixdesk'}: {error.strerror}") from None
     if ran.returncode:
         raise Unsound(f"the desk does not take the copy: {ran.stderr.strip() or ran.stdout.strip()}")
     return ran.stdout
+
+
+@dataclass(frozen=True)
+class Program:
+    """The desk's own program, run as the owner of a desk by whoever this program was begun by."""
+
+    path: Path
+    rules: Path | None
+    owner: Owner
+    oneself: Owner
+
+    def answers(self, database: Path, text: IO[str], *words: str) -> list[Answer]:
+        """The answers over a database to a batch, which is a file."""
+        table: list[str | Path] = ["--rules", self.rules] if self.rules else []
+        all_words = [self.path, *table, "--db", database, *words, "batch"]
+        text.seek(0)
+        with acting_as(self.oneself):
+            return [*answers_of_program(all_words, text, **rights_of(self.owner))]

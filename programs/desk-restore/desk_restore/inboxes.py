@@ -4,7 +4,12 @@ import shlex
 from dataclasses import dataclass
 from pathlib import Path
 
-from desk_restore.users import owner_of, run_as
+from command_lines.files import put
+from desk_copy.places import settle
+from desk_restore.users import acting_as, owner_of, run_as
+
+# In the folder of an inbox: lines SERIES FIRST NEXT, one for each renewal of the desk and series.
+RENEWED = "renewed"
 
 
 @dataclass(frozen=True)
@@ -27,9 +32,18 @@ class Inbox:
 
     def take_again(self, programs: Path) -> bool:
         """Has it take that again, as its own user. Whether it could."""
-        ran = run_as(owner_of(self.folder), self.words(programs), cwd="/")
+        ran = run_as(owner_of(self.folder), self.words(programs))
         # With 1 a file was refused again, or something is amiss with one, and the line was written.
         return ran.returncode in (0, 1)
+
+    def tell_renewed(self, lines: list[str]) -> None:
+        """Tells it the new first and the next number of each series of a desk that is renewed."""
+        with acting_as(owner_of(self.folder)):
+            file = self.folder / RENEWED
+            before = file.read_text(encoding="ascii").splitlines() if file.exists() else []
+            put(file, "".join(f"{line}\n" for line in dict.fromkeys([*before, *lines])))
+            settle(file)
+            settle(self.folder)
 
 
 def inboxes_in(folder: Path) -> list[Inbox]:

@@ -69,3 +69,21 @@ def exchange(new: Path, database: Path) -> Path | None:
             os.rename(to, old)
         raise
     return before if before.exists() else None
+
+
+def move(old: Path, new: Path) -> None:
+    """Gives a file another name, for good, if it is there."""
+    if old.exists():
+        os.rename(old, new)
+        settle(new.parent)
+        settle(old.parent)
+
+
+def exchange_or_go_on(new: Path, database: Path, before: Path) -> None:
+    """As above with that other name, of a new desk that has a log; one that was killed goes on. As long as the new log
+    is where it was made, the log that stands there is the old one."""
+    if log_of(new).exists():
+        move(database, before)
+        move(log_of(database), log_of(before))
+        move(log_of(new), log_of(database))
+    move(new, database)

@@ -1,12 +1,16 @@
 """The units of systemd that are of onixdesk."""
 
 import subprocess
+import time
 from collections.abc import Callable
 
 from command_lines.ending import Fault
 
-DESK = "onixdesk.service"
+DESK, OF_INBOX = "onixdesk.service", "onixdesk-inbox@"
 STATES = "--state=active,activating,reloading,deactivating,failed"
+
+# How many seconds the run of an inbox is waited for.
+SECONDS = 600
 
 # What goes on by itself; the services that these start are begun by them.
 BEGIN = (".timer", ".path")
@@ -36,10 +40,22 @@ class Units:
         self.all = found()
         self.left: list[str] = []
 
-    def stop(self) -> None:
-        if self.all:
-            self.left = [unit for unit in self.all if unit == DESK or unit.endswith(BEGIN)]
-            systemctl("stop", *self.all)
+    def stop(self, units: list[str] | None = None) -> None:
+        """Stops these, or all."""
+        stopped = self.all if units is None else units
+        if stopped:
+            begun = [unit for unit in stopped if unit == DESK or unit.endswith(BEGIN)]
+            self.left += [unit for unit in begun if unit not in self.left]
+            systemctl("stop", *stopped)
+
+    def wait_for_inboxes(self) -> None:
+        """Until no inbox runs. Fault if one does for long."""
+        until = time.monotonic() + SECONDS
+        for unit in self.all:
+            while is_at_work(unit):
+                if time.monotonic() > until:
+                    raise Fault(f"{unit}: it is still at work after {SECONDS} s")
+                time.sleep(0.5)
 
     def start(self, units: list[str]) -> None:
         if units:
@@ -70,5 +86,12 @@ class Units:
             tell(str(fault))
 
 
+def is_at_work(unit: str) -> bool:
+    """Whether it is the service of an inbox that runs."""
+    if not unit.startswith(OF_INBOX) or not unit.endswith(".service"):
+        return False
+    return systemctl("show", "--property=ActiveState", "--value", unit).strip().endswith("ing")
+
+
 def units_of(series: str) -> list[str]:
-    return [f"onixdesk-inbox@{series}{ending}" for ending in BEGIN]
+    return [f"{OF_INBOX}{series}{ending}" for ending in BEGIN]

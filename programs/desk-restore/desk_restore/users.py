@@ -49,10 +49,18 @@ def acting_as(owner: Owner) -> Iterator[None]:
         become(before, groups)
 
 
-def run_as(owner: Owner, words: list[str | Path], **more: Any) -> subprocess.CompletedProcess[str]:
-    """Runs a program as that user, with all groups that the user has."""
+def rights_of(owner: Owner) -> dict[str, Any]:
+    """What has a program of subprocess run as that user, with all groups that the user has."""
+    rights: dict[str, Any] = {
+        "env": {"PATH": os.environ.get("PATH", os.defpath), "HOME": "/nonexistent", "LC_ALL": "C.UTF-8"},
+        "cwd": "/",
+    }
     if owner.user != os.geteuid():
         name = pwd.getpwuid(owner.user).pw_name
-        more |= {"user": owner.user, "group": owner.group, "extra_groups": os.getgrouplist(name, owner.group)}
-    environment = {"PATH": os.environ.get("PATH", os.defpath), "HOME": "/nonexistent", "LC_ALL": "C.UTF-8"}
-    return subprocess.run(words, text=True, env=environment, **more)
+        rights |= {"user": owner.user, "group": owner.group, "extra_groups": os.getgrouplist(name, owner.group)}
+    return rights
+
+
+def run_as(owner: Owner, words: list[str | Path], **more: Any) -> subprocess.CompletedProcess[str]:
+    """Runs a program as that user."""
+    return subprocess.run(words, text=True, **rights_of(owner), **more)

@@ -13,6 +13,7 @@ from onixdesk_inbox.archive import Archive
 from onixdesk_inbox.desk import CORRECTABLE, Accepted, Desk, accepted, replies_in
 from onixdesk_inbox.names import RECORDS, ending
 from onixdesk_inbox.numbers import digest_of
+from onixdesk_inbox.renewed import Renewed
 from onixdesk_inbox.running import Resuming
 from onixdesk_inbox.settings import NEXT
 from onixdesk_inbox.taking import Copied
@@ -80,15 +81,15 @@ def is_correctable(answer: Path) -> bool:
         return not first or bool(is_other_sender(first)) or any(map(is_other_sender, lines))
 
 
-def lacking(done: list[Kept], desk: Desk) -> list[Kept]:
+def lacking(done: list[Kept], desk: Desk, renewed: Renewed) -> list[Kept]:
     """Those of which the desk lacks a message, by the numbers that their answers have. A number that two files have
-    says nothing of either."""
+    says nothing of either, unless the desk was renewed with what stood there."""
     report = cache(desk.report)
     stand = {kept.name: stand_in(kept.answer) for kept in done}
     files = Counter((each.series, each.number) for places in stand.values() for each in places or [])
 
     def is_there(each: Accepted) -> bool:
-        return files[each.series, each.number] == 1 and report(each.series).has(each.number)
+        return renewed.has(each) or files[each.series, each.number] == 1 and report(each.series).has(each.number)
 
     def are_there(places: list[Accepted] | None) -> bool:
         return places is not None and all(map(is_there, places))
@@ -114,7 +115,7 @@ class Repeat(Resuming):
     def files(self, since: Since) -> list[Kept]:
         done = [Kept(self.state.done, name, True) for name in self.state.done.since(since.moment)]
         if since.is_lacking:
-            done = lacking(done, self.taker.desk)
+            done = lacking(done, self.taker.desk, self.taker.renewed)
         refused = [Kept(self.state.refused, name, False) for name in self.state.refused.since(since.moment)]
         files = [*done, *(kept for kept in refused if is_correctable(kept.answer))]
         return sorted(files, key=lambda kept: kept.answered)

@@ -1,9 +1,11 @@
 """The messages of one file, posted, and what the desk says to them."""
 
+import csv
 from dataclasses import dataclass, field
 from pathlib import Path
 
 from onixdesk_inbox.desk import CORRECTABLE, OTHER_CONTENTS, Accepted, Desk, accepted
+from onixdesk_inbox.renewed import Had
 from onixdesk_inbox.verdicts import Refusal, Taken
 
 
@@ -34,12 +36,31 @@ class Posted:
         return "; ".join(dict.fromkeys(self.refusals))
 
 
-def post(desk: Desk, messages: list[Path], answer: Path, is_number_new: bool) -> Posted:
-    """Posts all of them, and puts the replies into the answer. Quicker, where the first has a number that the desk
-    has just said to be free, and it is another's by now."""
+def header(message: Path) -> list[str]:
+    """The first record of a message."""
+    with message.open(encoding="utf-8", errors="replace", newline="") as lines:
+        try:
+            return next(csv.reader(lines), [])
+        except csv.Error:
+            return []
+
+
+def had_of(message: Path, had: dict[int, Had]) -> Had | None:
+    """What stood at the number of a message, if that is not posted again."""
+    number = "".join(header(message)[6:7])
+    return had.get(int(number)) if had and number.isascii() and number.isdigit() else None
+
+
+def post(desk: Desk, messages: list[Path], answer: Path, is_number_new: bool, had: dict[int, Had]) -> Posted:
+    """Posts all of them but what is had, and puts the replies into the answer. Quicker, where the first has a number
+    that the desk has just said to be free, and it is another's by now."""
     posted = Posted()
     with answer.open("a", encoding="utf-8", errors="backslashreplace") as lines:
         for message in messages:
+            if before := had_of(message, had):
+                lines.write(before.reply)
+                posted.stand.append(before.place)
+                continue
             reply = desk.post(message.read_bytes())
             lines.write(f"{reply}\n")
             try:

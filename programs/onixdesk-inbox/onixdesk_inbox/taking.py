@@ -1,6 +1,5 @@
 """How one file is taken: converted, posted, and moved to `done` or `refused`."""
 
-import csv
 from dataclasses import dataclass, replace
 from pathlib import Path
 
@@ -13,7 +12,8 @@ from onixdesk_inbox.handing import Handing
 from onixdesk_inbox.memory import LET_IN, REFUSED
 from onixdesk_inbox.names import RECORDS, kept_name, shown
 from onixdesk_inbox.numbers import Numbers
-from onixdesk_inbox.posting import Posted, Quicker, post
+from onixdesk_inbox.posting import Posted, Quicker, header, numbers, post
+from onixdesk_inbox.renewed import NOTHING, Before, Renewed
 from onixdesk_inbox.settings import NEXT, Settings
 from onixdesk_inbox.state import State
 from onixdesk_inbox.stopping import Given, Look
@@ -53,17 +53,40 @@ class Taker:
         self.desk = Desk(settings.desk)
         self.state = state
         self.numbers: Numbers = state.numbers()
+        self.renewed = Renewed(state.path / "renewed", self.desk.report)
 
     def take(self, copied: Copied) -> Taken:
         """Takes a file to its end. Fault, where it has to be taken again; Stop, where a person has to decide on it."""
         try:
-            taken = self.with_titles(copied, self.deliver(copied))
+            taken = self.had_already(copied) or self.with_titles(copied, self.deliver(copied))
         except Refusal as refusal:
             taken = Taken(str(refusal), is_refused=True, is_correctable=refusal.reason in CORRECTABLE)
         kept = self.archive(copied, taken)
         if kept != kept_name(copied.name):
             taken = replace(taken, said=f"{taken.said}; kept as {kept}")
         return taken
+
+    def before(self, copied: Copied) -> Before:
+        """What the desk has of a file since before it was renewed."""
+        if copied.why_not_whole or not self.renewed.lines:
+            return NOTHING
+        done = self.state.done
+        kept = done.same(copied.name, copied.source.stat().st_size, copied.digest)
+        number = self.numbers.of(copied.digest)
+        given = range(number, number + self.settings.parts) if number else range(0)
+        return self.renewed.before(self.series, given, done.answer(kept) if kept else None)
+
+    def had_already(self, copied: Copied) -> Taken | None:
+        """How a file is taken of which all stands there since before the desk was renewed."""
+        before = self.before(copied)
+        if not before.is_all:
+            return None
+        stood = before.had.values()
+        said = f"had it already: {numbers([each.place for each in stood])}"
+        self.state.work.say(f"{shown(copied.name)}: {said}")
+        with self.state.work.answer.open("a", encoding="utf-8", errors="backslashreplace") as answer:
+            answer.writelines(each.reply for each in stood)
+        return Taken(said)
 
     def with_titles(self, copied: Copied, taken: Taken) -> Taken:
         """Hands over the titles of a file that the desk has, where the shop wants them."""
@@ -111,7 +134,7 @@ class Taker:
         if number is not None:
             self.numbers.give(copied.digest, number)
         is_new = number is not None and not came_before
-        posted = post(self.desk, messages, self.state.work.answer, is_new)
+        posted = post(self.desk, messages, self.state.work.answer, is_new, self.before(copied).had)
         if not posted.stand:
             self.numbers.give_back(copied.digest)
         elif contents:
@@ -190,9 +213,4 @@ class Taker:
 
 def sender(message: Path) -> list[str]:
     """The identifier of the sender, as a message says it in its first record."""
-    with message.open(encoding="utf-8", errors="replace", newline="") as lines:
-        try:
-            first: list[str] = next(csv.reader(lines), [])
-            return first[2:4]
-        except csv.Error:
-            return []
+    return header(message)[2:4]

@@ -5,7 +5,7 @@ import socket
 import subprocess
 from collections.abc import Iterable, Iterator
 from pathlib import Path
-from typing import IO
+from typing import IO, Any
 
 from command_lines.ending import Fault
 
@@ -16,6 +16,18 @@ MOST_BYTES = 4_194_304
 BEHIND = ("offer", "span", "missing")
 
 Answer = list[list[str]]
+
+
+def batches(texts: Iterable[str]) -> Iterator[str]:
+    """The requests in as few batches as can be."""
+    pieces, size = [""], 0
+    for text in texts:
+        if size + (length := len(text.encode())) > MOST_BYTES:
+            yield "".join(pieces)
+            pieces, size = [], 0
+        pieces.append(text)
+        size += length
+    yield "".join(pieces)
 
 
 def answers_in(lines: Iterable[str]) -> Iterator[Answer]:
@@ -30,9 +42,10 @@ def answers_in(lines: Iterable[str]) -> Iterator[Answer]:
         yield answer
 
 
-def answers_of_program(words: list[str | Path], text: IO[str]) -> Iterator[Answer]:
+def answers_of_program(words: list[str | Path], text: IO[str], **more: Any) -> Iterator[Answer]:
     """The answers of a run of the program to a batch, which is a file. Fault if it fails."""
-    with subprocess.Popen(words, stdin=text, stdout=subprocess.PIPE, stderr=subprocess.PIPE, encoding="utf-8") as ran:
+    pipe = subprocess.PIPE
+    with subprocess.Popen(words, stdin=text, stdout=pipe, stderr=pipe, encoding="utf-8", **more) as ran:
         assert ran.stdout and ran.stderr
         yield from answers_in(ran.stdout)
         said = ran.stderr.read().strip()

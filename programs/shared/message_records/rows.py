@@ -2,6 +2,7 @@
 
 import csv
 import io
+from collections.abc import Sequence
 
 from message_records.products import Header
 
@@ -9,7 +10,7 @@ from message_records.products import Header
 LARGEST_BATCH = 4_194_304
 
 
-def text_of(*rows: tuple[object, ...]) -> str:
+def text_of(*rows: Sequence[object]) -> str:
     """Rows as the desk reads them."""
     text = io.StringIO()
     csv.writer(text, lineterminator="\n").writerows(rows)

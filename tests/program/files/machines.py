@@ -8,6 +8,7 @@ from collections.abc import Iterator
 from pathlib import Path
 
 from tests.program.files.desk_restore import RUNNING
+from tests.program.files.desk_renew import RUNNING as RENEWING
 from tests.program.inbox.inbox_numbers import CONVERTER
 from tests.program.inbox.inboxes import script
 from tests.program.room import Ran, Room
@@ -29,6 +30,8 @@ PROGRAMS = {
     "runuser": 'shift 3; exec "$@"',
     "desk-copy": f'exec "{ROOT}/bin/desk-copy" "$@"',
     "desk-restore": f'PYTHONPATH="{":".join(map(str, PACKAGES))}" exec python3 -P -s -S -B ROOM/restore.py ROOM/bin'
+    f' --db ROOM/{DESK} --inboxes ROOM/var/lib/onixdesk-inbox "$@"',
+    "desk-renew": f'PYTHONPATH="{":".join(map(str, PACKAGES))}" exec python3 -P -s -S -B ROOM/renew.py 20000 ROOM/bin'
     f' --db ROOM/{DESK} --inboxes ROOM/var/lib/onixdesk-inbox "$@"',
     "onixdesk-inbox": 'for series; do :; done; exec "' + str(ROOT) + '/bin/onixdesk-inbox"'
     ' --settings "ROOM/etc/onixdesk/inbox/$series.conf" --incoming "ROOM/var/lib/onixdesk-incoming/$series"'
@@ -58,6 +61,7 @@ class Machine:
             room.path(folder).mkdir(parents=True)
         room.path("var/lib/onixdesk-inbox/north").chmod(0o700)
         room.write("restore.py", RUNNING.encode())
+        room.write("renew.py", RENEWING.encode())
         for name, text in {**PROGRAMS, "onixdesk": f'exec "{room.program}" "$@"'}.items():
             script(room, f"bin/{name}", text.replace("ROOM", str(room.folder)).replace("PORT", str(self.port)))
         correct = ROOT.joinpath("programs/desk-restore/correct.sh").read_text(encoding="utf-8")

@@ -151,7 +151,7 @@ def version(room: Room) -> Iterator[Outcome]:
     named = [path.name for path in package if path.is_file() and f"{number} " in path.read_text(encoding="utf-8")]
     yield Outcome("the version of the package", named, [])
     for name in ("onixdesk.1", "onix-to-csv.1", "desk-copy.1", "desk-restore.1", "desk-follow.1", "desk-metrics.1",
-                 "onixdesk-look.1", "onixdesk-fetch.1", "desk-prices.1"):
+                 "onixdesk-look.1", "onixdesk-fetch.1", "desk-prices.1", "desk-renew.1"):
         page = ROOT.joinpath("programs", name.removesuffix(".1"), name).read_text(encoding="utf-8")
         # The line that packaging/build gives the version.
         yield Outcome(f"the version of {name}", page.splitlines().count(".Os"), 1)

@@ -17,7 +17,10 @@ MAY_IMPORT: dict[str, set[str]] = {
     "programs/shared/desk_batches": {"command_lines"},
     "programs/shared/shop_files": {"command_lines"},
     "programs/desk-copy/desk_copy": {"command_lines"},
-    "programs/desk-restore/desk_restore": {"command_lines", "desk_copy"},
+    "programs/desk-renew/desk_renew": {
+        "command_lines", "desk_batches", "desk_copy", "desk_follow", "desk_restore", "message_records",
+    },
+    "programs/desk-restore/desk_restore": {"command_lines", "desk_batches", "desk_copy"},
     "programs/desk-follow/desk_follow": {"command_lines", "desk_copy", "psycopg2"},
     "programs/desk-prices/desk_prices": {
         "command_lines", "desk_batches", "desk_copy", "desk_follow", "onixdesk_titles", "shop_files",
@@ -31,7 +34,7 @@ MAY_IMPORT: dict[str, set[str]] = {
     "bench": {"tools"},
     # The tests of the page drive a browser.
     "tests": {
-        "bench", "command_lines", "desk_copy", "desk_follow", "desk_metrics", "desk_prices", "desk_restore",
+        "bench", "command_lines", "desk_copy", "desk_follow", "desk_metrics", "desk_prices", "desk_renew", "desk_restore",
         "message_records", "onixdesk_fetch", "onixdesk_inbox", "onixdesk_look", "onixdesk_titles", "psycopg2", "selenium", "shop_files",
         "tools",
     },

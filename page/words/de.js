@@ -8,6 +8,8 @@ export const texts = {
     title: "{view} – {shop}",
     skip: "Zum Inhalt springen",
     views: "Ansichten",
+    renewed: "Die Einstellungen des Hauses sind seit dem letzten Mal anders.",
+    loadAnew: "Seite neu laden",
     seriesInWords: "{words} ({name})",
   },
 

@@ -8,6 +8,8 @@ export const texts = {
     title: "{view} – {shop}",
     skip: "Skip to the content",
     views: "Views",
+    renewed: "The shop's settings have changed since the last time.",
+    loadAnew: "Load the page anew",
     seriesInWords: "{words} ({name})",
   },
 

@@ -73,8 +73,11 @@ def chosen_rows(browser: Browser) -> list[list[str]]:
 def one_copy(site: Site, browser: Browser) -> Iterator[Outcome]:
     yield Outcome("one copy: the offers", ask(browser, article()), ONE_COPY)
     sentence = "On 10 April 2025: North Books: retail price £11.50"
-    details = f"ISBN {ISBN} · in stock · rule 2: “Else whoever has the book”"
-    yield Outcome("one copy: the answer", browser.text("#article-status"), f"{sentence}\n{details}")
+    details = f"ISBN {ISBN} · in stock"
+    yield Outcome("one copy: the answer", browser.text("#article-status"), f"{sentence}\n{details}\nwhy")
+    browser.one("#article-status summary").click()
+    told = f"{sentence}\n{details}\nwhy\nrule 2: “Else whoever has the book”"
+    yield Outcome("one copy: why", browser.text("#article-status"), told)
     yield Outcome("one copy: the rule's offer", chosen_rows(browser), [["", "rule 2"], ["", ""], ["", ""]])
 
 

@@ -187,7 +187,8 @@ def kept_files(site: Site, browser: Browser) -> Iterator[Outcome]:
         known.open(article())
         said(known, "North Books")
         taken: list[tuple[str, int]] = known.run(TAKEN)
-        return dict(taken), [line.split(" ")[3] for line in site.requests()[since:]]
+        # Of what is asked for twice the first is waited for.
+        return dict(reversed(taken)), [line.split(" ")[3] for line in site.requests()[since:]]
 
     with browsing(site, is_trusting=True) as known:
         taken, asked = opened(known)

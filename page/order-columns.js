@@ -39,8 +39,9 @@ function sampleTable(columns) {
   const { width, names, samples, isbn, copies } = columns;
   const places = [...Array(width).keys()];
   const taken = (at) => (at === isbn ? say("order.columns.isbn") : at === copies ? say("order.columns.copies") : "");
+  const partsOf = (at) => new Set([String(at + 1), names?.[at] ?? "", taken(at)].filter((text) => text !== ""));
   const heads = places.map((at) => ({
-    name: [String(at + 1), names?.[at] ?? "", taken(at)].filter((text) => text !== "").join(" · "),
+    name: [...partsOf(at)].join(" · "),
     className: at === isbn || at === copies ? "taken" : undefined,
   }));
   const rows = samples.map((fields) => ({

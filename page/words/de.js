@@ -166,7 +166,7 @@ export const texts = {
     linesLabel: "Zeilen: ISBN und Exemplare, oder eine Tabelle",
     linesHint: "Liste einfügen oder Datei öffnen; höchstens 1.000 Zeilen. Die Liste bleibt in diesem Tab.",
     scanned: "Gescannt: {code}.",
-    budget: "Nicht mehr als",
+    budget: "Budget der Bestellung",
     aboveBudget: "{above} über dem Budget",
     openBefore: "Mit früheren Bestellungen vergleichen",
     before: {
@@ -175,7 +175,10 @@ export const texts = {
     },
     beforeUnread: "In welcher Spalte die Exemplare stehen, ist nicht bekannt: {names}.",
     orderedBefore: { one: "schon bestellt: 1 Exemplar ({file})", other: "schon bestellt: {count} Exemplare ({file})" },
-    step: { one: "1 Buch anderer für {more} macht sie frei.", other: "{count} Bücher anderer für {more} machen sie frei." },
+    step: {
+      one: "Mit 1 Buch eines anderen Lieferanten, hier für {more} bestellt, ist sie frei.",
+      other: "Mit {count} Büchern anderer Lieferanten, hier für {more} bestellt, ist sie frei.",
+    },
     move: "Hier bestellen",
     moveTo: "Bei {name} bestellen",
     takePiece: { one: "Die nächste Zeile nehmen", other: "Die nächsten {count} Zeilen nehmen" },

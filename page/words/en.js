@@ -166,7 +166,7 @@ export const texts = {
     linesLabel: "Lines: ISBN and copies, or a table",
     linesHint: "Paste a list, or open a file; 1,000 lines at most. The list stays in this tab.",
     scanned: "Scanned: {code}.",
-    budget: "Not above",
+    budget: "Budget",
     aboveBudget: "{above} above the budget",
     openBefore: "Compare with former orders",
     before: {
@@ -175,7 +175,10 @@ export const texts = {
     },
     beforeUnread: "It is not known which column has the copies: {names}.",
     orderedBefore: { one: "ordered before: 1 copy ({file})", other: "ordered before: {count} copies ({file})" },
-    step: { one: "1 book of others for {more} makes it free.", other: "{count} books of others for {more} make it free." },
+    step: {
+      one: "1 book of another wholesaler, ordered here for {more}, makes it free.",
+      other: "{count} books of other wholesalers, ordered here for {more}, make it free.",
+    },
     move: "Order them here",
     moveTo: "Order them from {name}",
     takePiece: { one: "Take the next line", other: "Take the next {count} lines" },

@@ -186,7 +186,7 @@ def budget_and_carriage(site: Site, browser: Browser) -> Iterator[Outcome]:
     yield Outcome("a list within the budget", came, True)
     told = browser.rows("#sums")[0][4]
     more = money(2 * (alpha.amount - beta.amount))
-    yield Outcome("the step to free carriage", f"1 book of others for +{more} makes it free." in told, True)
+    yield Outcome("the step to free carriage", f"1 book of another wholesaler, ordered here for +{more}, makes it free." in told, True)
     browser.one("#move-alpha").click()
     came = browser.wait(lambda: browser.rows("#sums")[0][4] == "free, from \u00a350.00 on")
     yield Outcome("its button orders there", came, True)

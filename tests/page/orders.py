@@ -549,6 +549,9 @@ def timed(browser: Browser) -> Iterator[Outcome]:
         flush=True,
     )
     yield Outcome("a choice and an offer for each line", count, 1000)
+    longest = max((duration for _, duration in browser.run("return window.blocks")), default=0)
+    print(f"page: the longest block of 500 lines took {longest:.0f} ms", flush=True)
+    yield Outcome("rows stand still while others are answered", browser.run("return window.shifts"), [])
     yield Outcome(f"{seconds:.1f} seconds are {MOST_SECONDS} at most", seconds <= MOST_SECONDS, True)
 
 

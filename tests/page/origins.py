@@ -1,6 +1,7 @@
 """What the web server lets through to the desk, and what another site makes a buyer's browser send."""
 
 import contextlib
+import re
 import socket
 import ssl
 import time
@@ -11,10 +12,11 @@ from urllib.parse import urlsplit
 
 from tests.page.articles import ask, said
 from tests.page.browser import STRANGER, Browser, browsing
-from tests.page.site import NAME, Site
+from tests.page.site import NAME, PAGE, Site
 from tests.page.week import ISBN, article, empty_message
 from tests.program.serving import HOST, StandIn, standing_in
 from tests.running import Outcome
+from tools.root import ROOT
 
 PRICE = f"/desk/articles/{ISBN}/price?day=20250410&country=GB&currency=GBP&type=02"
 GAPS = "/desk/series/north/gaps"
@@ -165,6 +167,23 @@ def quick(site: Site, browser: Browser) -> Iterator[Outcome]:
         yield Outcome(f"{path} is packed", fields.get("Content-Encoding"), "gzip")
         whole = (site.page / path[1:]).stat().st_size
         yield Outcome(f"{path}: {len(body)} of {whole} bytes", 3 * len(body) < whole, True)
+
+
+def number_in(path: Path, name: str) -> int:
+    """The number that stands behind a name and an equals sign in a file."""
+    found = re.search(rf"\b{name} ?= ?([\d_]+)", path.read_text(encoding="utf-8"))
+    return int(found[1].replace("_", "")) if found else 0
+
+
+def burst(site: Site, browser: Browser) -> Iterator[Outcome]:
+    """What a whole list asks at most, and once more where it is saved, is within what the web server lets pass at once,
+    with room for other buyers."""
+    lines = number_in(PAGE / "order-lines.js", "MOST_LINES")
+    each = number_in(PAGE / "order-asking.js", "QUESTIONS")
+    more = number_in(PAGE / "order-asking.js", "MORE_QUESTIONS")
+    passed = number_in(ROOT / "examples/page/nginx.conf", "burst")
+    name = f"{lines} lines of {each} questions, {more} more, and {lines} where they are saved: {passed} pass"
+    yield Outcome(name, 0 < lines * (each + 1) + more <= passed * 0.9, True)
 
 
 # What a page costs that a browser has not seen before: its files, and how many bytes of them, packed, over the network.
@@ -322,5 +341,5 @@ def bare_port(site: Site, browser: Browser) -> Iterator[Outcome]:
     yield Outcome(f"a stranger's post to the bare port ({came})", came in (["200"], ["202"]), True)
 
 
-CASES = [server_rules, hosts, reply_fields, quick, kept_files, slow_client, own_host_alone, another_site]
+CASES = [server_rules, hosts, reply_fields, quick, burst, kept_files, slow_client, own_host_alone, another_site]
 AT_THE_END = [bare_port]

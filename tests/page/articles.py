@@ -81,6 +81,21 @@ def one_copy(site: Site, browser: Browser) -> Iterator[Outcome]:
     yield Outcome("one copy: the rule's offer", chosen_rows(browser), [["", "rule 2"], ["", ""], ["", ""]])
 
 
+def empty(site: Site, browser: Browser) -> Iterator[Outcome]:
+    """A page without a question says what it is for, and the ring of the field that has the focus hides no label."""
+    browser.open("")
+    words = browser.wait_for_text("#start", "ISBN")
+    told = "Scan or type an ISBN: the page says from whom to buy the book, at what price, and why."
+    yield Outcome("empty: what to do", words.startswith(told), True)
+    room = browser.run("""
+      const [label, field] = ['label[for=isbn]', '#isbn'].map((name) => document.querySelector(name));
+      const ring = parseFloat(getComputedStyle(field).outlineWidth);
+      return field.getBoundingClientRect().top - label.getBoundingClientRect().bottom - ring;""")
+    yield Outcome(f"empty: the ring ends {room} below the label", room >= 0, True)
+    ask(browser, article())
+    yield Outcome("an answer is there in its place", browser.one("#start").is_displayed(), False)
+
+
 def ten_copies(site: Site, browser: Browser) -> Iterator[Outcome]:
     yield Outcome("ten copies: the offers", ask(browser, article(quantity="10")), TEN_COPIES)
     yield Outcome("ten copies: the choice", said(browser, "South Books: retail price £9.95"), True)
@@ -198,7 +213,7 @@ def many_offers(site: Site, browser: Browser) -> Iterator[Outcome]:
 
 
 CASES = [
-    one_copy,
+    empty, one_copy,
     ten_copies,
     another_country,
     no_rule,

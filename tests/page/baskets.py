@@ -13,7 +13,7 @@ from tests.page.articles import noted, said
 from tests.page.browser import Browser
 from tests.page.order_desk import FALLING, RECOMMENDED, WHOLESALERS, isbn_of, offers_of
 from tests.page.orders import (
-    MARK, Keyboard, file_rows, look_up, money, notes_of, open_list, ordered, row_of, save_to, saved, saved_status,
+    MARK, Keyboard, file_rows, look_up, money, notes_of, open_list, ordered, row_of, said_of, save_to, saved, saved_status,
     status, sums,
 )
 from tests.page.reports import allow_clipboard
@@ -141,11 +141,16 @@ def beside(site: Site, browser: Browser) -> Iterator[Outcome]:
     open_list(browser)
     look_up(browser, f"{FALLING} 2\n{order_desk.ABROAD}\n{order_desk.PENNY}")
     yield Outcome("beside: in the list", notes_of(browser, FALLING, order_desk.ABROAD), [falls, abroad])
+    look_up(browser, f"{order_desk.HIDDEN} 3")
+    hidden = "Alpha Books sells it from 5 copies on, at \u00a36.00 each."
+    yield Outcome("beside: from five copies on, though somebody has a price", hidden in said_of(browser, order_desk.HIDDEN), True)
+    look_up(browser, f"{FALLING} 2\n{order_desk.ABROAD}\n{order_desk.PENNY}")
+    notes_of(browser)
     far = "\u00a30.01 is far below the next offer, \u00a37.10: ask before you order."
     yield Outcome("beside: a price that is far from others", notes_of(browser, order_desk.PENNY)[0].startswith(far), True)
     needs = browser.texts("#list-needs li")
     yield Outcome("beside: it needs a person", needs, ["Price far from others (1): line 3"])
-    for isbn, words in ((FALLING, falls), (order_desk.PENNY, far)):
+    for isbn, words in ((FALLING, falls), (order_desk.PENNY, far), (order_desk.HIDDEN, hidden)):
         browser.open(f"#article?isbn={isbn}&quantity=1")
         yield Outcome(f"beside: in the article of {isbn}", noted(browser, words), True)
     browser.open(f"#article?isbn={order_desk.ABROAD}&quantity=1")

@@ -67,6 +67,8 @@ FALLEN = Decimal("7.10")
 ABROAD = isbn_of(9013)
 RECOMMENDED = isbn_of(9014)
 PENNY = isbn_of(9015)
+# One that is sold from five copies on, and that another wholesaler, whom no rule takes, has a price for.
+HIDDEN = isbn_of(9016)
 # A book whose price a case changes, so that the five hundred keep theirs.
 CHANGING = isbn_of(9008)
 CHANGING_FROM, CHANGING_TO = Decimal("5.09"), Decimal("5.55")
@@ -103,6 +105,7 @@ def special_rows(gln: str, today: date) -> list[str]:
         *product("s-13", ABROAD, gln, "21", "Price,,11.20,,,,,,"),
         *product("s-14", RECOMMENDED, gln, "21", "Price,,6.00,,,,,,", "Price,02,12.00,,,,,,"),
         *product("s-15", PENNY, gln, "21", "Price,,0.01,,,,,,"),
+        *product("s-16", HIDDEN, gln, "21", "Price,,6.00,,,,,,,5"),
         *changing_rows(gln, CHANGING_FROM),
     ]
 
@@ -115,6 +118,7 @@ def rows_of_beta(gln: str, today: date) -> list[str]:
         *product("b-12", FALLING, gln, "21", f"Price,,10.40,,,,,,{until}", f"Price,,{FALLEN},,,,,{then},"),
         *product("b-13", ABROAD, gln, "21", "Price,,6.10,EUR,,,,,"),
         *product("b-15", PENNY, gln, "21", "Price,,7.10,,,,,,"),
+        *product("b-16", HIDDEN, gln, "40", "Price,,7.00,,,,,,"),
     ]
 
 

@@ -214,8 +214,6 @@ def kept_files(site: Site, browser: Browser) -> Iterator[Outcome]:
         yield Outcome(f"a first opening: {len(taken)} files", len(taken) <= MOST_FILES, True)
         size = sum(taken.values())
         yield Outcome(f"a first opening: {size} bytes", 0 < size <= MOST_BYTES, True)
-        # The browser's own record of what it has is written behind the answer.
-        time.sleep(1)
         taken, asked = opened(known)
         came = sorted(path for path, bytes in taken.items() if bytes > 0)
         yield Outcome("opened once more: what is waited for", came, ["/"])

@@ -213,7 +213,8 @@ def many_offers(site: Site, browser: Browser) -> Iterator[Outcome]:
 
 
 CASES = [
-    empty, one_copy,
+    empty,
+    one_copy,
     ten_copies,
     another_country,
     no_rule,

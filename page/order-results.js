@@ -187,11 +187,12 @@ export class OrderResults {
     if (!list.isAsking) this.#drawAbove(list);
   }
 
-  /** Draws the row of a book anew where another number of copies is better. */
+  /** Draws the row of a book anew where another number of copies is better, or somebody has a price otherwise. */
   drawCopies(list, book) {
     const { offer } = list.stateOf(book);
     const context = this.#context(list);
-    if (offer === undefined || otherCopies(book, offer, context).length === 0) return;
+    const { others = [] } = book.answer;
+    if (offer === undefined || (others.length === 0 && otherCopies(book, offer, context).length === 0)) return;
     redraw(this.#rowOf(book), book, list.stateOf(book), context);
   }
 

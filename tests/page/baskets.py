@@ -140,7 +140,9 @@ def beside(site: Site, browser: Browser) -> Iterator[Outcome]:
     abroad = "Beta & Sons: no price of type 05 for so many in GBP; \u20ac6.10 (not compared)"
     open_list(browser)
     look_up(browser, f"{FALLING} 2\n{order_desk.ABROAD}\n{order_desk.PENNY}")
-    yield Outcome("beside: in the list", notes_of(browser, FALLING, order_desk.ABROAD), [falls, abroad])
+    notes = [falls, abroad]
+    browser.wait(lambda: notes_of(browser, FALLING, order_desk.ABROAD) == notes, 60)
+    yield Outcome("beside: in the list", notes_of(browser, FALLING, order_desk.ABROAD), notes)
     look_up(browser, f"{order_desk.HIDDEN} 3")
     hidden = "Alpha Books sells it from 5 copies on, at \u00a36.00 each."
     yield Outcome("beside: from five copies on, though somebody has a price", hidden in said_of(browser, order_desk.HIDDEN), True)

@@ -4,7 +4,6 @@ and what is told of offers beside the one that is ordered."""
 import time
 from collections.abc import Iterator
 from datetime import date
-from decimal import Decimal
 
 from selenium.webdriver.common.keys import Keys
 

@@ -105,6 +105,7 @@ function basket(name) {
     state: height('#list-state'),
     cutNames: all('#list select').filter((field) => field.selectedOptions[0].textContent.includes(name) && isCut(field))
       .map((field) => `${field.clientWidth}`),
+    cutFields: all('#list tbody input').filter((field) => field.scrollWidth > field.clientWidth).map(({ value }) => value),
     tallTitles: all('#list .clamped').filter((title) => title.getClientRects().length !== 1 || title.clientHeight > 24)
       .map((title) => title.clientHeight),
     cutHeads: all('#list thead th').filter((head) => head.clientWidth > 0 && head.scrollWidth > head.clientWidth)

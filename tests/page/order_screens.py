@@ -97,6 +97,7 @@ def laid_out(browser: Browser, name: str) -> Iterator[Outcome]:
     yield Outcome(f"{name}: a list of {found['height']} pixels", found["height"] <= 2 * SCREEN, True)
     yield Outcome(f"{name}: the state of the list is {found['state']} pixels", found["state"] < 40, True)
     yield Outcome(f"{name}: the name of a wholesaler is whole", found["cutNames"], [])
+    yield Outcome(f"{name}: ISBNs and copies are whole", found["cutFields"], [])
     yield Outcome(f"{name}: a title is a line", found["tallTitles"], [])
     yield Outcome(f"{name}: no column's name is cut", found["cutHeads"], [])
     wide = browser.run("return document.documentElement.scrollWidth > innerWidth")

@@ -5,7 +5,7 @@ import { elsewhereInWords, fallsInWords, onlyMoreInWords } from "./better.js";
 import { catalogueLink } from "./catalogue.js";
 import { inWords, timeInWords } from "./days.js";
 import {
-  betterInWords, conditionsOf, copiesInWords, detailsOf, kindOfAnswer, otherRules, sentenceOf, sumInWords,
+  betterInWords, conditionsOf, copiesInWords, detailsOf, kindOfAnswer, otherRules, sentenceOf, sumInWords, whyOf,
 } from "./decision.js";
 import { element } from "./elements.js";
 import { areUnpriced, keyOf, ORDERS } from "./offers.js";
@@ -170,13 +170,18 @@ export class Answer {
       .join(" ");
   }
 
-  /** What stands below the sentence, and where the book itself is to be seen. */
+  /** What stands below the sentence, and where the book itself is to be seen; the rule is folded behind it. */
   #details() {
     const { settings } = this.#place;
     const { isbn } = this.#shown.question;
     const link = catalogueLink(isbn, say("article.inCatalogue"), settings);
-    const parts = [...detailsOf(this.#shown, settings), ...link];
-    return element("p", { class: "details" }, ...parts.flatMap((part) => [" · ", part]).slice(1));
+    const parts = [...detailsOf(this.#shown), ...link];
+    const line = element("p", {}, ...parts.flatMap((part) => [" · ", part]).slice(1));
+    const words = whyOf(this.#shown, settings);
+    if (words === "") return element("div", { class: "details" }, line);
+    const open = found("article-status").querySelector("details")?.open ? "" : undefined;
+    const why = element("details", { open }, element("summary", {}, say("article.why")), element("p", {}, words));
+    return element("div", { class: "details" }, line, why);
   }
 
   #drawSentence() {

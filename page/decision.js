@@ -99,8 +99,14 @@ export function sumInWords(answer) {
   return money(times(answer.choice.amount, quantity), currency);
 }
 
-/** What stands below the sentence: the book, how it can be had, and by which rule it is chosen. */
-export function detailsOf(answer, settings) {
+/** By which rule an answer is chosen, in words; empty where none is. */
+export function whyOf(answer, settings) {
+  const { offers, choice } = answer;
+  return choice === null || areUnpriced(offers) ? "" : ruleInWords(answer, settings);
+}
+
+/** What stands below the sentence: the book, how it can be had, and what it brings. */
+export function detailsOf(answer) {
   const { offers, choice, question, retail } = answer;
   const book = say("article.answerFor", question);
   if (offers.length === 0) return [book, say("article.askPublisher")];
@@ -110,5 +116,5 @@ export function detailsOf(answer, settings) {
   const isLeast = priced.every(({ amount }) => compareAmounts(choice.amount, amount) <= 0);
   const least = isLeast && priced.length > 1 ? [say("article.leastPrice")] : [];
   const recommended = retailInWords(retail, choice, question);
-  return [book, availability, ...(recommended === "" ? [] : [recommended]), ruleInWords(answer, settings), ...least];
+  return [book, availability, ...(recommended === "" ? [] : [recommended]), ...least];
 }

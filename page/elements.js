@@ -30,12 +30,13 @@ function cell({ name, className }, content, isHeader) {
 const columnOf = (column) => (typeof column === "string" ? { name: column } : column);
 
 /**
- * A row of a table with those columns: of `cells`, a list of children for each, and `className`. Its header is the
- * cell of the column that `isHeader`, else the first one.
+ * A row of a table with those columns: of `cells`, a list of children for each, and `className`. Its headers are the
+ * cells of the columns that are `isHeader`, else the first one.
  */
 export function tableRow(columns, { cells, className }) {
-  const header = Math.max(columns.findIndex(({ isHeader }) => isHeader), 0);
-  const made = cells.map((content, at) => cell(columnOf(columns[at]), content, at === header));
+  const isFirst = !columns.some(({ isHeader }) => isHeader);
+  const isHeader = (at) => (isFirst ? at === 0 : columns[at].isHeader);
+  const made = cells.map((content, at) => cell(columnOf(columns[at]), content, isHeader(at)));
   return element("tr", { role: "row", class: className }, ...made);
 }
 

@@ -6,8 +6,9 @@ import { element } from "./elements.js";
 import { Missing } from "./missing.js";
 import { Order } from "./order.js";
 import { Reports } from "./reports.js";
+import { loadRules } from "./rules.js";
 import { Scanner } from "./scan.js";
-import { loadRules, loadSettings, loadWords } from "./settings.js";
+import { areRenewed, loadSettings, loadWords } from "./settings.js";
 import { areTitlesKept } from "./titles.js";
 import { formatter, labelAll, say, sayCount, speak } from "./wording.js";
 
@@ -73,6 +74,12 @@ function countMissing(settings, reports) {
   found("missing-count").replaceChildren(...parts);
 }
 
+/** Says behind the answer that the shop has other settings or words than those that the browser had kept. */
+async function tellRenewed() {
+  found("load-anew").addEventListener("click", () => location.reload());
+  found("renewed").hidden = !(await areRenewed());
+}
+
 /** A bar code that is scanned is a line of the order list in its view, and is asked for in that of an article. */
 function scanIn(article, order) {
   const view = () => readAddress(location.hash).view;
@@ -114,6 +121,7 @@ async function start() {
   });
   show(views);
   reports.begin();
+  tellRenewed();
 }
 
 start();

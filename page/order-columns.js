@@ -39,8 +39,9 @@ function sampleTable(columns) {
   const { width, names, samples, isbn, copies } = columns;
   const places = [...Array(width).keys()];
   const taken = (at) => (at === isbn ? say("order.columns.isbn") : at === copies ? say("order.columns.copies") : "");
+  const partsOf = (at) => new Set([String(at + 1), names?.[at] ?? "", taken(at)].filter((text) => text !== ""));
   const heads = places.map((at) => ({
-    name: [String(at + 1), names?.[at] ?? "", taken(at)].filter((text) => text !== "").join(" · "),
+    name: [...partsOf(at)].join(" · "),
     className: at === isbn || at === copies ? "taken" : undefined,
   }));
   const rows = samples.map((fields) => ({
@@ -56,22 +57,29 @@ export class Columns {
   // What was chosen last, for a table with that heading: empty where it has none.
   #chosen = {};
   #changed;
+  /** How many times something else has been chosen. */
+  choices = 0;
 
   constructor(changed) {
     this.#changed = changed;
     for (const id of ["isbn-column", "copies-column"]) {
-      found(id).addEventListener("change", () => this.#choose());
+      found(id).addEventListener("change", () => this.#takeChoice());
     }
   }
 
   /** Another list is there: what was chosen for one without a heading is no choice for it. */
   forget() {
-    this.#chosen = {};
+    this.#choose({});
   }
 
   /** A table without a heading has these columns. */
   set(columns) {
-    this.#chosen = { heading: "", columns };
+    this.#choose({ heading: "", columns });
+  }
+
+  #choose(chosen) {
+    this.#chosen = chosen;
+    this.choices += 1;
   }
 
   /** What was chosen for a table with those names of columns. */
@@ -105,7 +113,7 @@ export class Columns {
     found(`${name}-column`).focus();
   }
 
-  #choose() {
+  #takeChoice() {
     const read = (id) => {
       const { value } = found(id);
       if (value === NONE) return null;
@@ -113,7 +121,7 @@ export class Columns {
     };
     const columns = { isbn: read("isbn-column"), copies: read("copies-column") };
     if (columns.copies === columns.isbn) delete columns.copies;
-    this.#chosen = { heading: this.#heading, columns };
+    this.#choose({ heading: this.#heading, columns });
     if (this.#heading !== "") {
       const others = kept().filter(([other]) => other !== this.#heading);
       keep(KEY, { headings: [[this.#heading, columns], ...others].slice(0, MOST_HEADINGS) });

@@ -40,6 +40,8 @@ export class OrderInput {
   #isSame = false;
   // What is left of a list of too many lines, of which a piece was taken.
   #rest = "";
+  // The text that was read last, by which choice of columns, and what it is: a long one takes longer than a key may.
+  #last = {};
 
   /** `acts` has `changed`, which hears of other lines, and `lookUp`, where a buyer wants an answer. */
   constructor(acts) {
@@ -59,9 +61,14 @@ export class OrderInput {
 
   /** The lines that are there, as `readList` has them, with their columns shown. */
   read() {
-    const list = readList(this.text, (names) => this.#columns.chosenFor(names));
-    this.#columns.show(list.columns);
-    return list;
+    const { text } = this;
+    const { choices } = this.#columns;
+    if (this.#last.text !== text || this.#last.choices !== choices) {
+      const list = readList(text, (names) => this.#columns.chosenFor(names));
+      this.#last = { text, choices, list };
+    }
+    this.#columns.show(this.#last.list.columns);
+    return this.#last.list;
   }
 
   /** The lines to look up; where they cannot be, that is said, and nothing is given. */

@@ -15,6 +15,12 @@ function answerOf({ isbn, copies, wrong }, answered) {
   return { titles, ...(same.copies === copies ? { answer, right, change } : {}) };
 }
 
+/** Whether a book of the list is what it was, with its answer: then its row need not be made anew. */
+function isKept(before, book, made) {
+  if (before === undefined || before.answer !== made.answer) return false;
+  return Object.keys(book).every((key) => areSame(book[key], before[key]));
+}
+
 export class OrderList {
   /** The text that was looked up, and the question (day, country, currency, type). */
   text = "";
@@ -37,10 +43,14 @@ export class OrderList {
    * which it was; it stays where a buyer has edited that (`isSame`), and so do the answers about what is unchanged.
    */
   begin(text, question, books, isSame = false) {
-    const answered = isSame && areSame(question, this.question) ? this.askable() : [];
+    const isAnswered = isSame && areSame(question, this.question);
+    const [before, answered] = isAnswered ? [this.books, this.askable()] : [[], []];
     this.text = text;
     this.question = question;
-    this.books = books.map((book, id) => ({ ...answerOf(book, answered), ...book, id }));
+    this.books = books.map((book, id) => {
+      const made = { ...answerOf(book, answered), ...book, id };
+      return isKept(before[id], book, made) ? before[id] : made;
+    });
     const isbns = books.map(({ isbn }) => isbn);
     for (const isbn of this.#hands.keys()) if (!isSame || !isbns.includes(isbn)) this.#hands.delete(isbn);
     this.#saved.clear();

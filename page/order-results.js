@@ -82,6 +82,15 @@ function heldField() {
   return book === undefined || field === undefined ? undefined : `tr[data-book="${book}"] [data-field="${field}"]`;
 }
 
+/** Does what changes the height of what stands above the table, which stays where it is while somebody works in it. */
+function keepingPlace(act) {
+  const isUsed = found("list").matches(":hover, :focus-within");
+  const topOf = () => found("list-part").getBoundingClientRect().top;
+  const before = isUsed ? topOf() : 0;
+  act();
+  if (isUsed) window.scrollBy(0, topOf() - before);
+}
+
 // By which field of its row a need is met, where that is not the wholesaler's.
 const [ISBN, COPIES] = ["row-isbn", "row-copies"];
 const FIELD_OF = { isbn: ISBN, shortened: ISBN, none: ISBN, copies: COPIES, unsure: COPIES, many: COPIES };
@@ -114,7 +123,6 @@ export class OrderResults {
       ...question,
       handOf: (book) => list.handOf(book),
       savedOf: (series) => list.savedOf(series),
-      rows: list.ordered(),
       budget: budgetOf(found("budget").value),
       reports: this.#reports,
       isAsking,
@@ -125,8 +133,12 @@ export class OrderResults {
     };
   }
 
-  /** Draws all, where the field or button that has the focus keeps it. */
+  /** Draws all, where the field or button that has the focus keeps it, and the table its place. */
   draw(list) {
+    keepingPlace(() => this.#drawAll(list));
+  }
+
+  #drawAll(list) {
     this.#forget();
     const held = heldField();
     const rows = list.rows();
@@ -157,13 +169,15 @@ export class OrderResults {
 
   /** Draws the sums, and which of the orders have left the page. */
   drawSums(list) {
-    const ordered = list.ordered().map(({ book, state: { offer } }) => ({
+    const rows = list.ordered();
+    const ordered = rows.map(({ book, state: { offer } }) => ({
       series: offer.series, copies: book.copies, amount: offer.amount,
     }));
     found("sums-part").hidden = ordered.length === 0 || list.isAsking;
     const { id } = document.activeElement;
     const isHeld = found("sums").contains(document.activeElement);
-    found("sums").replaceChildren(sumsTable("sums-heading", sumsOf(ordered), this.#context(list)));
+    const context = { ...this.#context(list), rows };
+    found("sums").replaceChildren(sumsTable("sums-heading", sumsOf(ordered), context));
     if (isHeld) found(id)?.focus();
   }
 
@@ -173,11 +187,12 @@ export class OrderResults {
     if (!list.isAsking) this.#drawAbove(list);
   }
 
-  /** Draws the row of a book anew where another number of copies is better. */
+  /** Draws the row of a book anew where another number of copies is better, or somebody has a price otherwise. */
   drawCopies(list, book) {
     const { offer } = list.stateOf(book);
     const context = this.#context(list);
-    if (offer === undefined || otherCopies(book, offer, context).length === 0) return;
+    const { others = [] } = book.answer;
+    if (offer === undefined || (others.length === 0 && otherCopies(book, offer, context).length === 0)) return;
     redraw(this.#rowOf(book), book, list.stateOf(book), context);
   }
 

@@ -29,17 +29,29 @@ export function linesInWords({ lines }) {
   return lines.join(", ");
 }
 
-const CLASSES = { title: "title", copies: "amount", price: "amount", sum: "amount", note: "note-of" };
+// By which a row is laid out.
+const CLASSES = {
+  lines: "line", isbn: "book", title: "title", copies: "amount number", wholesaler: "from", availability: "state",
+  price: "amount price", sum: "amount total", note: "note-of",
+};
+
+// A screen reader tells the cells of a row by these.
+const HEADERS = ["isbn", "title"];
 
 /** The names of the columns; that of titles where the shop keeps some. */
 const namesOf = ({ settings }) => COLUMNS.filter((column) => column !== "title" || settings.hasTitles);
 
+/** The name of a column in words; a price of a type that customers pay is a retail price. */
+function nameOf(column, { isRetail }) {
+  if (column === "title") return say("order.titleColumn");
+  return say(`order.columns.${column === "price" && isRetail ? "retail" : column}`);
+}
+
 function columnsOf(context) {
-  const { isRetail } = context;
   return namesOf(context).map((column) => ({
-    name: say(`order.columns.${column === "price" && isRetail ? "retail" : column}`),
+    name: nameOf(column, context),
     className: CLASSES[column],
-    isHeader: column === "isbn",
+    isHeader: HEADERS.includes(column),
   }));
 }
 
@@ -183,8 +195,17 @@ function noteCell(book, state, context) {
   for (const { file, copies } of context.beforeOf(book.isbn)) {
     words.push(element("strong", {}, sayCount("order.orderedBefore", copies, { file })));
   }
-  if (book.note !== "") words.push(element("bdi", {}, book.note));
-  return words.flatMap((part) => [" · ", part]).slice(1);
+  const said = words.flatMap((part) => [" · ", part]).slice(1);
+  return [
+    ...(said.length === 0 ? [] : [element("span", { class: "said" }, ...said)]),
+    ...(book.note === "" ? [] : [ownNote(book.note, said.length > 0)]),
+  ];
+}
+
+/** What the list itself says of a book, such as a title or a customer; it may stand behind something else. */
+function ownNote(note, isBehind) {
+  const apart = isBehind ? [element("span", { class: "apart" }, " · ")] : [];
+  return element("span", { class: "own", title: note }, ...apart, element("bdi", {}, note));
 }
 
 /** What could be had of a book of which nothing is ordered: more copies, another type or currency. */

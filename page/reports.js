@@ -3,8 +3,9 @@
 import { today } from "./days.js";
 import { ask, isAbandoned } from "./desk.js";
 import { element } from "./elements.js";
+import { loadRules } from "./rules.js";
 import { daysSince, see } from "./seen.js";
-import { loadRules, wholesalerOf } from "./settings.js";
+import { wholesalerOf } from "./settings.js";
 import { say, sayCount } from "./wording.js";
 
 const MINUTE = 60_000;

@@ -3,6 +3,9 @@
 
 import { compareAmounts } from "./amounts.js";
 import { keyOf } from "./offers.js";
+import { load } from "./settings.js";
+
+const FILE = "rules.toml";
 
 const RULE = /^\s*\[\[\s*(?:rule|"rule"|'rule')\s*\]\]\s*(?:#.*)?$/;
 const COMMENT = /^\s*#+\s?(.*)$/;
@@ -52,6 +55,12 @@ export function rulesOf(text) {
     words: commentAbove(lines, at),
     admits: admittedBy(lines.slice(at + 1, places[place + 1])),
   }));
+}
+
+/** The shop's rules, as rules.toml has them; with "no-cache" now. `undefined` where it cannot be read. */
+export async function loadRules(cache) {
+  const { text } = await load(FILE, true, cache);
+  return text === undefined ? undefined : rulesOf(text);
 }
 
 const admitsOffer = ({ series, codes, max }) => ({ amount, ...offer }) =>

@@ -8,12 +8,10 @@ import { isForm } from "./csv-form.js";
 import { isChecked } from "./isbn.js";
 import { withOwnWords } from "./own-words.js";
 import { kindOf } from "./price-types.js";
-import { rulesOf } from "./rules.js";
 import { say, shippedWords } from "./wording.js";
 
 const FILE = "desk.json";
 const WORDS = "words.json";
-const RULES = "rules.toml";
 
 const NEEDED = ["series", "country", "currency", "price_type"];
 const KEYS = [
@@ -194,14 +192,21 @@ export function readSettings(text) {
   return { settings: settingsOf(given, problems), problems };
 }
 
+// The texts that the page began with, by their files.
+const begun = new Map();
+
 /**
  * The text of a file beside the page, or a problem; neither where an `isOptional` one is not there. What index.html
- * has loaded is used by the default way of caching alone.
+ * has loaded is used by the default way of caching alone, by which it may be what it was the last time.
  */
-async function load(file, isOptional = false, cache = "default") {
+export async function load(file, isOptional = false, cache = "default") {
   try {
     const reply = await fetch(urlBeside(file), { cache });
-    if (reply.ok) return { text: await reply.text() };
+    if (reply.ok) {
+      const text = await reply.text();
+      if (!begun.has(file)) begun.set(file, text);
+      return { text };
+    }
     if (isOptional && reply.status === 404) return {};
     return { problem: { path: "settings.unread", values: { file, status: reply.status } } };
   } catch {
@@ -216,10 +221,14 @@ export async function loadSettings() {
   return { settings: settingsOf({}, []), problems: [problem] };
 }
 
-/** The shop's rules, as rules.toml has them; with "no-cache" now. `undefined` where it cannot be read. */
-export async function loadRules(cache) {
-  const { text } = await load(RULES, true, cache);
-  return text === undefined ? undefined : rulesOf(text);
+/** Whether the shop's own files have other texts now than those that the page began with. */
+export async function areRenewed() {
+  for (const file of [FILE, WORDS]) {
+    const before = begun.get(file);
+    const { text } = await load(file, true, "no-cache");
+    if (text !== undefined && text !== before) return true;
+  }
+  return false;
 }
 
 /** The words of a language with those of the page's words.json, and what is wrong with that. */

@@ -73,9 +73,27 @@ def chosen_rows(browser: Browser) -> list[list[str]]:
 def one_copy(site: Site, browser: Browser) -> Iterator[Outcome]:
     yield Outcome("one copy: the offers", ask(browser, article()), ONE_COPY)
     sentence = "On 10 April 2025: North Books: retail price £11.50"
-    details = f"ISBN {ISBN} · in stock · rule 2: “Else whoever has the book”"
-    yield Outcome("one copy: the answer", browser.text("#article-status"), f"{sentence}\n{details}")
+    details = f"ISBN {ISBN} · in stock"
+    yield Outcome("one copy: the answer", browser.text("#article-status"), f"{sentence}\n{details}\nwhy")
+    browser.one("#article-status summary").click()
+    told = f"{sentence}\n{details}\nwhy\nrule 2: “Else whoever has the book”"
+    yield Outcome("one copy: why", browser.text("#article-status"), told)
     yield Outcome("one copy: the rule's offer", chosen_rows(browser), [["", "rule 2"], ["", ""], ["", ""]])
+
+
+def empty(site: Site, browser: Browser) -> Iterator[Outcome]:
+    """A page without a question says what it is for, and the ring of the field that has the focus hides no label."""
+    browser.open("")
+    words = browser.wait_for_text("#start", "ISBN")
+    told = "Scan or type an ISBN: the page says from whom to buy the book, at what price, and why."
+    yield Outcome("empty: what to do", words.startswith(told), True)
+    room = browser.run("""
+      const [label, field] = ['label[for=isbn]', '#isbn'].map((name) => document.querySelector(name));
+      const ring = parseFloat(getComputedStyle(field).outlineWidth);
+      return field.getBoundingClientRect().top - label.getBoundingClientRect().bottom - ring;""")
+    yield Outcome(f"empty: the ring ends {room} below the label", room >= 0, True)
+    ask(browser, article())
+    yield Outcome("an answer is there in its place", browser.one("#start").is_displayed(), False)
 
 
 def ten_copies(site: Site, browser: Browser) -> Iterator[Outcome]:
@@ -195,6 +213,7 @@ def many_offers(site: Site, browser: Browser) -> Iterator[Outcome]:
 
 
 CASES = [
+    empty,
     one_copy,
     ten_copies,
     another_country,

@@ -33,7 +33,10 @@ FUNCTIONS = {found[1]: found[0] for found in re.finditer(r"^function (\w+)\(.*?^
 Found = TypeVar("Found")
 
 
-def options(is_recorded: bool) -> Options:
+def options(is_recorded: bool, key: str = "") -> Options:
+    """`key` is the digest of a certificate's key, that alone is trusted then; of a site that is not trusted a browser
+    keeps no file."""
+    trust = f"--ignore-certificate-errors-spki-list={key}" if key else "--ignore-certificate-errors"
     chosen = Options()
     chosen.binary_location = CHROMIUM
     names = f"MAP {NAME} {HOST}, MAP {STRANGER} {HOST}, MAP * ~NOTFOUND, EXCLUDE {HOST}"
@@ -43,7 +46,7 @@ def options(is_recorded: bool) -> Options:
         "--no-sandbox",
         "--disable-dev-shm-usage",
         "--disable-gpu",
-        "--ignore-certificate-errors",
+        trust,
         "--disable-background-networking",
         # On a machine with much to do a page that is taken for one in the background gets no time for minutes.
         "--disable-renderer-backgrounding",
@@ -58,11 +61,13 @@ def options(is_recorded: bool) -> Options:
 
 
 class Browser:
-    """`is_recorded` keeps what pages ask for, which costs the browser much."""
+    """`is_recorded` keeps what pages ask for, which costs the browser much; `is_trusting` takes the site for one
+    whose files may be kept."""
 
-    def __init__(self, site: Site, is_recorded: bool = False) -> None:
+    def __init__(self, site: Site, is_recorded: bool = False, is_trusting: bool = False) -> None:
         self.site = site
-        self.driver = webdriver.Chrome(options=options(is_recorded), service=Service(DRIVER))
+        key = site.key_digest() if is_trusting else ""
+        self.driver = webdriver.Chrome(options=options(is_recorded, key), service=Service(DRIVER))
         self.size(*WIDE)
         # The browser asks for the name and the password once; from then on it knows them.
         self.driver.get(site.address(user=f"{USER}:{PASSWORD}@"))
@@ -151,8 +156,8 @@ class Browser:
 
 
 @contextlib.contextmanager
-def browsing(site: Site, is_recorded: bool = False) -> Iterator[Browser]:
-    browser = Browser(site, is_recorded)
+def browsing(site: Site, is_recorded: bool = False, is_trusting: bool = False) -> Iterator[Browser]:
+    browser = Browser(site, is_recorded, is_trusting)
     try:
         yield browser
     finally:

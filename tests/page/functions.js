@@ -88,11 +88,47 @@ function loseReplies(isbn) {
   };
 }
 
+// How a list is laid out: its height, that of the line above it, and what is cut or takes more than a line.
+function basket(name) {
+  const all = (selector) => [...document.querySelectorAll(selector)];
+  const height = (selector) => Math.ceil(document.querySelector(selector).getBoundingClientRect().height);
+  const canvas = document.createElement('canvas').getContext('2d');
+  const isCut = (field) => {
+    const style = getComputedStyle(field);
+    canvas.font = style.font;
+    // The arrow of a field of choices takes some 20 pixels.
+    const room = field.clientWidth - parseFloat(style.paddingLeft) - parseFloat(style.paddingRight) - 16;
+    return canvas.measureText(field.selectedOptions[0].textContent).width > room;
+  };
+  return {
+    height: height('#list-part'),
+    state: height('#list-state'),
+    cutNames: all('#list select').filter((field) => field.selectedOptions[0].textContent.includes(name) && isCut(field))
+      .map((field) => `${field.clientWidth}`),
+    cutFields: all('#list tbody input').filter((field) => field.scrollWidth > field.clientWidth).map(({ value }) => value),
+    tallTitles: all('#list .clamped').filter((title) => title.getClientRects().length !== 1 || title.clientHeight > 24)
+      .map((title) => title.clientHeight),
+    cutHeads: all('#list thead th').filter((head) => head.clientWidth > 0 && head.scrollWidth > head.clientWidth)
+      .map((head) => head.textContent),
+  };
+}
+
 // Notes when a list is looked up, and when the last of its books is answered, by the page's own clock.
 function noteLookUp() {
   const status = document.getElementById('list-status');
   performance.setResourceTimingBufferSize(20000);
   performance.clearResourceTimings();
+  window.shifts = [];
+  window.blocks = [];
+  new PerformanceObserver((list) => {
+    for (const { value, startTime, sources, hadRecentInput } of list.getEntries()) {
+      const isRow = sources.some(({ node }) => node?.parentElement?.closest('#list tbody') ?? false);
+      if (isRow && !hadRecentInput && window.lookedUpAt === undefined) window.shifts.push([startTime, value]);
+    }
+  }).observe({ type: 'layout-shift' });
+  new PerformanceObserver((list) => {
+    window.blocks.push(...list.getEntries().map(({ startTime, duration }) => [startTime, duration]));
+  }).observe({ type: 'longtask' });
   document.getElementById('look-up').addEventListener(
     'click', () => { window.pressedAt = performance.now(); }, { capture: true, once: true });
   new MutationObserver(() => {

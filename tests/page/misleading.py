@@ -354,6 +354,8 @@ def words_of_rules(site: Site, browser: Browser) -> Iterator[Outcome]:
     with rules(site, FIRST + table, True):
         browser.open(article())
         told = "rule 3: “Else whoever has the book”"
+        said(browser, "North Books")
+        browser.one("#article-status summary").click()
         yield Outcome("a rule put in front", said(browser, told), True)
     for name, text, told in OTHER_TABLES:
         with rules(site, text or FIRST + table, False):

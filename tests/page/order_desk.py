@@ -60,6 +60,15 @@ BESIDE = isbn_of(9007)
 # One that is sold in euros too.
 IN_EUROS = isbn_of(9011)
 EUROS = Decimal("8.40")
+# One that another wholesaler has for less in nine days; one that another has in euros alone; one with a recommended
+# price, and one whose price is far from the next offer.
+FALLING = isbn_of(9012)
+FALLEN = Decimal("7.10")
+ABROAD = isbn_of(9013)
+RECOMMENDED = isbn_of(9014)
+PENNY = isbn_of(9015)
+# One that is sold from five copies on, and that another wholesaler, whom no rule takes, has a price for.
+HIDDEN = isbn_of(9016)
 # A book whose price a case changes, so that the five hundred keep theirs.
 CHANGING = isbn_of(9008)
 CHANGING_FROM, CHANGING_TO = Decimal("5.09"), Decimal("5.55")
@@ -92,8 +101,30 @@ def special_rows(gln: str, today: date) -> list[str]:
         *product("s-10", FIVE, gln, "21", "Price,,5.00,,,,,,,5"),
         *product(HOSTILE, BESIDE, gln, "21", "Price,,6.00,,,,,,"),
         *product("s-11", IN_EUROS, gln, "21", "Price,,7.20,,,,,,", f"Price,,{EUROS},EUR,,,,,"),
+        *product("s-12", FALLING, gln, "21", "Price,,9.90,,,,,,"),
+        *product("s-13", ABROAD, gln, "21", "Price,,11.20,,,,,,"),
+        *product("s-14", RECOMMENDED, gln, "21", "Price,,6.00,,,,,,", "Price,02,12.00,,,,,,"),
+        *product("s-15", PENNY, gln, "21", "Price,,0.01,,,,,,"),
+        *product("s-16", HIDDEN, gln, "21", "Price,,6.00,,,,,,,5"),
         *changing_rows(gln, CHANGING_FROM),
     ]
+
+
+def rows_of_beta(gln: str, today: date) -> list[str]:
+    """What beta has of the books that need a person or are better at another one."""
+    until, then = compact(today + timedelta(days=8)), compact(fall(today))
+    return [
+        *product("b-6", BROKEN, gln, "21", "Price,,5.50,,,,,,", "Price,,3.00,,,,,,,10"),
+        *product("b-12", FALLING, gln, "21", f"Price,,10.40,,,,,,{until}", f"Price,,{FALLEN},,,,,{then},"),
+        *product("b-13", ABROAD, gln, "21", "Price,,6.10,EUR,,,,,"),
+        *product("b-15", PENNY, gln, "21", "Price,,7.10,,,,,,"),
+        *product("b-16", HIDDEN, gln, "40", "Price,,7.00,,,,,,"),
+    ]
+
+
+def fall(today: date) -> date:
+    """The day on which a price falls."""
+    return today + timedelta(days=9)
 
 
 def gln_of(series: str) -> str:
@@ -120,7 +151,7 @@ def batch(today: date) -> str:
         if series == "alpha":
             rows += special_rows(gln, today)
         if series == "beta":
-            rows += product("b-6", BROKEN, gln, "21", "Price,,5.50,,,,,,", "Price,,3.00,,,,,,,10")
+            rows += rows_of_beta(gln, today)
         if series == "gamma":
             rows += product("g-7", BESIDE, gln, "21", "Price,02,9.00,,,,,,")
         text += message(series, 1, rows)

@@ -16,7 +16,6 @@ from selenium.webdriver.support.select import Select
 from tests.page import order_desk
 from tests.page.browser import Browser
 from tests.page.days import with_clock
-from tests.page.scanning import scan
 from tests.page.order_desk import WHOLESALERS, chosen_of, isbn_of, offers_of
 from tests.page.reports import allow_clipboard
 from tests.page.site import RATE, NO_LIMIT, Site
@@ -470,108 +469,18 @@ def printed(site: Site, browser: Browser) -> Iterator[Outcome]:
     fields = browser.call("seen", "button, input, select, textarea, nav, summary")
     yield Outcome("no fields on paper", fields, [])
     browser.driver.execute_cdp_cmd("Emulation.setEmulatedMedia", {"media": ""})
+    browser.run("window.dispatchEvent(new Event('afterprint'));")
+    browser.one("#print-gamma").click()
+    browser.wait(lambda: browser.one("#save-question").is_displayed())
+    browser.one("#save-all").click()
+    browser.wait(lambda: "Gamma" in browser.run("return document.getElementById('paper').textContent"))
+    marked = browser.run("return document.querySelectorAll('#paper tbody tr').length")
+    remarks = browser.run("return document.getElementById('paper').textContent").count(OLD)
+    yield Outcome("what may be old is marked on paper", (remarks, remarks > 0), (marked, True))
+    browser.driver.execute_cdp_cmd("Emulation.setEmulatedMedia", {"media": ""})
     browser.run("window.dispatchEvent(new Event('afterprint'))")
     yield Outcome("the page is back", len(seen_texts(browser, "#list .row-isbn")), 6)
     site.write_settings(order_desk.settings())
-
-
-FORMS = {
-    "alpha": {"columns": ["isbn", "copies", "order"], "heading": ["EAN", "QTY", "REF"], "file": "alpha-{day}.csv",
-              "isbn": "text"},
-    "beta": {"columns": ["copies", "isbn", "account"], "heading": False, "separator": ";", "file": "{order}.txt"},
-}
-MOST_TILL_KEYS, MOST_TILL_SECONDS = 60, 120
-
-
-def from_a_till(site: Site, browser: Browser) -> Iterator[Outcome]:
-    """From the export of a till to a file in each wholesaler's own form, with two lines corrected in their rows."""
-    folder = site.room.path("till")
-    save_to(browser, folder)
-    allow_clipboard(site, browser, "granted")
-    site.write_settings(order_desk.settings(forms=FORMS, accounts={"beta": "B-7"}))
-    wrong = isbn_of(1)[:-1] + str((int(isbn_of(1)[-1]) + 1) % 10)
-    numbers = range(30)
-    lines = [f"{isbn_of(number)};Title {number};{number};{number % 4 + 1}" for number in numbers]
-    lines[1] = lines[1].replace(isbn_of(1), wrong)
-    lines[2] = lines[2].removesuffix("3") + "0"
-    open_list(browser)
-    text = "\n".join(["ISBN;Title;Stock;Order", *lines])
-    browser.driver.execute_async_script("navigator.clipboard.writeText(arguments[0]).then(arguments[1])", text)
-    begun = time.monotonic()
-    keys = Keyboard(browser)
-    keys.paste()
-    keys.press(Keys.TAB, Keys.ENTER)
-    status(browser, "28 of 28 looked up")
-    focus = browser.run("return document.activeElement.getAttribute('aria-label')")
-    yield Outcome("till: the focus is at what needs somebody", focus, "To line 3")
-    keys.press(Keys.ENTER)
-    row = browser.run("return document.activeElement.dataset.field")
-    yield Outcome("till: it leads to the field", row, "row-isbn")
-    keys.type(isbn_of(1))
-    keys.press(Keys.ENTER)
-    status(browser, "29 of 29 looked up")
-    asked = len(site.requests())
-    label = "return document.activeElement.getAttribute('aria-label')"
-    browser.wait(lambda: browser.run(label) == f"Copies of {isbn_of(2)}")
-    keys.press("3", Keys.ENTER)
-    status(browser, "30 of 30 looked up. No book needs you.")
-    desk = {line.split("/")[3] for line in site.requests()[asked:] if "/choice?" in line}
-    yield Outcome("till: only that book is asked for", desk, {isbn_of(2)})
-    browser.one("#order-reference").send_keys("2026-118")
-    keys.count += len("2026-118")
-    for name in WHOLESALERS:
-        keys.tab_to(f"csv-{name}")
-        keys.press(Keys.ENTER)
-        if name == "gamma":
-            browser.wait(lambda: browser.one("#save-question").is_displayed())
-            keys.tab_to("save-all")
-            keys.press(Keys.ENTER)
-        saved_status(browser, "Saved as " + {"alpha": "alpha-", "beta": "2026-118.txt", "gamma": "order-"}[name])
-    seconds = time.monotonic() - begun
-    wanted = ordered(numbers)
-    day = browser.run("return new Date().toLocaleDateString('sv')")
-    texts = [saved(browser, folder, name) for name in (f"alpha-{day}.csv", "2026-118.txt", f"order-{day}-gamma.csv")]
-    alpha = [f'="{isbn_of(number)}",{copies},2026-118' for number, copies, _ in wanted["alpha"]]
-    yield Outcome("till: alpha's form", texts[0], MARK + "\r\n".join(["EAN,QTY,REF", *alpha, ""]))
-    beta = [f"{copies};{isbn_of(number)};B-7" for number, copies, _ in wanted["beta"]]
-    yield Outcome("till: beta's form", texts[1], MARK + "\r\n".join([*beta, ""]))
-    gamma = [[isbn_of(number), str(copies)] for number, copies, _ in wanted["gamma"]]
-    yield Outcome("till: gamma's form", [row[:2] for row in file_rows(texts[2])[1:]], gamma)
-    yield Outcome(f"till: {keys.count} keys are {MOST_TILL_KEYS} at most", keys.count <= MOST_TILL_KEYS, True)
-    yield Outcome(f"till: {seconds:.0f} s are {MOST_TILL_SECONDS} at most", seconds <= MOST_TILL_SECONDS, True)
-    former = str(folder / "2026-118.txt")
-    browser.one("#before-files").send_keys(former)
-    told = browser.wait_for_text("#before-status", "compared")
-    yield Outcome("till: a former order", told, "1 file of former orders is compared; it is not kept.")
-    number, copies, _ = wanted["beta"][0]
-    note = f"ordered before: {copies} cop{'y' if copies == 1 else 'ies'} (2026-118.txt)"
-    yield Outcome("till: what it has is told", note in row_of(browser, isbn_of(number))[-1], True)
-    yield Outcome("till: and nothing else", "ordered before" in row_of(browser, isbn_of(0))[-1], False)
-    site.write_settings(order_desk.settings())
-
-
-def rows_change(site: Site, browser: Browser) -> Iterator[Outcome]:
-    """A row is taken out, a book is added, a scan is a row, and the text is made of them."""
-    open_list(browser)
-    look_up(browser, f"{isbn_of(0)};2;Anna\n{isbn_of(1)};1;Bert\n{isbn_of(3)};4;Cid")
-    asked = len(site.requests())
-    browser.one(f"button[aria-label='Take {isbn_of(1)} out of the list']").click()
-    browser.wait(lambda: len(browser.rows("#list")) == 2)
-    lines = "return document.getElementById('lines').value"
-    text = f"{isbn_of(0)}\t2\tAnna\n{isbn_of(3)}\t4\tCid\n"
-    yield Outcome("rows: one is taken out", browser.run(lines), text)
-    browser.one("#add-isbn").send_keys(isbn_of(4), Keys.ENTER)
-    status(browser, "3 of 3 looked up")
-    yield Outcome("rows: one more", [row[1:3] for row in browser.rows("#list")][-1], [isbn_of(4), "1"])
-    browser.run("document.getElementById('to-order').focus()")
-    scan(browser, isbn_of(4))
-    browser.wait(lambda: row_of(browser, isbn_of(4))[2] == "2")
-    yield Outcome("rows: a scan is a copy more", browser.run(lines), f"{text}{isbn_of(4)}\t2\n")
-    yield Outcome("rows: in the same view", browser.run("return location.hash"), "#order")
-    desk = {line.split("/")[3] for line in site.requests()[asked:] if "/choice?" in line}
-    yield Outcome("rows: what is new is asked for alone", desk, {isbn_of(4)})
-    href = browser.one(f"a[aria-label^='Article {isbn_of(0)}']").get_attribute("href").partition("#")[2]
-    yield Outcome("rows: a link to the article", href, f"article?isbn={isbn_of(0)}&quantity=2")
 
 
 def from_a_file(site: Site, browser: Browser) -> Iterator[Outcome]:
@@ -640,6 +549,9 @@ def timed(browser: Browser) -> Iterator[Outcome]:
         flush=True,
     )
     yield Outcome("a choice and an offer for each line", count, 1000)
+    longest = max((duration for _, duration in browser.run("return window.blocks")), default=0)
+    print(f"page: the longest block of 500 lines took {longest:.0f} ms", flush=True)
+    yield Outcome("rows stand still while others are answered", browser.run("return window.shifts"), [])
     yield Outcome(f"{seconds:.1f} seconds are {MOST_SECONDS} at most", seconds <= MOST_SECONDS, True)
 
 
@@ -852,5 +764,5 @@ def missing_marks(site: Site, browser: Browser) -> Iterator[Outcome]:
 
 CASES = [
     begins, columns, asked_before, thirty_books, needs, by_hand, other_copies, as_of, changed, older, in_german, copied,
-    printed, from_a_till, rows_change, from_a_file, missing_marks, another_question, kept, refused, without_reply, stopped, whole_list,
+    printed, from_a_file, missing_marks, another_question, kept, refused, without_reply, stopped, whole_list,
 ]

@@ -1,6 +1,7 @@
 """What the web server lets through to the desk, and what another site makes a buyer's browser send."""
 
 import contextlib
+import re
 import socket
 import ssl
 import time
@@ -9,12 +10,13 @@ from pathlib import Path
 from string import Template
 from urllib.parse import urlsplit
 
-from tests.page.articles import ask
+from tests.page.articles import ask, said
 from tests.page.browser import STRANGER, Browser, browsing
-from tests.page.site import NAME, Site
+from tests.page.site import NAME, PAGE, Site
 from tests.page.week import ISBN, article, empty_message
 from tests.program.serving import HOST, StandIn, standing_in
 from tests.running import Outcome
+from tools.root import ROOT
 
 PRICE = f"/desk/articles/{ISBN}/price?day=20250410&country=GB&currency=GBP&type=02"
 GAPS = "/desk/series/north/gaps"
@@ -125,9 +127,22 @@ POLICY = {
 }
 
 
+BEHIND = "private, max-age=0, stale-while-revalidate=604800"
+FOR_GOOD = "private, max-age=31536000, immutable"
+
+
 def reply_fields(site: Site, browser: Browser) -> Iterator[Outcome]:
+    [script], [sheet] = [[path.name for path in site.page.glob(f"page-*.{ending}")] for ending in ("js", "css")]
     for path, cache in [
-        ("/", "no-cache"),
+        ("/", BEHIND),
+        ("/desk.json", BEHIND),
+        ("/words.json", BEHIND),
+        ("/rules.toml", BEHIND),
+        ("/titles.json", BEHIND),
+        (f"/{script}", FOR_GOOD),
+        (f"/{sheet}", FOR_GOOD),
+        # That of another version, which is not there.
+        ("/page-0123456789abcdef.js", "no-cache"),
         ("/main.js", "no-cache"),
         (GAPS, "no-store"),
         ("/desk/messages", "no-store"),
@@ -147,11 +162,73 @@ def quick(site: Site, browser: Browser) -> Iterator[Outcome]:
     context.set_alpn_protocols(["h2", "http/1.1"])
     with socket.create_connection((HOST, site.port)) as raw, context.wrap_socket(raw, server_hostname=NAME) as peer:
         yield Outcome("HTTP/2", peer.selected_alpn_protocol(), "h2")
-    for path in ("/main.js", "/style.css", "/words/en.js"):
+    for path in (f"/{found.name}" for found in site.page.glob("page-*")):
         _, fields, body = site.fetch(path, fields=[("Accept-Encoding", "gzip")])
         yield Outcome(f"{path} is packed", fields.get("Content-Encoding"), "gzip")
         whole = (site.page / path[1:]).stat().st_size
-        yield Outcome(f"{path}: {len(body)} of {whole} bytes", 2 * len(body) < whole, True)
+        yield Outcome(f"{path}: {len(body)} of {whole} bytes", 3 * len(body) < whole, True)
+
+
+def number_in(path: Path, name: str) -> int:
+    """The number that stands behind a name and an equals sign in a file."""
+    found = re.search(rf"\b{name} ?= ?([\d_]+)", path.read_text(encoding="utf-8"))
+    return int(found[1].replace("_", "")) if found else 0
+
+
+def burst(site: Site, browser: Browser) -> Iterator[Outcome]:
+    """What a whole list asks at most, and once more where it is saved, is within what the web server lets pass at once,
+    with room for other buyers."""
+    lines = number_in(PAGE / "order-lines.js", "MOST_LINES")
+    each = number_in(PAGE / "order-asking.js", "QUESTIONS")
+    more = number_in(PAGE / "order-asking.js", "MORE_QUESTIONS")
+    passed = number_in(ROOT / "examples/page/nginx.conf", "burst")
+    name = f"{lines} lines of {each} questions, {more} more, and {lines} where they are saved: {passed} pass"
+    yield Outcome(name, 0 < lines * (each + 1) + more <= passed * 0.9, True)
+
+
+# What a page costs that a browser has not seen before: its files, and how many bytes of them, packed, over the network.
+MOST_FILES, MOST_BYTES = 8, 100_000
+
+# What a page was given of its files: how many bytes of each came over the network.
+TAKEN = """
+return [...performance.getEntriesByType('navigation'), ...performance.getEntriesByType('resource')]
+  .filter(({ name }) => !name.includes('/desk/')).map(({ name, transferSize }) =>
+    [new URL(name).pathname, transferSize]);
+"""
+
+
+def kept_files(site: Site, browser: Browser) -> Iterator[Outcome]:
+    """A page that is opened once more asks for its first file alone before it asks the desk, and for the shop's own
+    behind that; what has changed in them is told."""
+
+    def opened(known: Browser) -> tuple[dict[str, int], list[str]]:
+        since = len(site.requests())
+        known.open(article())
+        said(known, "North Books")
+        taken: list[tuple[str, int]] = known.run(TAKEN)
+        # Of what is asked for twice the first is waited for.
+        return dict(reversed(taken)), [line.split(" ")[3] for line in site.requests()[since:]]
+
+    with browsing(site, is_trusting=True) as known:
+        taken, asked = opened(known)
+        yield Outcome(f"a first opening: {len(taken)} files", len(taken) <= MOST_FILES, True)
+        size = sum(taken.values())
+        yield Outcome(f"a first opening: {size} bytes", 0 < size <= MOST_BYTES, True)
+        taken, asked = opened(known)
+        came = sorted(path for path, bytes in taken.items() if bytes > 0)
+        yield Outcome("opened once more: what is waited for", came, ["/"])
+        yield Outcome("opened once more: no file with a digest", [path for path in asked if "page-" in path], [])
+        renewed = known.wait(lambda: any(line.endswith(" /desk.json") for line in site.requests()[-20:]))
+        yield Outcome("opened once more: the settings are asked for behind", renewed, True)
+        yield Outcome("nothing is told where they are the same", known.one("#renewed").is_displayed(), False)
+        site.write_settings(shop="Another Shop")
+        opened(known)
+        told = known.wait(lambda: known.one("#renewed").is_displayed())
+        yield Outcome("other settings are told", told, True)
+        known.one("#load-anew").click()
+        came = known.wait(lambda: known.text("#shop") == "Another Shop · buying")
+        yield Outcome("and taken", came, True)
+        site.write_settings()
 
 
 def slow_client(site: Site, browser: Browser) -> Iterator[Outcome]:
@@ -262,5 +339,5 @@ def bare_port(site: Site, browser: Browser) -> Iterator[Outcome]:
     yield Outcome(f"a stranger's post to the bare port ({came})", came in (["200"], ["202"]), True)
 
 
-CASES = [server_rules, hosts, reply_fields, quick, slow_client, own_host_alone, another_site]
+CASES = [server_rules, hosts, reply_fields, quick, burst, kept_files, slow_client, own_host_alone, another_site]
 AT_THE_END = [bare_port]

@@ -50,8 +50,8 @@ LINES = [
 ]
 
 WIDTH = 900
-# A table of eight columns is drawn as on a screen that is wide enough for them.
-WIDE = 1040
+# A row of an order list is drawn as on a screen where names are whole.
+WIDE = 1104
 MARGIN = 24
 MOST_BYTES = 150_000
 

@@ -175,8 +175,8 @@ def without_rules(site: Site, browser: Browser) -> Iterator[Outcome]:
     site.write_settings(f"{{{SERIES}, {REST}}}")
     site.rules.unlink()
     rows = ask(browser, article())
-    said = browser.wait_for_text("#article-status", "rule")
-    wanted = f"On 10 April 2025: North: retail price £11.50\nISBN {ISBN} · in stock · rule 2"
+    said = browser.wait_for_text("#article-status", "why")
+    wanted = f"On 10 April 2025: North: retail price £11.50\nISBN {ISBN} · in stock\nwhy"
     yield Outcome("without words for rules", said, wanted)
     yield Outcome("wholesalers without words", [row[0] for row in rows], ["North", "south", "west"])
     copies = ["same for more", "1: £11.8010: £9.95", "same for more"]

@@ -9,7 +9,7 @@ from pathlib import Path
 from typing import NamedTuple
 
 from tests.page import (
-    articles, calendars, days, hostile, isbns, keyboard, misleading, order_screens, orders, origins, passwords,
+    articles, baskets, calendars, days, hostile, isbns, keyboard, misleading, order_screens, orders, origins, passwords,
     pictures, prices, refusals, reports, screens, stops, titles,
 )
 from tests.page.browser import Browser, browsing
@@ -33,7 +33,8 @@ SEQUENCES = [
     Sequence("minutes", [*reports.OVER_TIME, *passwords.CASES, *origins.AT_THE_END]),
     Sequence("questions", [*articles.CASES, *isbns.CASES, *days.CASES, *prices.CASES]),
     Sequence("views", [*calendars.CASES, *reports.CASES, *hostile.CASES, *refusals.CASES]),
-    Sequence("orders", [*orders.CASES, *order_screens.CASES, *titles.CASES]),
+    Sequence("orders", orders.CASES),
+    Sequence("baskets", [*baskets.CASES, *order_screens.CASES, *titles.CASES]),
     Sequence("misleading", misleading.CASES),
     Sequence("screens", [*keyboard.CASES, *screens.CASES, *origins.CASES]),
 ]

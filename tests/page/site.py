@@ -3,6 +3,7 @@ program over a file behind it."""
 
 import base64
 import contextlib
+import hashlib
 import http.client
 import json
 import os
@@ -17,6 +18,7 @@ from typing import Any
 
 from tests.program.room import SECONDS, Room
 from tests.program.serving import HOST, TRIES, connected, free_port, receive
+from tools.page_files import put_up
 from tools.root import ROOT
 from tools.words import Word
 
@@ -98,7 +100,7 @@ class Site:
         self.desk: Server | None = None
         self.nginx: Server | None = None
         self.page = room.path("page")
-        shutil.copytree(PAGE, self.page, dirs_exist_ok=True)
+        put_up(self.page)
         # The shop's own files lie apart from the page.
         self.own = room.path("own")
         self.own.mkdir(exist_ok=True)
@@ -122,6 +124,12 @@ class Site:
         self.configure(NO_LIMIT)
         user = "user root;" if os.geteuid() == 0 else ""
         self.room.write("nginx.conf", MAIN.format(user=user, folder=folder).encode())
+
+    def key_digest(self) -> str:
+        """The digest of the certificate's key, as browsers write it."""
+        text = openssl("x509", "-in", f"{self.room.folder}/site.pem", "-pubkey", "-noout").decode()
+        key = base64.b64decode("".join(text.splitlines()[1:-1]))
+        return base64.b64encode(hashlib.sha256(key).digest()).decode()
 
     def configure(self, rate: str) -> None:
         """Writes the example, with the places and ports of the test in it, and with another rate of requests."""

@@ -14,6 +14,8 @@ from tests.running import Outcome
 
 ISBN, OTHER, HOSTILE_ISBN, UNTITLED = (isbn_of(number) for number in (1, 4, 7, 10))
 
+# The column of the table, and that of a file.
+COLUMN = "Title (not proved)"
 HEAD = "Title, as a feed said last (not proved)"
 SAID = "as a feed of Beta & Sons said last; not proved"
 UNKNOWN = "no feed of its wholesalers has said a title"
@@ -58,7 +60,7 @@ def not_kept(site: Site, browser: Browser) -> Iterator[Outcome]:
     open_list(browser)
     look_up(browser, ISBN)
     heads = browser.texts("#list thead th")
-    yield Outcome("no titles are kept: the columns", HEAD in heads, False)
+    yield Outcome("no titles are kept: the columns", COLUMN in heads, False)
     found = {path for path in asked(site, since) if path.startswith("/titles")}
     yield Outcome("no titles are kept: what is asked for", found, {"/titles.json"})
     yield Outcome("no titles are kept: no complaint", browser.complaints(), [])
@@ -128,7 +130,7 @@ def of_a_list(site: Site, browser: Browser) -> Iterator[Outcome]:
     found = [row_of(browser, isbn)[2] for isbn in (ISBN, OTHER, HOSTILE_ISBN, order_desk.NOBODYS)]
     whole = f"{HOSTILE}: onetwo · \u05d0\u05d1 (author) · {{isbn}}"
     yield Outcome("the titles of a list", found, [f"{WHOLE} · {DIFFERS}", "=1+1", whole, UNKNOWN])
-    yield Outcome("their column", browser.texts("#list thead th")[2], HEAD)
+    yield Outcome("their column", browser.texts("#list thead th")[2], COLUMN)
     paths = asked(site, since)
     files = [path for path in paths if path.startswith("/titles/")]
     wanted = {f"/titles/{isbn[:5]}/{isbn[:8]}.json" for isbn in (ISBN, order_desk.NOBODYS)}
@@ -140,7 +142,7 @@ def of_a_list(site: Site, browser: Browser) -> Iterator[Outcome]:
     wide = browser.run("return document.documentElement.scrollWidth <= innerWidth")
     yield Outcome("the table is no wider than the window", wide, True)
     browser.driver.execute_cdp_cmd("Emulation.setEmulatedMedia", {"media": "print"})
-    seen = [text for _, text in browser.call("seen", "#list tbody td[data-column^=Title]")]
+    seen = [text for _, text in browser.call("seen", "#list tbody [data-column^=Title]")]
     yield Outcome("titles on paper", f"{WHOLE} · {DIFFERS}" in seen, True)
     browser.driver.execute_cdp_cmd("Emulation.setEmulatedMedia", {"media": ""})
     browser.one("#csv-all").click()

@@ -4,7 +4,7 @@ import assert from "node:assert/strict";
 import { test } from "node:test";
 
 import { elsewhereInWords, fallsInWords, onlyMoreInWords } from "../page/better.js";
-import { detailsOf, sentenceOf } from "../page/decision.js";
+import { detailsOf, sentenceOf, whyOf } from "../page/decision.js";
 import { untilNotes } from "../page/answer.js";
 import { keyOf } from "../page/offers.js";
 import { differenceInWords } from "../page/offers-table.js";
@@ -141,7 +141,9 @@ test("a price that ends without another one is told", () => {
 test("where the desk and rules.toml differ no rule's words are quoted", () => {
   const rules = rulesOf('# The best\n[[rule]]\nseries = "south"\ncodes = ["21"]\n');
   const offers = [offer("north", "6.000"), offer("south", "5.000")];
-  const details = (choice) => detailsOf(answerOf(offers, choice), { ...SETTINGS, rules }).join(" · ");
-  assert.match(details({ ...offers[1], rule: 1 }), /rule 1: “The best”/);
-  assert.match(details({ ...offers[0], rule: 1 }), /rule 1$/);
+  const why = (choice) => whyOf(answerOf(offers, choice), { ...SETTINGS, rules });
+  assert.equal(why({ ...offers[1], rule: 1 }), "rule 1: “The best”");
+  assert.equal(why({ ...offers[0], rule: 1 }), "rule 1");
+  assert.equal(why(null), "");
+  assert.doesNotMatch(detailsOf(answerOf(offers, { ...offers[1], rule: 1 })).join(" · "), /rule/);
 });

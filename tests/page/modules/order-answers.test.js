@@ -232,3 +232,24 @@ test("what is in no order is told by its lines", () => {
   assert.deepEqual(list.rest(), { count: 2, rows: ["2;0", "3;1"] });
   assert.deepEqual(list.rest([list.books[0]]), { count: 3, rows: ["1;2", "2;0", "3;1", "1;4"] });
 });
+
+test("an edited list keeps what is unchanged, so that its rows stay", () => {
+  const list = new OrderList();
+  const question = { day: "2026-11-29", country: "GB", currency: "GBP", type: "05" };
+  const booksOf = (...copies) => copies.map((number, at) => (
+    { isbn: `978000000000${at}`, copies: number, lines: [at + 1], parts: [number], note: "", isUnsure: false }
+  ));
+  list.begin("a", question, booksOf(1, 2, 3));
+  const [first, second, third] = list.books;
+  for (const book of list.books) book.answer = { at: book.id };
+  list.begin("b", question, booksOf(1, 5, 3), true);
+  assert.equal(list.books[0], first);
+  assert.notEqual(list.books[1], second);
+  assert.equal(list.books[1].answer, undefined);
+  assert.equal(list.books[2], third);
+  assert.deepEqual(third.answer, { at: 2 });
+  list.begin("b", { ...question, type: "02" }, booksOf(1, 5, 3), true);
+  assert.notEqual(list.books[0], first);
+  list.begin("b", question, booksOf(1, 5, 3));
+  assert.deepEqual(list.books.map(({ answer }) => answer), [undefined, undefined, undefined]);
+});

@@ -41,13 +41,6 @@ test("each text that index.html names is there", () => {
   for (const path of paths) assert.equal(typeof say(path), "string", path);
 });
 
-test("index.html has each module loaded at once", () => {
-  const html = readFileSync("../page/index.html", "utf8");
-  const preloaded = [...html.matchAll(/rel="modulepreload" href="([^"]+)"/g)].map(([, name]) => name).sort();
-  const files = readdirSync("../page", { recursive: true }).filter((name) => name.endsWith(".js"));
-  assert.deepEqual(preloaded, files.filter((name) => name !== "main.js").sort());
-});
-
 test("each text that a module names is there", () => {
   const files = readdirSync("../page").filter((name) => name.endsWith(".js"));
   const sources = files.map((name) => readFileSync(`../page/${name}`, "utf8")).join("\n");

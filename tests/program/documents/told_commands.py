@@ -89,7 +89,7 @@ TOLD: dict[str, dict[str, str]] = {
         "install -m 755 programs/onixdesk-mail/mail.sh": OF_PACKAGE,
         "file=/var/lib/onixdesk/shop.db": "files.unusable: causes",
         "desk-renew": "documents.renewals: renewed_and_back",
-        "  mkdir /var/tmp/before": "documents.renewals: renewed_and_back",
+        "mkdir /var/tmp/before": "documents.renewals: renewed_and_back",
     },
     "docs/REPORTS.md": {
         "bin/onixdesk --db shop.db batch < examples/shop/week.csv": "documents.reports: questions",

@@ -53,7 +53,7 @@ WIDTH = 900
 # A row of an order list is drawn as on a screen where names are whole.
 WIDE = 1104
 MARGIN = 24
-MOST_BYTES = 150_000
+MOST_BYTES = 180_000
 
 
 def shot(browser: Browser, name: str, last: str, width: int = WIDTH) -> Outcome:

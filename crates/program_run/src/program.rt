@@ -230,10 +230,7 @@ fn read_words<'a, W: Write, E: Write>(
             "onixdesk: agreements, export and gaps without a NAME need --db\n",
             errors,
         )),
-        Reading::NoBatch => Err(help::print_wrong(
-            "onixdesk: --batches goes with batch\n",
-            errors,
-        )),
+        Reading::NoBatch => Err(help::print_wrong("onixdesk: --batches goes with batch\n", errors)),
         Reading::Memory => Err(report(&Fault::Memory, errors)),
     }
 }

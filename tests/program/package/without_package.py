@@ -25,6 +25,9 @@ BLOCKS = [
 # Those where a sentence does.
 SENTENCES = ["docs/RELIABILITY.md", "docs/SCALE.md"]
 
+# How the names of units end.
+UNITS = {".path", ".service", ".timer"}
+
 # What changes the machine's users or asks its systemd.
 OF_THE_MACHINE = ("useradd ", "adduser ", "systemctl ", "systemd-tmpfiles ")
 
@@ -76,6 +79,8 @@ def without_the_package(room: Room) -> Iterator[Outcome]:
     yield Outcome("without the package: the lines", ran, Ran(0))
     units = sorted(root.joinpath("etc/systemd/system").iterdir())
     names = {unit.name for unit in units}
+    others = [unit.name for unit in units if unit.suffix not in UNITS]
+    yield Outcome("without the package: what is no unit among the units", others, [])
     yield Outcome("without the package: units to enable", sorted(enabled() - names), [])
     missing = [(unit.name, name) for unit in units for name in named_by(unit) if not is_there(root, name)]
     yield Outcome("without the package: what units name", missing, [])

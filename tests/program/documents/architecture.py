@@ -1,4 +1,4 @@
-"""docs/ARCHITECTURE.md: its picture of the crates, and the calls that it tells of."""
+"""docs/ARCHITECTURE.md: its picture and its list of the crates, and the calls that it tells of."""
 
 import re
 from collections.abc import Iterator
@@ -30,6 +30,35 @@ def layers(room: Room) -> Iterator[Outcome]:
     told = [name for _, names in LAYERS.values() for name in names]
     yield Outcome("each crate is in a layer", sorted(told), sorted(crate.name for crate in crates))
     yield Outcome("no crate stands on one of a higher layer", upward(crates), [])
+
+
+# The crates that are a layer each, so that no reason is told why one is apart.
+LAYERS_THEMSELVES = {
+    "catalogue_rules",
+    "desk_http",
+    "desk_store",
+    "desk_tables",
+    "onix_message",
+    "onix_terms",
+    "onixdesk",
+    "price_rules",
+    "series_rules",
+}
+
+# A row of the table in docs/DECISIONS.md: crates, and why they are apart.
+REASON = re.compile(r"^  \| (`.*`) \| .+ \|$", re.MULTILINE)
+
+
+def listed(room: Room) -> Iterator[Outcome]:
+    """The page has a line for each crate, and docs/DECISIONS.md a reason for each that is more than a layer."""
+    crates = [crate.name for crate in read_crates()]
+    section = PAGE.read_text(encoding="utf-8").partition("\n## The crates\n")[2].partition("\n## ")[0]
+    heads = [line.partition(":")[0] for line in section.splitlines() if line.startswith("- `")]
+    told = [name for head in heads for name in re.findall(r"`(\w+)`", head)]
+    yield Outcome("docs/ARCHITECTURE.md: the crates of its list", sorted(told), sorted(crates))
+    reasons = REASON.findall((ROOT / "docs/DECISIONS.md").read_text(encoding="utf-8"))
+    told = [name for row in reasons for name in re.findall(r"`(\w+)`", row)]
+    yield Outcome("docs/DECISIONS.md: the crates that are apart", sorted(told), sorted({*crates} - LAYERS_THEMSELVES))
 
 
 @cache

@@ -21,6 +21,9 @@ CRATES = crates(ROOT)
 # A source file, by its path or by its name alone, but not a pattern such as `specs/*Lemmas.antt`.
 SOURCE = re.compile(r"(?<![\w*/])[\w/]+\.(?:rt|antt)\b")
 
+# A definition and the file that is said to have it: `Talk`, desk_batch/specs/Talks.antt, or the file in parentheses.
+DEFINED = re.compile(r"`(\w+)`(?:, | \()([\w/]+\.antt)\b")
+
 # A word that may be the name of a crate: `price_rules` in the guides, price_rules in other pages.
 WORD = re.compile(r"\w+")
 
@@ -85,6 +88,20 @@ def proofs(room: Room) -> Iterator[Outcome]:
     found = sum(len(names) for _, _, names, _ in references(text))
     yield Outcome("docs/PROOFS.md: each path is one reference", "::" in REFERENCE.sub("", text), False)
     yield Outcome("docs/PROOFS.md names functions", found > 0, True)
+
+
+def definitions(room: Room) -> Iterator[Outcome]:
+    """The definitions that docs/PROOFS.md names are in the files that it says, or in any."""
+    text = (ROOT / "docs/PROOFS.md").read_text(encoding="utf-8")
+    told = DEFINED.findall(text)
+    files = {file: (ROOT / "crates" / file).read_text(encoding="utf-8") for _, file in told}
+    lost = [name for name, file in told if not re.search(rf"^ *(?:\w+ )*{name} :", files[file], re.M)]
+    yield Outcome("docs/PROOFS.md: definitions that their files do not have", lost, [])
+    sources = [path for pattern in ("specs/**/*.antt", "src/**/*.rt") for path in ROOT.glob(f"crates/*/{pattern}")]
+    words = {word for path in sources for word in WORD.findall(path.read_text(encoding="utf-8"))}
+    named = set(re.findall(r"`([A-Z]\w+)`", text))
+    yield Outcome("docs/PROOFS.md: names that no source has", sorted(named - words), [])
+    yield Outcome("docs/PROOFS.md names definitions", len(told) > 5 and len(named) > 30, True)
 
 
 def homes(before: str, home: str | None) -> list[str]:

@@ -87,18 +87,23 @@ def first_batch(room: Room) -> Iterator[Outcome]:
 
 
 def own_file(room: Room) -> Iterator[Outcome]:
-    """What README.md has for a wholesaler's file, with a feed of the examples."""
+    """What README.md has for a wholesaler's file, with a feed of the examples, which becomes one message or two."""
     first, *lines = block("README.md", "alias onixdesk=")
     yield Outcome("README.md: the unproved program", first, f"alias onixdesk=$PWD/{BUILT.relative_to(ROOT)}")
     room.write("my.xml", example("examples/shop/onix/north-1.xml"))
     environment = on_path(room)
-    came = [room.call(["sh", "-c", line], environment=environment) for line in lines]
-    yield Outcome("README.md: one's own file, the statuses", [ran.status for ran in came], [0] * len(lines))
-    _, taken, listed, priced = [ran.output.decode().splitlines() for ran in came]
-    counts = "replaced=2,updated=0,deleted=0,unknown=0,ignored=0"
-    yield Outcome("README.md: one's own file is taken", taken, ["agreed,mine,1", f"applied,mine,1,{counts}"])
-    yield Outcome("README.md: what the desk has of it", listed[0], "catalogue,mine,2")
-    yield Outcome("README.md: the price of an ISBN", priced[0], "price,9781234567897,1")
+    rest = "updated=0,deleted=0,unknown=0,ignored=0"
+    applied = [f"applied,mine,{number},replaced={count},{rest}" for number, count in ((1, 2), (2, 0))]
+    for words in ("convert", "convert --parts 2"):
+        commands_of = [line.replace("convert", words) for line in lines]
+        came = [room.call(["sh", "-c", command], environment=environment) for command in commands_of]
+        yield Outcome(f"README.md: {words}, the statuses", [ran.status for ran in came], [0] * len(lines))
+        _, agreed, taken, asked = [ran.output.decode().splitlines() for ran in came]
+        parts = len(list(room.path("try").glob("*.csv")))
+        yield Outcome(f"README.md: {words}, what is taken", agreed + taken, ["agreed,mine,1", *applied[:parts]])
+        found = [line for line in asked if line.startswith(("price,", "catalogue,"))]
+        yield Outcome(f"README.md: {words}, the answers", found, ["price,9781234567897,1", "catalogue,mine,2"])
+        shutil.rmtree(room.path("try"))
 
 
 def week(room: Room) -> Iterator[Outcome]:
@@ -132,7 +137,11 @@ def desk_in_a_file(room: Room) -> Iterator[Outcome]:
         yield from tried(room, TOUR, block(TOUR, "curl "), desk.port)
         _, *statuses = block(TOUR, "listening 8080")
         yield Outcome("docs/TOUR.md: the lines of serve", desk.ended(), desk.wanted(statuses))
-    looked = room.call(["sh", "-c", *block(TOUR, "bin/onixdesk-look ")])
+    room.write("sample.xml", example("examples/shop/onix/north-1.xml"))
+    (of_tour,), (of_onix,) = block(TOUR, "bin/onixdesk-look "), block("docs/ONIX.md", "bin/onixdesk-look ")
+    looked, sampled = (room.call(["sh", "-c", command]) for command in (of_tour, of_onix))
+    found = sampled.status, sampled.output.replace(b"sample", b"north")
+    yield Outcome(f"docs/ONIX.md: {of_onix}", found, (0, looked.output.replace(b"north-1", b"north")))
     agreement = block(TOUR, "bin/onixdesk --db shop.db agreements")[1].encode()
     yield Outcome("docs/TOUR.md: a feed is looked at", (looked.status, agreement in looked.output), (0, True))
     answers = room.run("--db", "shop.db", "batch", given=written(block(TOUR, "AskPrice,9781234567897,20250410")))

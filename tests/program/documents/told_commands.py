@@ -71,7 +71,7 @@ TOLD: dict[str, dict[str, str]] = {
     },
     "docs/PRICES.md": {
         "bin/desk-prices --rules rules.toml shop.db FOLDER": "files.desk_prices: of_a_copy",
-        "desk-prices --list stock.csv": "files.desk_prices: batches_for_an_open_desk",
+        "desk-prices --list stock.csv": "files.desk_prices: of_a_list",
         "sed -i 's/^  \"price_type\":/": "nowhere: it starts a timer",
         "printf '9781234567897": "nowhere: it adds to a file of the machine",
         "install -m 755 programs/desk-prices/": OF_PACKAGE,

@@ -15,9 +15,9 @@ INTRODUCTION = """\
 # Definitions
 
 What the contracts speak of, crate by crate and file by file of their `specs/`: each definition that a public \
-contract names, and each that these take from another file, in plain English and, below that, as it is \
-written. The steps between them, and definitions whose names say all, are in the files only. `make docs` \
-makes this page of the files.
+contract or PROOFS.md names, and each that these take from another file, in plain English and, below that, as it \
+is written. The steps between them, and definitions whose names say all, are in the files only. \
+`make definitions` makes this page of the files.
 
 A text is the list of its bytes, a record the list of its fields. A list of requests has its latest \
 first: `r ∷ L` is L and then r. What gives a value or none says both what is read and what is refused.
@@ -40,6 +40,13 @@ def reached(cited: set[Name], files: list[File]) -> set[Name]:
             found.add(name)
             left += [used for used in uses[name] if used in uses]
     return found
+
+
+def told_of(root: Path, files: list[File]) -> set[Name]:
+    """The definitions that docs/PROOFS.md names."""
+    words = set(re.findall(r"`(\w+)`", (root / "docs/PROOFS.md").read_text(encoding="utf-8")))
+    remarked = [(file, word) for file in files for word, said in file.comments.items() if said]
+    return {Name(file.crate, file.name, word) for file, word in remarked if word in words}
 
 
 def remark(comment: str) -> str:
@@ -66,10 +73,10 @@ def file_lines(file: File, listed: set[Name]) -> list[str]:
 
 
 def read_all(root: Path) -> tuple[list[File], set[Name]]:
-    """The files of specs/ of all crates, and the definitions that public contracts reach."""
+    """The files of specs/ of all crates, and the definitions that public contracts and docs/PROOFS.md reach."""
     names = crates(root)
     files = [file for name in names for file in read_crate(root / "crates" / name)]
-    cited = set().union(*(cited_by(root / "crates" / name) for name in names))
+    cited = told_of(root, files).union(*(cited_by(root / "crates" / name) for name in names))
     return files, reached(cited, files)
 
 

@@ -1,5 +1,6 @@
-"""The page of definitions, which `make docs` makes of the comments of specs/."""
+"""The page of definitions, which `make definitions` makes of the comments of specs/."""
 
+import re
 from collections.abc import Iterator
 
 from tests.program.room import Room
@@ -18,9 +19,10 @@ NAMES_SAY_ALL = set(
     party_value price_row record_columns DeskRows MetaRow has_parties is_applied is_held is_named is_version
     meta_columns series_columns version_in with_applied with_held with_next with_series with_version without_held
     is_desk_table meta_table fault_of named asking prices_in details_in local_of scope fate_of identifier_notes
-    own_reason
+    own_reason outputs
     """.split()
 )
+
 
 def commented(room: Room) -> Iterator[Outcome]:
     """Each definition that a public contract reaches has a comment, or a name that says all."""
@@ -32,3 +34,14 @@ def commented(room: Room) -> Iterator[Outcome]:
     lost = sorted(name for name in listed if remarks.get(name) and f"- `{name.word}`: " not in told)
     yield Outcome("definitions of public contracts that the page leaves out", lost, [])
     yield Outcome("definitions of public contracts are found", len(listed) > 0, True)
+
+
+def of_proofs(room: Room) -> Iterator[Outcome]:
+    """The page has each definition that docs/PROOFS.md names."""
+    files, _ = page.read_all(ROOT)
+    remarked = {word for file in files for word, said in file.comments.items() if said}
+    named = set(re.findall(r"`([A-Z]\w+)`", (ROOT / "docs/PROOFS.md").read_text(encoding="utf-8")))
+    told = page.text()
+    lost = sorted(word for word in named & remarked if f"- `{word}`: " not in told)
+    yield Outcome("docs/PROOFS.md: definitions that are not on their page", lost, [])
+    yield Outcome("docs/PROOFS.md: definitions on their page", len(named & remarked) > 20, True)

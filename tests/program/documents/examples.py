@@ -104,6 +104,12 @@ def own_file(room: Room) -> Iterator[Outcome]:
         found = [line for line in asked if line.startswith(("price,", "catalogue,"))]
         yield Outcome(f"README.md: {words}, the answers", found, ["price,9781234567897,1", "catalogue,mine,2"])
         shutil.rmtree(room.path("try"))
+    like_the_repository(room)
+    room.path(str(BUILT.parent.relative_to(ROOT))).mkdir(parents=True)
+    room.path(str(BUILT.relative_to(ROOT))).symlink_to(room.program)
+    look, = re.findall("`(bin/onixdesk-look [^`]*my.xml)`", (ROOT / "README.md").read_text(encoding="utf-8"))
+    looked = room.call(["sh", "-c", look])
+    yield Outcome(f"README.md: {look}", (looked.status, b"messages needed, --parts: 1\n" in looked.output), (0, True))
 
 
 def week(room: Room) -> Iterator[Outcome]:

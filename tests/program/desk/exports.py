@@ -217,6 +217,7 @@ def folders(room: Room) -> Iterator[Outcome]:
     for folder in ["out", "out/", "./out"]:
         yield Outcome(f"a folder: {folder}", into(room, folder), Ran(0))
         yield Outcome(f"a folder: {folder}: its files", held(room, "out"), {"1.csv": EXPORT})
+    room.write("empty/1.csv", b"AskGaps,north\n")
     came = room.call([room.program, "--db", f"../{DATABASE}", "export", "-o", "."], UNREADABLE, folder="empty")
     yield Outcome("a folder: .", came, Ran(3, b"", b"onixdesk: 1.csv: is there, with other bytes\n"))
     yield Outcome("a folder: the rows behind it", all_rows(room), rows)

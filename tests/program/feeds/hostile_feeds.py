@@ -117,7 +117,8 @@ def check(case: Case, seconds: float, room: Room) -> Iterator[Outcome]:
         found = came.ran.status, came.ran.output, bool(PLACE.fullmatch(errors)) or errors
         yield Outcome(f"hostile: {case.name}", found, (1, b"", True))
     else:
-        yield Outcome(f"hostile: {case.name}", came.ran, Ran(0, message_of(*case.taken)))
+        said = b"" if case.taken else b"onixdesk: a FILE without a Product: 1\n"
+        yield Outcome(f"hostile: {case.name}", came.ran, Ran(0, message_of(*case.taken), said))
     bounds = came.memory <= MEMORY or came.memory, came.seconds <= seconds or came.seconds
     yield Outcome(f"hostile: {case.name}, within bounds", bounds, (True, True))
 

@@ -215,7 +215,7 @@ def terminal(room: Room) -> Iterator[Outcome]:
                 feed.write(b"<Note/>" * 30_000)
                 feed.flush()
                 time.sleep(0.25)
-            feed.write(FRAME.behind.encode())
+            feed.write(f"<NoProduct/>{FRAME.behind}".encode())
         assert process.stdout
         output = process.stdout.read()
         status = process.wait(SECONDS)

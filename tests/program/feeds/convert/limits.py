@@ -111,7 +111,8 @@ def one_product(room: Room) -> Iterator[Outcome]:
 
     room.write(FEED, between_others(product_of(1, prices + 1)))
     emptied = f"Product emptied: {why}"
-    said_of = said([f"{FEED}:2:1: R1: {emptied}", f"{emptied}: 1", "1 note, 1 product wrong"])
+    lost = [f"1 of 3 products {what}" for what in ("emptied", "left without a Price")]
+    said_of = said([f"{FEED}:2:1: R1: {emptied}", f"{emptied}: 1", *lost, "1 note, 1 product wrong"])
     came = convert(room, FEED)
     yield Outcome("a product of 19,999 records", came, Ran(1, message_of("R0", "R1", "R2"), said_of))
 
@@ -124,7 +125,7 @@ def many_identifiers(room: Room) -> Iterator[Outcome]:
     came = convert(room, FEED)
     wanted = message_of("R0", "R1", "R2").replace(f"Product,R1,03,15,{ISBN}".encode(), b"Product,R1,03,01,R1")
     found = came.status, came.output, came.errors.count(b"\n")
-    yield Outcome("a product of 2,500 identifiers that are quoted", found, (1, wanted, 3))
+    yield Outcome("a product of 2,500 identifiers that are quoted", found, (1, wanted, 4))
 
 
 def large_product(room: Room) -> Iterator[Outcome]:

@@ -19,7 +19,7 @@ use Rattle.feed_mapping.specs.Records.{Fields, desk_reason, first_some, is_field
 use Rattle.feed_mapping.specs.Records.{parsed}
 use Rattle.feed_mapping.specs.Records.{parsed_term, unless, invalid}
 use Rattle.feed_mapping.specs.declared.notes.Wrong.TheVariants as bad
-use Rattle.feed_mapping.specs.declared.prices.Key.{Key}
+use Rattle.feed_mapping.specs.declared.price_keys.Key.{Key}
 
 -- the UnpricedItemType of a Price without an amount, where it is a code
 abbrev pub unpriced_price : Nodes → Option (List ℕ)

@@ -37,7 +37,7 @@ use Rattle.feed_mapping.specs.declared.notes.Foreign.TheVariants.{PriceCoded, Pr
 use Rattle.feed_mapping.specs.declared.notes.Foreign.TheVariants.{PriceConstraint, PricePer}
 use Rattle.feed_mapping.specs.declared.notes.Foreign.TheVariants.{PriceQualifier}
 use Rattle.feed_mapping.specs.declared.notes.Wrong.TheVariants as bad
-use Rattle.feed_mapping.specs.declared.prices.Key.{Key}
+use Rattle.feed_mapping.specs.declared.price_keys.Key.{Key}
 use Rattle.feed_mapping.specs.declared.prices.PriceContext.{PriceContext as Lent}
 
 -- The context of a Price: what its message begins with, whether the record of its SupplyDetail has

@@ -24,8 +24,9 @@ use crate::elements::{elements_in, first_composite, next_composite, text_or_empt
 use crate::identifiers::{SUPPLIER, choose_identifier, is_there};
 use crate::notes::{Note, Reason, ReasonKind, Wrong};
 use crate::parties::{NO_PAIR, Pair};
+use crate::price_keys::Key;
 use crate::prices::{
-    Key, PriceContext, add_price, because_old, closing_keys, fill_record, first_with_text,
+    PriceContext, add_price, because_old, closing_keys, fill_record, first_with_text,
 };
 use crate::records::{former, is_field, may_be_empty, parsed_code, parsed_quantity, unless};
 use csv_records::buffer::RecordBuffer;

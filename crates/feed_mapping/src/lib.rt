@@ -12,6 +12,8 @@ pub mod laws;
 pub mod markets;
 pub mod notes;
 pub mod parties;
+mod price_amounts;
+pub mod price_keys;
 pub mod prices;
 pub mod product_records;
 pub mod products;

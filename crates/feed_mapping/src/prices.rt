@@ -1,7 +1,7 @@
 //! Prices.
 
 ghost use Rattle.std.specs.Prelude.{◌≡◌, ◌++◌, ◌∷◌, ◌<◌, [], ℕ, List, None, Some, IfOk, IsErrOf, OnOk, false, true, ◌&&◌, if◌then◌else◌, find, is_none, is_some, map, not, codes, option_map};
-ghost use Rattle.std.specs.List.{list_all, list_any};
+ghost use Rattle.std.specs.List.{list_all};
 ghost use Rattle.std.specs.Option.{option_or, option_to_list};
 ghost use Rattle.std.specs.Result.{result_err, result_unwrap_or};
 ghost use Rattle.std.specs.Str.{is_utf8};
@@ -11,7 +11,7 @@ ghost use Rattle.feed_mapping.specs.Elements.{composites, first, text_or_empty};
 ghost use Rattle.feed_mapping.specs.Notes.{foreign, is_wrong, note_views, wrong};
 ghost use Rattle.feed_mapping.specs.Outcomes.{notes_below, outcome_notes, outcome_records};
 ghost use Rattle.feed_mapping.specs.PriceViews.{reason_read, text_view};
-ghost use Rattle.feed_mapping.specs.Prices.{amount_written, are_same, closed_reason, closing_key, closing_keys, context_view, first_with_text, greater_of, is_greater, is_key, is_other_qualifier, is_taken, key_in, last_reason, behind_digits, cut_zeros, early_reasons, eight_fields, has_more_decimals, is_long_part, is_nothing, is_other, is_zero, late_reasons, old_element, outcome_of, own_minimum, point_in, price_fields, price_outcome, price_reasons, right_days};
+ghost use Rattle.feed_mapping.specs.Prices.{amount_written, closed_reason, closing_key, closing_keys, context_view, first_with_text, greater_of, is_greater, is_other_qualifier, is_taken, key_in, last_reason, early_reasons, eight_fields, is_nothing, is_other, late_reasons, old_element, outcome_of, own_minimum, price_fields, price_outcome, price_reasons, right_days};
 ghost use Rattle.feed_mapping.specs.Records.{first_some, option_filter, parsed};
 ghost use Rattle.feed_mapping.specs.Territories.{AreRenamed, area_in, area_view};
 ghost use Rattle.feed_mapping.specs.declared.notes.Wrong.TheVariants.{OldElement};
@@ -24,11 +24,10 @@ use crate::dates::{Dated, Days, days_in};
 use crate::discounts::push_discounts;
 use crate::elements::{Composite, first_composite, next_composite, text_or_empty};
 use crate::notes::{Foreign, Note, Reason, ReasonKind, Wrong, push_reason};
+use crate::price_amounts::{amount_written, long_amount, no_charge};
+use crate::price_keys::{Key, has_key, key_in};
 use crate::reasons::{field_reason, or_price};
-use crate::records::{
-    are_zeros, former, parsed_amount, parsed_code, parsed_currency, parsed_quantity, push_texts,
-    value_or_default,
-};
+use crate::records::{are_zeros, former, parsed_quantity, push_texts};
 use crate::territories::{
     Area, Renamed, area_fields, area_in, form_reason, push_territory_notes, renamed_in, unsupported,
 };
@@ -40,20 +39,11 @@ use onix_records::fields::read_fields;
 use onix_records::parts::Price;
 use onix_records::price::read_price;
 use onix_records::row::{Opening, RowFault};
-use onix_terms::ascii::are_digits;
-use onix_terms::code::{Code2, Currency};
 use onix_terms::day::Day;
 use onix_terms::items::Items;
 use onix_terms::quantity::Quantity;
 use onix_terms::text::Text;
 use std::alloc::{AllocError, Global};
-
-/// The letters of the price type and of the currency of a Price, each where it is one.
-#[derive(Clone, Copy, Debug)]
-pub struct Key {
-    pub price_type: Option<[u8; 2]>,
-    pub currency: Option<[u8; 3]>,
-}
 
 /// The context of a Price: what its message begins with, whether the record of its SupplyDetail
 /// has an UnpricedItemType, the quantity that stands for a minimum that is not greater, and the
@@ -121,96 +111,6 @@ fn mark_in(name: &[u8], elements: &Elements<'_>) -> Option<&'static [u8]>
         Some(_) => Some(b""),
         None => None,
     }
-}
-
-fn behind_digits(text: &[u8]) -> &[u8]
-    ensures { result.now ≡ behind_digits text.now }
-{
-    let mut rest = text;
-    while let [byte, tail @ ..] = rest {
-        if !byte.is_ascii_digit() {
-            return rest;
-        }
-        rest = tail;
-    }
-    rest
-}
-
-fn is_long_part(text: &[u8]) -> bool
-    ensures { result ≡ is_long_part text.now }
-{
-    match text {
-        [] => false,
-        [byte, part @ ..] => *byte == b'.' && (part.len() > 3 && are_digits(part)),
-    }
-}
-
-fn has_more_decimals(text: &[u8]) -> bool
-    ensures { result ≡ has_more_decimals text.now }
-{
-    match text {
-        [] => false,
-        [byte, rest @ ..] => byte.is_ascii_digit() && is_long_part(behind_digits(rest)),
-    }
-}
-
-// A text with its point there, without the zeros behind the third decimal.
-fn cut_zeros(point: Option<usize>, text: &[u8]) -> &[u8]
-    requires { point ≡ point_in text.now }
-    ensures { result.now ≡ cut_zeros point text.now }
-{
-    let Some(at) = point else {
-        return text;
-    };
-    if text.len() - at <= 4 {
-        return text;
-    }
-    let (front, zeros) = text.split_at(at + 4);
-    if are_zeros(zeros) { front } else { text }
-}
-
-fn point_in(text: &[u8]) -> Option<usize>
-    ensures { result ≡ point_in text.now }
-{
-    text.iter().position(|byte| *byte == b'.')
-}
-
-/// The amount of a Price as it is written, without the zeros behind its third decimal.
-pub(crate) fn amount_written<'a>(elements: &Elements<'a>) -> &'a [u8]
-    ensures { result.now ≡ amount_written elements.now }
-{
-    let text = text_or_empty(b"PriceAmount", elements);
-    cut_zeros(point_in(text), text)
-}
-
-// An amount that has more decimals than the desk knows.
-fn long_amount<'a>(amount: &'a [u8]) -> Option<&'a [u8]>
-    ensures { (nodes : Nodes) → amount.now ≡ amount_written nodes
-        → text_view result
-        ≡ option_filter has_more_decimals (Some (amount_written nodes)) }
-{
-    if has_more_decimals(amount) {
-        Some(amount)
-    } else {
-        None
-    }
-}
-
-fn is_zero(amount: &[u8]) -> bool
-    ensures { result ≡ is_zero amount.now }
-{
-    match parsed_amount(amount) {
-        None => false,
-        Some(amount) => amount.thousandths() == 0,
-    }
-}
-
-// An amount of 0.
-fn no_charge<'a>(amount: &'a [u8]) -> Option<&'a [u8]>
-    ensures { (nodes : Nodes) → amount.now ≡ amount_written nodes
-        → text_view result ≡ option_filter is_zero (Some (amount_written nodes)) }
-{
-    if is_zero(amount) { Some(amount) } else { None }
 }
 
 fn has_text(name: &[u8], elements: &Elements<'_>) -> bool
@@ -590,101 +490,6 @@ fn take_texts(
         &eight_texts(owned, area, elements),
         minimum,
     )
-}
-
-// The letters of a price type.
-fn type_letters(code: Option<Code2>) -> Option<[u8; 2]>
-    ensures { result ≡ code }
-{
-    match code {
-        Some(code) => match code.as_str().as_bytes() {
-            [a, b] => Some([*a, *b]),
-            _ => None,
-        },
-        None => None,
-    }
-}
-
-// The letters of a currency.
-fn currency_letters(code: Option<Currency>) -> Option<[u8; 3]>
-    ensures { result ≡ code }
-{
-    match code {
-        Some(code) => match code.as_str().as_bytes() {
-            [a, b, c] => Some([*a, *b, *c]),
-            _ => None,
-        },
-        None => None,
-    }
-}
-
-// The price type and the currency of a Price.
-fn key_in(opening: &Opening, elements: &Elements<'_>) -> Key
-    ensures { result ≡ key_in opening.now elements.now }
-{
-    let price_type = text_or_empty(b"PriceType", elements);
-    let currency = text_or_empty(b"CurrencyCode", elements);
-    let types = value_or_default(
-        opening.header.default_type,
-        price_type,
-        parsed_code(price_type),
-    );
-    let currencies = value_or_default(
-        opening.header.default_currency,
-        currency,
-        parsed_currency(currency),
-    );
-    Key {
-        price_type: type_letters(types),
-        currency: currency_letters(currencies),
-    }
-}
-
-// Whether two price types are there and the same.
-fn are_same_types(one: Option<[u8; 2]>, other: Option<[u8; 2]>) -> bool
-    ensures { result ≡ are_same one other }
-{
-    match one {
-        Some(one) => match other {
-            Some(other) => one.as_slice() == other.as_slice(),
-            None => false,
-        },
-        None => false,
-    }
-}
-
-// Whether two currencies are there and the same.
-fn are_same_currencies(one: Option<[u8; 3]>, other: Option<[u8; 3]>) -> bool
-    ensures { result ≡ are_same one other }
-{
-    match one {
-        Some(one) => match other {
-            Some(other) => one.as_slice() == other.as_slice(),
-            None => false,
-        },
-        None => false,
-    }
-}
-
-fn is_key(one: &Key, other: &Key) -> bool
-    ensures { result ≡ is_key one.now other.now }
-{
-    are_same_types(one.price_type, other.price_type)
-        && are_same_currencies(one.currency, other.currency)
-}
-
-// Whether one of the keys is this one.
-fn has_key(key: &Key, keys: &[Key]) -> bool
-    ensures { result ≡ list_any (is_key key.now) keys.now }
-{
-    let mut rest = keys;
-    while let [first, tail @ ..] = rest {
-        if is_key(key, first) {
-            return true;
-        }
-        rest = tail;
-    }
-    false
 }
 
 // That a Price beside this one, of its type and currency, is left out for its PriceDates alone.

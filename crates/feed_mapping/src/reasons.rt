@@ -14,7 +14,8 @@ ghost use Rattle.onix_terms.specs.Quantity.{quantity_of};
 
 use crate::elements::text_or_empty;
 use crate::notes::{Reason, ReasonKind, Wrong};
-use crate::prices::{amount_written, own_minimum};
+use crate::price_amounts::amount_written;
+use crate::prices::own_minimum;
 use crate::records::{
     former, may_be_empty, parsed_amount, parsed_code, parsed_currency, parsed_quantity, unless,
     value_or_default,

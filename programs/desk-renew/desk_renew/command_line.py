@@ -80,9 +80,10 @@ def renew_once(run: Renewing, options: argparse.Namespace) -> int:
 def renew(options: argparse.Namespace, path: Path) -> int:
     owner = owner_of(options.db.parent)
     program = Program(path, options.rules if options.rules.is_file() else None, owner, now())
+    # Without a bus systemd tells the units that run to root alone, so they are asked for before.
+    run = Renewing(options.db, options.seconds, program, tell)
     try:
         with acting_as(owner), alone(options.db.parent):
-            run = Renewing(options.db, options.seconds, program, tell)
             if run.end_killed():
                 tell(f"the new desk of the run that was killed is in place as {options.db}")
                 return DONE

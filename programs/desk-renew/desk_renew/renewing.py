@@ -67,7 +67,8 @@ class Renewing:
         is_done = work.is_in_place()
         self.units.left = [unit for unit in work.units() if is_begun(unit)]
         self.start()
-        self.units = Units()
+        with acting_as(self.program.oneself):
+            self.units = Units()
         work.end()
         return is_done
 

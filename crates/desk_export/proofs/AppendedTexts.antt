@@ -1,12 +1,11 @@
 -- Texts that are written one behind the other.
-use Rattle.std.proofs.Common.{◌≡◌, ◌++◌, ◌∷◌, ◌∙◌, ℕ, List, [], Option, Result, refl, sym, ap, subst, map}
-use Rattle.std.specs.Prelude.{OnOk}
+use Rattle.std.proofs.Common.{◌≡◌, ◌++◌, ◌∷◌, ◌∙◌, ℕ, List, [], Option, Result, Ok, Err, inl, inr, refl, sym, ap, append_assoc, subst, map}
+use Rattle.std.specs.Prelude.{OnErr, OnOk}
 use Rattle.std.specs.FinMap.{entries}
 use Rattle.std.specs.List.{flat_map}
 use Rattle.std.specs.Io.KnownBytes.{Appends}
 use Rattle.std.proofs.KnownBytes.{Appends-nil, Appends-trans}
 use Rattle.std.proofs.lemmas.Grind.{flat_map-append}
-use Rattle.std.proofs.lemmas.Result.{on_ok_weaker}
 use Rattle.std.proofs.lemmas.List.{map-append}
 use Rattle.std.proofs.lemmas.List.Folds.{flat_map-map}
 use Rattle.csv.specs.Writing.{default_writer, row_text}
@@ -17,7 +16,7 @@ use Rattle.series_rules.specs.Offers.{by_name}
 use Rattle.series_rules.specs.declared.requests.Request.{Request}
 use Rattle.series_rules.specs.declared.requests.Request.TheVariants.{Agree}
 use Rattle.series_rules.specs.Listing.{agreements_by_name}
-use Rattle.desk_export.specs.Exporting.{TakesAll, texts_of}
+use Rattle.desk_export.specs.Exporting.{AppendsFront, Takes, TakesAll, TakesSome, texts_of}
 use Rattle.desk_export.specs.Exports.{export_of, series_requests}
 use Rattle.desk_export.specs.ListTexts.{listed_text, listed_texts, report_text}
 use Rattle.desk_export.specs.RequestRecords.{request_records, request_text}
@@ -66,9 +65,25 @@ all_appended contents from to [] none = subst (λ x. Appends (contents from) (co
 all_appended contents from to (t ∷ ts) (mid, one, rest) =
     Appends-trans (contents from) (contents mid) (contents to) t (flat_map (λ text. text) ts) one (all_appended contents mid to ts rest)
 
--- so it appends the text of a list
+-- what takes some of them appends a first part
+some_appended : {T : Type 0} (contents : T → Option (List ℕ)) (from to : T) (texts : List (List ℕ))
+    → TakesSome (λ old new text. Appends (contents old) (contents new) text) (λ old new text. AppendsFront (contents old) (contents new) text) from to texts
+    → AppendsFront (contents from) (contents to) (flat_map (λ text. text) texts)
+some_appended contents from to [] none = ([], [], refl, subst (λ x. Appends (contents from) (contents x) []) (sym none) (Appends-nil (contents from)))
+some_appended contents from to (t ∷ ts) (inl none) = ([], flat_map (λ text. text) (t ∷ ts), refl, subst (λ x. Appends (contents from) (contents x) []) (sym none) (Appends-nil (contents from)))
+some_appended contents from to (t ∷ ts) (inr (inl (part, rest, is, one))) =
+    (part, rest ++ flat_map (λ text. text) ts, sym (append_assoc part rest (flat_map (λ text. text) ts)) ∙ ap (λ text. text ++ flat_map (λ text. text) ts) is, one)
+some_appended contents from to (t ∷ ts) (inr (inr (mid, one, more))) =
+    let behind = some_appended contents mid to ts more in (
+      t ++ behind.0,
+      behind.1,
+      append_assoc t behind.0 behind.1 ∙ ap (λ text. t ++ text) behind.2,
+      Appends-trans (contents from) (contents mid) (contents to) t behind.0 one behind.3,
+    )
+
+-- so the text of a list is appended, or a first part
 pub listed_appended : {A F T : Type 0} (contents : T → Option (List ℕ)) (from to : T) (r : Result A F) (what : Listed) (L : List Request)
-    → OnOk r (TakesAll (λ old new text. Appends (contents old) (contents new) text) from to (listed_texts what L))
-    → OnOk r (Appends (contents from) (contents to) (listed_text what L))
-listed_appended contents from to r what L taken =
-    on_ok_weaker r (λ all. subst (Appends (contents from) (contents to)) (listed_whole what L) (all_appended contents from to (listed_texts what L) all)) taken
+    → Takes (λ old new text. Appends (contents old) (contents new) text) (λ old new text. AppendsFront (contents old) (contents new) text) from to (listed_texts what L) r
+    → OnOk r (Appends (contents from) (contents to) (listed_text what L)) × OnErr r (AppendsFront (contents from) (contents to) (listed_text what L))
+listed_appended contents from to (Ok a) what L taken = (subst (Appends (contents from) (contents to)) (listed_whole what L) (all_appended contents from to (listed_texts what L) taken), tt)
+listed_appended contents from to (Err e) what L taken = (tt, subst (AppendsFront (contents from) (contents to)) (listed_whole what L) (some_appended contents from to (listed_texts what L) taken))

@@ -23,23 +23,44 @@ use Rattle.series_rules.specs.declared.answers.GapReport.{GapReport}
 use Rattle.series_rules.specs.declared.requests.Request.{Request}
 use Rattle.series_rules.specs.declared.requests.Request.TheVariants.{Agree}
 use Rattle.series_rules.specs.Listing.{agreements_by_name}
-use Rattle.desk_export.specs.Exporting.{IsTaken, TakesAll, end_after, requests_between, texts_of}
+use Rattle.desk_export.specs.Exporting.{IsTaken, Takes, TakesAll, TakesSome, end_after, requests_between, texts_of}
 use Rattle.desk_export.specs.Exports.{requests_at, requests_from, series_requests}
 use Rattle.desk_export.specs.RequestRecords.{request_text}
 use Rattle.desk_export.proofs.MapEntries.{get_in}
+use Rattle.onix_records.specs.declared.faults.StoreFault.{StoreFault}
 
 -- what a call takes that ends without a fault
-abbrev pub IsDone : {T : Type 0} {k : DeskKind} → (T → T → List ℕ → Type 0)
+abbrev pub IsDone : {T : Type 0} {k : DeskKind} → (takes part : T → T → List ℕ → Type 0)
     → (List Request → List (List ℕ)) → View k → View k → T → T → Type 0
-IsDone takes texts old new from to =
-    IsTaken {A = ⊤} {F = ⊤} takes (λ L. ⊤) texts old new from to (Ok tt)
+IsDone takes part texts old new from to =
+    IsTaken {A = ⊤} {F = ⊤} takes part (λ L. ⊤) texts old new from to (Ok tt)
 
 -- ---- texts
 
-module _ {T : Type 0} (takes : T → T → List ℕ → Type 0) where
+module _ {T : Type 0} (takes part : T → T → List ℕ → Type 0) where
   takes_then : (a b c : T) (ts us : List (List ℕ)) → TakesAll takes a b ts → TakesAll takes b c us → TakesAll takes a c (ts ++ us)
   takes_then a b c [] us none more = subst (λ x. TakesAll takes x c us) none more
   takes_then a b c (t ∷ ts) us (mid, first, rest) more = (mid, first, takes_then mid b c ts us rest more)
+
+  some_then : (a b c : T) (ts us : List (List ℕ)) → TakesAll takes a b ts → TakesSome takes part b c us → TakesSome takes part a c (ts ++ us)
+  some_then a b c [] us none more = subst (λ x. TakesSome takes part x c us) none more
+  some_then a b c (t ∷ ts) us (mid, first, rest) more = inr (inr (mid, first, some_then mid b c ts us rest more))
+
+  next_taken : {A F : Type 0} (a b c : T) (ts us : List (List ℕ)) (r : Result A F) → TakesAll takes a b ts → Takes takes part b c us r → Takes takes part a c (ts ++ us) r
+  next_taken a b c ts us (Ok x) before more = takes_then a b c ts us before more
+  next_taken a b c ts us (Err e) before more = some_then a b c ts us before more
+
+  -- none of them
+  none_taken : (a : T) (ts : List (List ℕ)) → TakesSome takes part a a ts
+  none_taken a [] = refl
+  none_taken a (t ∷ ts) = inl refl
+
+  -- and others behind them
+  some_more : (a b : T) (ts us : List (List ℕ)) → TakesSome takes part a b ts → TakesSome takes part a b (ts ++ us)
+  some_more a b [] us none = subst (λ x. TakesSome takes part a x us) (sym none) (none_taken a us)
+  some_more a b (t ∷ ts) us (inl none) = inl none
+  some_more a b (t ∷ ts) us (inr (inl one)) = inr (inl one)
+  some_more a b (t ∷ ts) us (inr (inr (mid, first, rest))) = inr (inr (mid, first, some_more mid b ts us rest))
 
 pub texts_append : (xs ys : List Request) → texts_of (xs ++ ys) ≡ texts_of xs ++ texts_of ys
 texts_append xs ys = map-append request_text xs ys
@@ -48,21 +69,17 @@ texts_append xs ys = map-append request_text xs ys
 pub texts_joined : (all xs ys : List Request) → all ≡ xs ++ ys → texts_of all ≡ texts_of xs ++ texts_of ys
 texts_joined all xs ys e = ap texts_of e ∙ texts_append xs ys
 
-on_ok : {A F : Type 0} {P Q : Type 0} (r : Result A F) → (P → Q) → OnOk r P → OnOk r Q
-on_ok (Ok a) f p = f p
-on_ok (Err e) f p = tt
-
 -- ---- steps
 
 pub stays_then : {k : DeskKind} (old mid new : View k) → Stays old mid → Stays mid new → Stays old new
 stays_then old mid new one two = λ x. (λ held. (two x).0 ((one x).0 held), λ may. (one x).1 ((two x).1 may))
 
-module _ {T : Type 0} {k : DeskKind} {takes : T → T → List ℕ → Type 0} where
+module _ {T : Type 0} {k : DeskKind} {takes part : T → T → List ℕ → Type 0} where
   -- one step after another
   pub exported_then : {A B F G : Type 0} {IsSo IsNext IsAll : List Request → Type 0} {some more all : List Request → List (List ℕ)} {old mid new : View k} {from between to : T} (a : A) (r : Result B G)
-      → IsTaken {A = A} {F = F} takes IsSo some old mid from between (Ok a) → IsTaken takes IsNext more mid new between to r
+      → IsTaken {A = A} {F = F} takes part IsSo some old mid from between (Ok a) → IsTaken takes part IsNext more mid new between to r
       → ((L : List Request) → old.stands_for L → mid.sound → IsAll L → IsSo L × IsNext L × (all L ≡ some L ++ more L))
-      → IsTaken takes IsAll all old new from to r
+      → IsTaken takes part IsAll all old new from to r
   exported_then {some = some} {more = more} {all = all} {old = old} {mid = mid} {new = new} {from = from} {between = between} {to = to} a r one two join = record {
     premise = λ sound. one.premise (two.premise sound);
     left = λ L stands sound. two.left L (one.left L stands (two.premise sound)) sound;
@@ -70,28 +87,64 @@ module _ {T : Type 0} {k : DeskKind} {takes : T → T → List ℕ → Type 0} w
     taken = λ L stands sound is.
         let early = two.premise sound in
         let j = join L stands early is in
-        on_ok r (λ taken. subst (TakesAll takes from to) (sym j.2) (takes_then takes from between to (some L) (more L) (one.taken L stands early j.0) taken))
-        (two.taken L (one.left L stands early) sound j.1);
+        subst (λ texts. Takes takes part from to texts r) (sym j.2)
+        (next_taken takes part from between to (some L) (more L) r (one.taken L stands early j.0) (two.taken L (one.left L stands early) sound j.1));
+  }
+
+  -- a fault, before others of all the texts
+  pub stopped_in : {A B C F G : Type 0} {IsSo IsNext IsAll : List Request → Type 0} {some more all : List Request → List (List ℕ)} {old mid new : View k} {from between to : T} (a : A) (e : G)
+      → IsTaken {A = A} {F = F} takes part IsSo some old mid from between (Ok a) → IsTaken {A = B} takes part IsNext more mid new between to (Err e)
+      → ((L : List Request) → old.stands_for L → mid.sound → IsAll L → IsSo L × IsNext L × ((rest : List (List ℕ)) × (all L ≡ some L ++ (more L ++ rest))))
+      → IsTaken {A = C} {F = G} takes part IsAll all old new from to (Err e)
+  stopped_in {some = some} {more = more} {old = old} {mid = mid} {new = new} {from = from} {between = between} {to = to} a e one two join = record {
+    premise = λ sound. one.premise (two.premise sound);
+    left = λ L stands sound. two.left L (one.left L stands (two.premise sound)) sound;
+    stays = λ sound. stays_then old mid new (one.stays (two.premise sound)) (two.stays sound);
+    taken = λ L stands sound is.
+        let early = two.premise sound in
+        let j = join L stands early is in
+        subst (TakesSome takes part from to) (sym j.2.1)
+        (some_then takes part from between to (some L) (more L ++ j.2.0) (one.taken L stands early j.0)
+        (some_more takes part between to (more L) j.2.0 (two.taken L (one.left L stands early) sound j.1)));
+  }
+
+  -- nothing was taken
+  pub not_taken : {A F : Type 0} {IsSo : List Request → Type 0} {texts : List Request → List (List ℕ)} (v : View k) (t : T) (e : F) → IsTaken {A = A} takes part IsSo texts v v t t (Err e)
+  not_taken {texts = texts} v t e = record {
+    premise = λ sound. sound;
+    left = λ L stands sound. stands;
+    stays = λ sound x. (λ held. held, λ may. may);
+    taken = λ L stands sound is. none_taken takes part t (texts L);
+  }
+
+  -- nothing was taken of what a desk was asked for
+  pub not_told : {A B G : Type 0} {answer : List Request → B} {IsSo : List Request → Type 0} {texts : List Request → List (List ℕ)} {old new : View k} {t : T} {r : Result B StoreFault} (e : G)
+      → Tells answer old new r → IsTaken {A = A} takes part IsSo texts old new t t (Err e)
+  not_told {texts = texts} {t = t} e tells = record {
+    premise = tells.premise;
+    left = tells.left;
+    stays = tells.stays;
+    taken = λ L stands sound is. none_taken takes part t (texts L);
   }
 
 -- nothing was done yet
-pub nothing_done : {T : Type 0} {k : DeskKind} (takes : T → T → List ℕ → Type 0) (v : View k) (t : T) → IsDone takes (λ L. []) v v t t
-nothing_done takes v t = record { premise = λ sound. sound; left = λ L stands sound. stands; stays = λ sound x. (λ held. held, λ may. may); taken = λ L stands sound is. refl }
+pub nothing_done : {T : Type 0} {k : DeskKind} (takes part : T → T → List ℕ → Type 0) (v : View k) (t : T) → IsDone takes part (λ L. []) v v t t
+nothing_done takes part v t = record { premise = λ sound. sound; left = λ L stands sound. stands; stays = λ sound x. (λ held. held, λ may. may); taken = λ L stands sound is. refl }
 
 -- what was done is done, whatever was answered
-module _ {T : Type 0} {k : DeskKind} {takes : T → T → List ℕ → Type 0} where
+module _ {T : Type 0} {k : DeskKind} {takes part : T → T → List ℕ → Type 0} where
   pub same_done : {A B F G : Type 0} {IsSo : List Request → Type 0} {some : List Request → List (List ℕ)} {old new : View k} {from to : T} (a : A) (b : B)
-      → IsTaken {A = A} {F = F} takes IsSo some old new from to (Ok a) → IsTaken {A = B} {F = G} takes IsSo some old new from to (Ok b)
+      → IsTaken {A = A} {F = F} takes part IsSo some old new from to (Ok a) → IsTaken {A = B} {F = G} takes part IsSo some old new from to (Ok b)
   same_done a b one = record { premise = one.premise; left = one.left; stays = one.stays; taken = λ L stands sound is. one.taken L stands sound is }
 
   -- the same texts in other words
   pub exported_as : {A F : Type 0} {IsSo IsAll : List Request → Type 0} {some all : List Request → List (List ℕ)} {old new : View k} {from to : T} (r : Result A F)
-      → IsTaken takes IsSo some old new from to r → ((L : List Request) → IsAll L → IsSo L × (all L ≡ some L)) → IsTaken takes IsAll all old new from to r
+      → IsTaken takes part IsSo some old new from to r → ((L : List Request) → IsAll L → IsSo L × (all L ≡ some L)) → IsTaken takes part IsAll all old new from to r
   exported_as {from = from} {to = to} r one same = record {
     premise = one.premise;
     left = one.left;
     stays = one.stays;
-    taken = λ L stands sound is. let j = same L is in on_ok r (λ taken. subst (TakesAll takes from to) (sym j.1) taken) (one.taken L stands sound j.0);
+    taken = λ L stands sound is. let j = same L is in subst (λ texts. Takes takes part from to texts r) (sym j.1) (one.taken L stands sound j.0);
   }
 
 -- ---- numbers in a row
@@ -128,6 +181,25 @@ number_is m n e = by (nat_lt 0 n && nat_lt n 1000000000) e
 
 pub number_more : (L : List Request) (a : Agreement) (from n m : ℕ) → from ≤ n → m ≡ n → requests_from L a from (n + 1 - from) ≡ requests_from L a from (n - from) ++ requests_at a m (first_at L a.name m)
 number_more L a from n m le is = from_more L a from n le ∙ ap (λ k. requests_from L a from (n - from) ++ requests_at a k (first_at L a.name k)) (sym is)
+
+-- the texts of some requests between those of others
+pub between : (all before here behind : List Request) → all ≡ (before ++ here) ++ behind → (rest : List (List ℕ)) × (texts_of all ≡ texts_of before ++ (texts_of here ++ rest))
+between all before here behind are = (
+  texts_of behind,
+  ap texts_of are
+      ∙ texts_append (before ++ here) behind
+      ∙ ap (λ ts. ts ++ texts_of behind) (texts_append before here)
+      ∙ append_assoc (texts_of before) (texts_of here) (texts_of behind),
+)
+
+-- the requests at one number, between those before it and those behind it
+pub range_around : (L : List Request) (a : Agreement) (from n end m : ℕ) → from ≤ n → n < end → m ≡ n
+    → (rest : List (List ℕ)) × (texts_of (requests_from L a from (end - from)) ≡ texts_of (requests_from L a from (n - from)) ++ (texts_of (requests_at a m (first_at L a.name m)) ++ rest))
+range_around L a from n end m le lt is =
+    let size : (n + 1 - from) + (end - (n + 1)) ≡ end - from = omega (arith, le, lt) in
+    let behind = requests_from L a (from + (n + 1 - from)) (end - (n + 1)) in
+    between _ (requests_from L a from (n - from)) (requests_at a m (first_at L a.name m)) behind
+    (ap (requests_from L a from) (sym size) ∙ from_split L a from (n + 1 - from) (end - (n + 1)) ∙ ap (λ rs. rs ++ behind) (number_more L a from n m le is))
 
 nothing_from : (L : List Request) (a : Agreement) (from len : ℕ) → ((n : ℕ) → from ≤ n → n < from + len → first_at L a.name n ≡ None) → requests_from L a from len ≡ []
 nothing_from L a from zero none = refl
@@ -197,11 +269,11 @@ held_more L a from end first last p ps rest some all split is begins ends =
 pub report_is : (L : List Request) (a : Agreement) (report : GapReport) → named (agreements_of L) a.name ≡ Some a → Some report ≡ gaps_answer L a.name → report ≡ gaps_of L a
 report_is L a report agreed told = let both : Some report ≡ Some (gaps_of L a) = told ∙ ap (option_map (gaps_of L)) agreed in cc
 
-module _ {T : Type 0} {k : DeskKind} {takes : T → T → List ℕ → Type 0} where
+module _ {T : Type 0} {k : DeskKind} {takes part : T → T → List ℕ → Type 0} where
   pub series_exported : {A F : Type 0} {old mid new : View k} {from between to : T} (true_ : GapsAreTrue) (a : Agreement) (report : GapReport) (r : Result A F)
-      → Tells (λ L. gaps_answer L a.name) old mid (Ok (Some report)) → takes from between (request_text (Agree a))
-      → IsTaken takes (λ L. ⊤) (λ L. texts_of (requests_between L a report.first report.missing (end_after report.first report.greatest))) mid new between to r
-      → IsTaken takes (λ L. named (agreements_of L) a.name ≡ Some a) (λ L. texts_of (series_requests L a)) old new from to r
+      → Tells (λ L. gaps_answer L a.name) old mid (Ok (Some report)) → TakesAll takes from between (request_text (Agree a) ∷ [])
+      → IsTaken takes part (λ L. ⊤) (λ L. texts_of (requests_between L a report.first report.missing (end_after report.first report.greatest))) mid new between to r
+      → IsTaken takes part (λ L. named (agreements_of L) a.name ≡ Some a) (λ L. texts_of (series_requests L a)) old new from to r
   series_exported {old = old} {mid = mid} {new = new} {from = from} {between = between} {to = to} true_ a report r tells agreement held = record {
     premise = λ sound. tells.premise (held.premise sound);
     left = λ L stands sound. held.left L (tells.left L stands (held.premise sound)) sound;
@@ -210,8 +282,19 @@ module _ {T : Type 0} {k : DeskKind} {takes : T → T → List ℕ → Type 0} w
         let early = held.premise sound in
         let is = report_is L a report agreed (tells.ok L stands early) in
         let whole = held_are true_ L a report is in
-        on_ok r (λ taken. (between, agreement, subst (λ rs. TakesAll takes between to (texts_of rs)) whole taken))
-        (held.taken L (tells.left L stands early) sound tt);
+        next_taken takes part from between to (request_text (Agree a) ∷ []) (texts_of (requests_from L a a.first (numbers_up_to a.first (greatest_of L a.name)))) r agreement
+        (subst (λ rs. Takes takes part between to (texts_of rs) r) whole (held.taken L (tells.left L stands early) sound tt));
+  }
+
+  -- an agreement was not taken, before what stands in its series
+  pub agreement_stopped : {A F : Type 0} {old mid : View k} {from to : T} {r : Result (Option GapReport) StoreFault} (a : Agreement) (e : F)
+      → Tells (λ L. gaps_answer L a.name) old mid r → TakesSome takes part from to (request_text (Agree a) ∷ [])
+      → IsTaken {A = A} takes part (λ L. named (agreements_of L) a.name ≡ Some a) (λ L. texts_of (series_requests L a)) old mid from to (Err e)
+  agreement_stopped {from = from} {to = to} a e tells some = record {
+    premise = tells.premise;
+    left = tells.left;
+    stays = tells.stays;
+    taken = λ L stands sound agreed. some_more takes part from to (request_text (Agree a) ∷ []) (texts_of (requests_from L a a.first (numbers_up_to a.first (greatest_of L a.name)))) some;
   }
 
 -- ---- all series
@@ -240,31 +323,52 @@ texts_more each i a as' at =
     ∙ flat_map-append each (take i as') (a ∷ [])
     ∙ ap (λ texts. flat_map each (take i as') ++ texts) (append-nil (each a))
 
+-- what is listed of one, between what is of those before it and of those behind it
+texts_around : (each : Agreement → List (List ℕ)) (i : ℕ) (a : Agreement) (as' : List Agreement) → slice_get as' i ≡ Some a
+    → (rest : List (List ℕ)) × (flat_map each as' ≡ flat_map each (take i as') ++ (each a ++ rest))
+texts_around each i a [] e = absurd cc
+texts_around each zero a (b ∷ bs) e = let same : b ≡ a = cc in (flat_map each bs, ap (λ x. each x ++ flat_map each bs) same)
+texts_around each (suc i) a (b ∷ bs) e =
+    let behind = texts_around each i a bs e in
+    (behind.0, ap (λ texts. each b ++ texts) behind.1 ∙ sym (append_assoc (each b) (flat_map each (take i bs)) (each a ++ behind.0)))
+
 pub take_whole : {X : Type 0} (xs : List X) (n : ℕ) → length xs ≤ n → take n xs ≡ xs
 take_whole [] zero le = refl
 take_whole [] (suc n) le = refl
 take_whole (x ∷ xs) zero le = absurd (omega (arith, le))
 take_whole (x ∷ xs) (suc n) le = ap (λ l. x ∷ l) (take_whole xs n (omega (arith, le)))
 
-module _ {T : Type 0} {k : DeskKind} {takes : T → T → List ℕ → Type 0} (each : List Request → Agreement → List (List ℕ)) where
+module _ {T : Type 0} {k : DeskKind} {takes part : T → T → List ℕ → Type 0} (each : List Request → Agreement → List (List ℕ)) where
   -- one series more
   pub more_listed : {A B C F G H : Type 0} {old mid new : View k} {from between to : T} (agreements : List Agreement) (i : ℕ) (a : Agreement) (x : A) (y : B) (z : C)
-      → IsTaken {A = A} {F = F} takes (λ L. ⊤) (λ L. flat_map (each L) (take i (agreements_by_name L))) old mid from between (Ok x)
+      → IsTaken {A = A} {F = F} takes part (λ L. ⊤) (λ L. flat_map (each L) (take i (agreements_by_name L))) old mid from between (Ok x)
       → ((L : List Request) → old.stands_for L → mid.sound → agreements ≡ agreements_by_name L)
-      → IsTaken {A = B} {F = G} takes (λ L. named (agreements_of L) a.name ≡ Some a) (λ L. each L a) mid new between to (Ok y)
+      → IsTaken {A = B} {F = G} takes part (λ L. named (agreements_of L) a.name ≡ Some a) (λ L. each L a) mid new between to (Ok y)
       → slice_get agreements i ≡ Some a
-      → IsTaken {A = C} {F = H} takes (λ L. ⊤) (λ L. flat_map (each L) (take (i + 1) (agreements_by_name L))) old new from to (Ok z)
+      → IsTaken {A = C} {F = H} takes part (λ L. ⊤) (λ L. flat_map (each L) (take (i + 1) (agreements_by_name L))) old new from to (Ok z)
   more_listed agreements i a x y z so_far listed step at =
       exported_then x (Ok z) so_far (same_done y z step) (λ L stands sound is.
       let there : slice_get (agreements_by_name L) i ≡ Some a = ap (λ as'. slice_get as' i) (sym (listed L stands sound)) ∙ at in
       (tt, listed_named L i a there, texts_more (each L) i a (agreements_by_name L) there))
 
+  -- a fault in one of them
+  pub series_stopped : {A B C F G : Type 0} {old mid new : View k} {from between to : T} (agreements : List Agreement) (i : ℕ) (a : Agreement) (x : A) (e : G)
+      → IsTaken {A = A} {F = F} takes part (λ L. ⊤) (λ L. flat_map (each L) (take i (agreements_by_name L))) old mid from between (Ok x)
+      → ((L : List Request) → old.stands_for L → mid.sound → agreements ≡ agreements_by_name L)
+      → IsTaken {A = B} takes part (λ L. named (agreements_of L) a.name ≡ Some a) (λ L. each L a) mid new between to (Err e)
+      → slice_get agreements i ≡ Some a
+      → IsTaken {A = C} takes part (λ L. ⊤) (λ L. flat_map (each L) (agreements_by_name L)) old new from to (Err e)
+  series_stopped agreements i a x e so_far listed step at =
+      stopped_in x e so_far step (λ L stands sound is.
+      let there : slice_get (agreements_by_name L) i ≡ Some a = ap (λ as'. slice_get as' i) (sym (listed L stands sound)) ∙ at in
+      (tt, listed_named L i a there, texts_around (each L) i a (agreements_by_name L) there))
+
   -- all of them
   pub all_listed : {A B F G : Type 0} {old new : View k} {from to : T} (agreements : List Agreement) (i : ℕ) (x : A) (y : B)
-      → IsTaken {A = A} {F = F} takes (λ L. ⊤) (λ L. flat_map (each L) (take i (agreements_by_name L))) old new from to (Ok x)
+      → IsTaken {A = A} {F = F} takes part (λ L. ⊤) (λ L. flat_map (each L) (take i (agreements_by_name L))) old new from to (Ok x)
       → ((L : List Request) → old.stands_for L → new.sound → agreements ≡ agreements_by_name L)
       → length agreements ≤ i
-      → IsTaken {A = B} {F = G} takes (λ L. ⊤) (λ L. flat_map (each L) (agreements_by_name L)) old new from to (Ok y)
+      → IsTaken {A = B} {F = G} takes part (λ L. ⊤) (λ L. flat_map (each L) (agreements_by_name L)) old new from to (Ok y)
   all_listed {from = from} {to = to} agreements i x y done listed le = record {
     premise = done.premise;
     left = done.left;
@@ -274,24 +378,24 @@ module _ {T : Type 0} {k : DeskKind} {takes : T → T → List ℕ → Type 0} (
         subst (TakesAll takes from to) (ap (flat_map (each L)) whole) (done.taken L stands sound tt);
   }
 
-module _ {T : Type 0} {k : DeskKind} {takes : T → T → List ℕ → Type 0} where
+module _ {T : Type 0} {k : DeskKind} {takes part : T → T → List ℕ → Type 0} where
   -- a text was handed on, and no desk asked
   pub one_taken : {A F : Type 0} {IsSo : List Request → Type 0} (desk : View k) {from to : T} (text : List ℕ) (r : Result A F)
-      → OnOk r (takes from to text) → IsTaken takes IsSo (λ L. text ∷ []) desk desk from to r
-  one_taken desk {to = to} text r one = record {
+      → Takes takes part from to (text ∷ []) r → IsTaken takes part IsSo (λ L. text ∷ []) desk desk from to r
+  one_taken desk text r one = record {
     premise = λ sound. sound;
     left = λ L stands sound. stands;
     stays = λ sound x. (λ held. held, λ may. may);
-    taken = λ L stands sound is. on_ok r (λ taken. (to, taken, refl)) one;
+    taken = λ L stands sound is. one;
   }
 
   -- what a desk tells was handed on
   pub told_taken : {A B F : Type 0} {answer : List Request → B} {IsSo : List Request → Type 0} {old new : View k} {from to : T} (text : List Request → List ℕ) (b : B) (r : Result A F)
-      → Tells answer old new (Ok b) → ((L : List Request) → IsSo L → b ≡ answer L → OnOk r (takes from to (text L)))
-      → IsTaken takes IsSo (λ L. text L ∷ []) old new from to r
-  told_taken {to = to} text b r tells one = record {
+      → Tells answer old new (Ok b) → ((L : List Request) → IsSo L → b ≡ answer L → Takes takes part from to (text L ∷ []) r)
+      → IsTaken takes part IsSo (λ L. text L ∷ []) old new from to r
+  told_taken text b r tells one = record {
     premise = tells.premise;
     left = tells.left;
     stays = tells.stays;
-    taken = λ L stands sound is. on_ok r (λ taken. (to, taken, refl)) (one L is (tells.ok L stands sound));
+    taken = λ L stands sound is. one L is (tells.ok L stands sound);
   }

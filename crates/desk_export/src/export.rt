@@ -1,7 +1,13 @@
 //! What stands in a series, as the requests that make it again.
 
-ghost use Rattle.std.specs.Prelude.{◌≡◌, ◌-◌, ◌∷◌, [], OnOk, Some, ⊤};
-ghost use Rattle.desk_export.specs.Exporting.{IsTaken, end_after, requests_between, texts_of};
+ghost use Rattle.std.specs.Prelude.{◌≡◌, ◌-◌, ◌∷◌, [], Some, ⊤};
+ghost use Rattle.desk_export.specs.Exporting.{
+  IsTaken,
+  Takes,
+  end_after,
+  requests_between,
+  texts_of,
+};
 ghost use Rattle.desk_export.specs.Exports.{requests_at, requests_from, series_requests};
 ghost use Rattle.desk_export.specs.RequestRecords.{request_text};
 ghost use Rattle.series_rules.specs.Agreements.{agreements_of, named};
@@ -43,7 +49,7 @@ pub(crate) fn take_text<T: TakesTexts>(
     taker: &mut T,
     text: &str,
 ) -> Result<(), ExportFault<T::Fault>>
-    ensures { OnOk result (T.takes taker.old taker.new text.now) }
+    ensures { Takes T.takes T.takes_part taker.old taker.new (text.now ∷ []) result }
 {
     match taker.take(text) {
         Ok(()) => Ok(()),
@@ -59,7 +65,7 @@ fn export_number<D: ListedDesk, T: TakesTexts>(
     number: Number,
     taker: &mut T,
 ) -> Result<(), ExportFault<T::Fault>>
-    ensures { IsTaken T.takes (λ L. ⊤) (λ L. texts_of
+    ensures { IsTaken T.takes T.takes_part (λ L. ⊤) (λ L. texts_of
         (requests_at agreement.now number (first_at L agreement.now.name number)))
         (D.seen desk.old) (D.seen desk.new) taker.old taker.new result }
 {
@@ -89,7 +95,7 @@ fn export_range<D: ListedDesk, T: TakesTexts>(
     end: u32,
     taker: &mut T,
 ) -> Result<(), ExportFault<T::Fault>>
-    ensures { IsTaken T.takes (λ L. ⊤)
+    ensures { IsTaken T.takes T.takes_part (λ L. ⊤)
         (λ L. texts_of (requests_from L agreement.now from (end - from)))
         (D.seen desk.old) (D.seen desk.new) taker.old taker.new result }
 {
@@ -120,7 +126,7 @@ fn export_held<D: ListedDesk, T: TakesTexts>(
     report: &GapReport,
     taker: &mut T,
 ) -> Result<(), ExportFault<T::Fault>>
-    ensures { IsTaken T.takes (λ L. ⊤)
+    ensures { IsTaken T.takes T.takes_part (λ L. ⊤)
         (λ L. texts_of (requests_between L agreement.now report.now.first report.now.missing
         (end_after report.now.first report.now.greatest)))
         (D.seen desk.old) (D.seen desk.new) taker.old taker.new result }
@@ -141,8 +147,8 @@ pub(crate) fn take_agreement<T: TakesTexts>(
     agreement: &Agreement,
     taker: &mut T,
 ) -> Result<(), ExportFault<T::Fault>>
-    ensures { OnOk result
-        (T.takes taker.old taker.new (request_text (Request.Agree agreement.now))) }
+    ensures { Takes T.takes T.takes_part taker.old taker.new
+        (request_text (Request.Agree agreement.now) ∷ []) result }
 {
     let text = write_agreement(alloc, agreement)?;
     take_text(taker, text.as_str())
@@ -155,7 +161,7 @@ pub(crate) fn export_series<D: ListedDesk, T: TakesTexts>(
     agreement: &Agreement,
     taker: &mut T,
 ) -> Result<(), ExportFault<T::Fault>>
-    ensures { IsTaken T.takes
+    ensures { IsTaken T.takes T.takes_part
         (λ L. named (agreements_of L) agreement.now.name ≡ Some agreement.now)
         (λ L. texts_of (series_requests L agreement.now))
         (D.seen desk.old) (D.seen desk.new) taker.old taker.new result }

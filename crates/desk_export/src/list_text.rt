@@ -1,11 +1,11 @@
 //! What a desk lists, as text: its agreements, which numbers its series lack, and all that it
 //! holds.
 
-ghost use Rattle.std.specs.Prelude.{◌≡◌, ◌∷◌, [], OnOk, Some, ⊤};
+ghost use Rattle.std.specs.Prelude.{◌≡◌, ◌∷◌, [], OnErr, OnOk, Some, ⊤};
 ghost use Rattle.std.specs.Io.KnownBytes.{Appends};
 ghost use Rattle.series_rules.specs.Agreements.{agreements_of, named};
 ghost use Rattle.desk_export.specs.Asking.{IsAsked};
-ghost use Rattle.desk_export.specs.Exporting.{IsTaken};
+ghost use Rattle.desk_export.specs.Exporting.{AppendsFront, IsTaken};
 ghost use Rattle.desk_export.specs.ListTexts.{listed_text, listed_texts, report_text, series_texts};
 
 use crate::export::{ExportFault, export_series, take_agreement, take_text};
@@ -37,7 +37,7 @@ fn list_gaps<D: ListedDesk, T: TakesTexts>(
     agreement: &Agreement,
     taker: &mut T,
 ) -> Result<(), ExportFault<T::Fault>>
-    ensures { IsTaken T.takes
+    ensures { IsTaken T.takes T.takes_part
         (λ L. named (agreements_of L) agreement.now.name ≡ Some agreement.now)
         (λ L. report_text L agreement.now ∷ [])
         (D.seen desk.old) (D.seen desk.new) taker.old taker.new result }
@@ -60,7 +60,7 @@ fn list_series<D: ListedDesk, T: TakesTexts>(
     agreement: &Agreement,
     taker: &mut T,
 ) -> Result<(), ExportFault<T::Fault>>
-    ensures { IsTaken T.takes
+    ensures { IsTaken T.takes T.takes_part
         (λ L. named (agreements_of L) agreement.now.name ≡ Some agreement.now)
         (λ L. series_texts listed L agreement.now)
         (D.seen desk.old) (D.seen desk.new) taker.old taker.new result }
@@ -80,7 +80,7 @@ pub fn list_desk<D: ListedDesk, T: TakesTexts>(
     listed: Listed,
     taker: &mut T,
 ) -> Result<(), ExportFault<T::Fault>>
-    ensures { IsTaken T.takes (λ L. ⊤) (listed_texts listed)
+    ensures { IsTaken T.takes T.takes_part (λ L. ⊤) (listed_texts listed)
         (D.seen desk.old) (D.seen desk.new) taker.old taker.new result }
 {
     let agreements = match desk.agreements() {
@@ -94,7 +94,8 @@ pub fn list_desk<D: ListedDesk, T: TakesTexts>(
     Ok(())
 }
 
-/// Writes what is listed of each series of a desk, in order of name. The desk is only asked.
+/// Writes what is listed of each series of a desk, in order of name. The desk is only asked. After
+/// a fault a first part of the text is written.
 pub fn write_list<D: ListedDesk, W: Write>(
     alloc: Global,
     desk: &mut D,
@@ -102,8 +103,10 @@ pub fn write_list<D: ListedDesk, W: Write>(
     writer: &mut W,
 ) -> Result<(), ExportFault<WriteFault>>
     ensures { IsAsked (D.seen desk.old) (D.seen desk.new)
-        (λ L. OnOk result (Appends (W.contents writer.old) (W.contents writer.new)
-        (listed_text listed L))) }
+        (λ L. OnOk result
+        (Appends (W.contents writer.old) (W.contents writer.new) (listed_text listed L))
+        × OnErr result
+        (AppendsFront (W.contents writer.old) (W.contents writer.new) (listed_text listed L))) }
 {
     list_desk(alloc, desk, listed, writer)
 }

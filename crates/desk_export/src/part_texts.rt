@@ -89,7 +89,7 @@ impl<'a, F: NamedFiles> PartTexts<'a, F> {
 }
 
 impl<'a, F: NamedFiles> TakesTexts for PartTexts<'a, F> {
-    ghost use Rattle.std.specs.Prelude.{◌≡◌, map, true};
+    ghost use Rattle.std.specs.Prelude.{◌≡◌, map, true, ⊤};
     ghost use Rattle.desk_export.specs.PartTexts.{Fills, filling};
 
     type Fault = FileFault;
@@ -97,6 +97,9 @@ impl<'a, F: NamedFiles> TakesTexts for PartTexts<'a, F> {
     ghost takes = { λ old new text. F.is_told ≡ true → Fills
         (filling (map F.text_of old.files.made.items) old.part.items)
         (filling (map F.text_of new.files.made.items) new.part.items) text };
+
+    // What a failed part has gets no name.
+    ghost takes_part = { λ old new text. ⊤ };
 
     fn take(&mut self, text: &str) -> Result<(), FileFault> {
         self.make_room(text)?;

@@ -9,18 +9,19 @@ use Rattle.desk_export.specs.PartTexts.{AreInFolder, MayBeInFolder}
 use Rattle.desk_export.specs.RequestTexts.{batch_text}
 use Rattle.program_files.specs.Holdings.{Holdings, MayName}
 use Rattle.program_files.specs.PartFiles.{files_of, numbered}
+use Rattle.program_lines.specs.Printing.{PrintEnds}
 use Rattle.program_words.specs.declared.invocation.Listing.{Listing}
 use Rattle.program_words.specs.declared.invocation.Listing.TheVariants.{Agreements, Export, Gaps}
 
 -- Written: these bytes were written. Is told: whether it is told what files hold; before, after:
 -- what names hold
 module _ (written : List ℕ → Type 0) (is_told : Bool) (before after : Holdings) where
-  -- with 0 the text of what is listed after a list of requests was written, or is in the files of a
-  -- folder, of which with 3 some may be there
+  -- the text of what is listed after a list of requests was written, or with 3 a first part of it;
+  -- or it is in the files of a folder, of which with 3 some may be there
   abbrev pub IsListed : Listing → List Request → ℕ → Type 0
-  IsListed Agreements L status = status ≡ 0 → written (agreements_text L)
-  IsListed Gaps L status = status ≡ 0 → written (reports_text L)
-  IsListed (Export None) L status = status ≡ 0 → written (batch_text (export_of L))
+  IsListed Agreements L status = PrintEnds 0 written (agreements_text L) status
+  IsListed Gaps L status = PrintEnds 0 written (reports_text L) status
+  IsListed (Export None) L status = PrintEnds 0 written (batch_text (export_of L)) status
   IsListed (Export (Some folder)) L status = is_told ≡ true
       → (status ≡ 0 → AreInFolder folder.now (export_of L) before after)
       × MayBeInFolder folder.now (export_of L) before after
@@ -32,7 +33,7 @@ module _ (written : List ℕ → Type 0) (is_told : Bool) (before after : Holdin
   SparesFiles other = after ≡ before
 
   -- the command ended over a desk that was only asked: with 0 that is listed, after each list for
-  -- which the desk stood, and else the status is 3
+  -- which the desk stood, with 3 a part of it, and no other status is given
   abbrev pub ListingEnds : {k : DeskKind} → Listing → View k → View k → ℕ → Type 0
   ListingEnds listing old new status =
       IsAsked old new (λ L. IsListed listing L status) × ((status ≡ 0) ⊎ (status ≡ 3))

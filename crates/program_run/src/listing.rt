@@ -9,6 +9,7 @@ ghost use Rattle.desk_export.specs.Asking.{IsAsked};
 ghost use Rattle.desk_export.specs.Exports.{export_of};
 ghost use Rattle.desk_export.specs.ListTexts.{listed_text};
 ghost use Rattle.desk_export.specs.PartTexts.{AreInFolder, MayBeInFolder};
+ghost use Rattle.program_lines.specs.Printing.{PrintEnds};
 ghost use Rattle.program_run.specs.ListingEnds.{IsListed, ListingEnds, SparesFiles};
 ghost use Rattle.program_run.specs.OverFiles.{EndsOverFiles};
 
@@ -68,7 +69,8 @@ fn report_export<E: Write>(alloc: Global, fault: ExportFault<FileFault>, errors:
     }
 }
 
-// Writes what a desk lists. Gives 0, or 3 after a fault, which is reported.
+// Writes what a desk lists. Gives 0, or 3 after a fault, which is reported, and behind which a
+// first part of it is written.
 fn write_listing<D: ListedDesk, W: Write, E: Write>(
     alloc: Global,
     desk: &mut D,
@@ -77,8 +79,8 @@ fn write_listing<D: ListedDesk, W: Write, E: Write>(
     errors: &mut E,
 ) -> u8
     ensures status { (result ≡ 0) ⊎ (result ≡ 3) }
-    ensures end { IsAsked (D.seen desk.old) (D.seen desk.new) (λ L. result ≡ 0
-        → Appends (W.contents output.old) (W.contents output.new) (listed_text listed L)) }
+    ensures end { IsAsked (D.seen desk.old) (D.seen desk.new) (λ L. PrintEnds 0
+        (Appends (W.contents output.old) (W.contents output.new)) (listed_text listed L) result) }
 {
     match write_list(alloc, desk, listed, output) {
         Ok(()) => 0,

@@ -9,5 +9,5 @@ abbrev pub invariant-loop-range : goal.invariant-loop-range
 invariant-loop-range g l = record {
   some : List Request → List Request;
   split : (L : List Request) → requests_between L l.agreement l.report.first l.missing l.end ≡ some L ++ requests_between L l.agreement l.from (drop l.range-index l.missing) l.end;
-  exported : IsDone g.T.TakesTexts.takes (λ L. texts_of (some L)) (g.D.Desk.seen l.fn.desk) (g.D.Desk.seen l.desk) l.fn.taker l.taker;
+  exported : IsDone g.T.TakesTexts.takes g.T.TakesTexts.takes_part (λ L. texts_of (some L)) (g.D.Desk.seen l.fn.desk) (g.D.Desk.seen l.desk) l.fn.taker l.taker;
 }

@@ -9,5 +9,5 @@ abbrev pub invariant-loop-n : goal.invariant-loop-n
 invariant-loop-n g l = record {
   above : l.from ≤ l.n;
   within : l.n - l.from ≤ l.end - l.from;
-  exported : IsDone g.T.TakesTexts.takes (λ L. texts_of (requests_from L l.agreement l.from (l.n - l.from))) (g.D.Desk.seen l.fn.desk) (g.D.Desk.seen l.desk) l.fn.taker l.taker;
+  exported : IsDone g.T.TakesTexts.takes g.T.TakesTexts.takes_part (λ L. texts_of (requests_from L l.agreement l.from (l.n - l.from))) (g.D.Desk.seen l.fn.desk) (g.D.Desk.seen l.desk) l.fn.taker l.taker;
 }

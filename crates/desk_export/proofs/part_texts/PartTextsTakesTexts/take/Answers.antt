@@ -3,8 +3,8 @@ use Rattle.desk_export.proofs.PartLemmas.{filled}
 use Rattle.desk_export.specs.PartTexts.{filling}
 use Rattle.desk_export.proofs.part_texts.PartTextsTakesTexts.take.Goals as goal
 
-pub returns-then-has_room : goal.returns-then-has_room
-returns-then-has_room g c told =
+pub returns-then-has_room-clause-ok : goal.returns-then-has_room-clause-ok
+returns-then-has_room-clause-ok g c told =
     let text_of = map g.F.NamedFiles.text_of in
     let was = c.args.self.now in
     let mid = c.make_room.new.self in

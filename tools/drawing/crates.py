@@ -39,7 +39,7 @@ LAYERS = {
     ),
     "Tables": (
         "a desk in a file",
-        ["desk_tables", "desk_catalogue", "desk_rows", "desk_versions", "desk_store", "desk_stops"],
+        ["desk_tables", "desk_table_tests", "desk_catalogue", "desk_rows", "desk_versions", "desk_store", "desk_stops"],
     ),
     "Rules": (
         "what is answered",

@@ -15,12 +15,21 @@ use std::alloc::Global;
 use std::io::{Read, Write};
 use std::process::Abort;
 
+/// Whether a request that ended out of memory has taken effect, as its fault says.
+#[derive(Clone, Copy)]
+pub enum Taken {
+    Yes,
+    No,
+    /// The fault does not say.
+    Either,
+}
+
 /// How a request ended, as far as the tests tell the ways apart.
 #[derive(Clone, Copy)]
 pub enum End {
     Done,
     /// Out of memory, of the desk or of the text that the test lets it write to.
-    Memory,
+    Memory(Taken),
     Disk,
     /// A disk failed before files were opened for it.
     Unopened,
@@ -29,30 +38,43 @@ pub enum End {
     Other,
 }
 
-/// How a call ends that gives this text, on a line.
+/// How a call ends that has made its changes and gives this text, on a line.
 pub fn end_of_line(text: &str, output: &mut Vec<u8>) -> End {
     if output.extend_from_slice(text.as_bytes()).is_ok() && output.push(b'\n').is_ok() {
         End::Done
     } else {
-        End::Memory
+        End::Memory(Taken::Yes)
     }
 }
 
-/// How a fault of a store is told.
+/// How a fault of a store is told, after which nothing has changed.
 pub fn end_of_fault(fault: StoreFault) -> End {
     match fault {
-        StoreFault::Memory => End::Memory,
+        StoreFault::Memory => End::Memory(Taken::No),
         StoreFault::Disk => End::Disk,
         StoreFault::Size | StoreFault::Unusable => End::Other,
     }
 }
 
+// Of a batch of one request: whether that has taken effect, where so many have.
+fn taken_of(done: u64) -> Taken {
+    if done == 1 { Taken::Yes } else { Taken::No }
+}
+
 fn end_of_batch(ended: Result<u64, BatchFault>) -> End {
     match ended {
         Ok(_) => End::Done,
+        Err(
+            BatchFault::Store {
+                done,
+                fault: StoreFault::Memory,
+            },
+        ) => End::Memory(taken_of(done)),
         Err(BatchFault::Store { fault, .. }) => end_of_fault(fault),
-        Err(BatchFault::Records(RecordFault::Memory)) => End::Memory,
-        Err(BatchFault::Memory { .. } | BatchFault::Write { .. }) => End::Memory,
+        Err(BatchFault::Records(RecordFault::Memory)) => End::Memory(Taken::No),
+        Err(BatchFault::Memory { done } | BatchFault::Write { done }) => {
+            End::Memory(taken_of(done))
+        }
         Err(BatchFault::Records(_) | BatchFault::Read) => End::Other,
     }
 }
@@ -62,7 +84,7 @@ fn end_of_reply(status: u16, reply: &[u8]) -> End {
     if status != 503 {
         End::Done
     } else if reply.ends_with("\"memory\"}".as_bytes()) {
-        End::Memory
+        End::Memory(Taken::No)
     } else if reply.ends_with("\"disk\"}".as_bytes()) {
         End::Disk
     } else {
@@ -70,10 +92,21 @@ fn end_of_reply(status: u16, reply: &[u8]) -> End {
     }
 }
 
+// Out of memory outside the desk, with nothing written.
+fn end_unwritten(taken: bool, reply: &[u8]) -> End {
+    match taken {
+        _ if !reply.is_empty() => End::Other,
+        true => End::Memory(Taken::Yes),
+        false => End::Memory(Taken::No),
+    }
+}
+
 fn end_of_exchange(ended: Result<u16, HttpFault>, reply: &[u8]) -> End {
     match ended {
         Ok(status) => end_of_reply(status, reply),
-        Err(HttpFault::Memory { .. } | HttpFault::Write { .. }) => End::Memory,
+        Err(HttpFault::Memory { taken }) => end_unwritten(taken, reply),
+        Err(HttpFault::Write { status: 503 }) => End::Memory(Taken::No),
+        Err(HttpFault::Write { .. }) => End::Memory(Taken::Yes),
         Err(HttpFault::Read) => End::Other,
     }
 }
@@ -122,7 +155,7 @@ fn exchange<D: Desk>(
 ) -> End {
     let served = serve(alloc, desk, rules, &mut text.as_bytes(), output);
     match end_of_exchange(served, output.as_slice()) {
-        End::Done if output.push(b'\n').is_err() => End::Memory,
+        End::Done if output.push(b'\n').is_err() => End::Memory(Taken::Yes),
         End::Done => End::Done,
         ended => {
             output.clear();

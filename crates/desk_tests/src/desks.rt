@@ -84,7 +84,7 @@ impl TestDesk for DeskStore<MemStore> {
 /// A new desk; where memory is refused it is opened once more.
 pub fn opened<D: TestDesk + Drop>(alloc: Global, stop: &impl Abort, met: &mut Refusals) -> D {
     match D::open(alloc) {
-        Err(End::Memory) => {
+        Err(End::Memory(_)) => {
             met.meet(stop);
             met.own(stop, D::open(alloc))
         }

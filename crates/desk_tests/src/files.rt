@@ -4,11 +4,11 @@
 
 ghost use Rattle.std.specs.Prelude.{IsTrue};
 
-use crate::asking::{End, ask_store, end_of_fault, end_of_line};
+use crate::asking::{End, Taken, ask_store, end_of_fault, end_of_line};
 use crate::desks::{StoppedDesk, TestDesk};
 use crate::disks::{OPTIONS, TestFiles, copied, failing_files, stop_machine};
-use crate::tables::transcripts::answer_of;
 use desk_store::{Creation, DeskStore, OpenFault, OpenOptions, migrate_files_with};
+use desk_table_tests::transcripts::told;
 use desk_tables::rows::fault::fault_of;
 use desk_tables::tables::Tables;
 use onix_message::StoreFault;
@@ -65,10 +65,18 @@ fn end_of_opening(fault: OpenFault, output: &mut Vec<u8>) -> End {
     }
 }
 
+// A call of several steps may have made some of them.
+fn end_of_steps(end: End) -> End {
+    match end {
+        End::Memory(_) => End::Memory(Taken::Either),
+        end => end,
+    }
+}
+
 fn execute<S: Alter>(connection: &mut Connection<S>, statements: &str) -> End {
     match connection.execute_batch(statements) {
         Ok(()) => End::Done,
-        Err(error) => end_of_fault(fault_of(error)),
+        Err(error) => end_of_steps(end_of_fault(fault_of(error))),
     }
 }
 
@@ -81,7 +89,10 @@ fn act_on<S: Alter + Drop>(
     match call {
         Call::Tables(transcript, is_kept) => {
             let mut tables = Tables::new(connection);
-            let end = answer_of(alloc, &mut tables, transcript, is_kept, output);
+            let end = match told(alloc, &mut tables, transcript, is_kept) {
+                Ok(line) => end_of_line(line, output),
+                Err(fault) => end_of_fault(fault),
+            };
             (tables.into_connection(), end)
         }
         Call::Execute(statements) => {
@@ -185,7 +196,10 @@ fn migrate<D: Disk + Drop>(alloc: Global, files: Files<D>, output: &mut Vec<u8>)
 {
     match migrate_files_with(alloc, files, OPENING) {
         Ok((_, files)) => (files, end_of_line("version 2", output)),
-        Err((fault, left)) => (left.into_files(), end_of_opening(fault, output)),
+        Err((fault, left)) => (
+            left.into_files(),
+            end_of_steps(end_of_opening(fault, output)),
+        ),
     }
 }
 
@@ -210,7 +224,9 @@ fn opened_for<D: Disk + Drop>(
 fn end_in_memory(may_be_used: bool, end: End) -> End {
     match end {
         _ if !may_be_used => End::Lost,
-        End::Disk | End::Unopened => End::Memory,
+        // A commit that fails on its disk may be kept.
+        End::Disk => End::Memory(Taken::Either),
+        End::Unopened => End::Memory(Taken::No),
         end => end,
     }
 }

@@ -24,8 +24,6 @@ mod stores;
 #[cfg(test)]
 mod streams;
 #[cfg(test)]
-mod tables;
-#[cfg(test)]
 mod unasked;
 #[cfg(test)]
 mod values;

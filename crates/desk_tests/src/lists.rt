@@ -1,6 +1,6 @@
-//! Lists of requests with their answers and what is reported between them, of any desk, where memory may
+//! Lists of requests with their answers and what is reported between them, of any desk, while memory may
 //! be refused once: then what is reported is what was reported before the request, or what is to be after
-//! it, and made again it is answered as it is to be.
+//! it, whichever the fault says, and made again it is answered as it is to be.
 //!
 //! A list is a text of cases. The first says what is asked for a report, what is reported of a new desk, and
 //! the text of the rules that all requests are asked under; each other one is a request, with its answer and
@@ -20,7 +20,7 @@ pub mod three;
 pub mod versions;
 pub mod waivers;
 
-use crate::asking::{End, expect_asked};
+use crate::asking::{End, Taken, expect_asked};
 use crate::cases::{Step, add_steps, expect};
 use crate::desks::TestDesk;
 use crate::refusals::Refusals;
@@ -57,9 +57,13 @@ fn rules_of(
     }
 }
 
-// Whether a report is that from before a request or the one after it.
-fn is_near(reported: &[u8], before: &str, after: &str) -> bool {
-    reported == before.as_bytes() || reported == after.as_bytes()
+// Whether a report is the one from before a request, or the one after it if that has taken effect.
+fn is_of(taken: Taken, reported: &[u8], before: &str, after: &str) -> bool {
+    match taken {
+        Taken::Yes => reported == after.as_bytes(),
+        Taken::No => reported == before.as_bytes(),
+        Taken::Either => reported == before.as_bytes() || reported == after.as_bytes(),
+    }
 }
 
 impl<'d, 'r, 'a, D: TestDesk> Asked<'d, 'r, 'a, D> {
@@ -69,12 +73,19 @@ impl<'d, 'r, 'a, D: TestDesk> Asked<'d, 'r, 'a, D> {
     }
 
     // Ends the test unless a request that lacked memory left answers that begin as they are to be, and the
-    // report from before it or the one after it.
-    fn expect_near(&mut self, stop: &impl Abort, wanted: &str, after: &str, name: &str) {
+    // report is as the fault says.
+    fn expect_report(
+        &mut self,
+        stop: &impl Abort,
+        taken: Taken,
+        wanted: &str,
+        after: &str,
+        name: &str,
+    ) {
         let is_begun = wanted.as_bytes().starts_with(self.output.as_slice());
         self.ask(self.report);
-        let is_near = is_near(self.output.as_slice(), self.before, after);
-        expect(stop, is_begun && is_near, name);
+        let is_so = is_of(taken, self.output.as_slice(), self.before, after);
+        expect(stop, is_begun && is_so, name);
     }
 
     // Ends the test unless a request is answered so, with that report after it.
@@ -87,8 +98,8 @@ impl<'d, 'r, 'a, D: TestDesk> Asked<'d, 'r, 'a, D> {
         name: &str,
     ) {
         let mut ended = self.ask(given);
-        if self.refusals.has_met(stop, ended) {
-            self.expect_near(stop, wanted, after, name);
+        if let Some(taken) = self.refusals.met(stop, ended) {
+            self.expect_report(stop, taken, wanted, after, name);
             ended = self.ask(given);
         }
         expect_asked(stop, ended, self.output.as_slice(), wanted, name);

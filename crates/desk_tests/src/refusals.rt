@@ -3,7 +3,7 @@
 //! so does a second one where one request was refused. The words by which a test ends that could not go on
 //! are those of no fault.
 
-use crate::asking::End;
+use crate::asking::{End, Taken};
 use std::process::Abort;
 use std::rt::Env;
 
@@ -50,19 +50,19 @@ impl Refusals {
         }
     }
 
-    /// Whether a request ended out of memory. A disk in memory that lacked it has lost what it had,
-    /// so that nothing can be compared.
-    pub fn has_met(&mut self, stop: &impl Abort, ended: End) -> bool {
+    /// If a request ended out of memory, whether it has taken effect. A disk in memory that lacked
+    /// it has lost what it had, so that nothing can be compared.
+    pub fn met(&mut self, stop: &impl Abort, ended: End) -> Option<Taken> {
         match ended {
-            End::Memory => {
+            End::Memory(taken) => {
                 self.meet(stop);
-                true
+                Some(taken)
             }
             End::Lost => {
                 self.meet(stop);
                 stop.panic("a disk in memory that could not grow")
             }
-            _ => false,
+            _ => None,
         }
     }
 

@@ -2,10 +2,10 @@
 //! replies to answers that no request over HTTP has. What is to come is taken from the desk's written rules.
 
 use crate::cases::{expect, expect_bytes, found, made};
-use crate::tables::line_terms::{is_whole, word};
 use csv_records::reading::RecordReader;
 use desk_http::reply_of;
 use desk_memory::MemoryDesk;
+use desk_table_tests::line_terms::{is_whole, word};
 use desk_texts::answer_text::write_answer;
 use desk_texts::request_rows::read_requests;
 use onix_message::StoreFault;

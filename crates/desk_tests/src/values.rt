@@ -2,6 +2,7 @@
 //! the desk's written rules.
 
 use crate::cases::{Step, add_steps, expect, expect_bytes, found, made};
+use crate::refusals::Refusals;
 use catalogue_rules::catalogue::Catalogue;
 use onix_message::contents::{Contents, ContentsFault, read_contents, write_contents};
 use onix_message::message::read_message;
@@ -115,12 +116,44 @@ Price,02,9.990,GBP,,WORLD,,,,010
 none
 ";
 
+// The contents of a text, which is read once more if memory was refused.
+fn read_again(
+    alloc: Global,
+    stop: &impl Abort,
+    refusals: &mut Refusals,
+    text: &str,
+) -> Result<Contents, ContentsFault> {
+    match read_contents(alloc, text) {
+        Err(ContentsFault::Memory) => {
+            refusals.meet(stop);
+            read_contents(alloc, text)
+        }
+        read => read,
+    }
+}
+
+// The text of contents, which is written once more if memory was refused.
+fn write_again(
+    alloc: Global,
+    stop: &impl Abort,
+    refusals: &mut Refusals,
+    contents: &Contents,
+) -> String {
+    match write_contents(alloc, contents) {
+        Ok(text) => text,
+        Err(_) => {
+            refusals.meet(stop);
+            made(stop, write_contents(alloc, contents))
+        }
+    }
+}
+
 // A text is that of contents, which are written as it is, or of none.
-fn expect_contents(alloc: Global, stop: &impl Abort, step: &Step<'_>) {
-    match read_contents(alloc, step.given) {
+fn expect_contents(alloc: Global, stop: &impl Abort, refusals: &mut Refusals, step: &Step<'_>) {
+    match read_again(alloc, stop, refusals, step.given) {
         Ok(contents) => {
             expect(stop, step.wanted.starts_with("contents"), step.name);
-            let written = made(stop, write_contents(alloc, &contents));
+            let written = write_again(alloc, stop, refusals, &contents);
             expect_bytes(stop, written.as_bytes(), step.given.as_bytes(), step.name);
         }
         Err(ContentsFault::NotContents) => {
@@ -130,13 +163,15 @@ fn expect_contents(alloc: Global, stop: &impl Abort, step: &Step<'_>) {
     }
 }
 
+// `tests/refused-memory` refuses each request for memory of this test in turn.
 #[test]
 fn texts_of_contents(rt: HostRuntime) {
+    let mut refusals = Refusals::of(&rt);
     let mut steps = Vec::new(rt.alloc());
-    made(&rt, add_steps(&rt, TEXTS, &mut steps));
+    refusals.own(&rt, add_steps(&rt, TEXTS, &mut steps));
     expect(&rt, steps.len() == 6, "all texts");
     for step in &steps {
-        expect_contents(rt.alloc(), &rt, step);
+        expect_contents(rt.alloc(), &rt, &mut refusals, step);
     }
 }
 

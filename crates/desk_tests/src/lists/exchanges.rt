@@ -1,4 +1,5 @@
-//! Exchanges over HTTP: a message that waits, one that lets it be applied, a price, a choice, a calendar.
+//! Exchanges over HTTP: a message that waits, one that lets it be applied, other contents of it, what is
+//! refused before the desk is asked, a price, a choice, a calendar.
 //! What is replied is taken from the desk's written rules.
 
 /// The list, with a report on gaps by an exchange too.
@@ -78,6 +79,59 @@ Content-Length: 88\r
 Connection: close\r
 \r
 {\"answer\":\"gaps\",\"first\":1,\"greatest\":2,\"held\":0,\"missing\":[],\"next\":3,\"series\":\"north\"}
+
+== other contents of 1
+POST /messages HTTP/1.1\r
+Content-Length: 63\r
+\r
+Message,1,06,4012345000009,06,5012345678900,1,,,,
+EndMessage,1
+-- wanted
+HTTP/1.1 409 Conflict\r
+Content-Type: application/json\r
+Content-Length: 74\r
+Connection: close\r
+\r
+{\"answer\":\"refused\",\"number\":1,\"reason\":\"other-contents\",\"series\":\"north\"}
+-- as before
+
+== a message without its length
+POST /messages HTTP/1.1\r
+\r
+-- wanted
+HTTP/1.1 411 Length Required\r
+Content-Type: application/json\r
+Content-Length: 47\r
+Connection: close\r
+\r
+{\"answer\":\"refused\",\"reason\":\"length-required\"}
+-- as before
+
+== messages are not asked for
+GET /messages HTTP/1.1\r
+\r
+-- wanted
+HTTP/1.1 405 Method Not Allowed\r
+Allow: POST\r
+Content-Type: application/json\r
+Content-Length: 50\r
+Connection: close\r
+\r
+{\"answer\":\"refused\",\"reason\":\"method-not-allowed\"}
+-- as before
+
+== a message in chunks
+POST /messages HTTP/1.1\r
+Transfer-Encoding: chunked\r
+\r
+-- wanted
+HTTP/1.1 501 Not Implemented\r
+Content-Type: application/json\r
+Content-Length: 49\r
+Connection: close\r
+\r
+{\"answer\":\"refused\",\"reason\":\"transfer-encoding\"}
+-- as before
 
 == a price
 GET /articles/9781234567897/price?day=20250301&country=GB&currency=GBP&type=02 HTTP/1.1\r

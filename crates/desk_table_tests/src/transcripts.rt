@@ -1,10 +1,9 @@
 //! Transcripts: texts of calls, each on a line of its own, and behind a colon what a query answers, or that
 //! the call is `unusable`.
 
-use crate::asking::{End, end_of_fault, end_of_line};
-use crate::tables::changes::change;
-use crate::tables::line_terms::name;
-use crate::tables::queries::ask;
+use crate::changes::change;
+use crate::line_terms::name;
+use crate::queries::ask;
 use desk_tables::tables::Tables;
 use desk_tables::work::Work;
 use onix_message::StoreFault;
@@ -82,7 +81,11 @@ fn kept<'a, S: Alter>(work: Work<'_, S>, told: &'a str) -> Result<&'a str, Store
     }
 }
 
-fn told<'a, S: Alter>(
+/// Makes the calls of a transcript in one transaction, which ends with `commit` or is let go, and gives
+/// `as told`, the first line that is not answered as it says, or where all are and `commit` is not, that it
+/// is `unusable`. Of two, with a line `or` between them, one has to hold; of the second it gives `as told
+/// otherwise`.
+pub fn told<'a, S: Alter>(
     alloc: Global,
     tables: &mut Tables<S>,
     transcript: &'a str,
@@ -91,21 +94,4 @@ fn told<'a, S: Alter>(
     let mut work = tables.work()?;
     let told = first_wrong_of_either(alloc, &mut work, transcript)?;
     if is_kept { kept(work, told) } else { Ok(told) }
-}
-
-/// Makes the calls of a transcript in one transaction, which ends with `commit` or is let go, and writes
-/// `as told`, the first line that is not answered as it says, or where all are and `commit` is not, that it
-/// is `unusable`. Of two, with a line `or` between them, one has to hold; of the second it writes `as told
-/// otherwise`.
-pub fn answer_of<S: Alter>(
-    alloc: Global,
-    tables: &mut Tables<S>,
-    transcript: &str,
-    is_kept: bool,
-    output: &mut Vec<u8>,
-) -> End {
-    match told(alloc, tables, transcript, is_kept) {
-        Ok(line) => end_of_line(line, output),
-        Err(fault) => end_of_fault(fault),
-    }
 }

@@ -1,7 +1,7 @@
 //! The calls that change rows, each by its name and what its line gives it.
 
-use crate::tables::line_terms::{contents, name, number, whole, word};
-use crate::tables::sample::{agreement, article, effect, offer, price_row};
+use crate::line_terms::{contents, name, number, whole, word};
+use crate::sample::{agreement, article, effect, offer, price_row};
 use desk_tables::work::Work;
 use onix_message::StoreFault;
 use sqlite::Alter;

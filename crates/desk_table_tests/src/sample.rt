@@ -1,7 +1,7 @@
 //! The rows that transcripts name by few words. What they do not name is the same in all rows: the
 //! market GB and IE, the supplier North Books, the price 12.99 GBP of the world.
 
-use crate::tables::line_terms::{code, name, number, term, whole, word};
+use crate::line_terms::{code, name, number, term, whole, word};
 use desk_tables::EffectRow;
 use desk_tables::articles::ArticleRow;
 use desk_tables::offers::OfferRow;

@@ -1,8 +1,8 @@
 //! The calls that give something, each with what its line says.
 
-use crate::tables::answers::{are_all, are_items, is_found};
-use crate::tables::line_terms::{is_whole, isbn, name, term, whole, word};
-use crate::tables::sample::{agreement, offer, record};
+use crate::answers::{are_all, are_items, is_found};
+use crate::line_terms::{is_whole, isbn, name, term, whole, word};
+use crate::sample::{agreement, offer, record};
 use desk_tables::work::Work;
 use onix_message::StoreFault;
 use onix_terms::number::Number;

@@ -1,6 +1,6 @@
 //! What a query gives, beside what the words of a transcript name. What is compared takes no memory.
 
-use crate::tables::line_terms::{contents, is_whole, word};
+use crate::line_terms::{contents, is_whole, word};
 use desk_tables::EffectRow;
 use desk_tables::articles::ArticleRow;
 use desk_tables::offers::OfferRow;

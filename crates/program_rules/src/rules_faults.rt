@@ -9,37 +9,8 @@ use std::alloc::Global;
 use std::io::Write;
 use toml::{Table, Value};
 
-/// How many bytes of first lines are read at most to find one line.
-const READ_AGAIN: usize = 100_000_000;
-
-// What a table has as soon as the line is read in which it begins.
-#[derive(Clone, Copy)]
-enum Sought {
-    /// A key that no precedence table has.
-    OtherKey,
-    /// A key `rule` that is no array.
-    NoArray,
-    /// So many rules.
-    Rules(usize),
-}
-
-fn has(table: &Table, sought: Sought) -> bool {
-    let rule = table.get("rule");
-    match sought {
-        Sought::OtherKey => table.keys().any(|key| key.as_str() != "rule"),
-        Sought::NoArray => match rule {
-            Some(value) => !value.is_array(),
-            None => false,
-        },
-        Sought::Rules(count) => match rule.and_then(Value::as_array) {
-            Some(items) => items.len() >= count,
-            None => false,
-        },
-    }
-}
-
-// The line in which the byte at that place stands, counted from 1.
-fn line_at(text: &[u8], place: usize) -> usize {
+/// The line in which the byte at that place stands, counted from 1.
+pub fn line_at(text: &[u8], place: usize) -> usize {
     let mut line = 1usize;
     for byte in text.iter().take(place) {
         if *byte == b'\n' {
@@ -49,60 +20,65 @@ fn line_at(text: &[u8], place: usize) -> usize {
     line
 }
 
-// So many first lines of a text.
-fn first_lines(text: &[u8], count: usize) -> &[u8] {
-    let mut lines = 0usize;
-    for at in 0..text.len() {
-        if text[at] == b'\n' {
-            lines = lines.saturating_add(1);
-            if lines >= count {
-                return &text[..at];
-            }
-        }
+// The key that a line begins with, of a value or of a table, or nothing.
+fn key_of(line: &str) -> &str {
+    let rest = line.trim_start_matches([' ', '\t', '[']);
+    match rest.split_once([' ', '\t', '=', '.', ']']) {
+        Some((key, _)) => key,
+        None => "",
     }
-    text
 }
 
-// The fewest first lines of a text, `least` or more, that are a table, and whether that has what is
-// sought; `most` have it. None where that takes too long.
-fn look_behind(
-    alloc: Global,
-    text: &[u8],
-    sought: Sought,
-    least: usize,
-    most: usize,
-    left: &mut usize,
-) -> Option<(usize, bool)> {
-    for count in least..most {
-        let front = first_lines(text, count);
-        *left = left.checked_sub(front.len())?;
-        if let Ok(table) = toml::table_from_slice(alloc, front) {
-            return Some((count, has(&table, sought)));
-        }
-    }
-    Some((most, true))
-}
-
-// The line in which what is sought begins, which a text has: the one behind the last of the first
-// lines that are a table without it. None where finding it takes too long.
-fn line_of(alloc: Global, text: &[u8], sought: Sought) -> Option<usize> {
-    let mut least = 0usize;
-    let mut most = line_at(text, text.len());
-    let mut left = READ_AGAIN;
-    for _ in 0..usize::BITS {
-        let between = most.saturating_sub(least);
-        if between <= 1 {
-            return Some(most);
-        }
-        let middle = least.saturating_add(between / 2);
-        let (count, has_it) = look_behind(alloc, text, sought, middle, most, &mut left)?;
-        if has_it {
-            most = middle;
-        } else {
-            least = count;
+// The first line that begins with a key of the top table: `rule`, or another one. A key below a head is one
+// of that head's table. None if no line begins so, as where the key is in quotation marks.
+fn line_of_key(text: &str, table: &Table, is_rule: bool) -> Option<usize> {
+    let mut is_below = false;
+    for (at, line) in text.lines().enumerate() {
+        let is_head = line.trim_start().starts_with('[');
+        is_below = is_below || is_head;
+        let key = key_of(line);
+        let is_sought = (key == "rule") == is_rule && table.get(key).is_some();
+        if is_sought && (is_head || !is_below) {
+            return Some(at.saturating_add(1));
         }
     }
     None
+}
+
+// Whether a line begins an item of the array `rule`.
+fn is_rule_head(line: &str) -> bool {
+    let Some(rest) = line.trim_start().strip_prefix("[[") else {
+        return false;
+    };
+    match rest.trim_start().strip_prefix("rule") {
+        Some(rest) => rest.trim_start().starts_with("]]"),
+        None => false,
+    }
+}
+
+// How many items of the array `rule` lines begin, and the line of the one at a number.
+fn heads(text: &str, number: usize) -> (usize, Option<usize>) {
+    let mut count = 0usize;
+    let mut found = None;
+    for (at, line) in text.lines().enumerate() {
+        if is_rule_head(line) {
+            count = count.saturating_add(1);
+            if count == number {
+                found = Some(at.saturating_add(1));
+            }
+        }
+    }
+    (count, found)
+}
+
+// The line of the item at a number of the array `rule`: that of its head, or that of the key `rule` if the
+// items have no heads. None if a text in quotation marks has such lines too.
+fn line_of_rule(text: &str, table: &Table, items: usize, number: usize) -> Option<usize> {
+    match heads(text, number) {
+        (0, _) => line_of_key(text, table, true),
+        (count, found) if count == items => found,
+        _ => None,
+    }
 }
 
 // Why the series of a rule is none.
@@ -174,42 +150,49 @@ fn write_place<E: Write>(line: Option<usize>, errors: &mut E) {
     };
 }
 
-// The item at a number of the array `rule`, counted from 1.
-fn item(table: &Table, number: usize) -> Option<&Value> {
-    let items = table.get("rule")?.as_array()?;
-    items.get(number.checked_sub(1)?)
+// The items of the array `rule`.
+fn items(table: &Table) -> &[Value] {
+    match table.get("rule").and_then(Value::as_array) {
+        Some(items) => items,
+        None => &[],
+    }
 }
 
-// Writes the line of an item that is no rule.
-fn write_rule<E: Write>(alloc: Global, text: &[u8], table: &Table, number: usize, errors: &mut E) {
-    let cause = match item(table, number) {
+// Writes the line of an item that is no rule, by its number, counted from 1.
+fn write_rule<E: Write>(text: &str, table: &Table, number: usize, errors: &mut E) {
+    let items = items(table);
+    let cause = match items.get(number.saturating_sub(1)) {
         Some(value) => rule_cause(value),
         None => "is missing",
     };
-    write_place(line_of(alloc, text, Sought::Rules(number)), errors);
+    write_place(line_of_rule(text, table, items.len(), number), errors);
     let _ = write!(errors, "rule {number} {cause}\n");
 }
 
 // Writes the line of a table that is no precedence table.
-fn write_top<E: Write>(alloc: Global, text: &[u8], table: &Table, errors: &mut E) {
-    if has(table, Sought::OtherKey) {
-        write_place(line_of(alloc, text, Sought::OtherKey), errors);
-        let _ = write!(errors, "another key than rule\n");
+fn write_top<E: Write>(text: &str, table: &Table, errors: &mut E) {
+    let is_rule = !table.keys().any(|key| key.as_str() != "rule");
+    write_place(line_of_key(text, table, is_rule), errors);
+    let _ = if is_rule {
+        write!(errors, "rule is no array\n")
     } else {
-        write_place(line_of(alloc, text, Sought::NoArray), errors);
-        let _ = write!(errors, "rule is no array\n");
-    }
+        write!(errors, "another key than rule\n")
+    };
 }
 
-/// Writes the line of a fault of this text: in which line of the text it is, and the cause.
+/// Writes the line of a fault of this text: in which line of the text it is, unless that is not
+/// known, and the cause.
 pub fn write_cause<E: Write>(alloc: Global, text: &[u8], fault: &PrecedenceFault, errors: &mut E) {
     match toml::table_from_slice(alloc, text) {
-        Ok(table) => match fault {
-            PrecedenceFault::BadRule { index } => {
-                write_rule(alloc, text, &table, *index as usize, errors);
+        Ok(table) => {
+            let text = std::str::from_utf8(text).unwrap_or("");
+            match fault {
+                PrecedenceFault::BadRule { index } => {
+                    write_rule(text, &table, *index as usize, errors);
+                }
+                _ => write_top(text, &table, errors),
             }
-            _ => write_top(alloc, text, &table, errors),
-        },
+        }
         Err(error) => {
             let place = match error.span() {
                 Some(span) => span.start,

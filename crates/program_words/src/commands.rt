@@ -110,7 +110,7 @@ fn agreements<'a>(alloc: Global) -> Command<'a>
         alloc,
         "agreements",
         "Write the agreements of all series",
-        "Writes the agreements of all series, in the order of the bytes of their names, each as the record Agree that a batch takes. The database file is named before the command: onixdesk --db FILE agreements. The desk is only asked. A missing or empty file, or one that has no desk, is a fault, and no desk is made.",
+        "Writes the agreements of all series, in the order of the bytes of their names, each as the record Agree that a batch takes. The database file is named before the command: onixdesk --db FILE agreements. The desk is not changed. A missing or empty file, or one that has no desk, is a fault, and no desk is made.",
     )
 }
 
@@ -144,7 +144,7 @@ fn deliver<'a>(alloc: Global) -> Result<Command<'a>, AllocError>
         alloc,
         "deliver",
         "Deliver the message of each file, write the answer to each",
-        "Delivers the message that each file holds, from its record Message to its record EndMessage, in the order of the files, and writes the answer to each to standard output; the file - is standard input. A file that cannot be read, or a fault, ends the command with status 3; the answers before it stand. The agreements are those of the database file: onixdesk --db FILE deliver FILE. Without one there are none, and a whole message with a number is answered refused,unknown-series.",
+        "Delivers the message that each file holds, from its record Message to its record EndMessage, in the order of the files, and writes the answer to each to standard output; the file - is standard input. A file that cannot be read, or a fault, ends the command with status 3; the answers before it remain valid. The agreements are those of the database file: onixdesk --db FILE deliver FILE. Without one there are none, and a whole message with a number is answered refused,unknown-series.",
     );
     with_word(Ok(deliver), Ok(messages(alloc)))
 }
@@ -172,7 +172,7 @@ fn export<'a>(alloc: Global) -> Result<Command<'a>, AllocError>
         alloc,
         "export",
         "Write the desk as a batch that makes it again",
-        "Writes the desk as the batch that makes it again: for each series, in the order of the bytes of their names, its agreement, and then for each number in order the message or the waiver that stands there. A new desk that is given these requests answers every further request as this one does. The database file is named before the command: onixdesk --db FILE export. The desk is only asked. A missing or empty file, or one that has no desk, is a fault, and no desk is made. A message of more than 4,194,304 bytes is a fault, since no batch takes it. A batch has at most so many bytes; with -o a larger desk is cut between requests into files that are batches, and a new desk is given them in the order of their numbers. A file that is there is never written over, which is a fault unless it has the same bytes.",
+        "Writes the desk as the batch that makes it again: for each series, in the order of the bytes of their names, its agreement, and then for each number in order the message or the waiver that is recorded at it. A new desk that is given these requests answers every further request as this one does. The database file is named before the command: onixdesk --db FILE export. The desk is not changed. A missing or empty file, or one that has no desk, is a fault, and no desk is made. A message of more than 4,194,304 bytes is a fault, since no batch takes it. A batch has no more bytes than that; with -o a larger desk is cut between requests into files that are batches, and a new desk is given them in the order of their numbers. An existing file is never overwritten: it is a fault unless it has the same bytes.",
     );
     with_word(Ok(export), Ok(export_folder(alloc)))
 }
@@ -245,7 +245,7 @@ fn serve<'a>(alloc: Global) -> Result<Command<'a>, AllocError>
         alloc,
         "serve",
         "Answer requests over HTTP on a port of this machine",
-        "Listens at a port of 127.0.0.1, which only programs on this machine reach, writes the line 'listening N', and serves connections one after the other, one request each. For each connection a line is written: the status of the reply, or 'fault' where none was sent whole. With --batches it listens at a socket of the file system too, which the program's user and group alone may use; each connection there is one batch, the text to the end of what the client sends, and its line is 'batch N', with the number of refusals, or 'fault'. A client may let the desk wait 10 seconds while it sends and 10 seconds while it takes what is sent to it; over that the connection is a fault, and serving goes on. The desk is that of the database file, with the shop's rules: onixdesk --db FILE --rules FILE serve; without one it begins without agreements and ends with the program. A port or a socket that cannot be listened at ends the program with status 3. TLS and access control are left to a proxy before it.",
+        "Listens at a port of 127.0.0.1, which only programs on this machine reach, writes the line 'listening N', and serves connections one after the other, one request each. For each connection a line is written: the status of the reply, or 'fault' if none was sent whole. With --batches it listens at a socket of the file system too, which the program's user and group alone may use; each connection there is one batch, the text to the end of what the client sends, and its line is 'batch N', with the number of refusals, or 'fault'. A client may let the desk wait 10 seconds while it sends and 10 seconds while it takes what is sent to it; over that the connection is a fault, and serving goes on. The desk is that of the database file, with the shop's rules: onixdesk --db FILE --rules FILE serve; without one it begins without agreements and ends with the program. A port or a socket that cannot be listened at ends the program with status 3. TLS and access control are left to a proxy before it.",
     );
     let serve = with_word(Ok(serve), Ok(port(alloc)));
     let serve = with_word(serve, Ok(socket(alloc)));
@@ -277,7 +277,7 @@ fn rules_check<'a>(alloc: Global) -> Result<Command<'a>, AllocError>
         alloc,
         "rules",
         "Read a precedence table, and write how many rules it has",
-        "Reads the precedence table of a TOML file, as a desk does that is started with --rules FILE, and writes 'rules N', with the number of its rules. Where it is none, or cannot be read, the status is 2, and a line on standard error says in which line of the file, and why. Try a changed file so before the desk is started again.",
+        "Reads the precedence table of a TOML file, as a desk does that is started with --rules FILE, and writes 'rules N', with the number of its rules. If the file is not a precedence table, or cannot be read, the status is 2, and a line on standard error says in which line of the file, and why. Try a changed file so before the desk is started again.",
     );
     with_word(Ok(rules), Ok(table(alloc)))
 }
@@ -382,7 +382,7 @@ fn titles<'a>(alloc: Global) -> Arg<'a>
         alloc,
         "titles",
         "TITLES",
-        "After the records, open each FILE that was converted again by its name, and write what it says of each product with an ISBN - title, contributors, publisher, form and date - as CSV into the file TITLES; it gets its name when it is whole, and one that is there is never written over. Not for standard input",
+        "After the records, open each FILE that was converted again by its name, and write what it says of each product with an ISBN - title, contributors, publisher, form and date - as CSV into the file TITLES; it gets its name when it is whole, and an existing one is never overwritten. Not for standard input",
     )
 }
 
@@ -399,7 +399,7 @@ fn convert<'a>(alloc: Global) -> Result<Command<'a>, AllocError>
         alloc,
         "convert",
         "Convert ONIX messages in XML to the CSV records that the desk reads",
-        "Converts ONIX for Books messages in XML, release 3.0 or 3.1, to the CSV records that the desk reads. Notes on standard error tell what is left out. A FILE that is refused gives no output, and the others are done. Without -o the records of one FILE go to standard output. With it each message becomes NAME.csv, or NAME.part-01.csv and so on, where NAME is the FILE without its extension; a file that is there is never written over, which is a fault unless it has the same bytes. A packed FILE is refused: unpack it before, gunzip -c FILE | onixdesk convert.",
+        "Converts ONIX for Books messages in XML, release 3.0 or 3.1, to the CSV records that the desk reads. Notes on standard error tell what is left out. A FILE that is refused gives no output, and the others are done. Without -o the records of one FILE go to standard output. With it each message becomes NAME.csv, or NAME.part-01.csv and so on, NAME being the FILE without its extension; an existing file is never overwritten: it is a fault unless it has the same bytes. A packed FILE is refused: unpack it before, gunzip -c FILE | onixdesk convert.",
     );
     let convert = with_word(Ok(convert), Ok(parts(alloc)));
     let convert = with_word(convert, number(alloc));
@@ -421,7 +421,7 @@ fn db<'a>(alloc: Global) -> Arg<'a>
         alloc,
         "db",
         "FILE",
-        "Keep the desk in this SQLite file, which is made where it is missing; it stands before the command, and without it the desk is in memory and ends with the program. One program at a time may use the file",
+        "Keep the desk in this SQLite file, which is created if it does not exist. Give this option before the command; without it the desk is in memory and ends with the program. One program at a time may use the file",
     )
 }
 
@@ -432,7 +432,7 @@ fn existing<'a>(alloc: Global) -> Result<Arg<'a>, AllocError>
     flag_option(
         alloc,
         "existing",
-        "Take the file of --db only where it is there, and has a desk or no table: a missing one, or the database of another program, is a fault, and no desk is made",
+        "If the file of --db does not exist, or is the database of another program, the command fails and creates nothing",
     )
     .requires_arg("db")
 }
@@ -445,7 +445,7 @@ fn rules<'a>(alloc: Global) -> Arg<'a>
         alloc,
         "rules",
         "FILE",
-        "Choose among offers by the precedence table of this TOML file; it stands before the command, and without it there are no rules",
+        "Choose among offers by the precedence table of this TOML file. Give this option before the command; without it there are no rules",
     )
 }
 
@@ -457,7 +457,7 @@ fn batches<'a>(alloc: Global) -> Result<Arg<'a>, AllocError>
         alloc,
         "batches",
         "SOCKET",
-        "Send the batch to the desk that is open at this socket, that of serve --batches; it stands before the command batch, and no desk is opened here",
+        "Send the batch to the desk that is open at this socket, that of serve --batches. Give this option before the command batch; no desk is opened here",
     )
     .conflicts_with("db")?
     .conflicts_with("rules")
@@ -473,7 +473,7 @@ fn named<'a>(alloc: Global) -> Command<'a>
             "The intake of a bookshop's buying desk: numbered ONIX messages in, proved answers out",
         )
         .after_help(
-            "Exit status: 0; 1 where an answer of batch, deliver or gaps was a refusal, or a FILE of convert was refused or a wrong product left out; 2 for a bad command line or rules file; 3 for a fault of storage, a file, input, output, the port or the socket, or when out of memory. While serve runs, a request that cannot be answered ends only its connection.",
+            "Exit status: 0; 1 if an answer of batch, deliver or gaps was a refusal, or a FILE of convert was refused or a wrong product left out; 2 for a bad command line or rules file; 3 for a fault of storage, a file, input, output, the port or the socket, or when out of memory. While serve runs, a request that cannot be answered ends only its connection.",
         )
         .subcommand_required(true)
 }

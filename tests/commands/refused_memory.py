@@ -1,6 +1,7 @@
 """Refuses memory, one request for it in each run, to the tests of the desks: to messages, questions, choices with
 calendars, exchanges and waivers over the desk in memory and over tables, to forty messages that are applied at once,
-over files with the rows of their tables, and to a migration.
+over the desk in memory and over files with the rows of their tables, to a migration, and to the two calls of the text
+of contents.
 
     tests/refused-memory [-k TEXT] [PROGRAM]
     bench/refused_memory [-k TEXT] [PROGRAM]
@@ -22,20 +23,22 @@ from tests.memory.sweep import Sweep
 MEMORY = "stores::desks::desk_in_memory"
 TABLES = "stores::desks::tables_in_memory"
 FILES = "stores::desks::tables_in_files"
+CONTENTS = "values::texts_of_contents"
 
-# The first two go on to the end of their lists.
+# The first goes on to the end of its list. The forty messages are applied over tables once, in files.
 SWEEPS = [
     Sweep(MEMORY, "steps"),
-    Sweep(TABLES, "three"),
+    Sweep(TABLES, "steps", ends=True),
+    Sweep(TABLES, "three", ends=True),
     Sweep(MEMORY, "questions", ends=True),
     Sweep(TABLES, "questions", ends=True),
     Sweep(MEMORY, "exchanges", ends=True),
     Sweep(TABLES, "exchanges", ends=True),
     Sweep(TABLES, "waivers", ends=True),
     Sweep(MEMORY, "drain", ends=True),
-    Sweep(TABLES, "drain", ends=True),
     Sweep(FILES, "rows", ends=True),
     Sweep(FILES, "migration", ends=True),
+    Sweep(CONTENTS, ends=True),
 ]
 
 

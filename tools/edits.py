@@ -1,4 +1,5 @@
-"""Whether each edit that the prover must refuse can be applied to the sources, told in seconds and without a proof.
+"""Whether each edit can be applied to the sources, told in seconds: those that the prover must refuse, and the faults
+that the tests must catch (tests/planted).
 
 `rt ci` calls one that cannot be a BAD EDIT, and goes on: it would test nothing from then on. A line is written for each,
 and the status is then 1.
@@ -6,20 +7,41 @@ and the status is then 1.
 
 import sys
 from pathlib import Path
+from typing import NamedTuple
 
 from tools.root import ROOT
 
 FOLDERS = ("must-fail", "mutants")
+PLANTED = ROOT / "tests/planted"
 
 
-def edits() -> list[Path]:
-    """The edits of all crates: those of the gate, and those that it leaves out."""
-    return sorted(edit for folder in FOLDERS for edit in ROOT.glob(f"crates/*/{folder}/*.edit"))
+class BadEdit(Exception):
+    """Why an edit cannot be applied."""
 
 
-def why_not(edit: str, crate: Path) -> str | None:
-    """Why a text cannot be applied as an edit to a crate; none where it can. Each `old:` applies to what the pairs
-    before it have made of its file."""
+class Edit(NamedTuple):
+    """A file of an edit, and the folder that its files are named from."""
+
+    path: Path
+    folder: Path
+
+    def text(self) -> str:
+        return self.path.read_text(encoding="utf-8")
+
+
+def edits() -> list[Edit]:
+    """Those of all crates, in the gate and left out of it, and the planted faults."""
+    of_crates = sorted(edit for folder in FOLDERS for edit in ROOT.glob(f"crates/*/{folder}/*.edit"))
+    return [*(Edit(edit, edit.parents[1]) for edit in of_crates), *planted()]
+
+
+def planted() -> list[Edit]:
+    return [Edit(edit, ROOT) for edit in sorted(PLANTED.glob("*/*.edit"))]
+
+
+def applied(edit: str, folder: Path) -> dict[str, str]:
+    """The texts of the files that an edit makes, by their names in the folder; BadEdit where it cannot be applied. Each
+    `old:` applies to what the pairs before it have made of its file."""
     texts: dict[str, str] = {}
     path = old = ""
     pairs = 0
@@ -27,30 +49,41 @@ def why_not(edit: str, crate: Path) -> str | None:
         kind, _, text = line.partition(": ")
         if kind == "file":
             path = text.strip()
-            if not (crate / path).is_file():
-                return f"there is no file {path}"
-            texts.setdefault(path, (crate / path).read_text(encoding="utf-8"))
+            if not (folder / path).is_file():
+                raise BadEdit(f"there is no file {path}")
+            texts.setdefault(path, (folder / path).read_text(encoding="utf-8"))
         elif kind == "old":
             old = text
         elif line.startswith("new:"):
             new = line.removeprefix("new:").removeprefix(" ")
             if not path or not old:
-                return "a 'new:' line is behind no 'file:' or no 'old:'"
+                raise BadEdit("a 'new:' line is behind no 'file:' or no 'old:'")
             if (count := texts[path].count(old)) != 1:
-                return f"an 'old:' text is {count} times in {path}"
+                raise BadEdit(f"an 'old:' text is {count} times in {path}")
             if old == new:
-                return "an 'old:' and its 'new:' are the same"
+                raise BadEdit("an 'old:' and its 'new:' are the same")
             texts[path] = texts[path].replace(old, new)
             old = ""
             pairs += 1
-    return None if pairs else "it has no 'old:' and 'new:'"
+    if not pairs:
+        raise BadEdit("it has no 'old:' and 'new:'")
+    return texts
+
+
+def why_not(edit: str, folder: Path) -> str | None:
+    """Why a text cannot be applied as an edit; none where it can."""
+    try:
+        applied(edit, folder)
+    except BadEdit as bad:
+        return str(bad)
+    return None
 
 
 def main() -> int:
     wrong = 0
     for edit in edits():
-        if why := why_not(edit.read_text(encoding="utf-8"), edit.parents[1]):
-            print(f"lint: {edit.relative_to(ROOT)}: {why}", file=sys.stderr)
+        if why := why_not(edit.text(), edit.folder):
+            print(f"lint: {edit.path.relative_to(ROOT)}: {why}", file=sys.stderr)
             wrong += 1
     return 1 if wrong else 0
 

@@ -9,6 +9,7 @@ from pathlib import Path
 
 from command_lines.ending import DONE, end_orderly, status_of, teller
 from command_lines.parsing import count, parser_of
+from command_lines.progress import Progress
 from desk_copy.copying import Copied, copy_desk
 from desk_copy.crowding import crowded
 from desk_copy.places import alone, keep_latest, named, put, unfinished
@@ -74,8 +75,13 @@ def told(database: Path, copied: Copied) -> str:
 
 def copy_into(folder: Path, file: Path, seconds: int) -> Copied:
     """Takes a copy into the folder, and tries it."""
-    copied = copy_desk(file, folder, seconds)
-    try_copy(folder / file.name, file)
+    progress = Progress(PROGRAM)
+    try:
+        copied = copy_desk(file, folder, seconds, progress)
+        progress.show(f"{file}: SQLite tries the copy")
+        try_copy(folder / file.name, file)
+    finally:
+        progress.end()
     for line in crowded(folder / file.name):
         tell(line)
     return copied

@@ -8,13 +8,13 @@ written in between.
 import errno
 import fcntl
 import os
-import shutil
 import stat
 import time
 from pathlib import Path
-from typing import NamedTuple
+from typing import BinaryIO, NamedTuple
 
 from command_lines.ending import Fault
+from command_lines.progress import NOBODY, Progress
 
 # Longer than each step of that clock, which are 10 ms at most.
 REST = 100_000_000
@@ -66,16 +66,18 @@ def standing(file: Path) -> Standing | None:
 
 
 class Patience:
-    """How long a copy is tried."""
+    """How long a copy is tried, and who is shown that it waits."""
 
-    def __init__(self, seconds: float):
+    def __init__(self, seconds: float, progress: Progress):
         self.seconds = seconds
+        self.progress = progress
         self.end = time.monotonic() + seconds
 
     def spend(self, file: Path, seconds: float) -> None:
         """Waits so long. Fault at the end of the patience."""
         if time.monotonic() + seconds > self.end:
             raise Fault(f"{file}: it was never left as it is for long enough, in {self.seconds:g} s")
+        self.progress.show(f"{file}: waiting for a moment in which the desk writes nothing", is_new=False)
         time.sleep(seconds)
 
 
@@ -91,7 +93,15 @@ def at_rest(file: Path, patience: Patience) -> Standing | None:
         patience.spend(file, (found.latest() + REST - began) / 1e9)
 
 
-def copy_file(source: Path, target: Path) -> None:
+def copy_pieces(old: BinaryIO, new: BinaryIO, name: str, progress: Progress) -> None:
+    size, done = os.fstat(old.fileno()).st_size, 0
+    while piece := old.read(PIECE):
+        progress.bytes(name, done, size)
+        new.write(piece)
+        done += len(piece)
+
+
+def copy_file(source: Path, target: Path, progress: Progress = NOBODY) -> None:
     """Copies what the file has, by sharing it where the file system can."""
     with open(os.open(source, os.O_RDONLY | os.O_NOFOLLOW), "rb") as old, open(target, "wb") as new:
         try:
@@ -99,7 +109,7 @@ def copy_file(source: Path, target: Path) -> None:
         except OSError as error:
             if error.errno in (errno.EIO, errno.ENOSPC, errno.EDQUOT):
                 raise
-            shutil.copyfileobj(old, new, PIECE)
+            copy_pieces(old, new, source.name, progress)
 
 
 def head_of(log: Path) -> bytes:
@@ -121,7 +131,7 @@ def copy_log(database: Path, found: Standing, head: bytes, folder: Path, patienc
         target.unlink(missing_ok=True)
         if log_found:
             try:
-                copy_file(log, target)
+                copy_file(log, target, patience.progress)
             except FileNotFoundError:
                 continue
         if standing(database) != found or head_of(log) != head:
@@ -131,20 +141,20 @@ def copy_log(database: Path, found: Standing, head: bytes, folder: Path, patienc
         patience.spend(log, 0)
 
 
-def copy_desk(database: Path, folder: Path, seconds: float) -> Copied:
+def copy_desk(database: Path, folder: Path, seconds: float, progress: Progress = NOBODY) -> Copied:
     """Copies both files of a desk into the folder, under their names, within that time.
 
     The database was not written from before it was copied to the end, and the log not from before it was copied to
     the end: so both files were what was copied when the copy of the log began. The log did not begin anew either, so
     it has each page that a write of the database, held up since before, may still have been about to change.
     """
-    patience = Patience(seconds)
+    patience = Patience(seconds, progress)
     while True:
         found = at_rest(database, patience)
         if found is None:
             raise Fault(f"{database}: there is no such file")
         head = head_of(log_of(database))
-        copy_file(database, folder / database.name)
+        copy_file(database, folder / database.name, progress)
         if copied := copy_log(database, found, head, folder, patience):
             return copied
         patience.spend(database, 0)

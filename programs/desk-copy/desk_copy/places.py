@@ -74,7 +74,9 @@ def named(folder: Path, moment: int) -> Path:
 
 def keep_latest(folder: Path, count: int, newest: Path) -> None:
     """Removes all but the latest copies. The newest stays, also where a clock that was ahead has given others later
-    names."""
+    names. One that is being removed is no copy any longer: a run that is killed would leave a part of it."""
     others = sorted(each for each in folder.iterdir() if is_name(each.name) and each != newest)
     for old in others[: max(0, len(others) + 1 - count)]:
-        shutil.rmtree(old)
+        removed = folder / f"{UNFINISHED}{old.name}"
+        os.rename(old, removed)
+        shutil.rmtree(removed)

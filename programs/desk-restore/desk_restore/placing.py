@@ -2,6 +2,7 @@
 
 import contextlib
 import fcntl
+import glob
 import os
 import shutil
 import time
@@ -11,7 +12,7 @@ from typing import BinaryIO
 
 from command_lines.ending import Fault
 from desk_copy.copying import PIECE, log_of
-from desk_copy.places import NAME, settle
+from desk_copy.places import NAME, is_name, settle
 from desk_restore.users import Owner
 
 # Where SQLite locks a database: an open desk has all of it.
@@ -51,10 +52,24 @@ def is_open(database: Path) -> None:
         raise Fault(f"{database}: another program has it open; stop it before") from None
 
 
+def name_of_before(database: Path) -> Path:
+    """The name that what stands there gets, that of the present second. Where a run was killed that had moved the
+    database alone, its log gets the name that it has."""
+    named = database.with_name(f"{database.name}.{time.strftime(NAME, time.gmtime())}")
+    if database.exists():
+        return named
+    names = (each for each in database.parent.glob(f"{glob.escape(database.name)}.*") if is_name(each.suffix[1:]))
+    latest = max(names, default=named)
+    return named if log_of(latest).exists() else latest
+
+
 def exchange(new: Path, database: Path) -> Path | None:
-    """Gives the files that stand there the name of the present second behind theirs, and the new ones their place. The
-    database comes last: until it is there, no desk starts. The name of what stood there is given, if anything did."""
-    before = database.with_name(f"{database.name}.{time.strftime(NAME, time.gmtime())}")
+    """Gives the files that stand there another name, and the new ones their place. The database comes last: until it is
+    there, no desk starts. The name of what stood there is given, if anything did."""
+    before = name_of_before(database)
+    # So that whoever finds a name without a log knows that a run was killed before it moved that.
+    if database.exists() and not log_of(database).exists():
+        log_of(database).touch()
     moves = [(database, before), (log_of(database), log_of(before))]
     moves += [(new / file.name, file) for file in (log_of(database), database)]
     made: list[tuple[Path, Path]] = []

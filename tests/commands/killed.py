@@ -1,0 +1,69 @@
+"""Kills programs beside the desk at each of their system calls that writes, renames, syncs or sends, and runs them again.
+
+    tests/killed [--most N] [--program PROGRAM] [NAME..]
+    tests/killed --list
+
+It needs Debian's strace. A run that nobody kills is traced; then there is one for each such call of the program itself,
+which is killed (SIGKILL) as it comes to the call. The state that it leaves is judged, and the one that the next run
+makes of it: no file that was taken is lost or taken as two, nothing is called a copy that is not whole, no number is
+given twice. With --most only N calls that rename a file are tried of each, and half as many others, as far apart as can
+be.
+
+A line with the counts is written for each program, and one for each state that is wrong. Status 0; 1 where one is; 2
+where there is no strace, program or such a NAME.
+"""
+
+import argparse
+import shutil
+import sys
+import tempfile
+from pathlib import Path
+
+from tests.kills import SCENARIOS
+from tests.kills.scenarios import at_each_point, told
+from tests.program.room import Room
+from tests.running import PROGRAM
+
+
+def arguments() -> argparse.Namespace:
+    parser = argparse.ArgumentParser(
+        "tests/killed", description=__doc__, formatter_class=argparse.RawDescriptionHelpFormatter
+    )
+    parser.add_argument("--most", type=int, metavar="N")
+    parser.add_argument("--program", type=Path, default=PROGRAM, help="the built desk; the proved one without it")
+    parser.add_argument("--list", action="store_true", help="write the names, and kill nothing")
+    parser.add_argument("names", metavar="NAME", nargs="*")
+    return parser.parse_args()
+
+
+def try_one(name: str, program: Path, most: int | None) -> int:
+    """Kills a program at its calls, and gives how many states were wrong."""
+    with tempfile.TemporaryDirectory(prefix="onixdesk-") as folder:
+        scenario = SCENARIOS[name](Room(program, Path(folder)))
+        try:
+            judged = at_each_point(scenario, most)
+        finally:
+            scenario.close()
+    for line in judged.wrong:
+        print(f"{name}: {line}", flush=True)
+    print(told(name, judged), flush=True)
+    return len(judged.wrong)
+
+
+def main() -> int:
+    given = arguments()
+    names = given.names or [*SCENARIOS]
+    if given.list:
+        print("\n".join(SCENARIOS))
+        return 0
+    why = next((f"there is no {name}; --list tells which there are" for name in names if name not in SCENARIOS), "")
+    why = why or ("" if shutil.which("strace") else "no strace is here (apt-get install strace)")
+    if why := why or ("" if given.program.exists() else f"no program {given.program}; make build builds it"):
+        print(f"tests/killed: {why}", file=sys.stderr)
+        return 2
+    wrong = sum(try_one(name, given.program.resolve(), given.most) for name in names)
+    return 1 if wrong else 0
+
+
+if __name__ == "__main__":
+    sys.exit(main())

@@ -1,0 +1,29 @@
+"""Programs beside the desk, killed at some of their system calls; tests/killed tries all."""
+
+import shutil
+from collections.abc import Iterator
+from functools import partial
+
+from tests.kills import SCENARIOS
+from tests.kills.scenarios import at_each_point
+from tests.program.room import Group, Room
+from tests.running import Outcome, left_out
+
+# Of each program so many calls that give a file another name, and half as many of the others.
+MOST = 6
+
+
+def killed_at_some(name: str, room: Room) -> Iterator[Outcome]:
+    if not shutil.which("strace"):
+        yield left_out("kills at system calls, since there is no strace")
+        return
+    scenario = SCENARIOS[name](room)
+    try:
+        judged = at_each_point(scenario, MOST)
+    finally:
+        scenario.close()
+    yield Outcome(f"kills: {name}", judged.wrong, [])
+    yield Outcome(f"kills: {name}: it was killed", judged.tried >= MOST // 2, True)
+
+
+GROUPS = [Group(name, partial(killed_at_some, name)) for name in SCENARIOS]

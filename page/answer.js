@@ -7,7 +7,7 @@ import { inWords, timeInWords } from "./days.js";
 import {
   betterInWords, conditionsOf, copiesInWords, detailsOf, kindOfAnswer, otherRules, sentenceOf, sumInWords, whyOf,
 } from "./decision.js";
-import { element } from "./elements.js";
+import { element, found } from "./elements.js";
 import { areUnpriced, keyOf, ORDERS } from "./offers.js";
 import { offersInWords, offersTable, referencesTable } from "./offers-table.js";
 import { kindOf } from "./price-types.js";
@@ -24,7 +24,6 @@ const KEY = "onixdesk-order";
 // How many offers are shown at first: a book of more is one that many small sellers offer.
 const FIRST_OFFERS = 50;
 
-const found = (id) => document.getElementById(id);
 const isOfChosen = (choice) => (offer) => keyOf(offer) === keyOf(choice);
 
 /** The order that the buyer chose last, in this browser. */

@@ -7,6 +7,7 @@ import { CalendarPart } from "./calendar-part.js";
 import { copiesInWords } from "./decision.js";
 import { today } from "./days.js";
 import { isAbandoned } from "./desk.js";
+import { found } from "./elements.js";
 import { readAll } from "./fields.js";
 import { Form, markAll, refuse, textsFor, yearAround } from "./form.js";
 import { keyOf } from "./offers.js";
@@ -22,8 +23,6 @@ const LOOK = 5_000;
 
 // After how long a wait for an answer is said to be one.
 const LATE = 3_000;
-
-const found = (id) => document.getElementById(id);
 
 const asText = (values) => JSON.stringify(ASKED.map((name) => values[name]));
 

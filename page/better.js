@@ -13,10 +13,17 @@ import { say } from "./wording.js";
 /** How many days ahead a change of a price is told. */
 export const DAYS_AHEAD = 30;
 
-/** The offers that a rule admits, without the one that is ordered, if there is one. */
+const withoutOrdered = (offers, ordered) =>
+  offers.filter((offer) => ordered === undefined || keyOf(offer) !== keyOf(ordered));
+
+/** The offers that a rule admits at their prices, without the one that is ordered, if there is one. */
 export function othersAdmitted(offers, ordered, { rules }) {
-  const isOrdered = (offer) => ordered !== undefined && keyOf(offer) === keyOf(ordered);
-  return offers.filter((offer) => !isOrdered(offer) && areAdmitting(rules, offer));
+  return withoutOrdered(offers, ordered).filter((offer) => areAdmitting(rules, offer));
+}
+
+/** The offers that a rule admits at some price or other, without the one that is ordered, if there is one. */
+export function othersAdmittable(offers, ordered, { rules }) {
+  return withoutOrdered(offers, ordered).filter((offer) => areAdmitting(rules, { ...offer, amount: null }));
 }
 
 /** The other numbers of copies that are better at one of the offers, with that offer. */
@@ -33,7 +40,9 @@ function betterAt(offer, { answers, quantity, ordered }) {
 export function elsewhereInWords(offers, question, settings) {
   const { ordered, currency } = question;
   if (ordered === undefined) return [];
-  const found = othersAdmitted(offers, ordered, settings).flatMap((offer) => betterAt(offer, question));
+  const found = othersAdmittable(offers, ordered, settings)
+    .flatMap((offer) => betterAt(offer, question))
+    .filter(({ offer, amount }) => areAdmitting(settings.rules, { ...offer, amount }));
   const sum = ({ amount, quantity }) => times(amount, quantity);
   found.sort((one, other) => compareAmounts(sum(one), sum(other)));
   return found.map(({ name, offer, amount, quantity }) => say(`article.${name}Elsewhere`, {
@@ -56,23 +65,22 @@ export function onlyMoreInWords(offers, { answers, ordered, currency }, settings
   });
 }
 
-/** The first price of an offer ahead of a day that is below one; with none, the first one that there is. */
-function fallOf({ later }, day, amount) {
+/** The first price of an offer within the days ahead that a rule admits and that is below an amount, if there is one. */
+function fallOf(offer, day, limit, rules) {
   const last = plusDays(day, DAYS_AHEAD);
-  return later.find((span) => span.amount !== null && span.from <= last
-    && (amount === undefined || compareAmounts(span.amount, amount) < 0));
+  return offer.later.find(({ amount, from }) => amount !== null && from <= last
+    && (limit === undefined || compareAmounts(amount, limit) < 0) && areAdmitting(rules, { ...offer, amount }));
 }
 
 /**
  * Who of the others takes less than what is ordered within thirty days of a day, or, where nothing is, has a price
- * then: a sentence for each, the least price first. Each of the offers has what comes `later`.
+ * then that a rule admits: a sentence for each, the least price first. Each of the offers has what comes `later`.
  */
 export function fallsInWords(offers, { ordered, day, currency }, settings) {
-  const isBelow = (found, offer) => areAdmitting(settings.rules, { ...offer, amount: found.amount });
-  const falls = othersAdmitted(offers, ordered, settings)
-    .filter(({ amount, later }) => later !== undefined && (ordered !== undefined || amount === null))
-    .map((offer) => ({ offer, found: fallOf(offer, day, ordered?.amount) }))
-    .filter(({ offer, found }) => found !== undefined && isBelow(found, offer));
+  const falls = withoutOrdered(offers, ordered)
+    .filter(({ later }) => later !== undefined)
+    .map((offer) => ({ offer, found: fallOf(offer, day, (ordered ?? offer).amount ?? undefined, settings.rules) }))
+    .filter(({ found }) => found !== undefined);
   falls.sort((one, other) => compareAmounts(one.found.amount, other.found.amount));
   return falls.map(({ offer, found }) => say("article.falls", {
     wholesaler: wholesalerOf(settings, offer.series),

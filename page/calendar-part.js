@@ -3,13 +3,12 @@
 import { RANGE } from "./address.js";
 import { calendarInWords, calendarPicture, calendarTable, legendOf } from "./calendar.js";
 import { endOfMonths, lengthOf, plusDays } from "./days.js";
+import { found } from "./elements.js";
 import { readAll } from "./fields.js";
 import { markAll } from "./form.js";
 import { keyOf } from "./offers.js";
 
 const YEAR = 12;
-
-const found = (id) => document.getElementById(id);
 
 function moved({ from, until }, lengths) {
   const days = lengthOf({ from, until }) * lengths;

@@ -82,10 +82,10 @@ function chosenInWords(kind, answer, settings) {
 /** The sentence of an answer. */
 export function sentenceOf(answer, settings) {
   const kind = kindOfAnswer(answer);
-  const { quantity, type } = answer.question;
+  const { quantity, type, currency } = answer.question;
   if (kind === "none") return say("article.noOffers");
   if (kind === "unpriced") {
-    const values = { type: codeInWords("priceTypes", type), copies: copiesInWords(quantity) };
+    const values = { type: codeInWords("priceTypes", type), copies: copiesInWords(quantity), currency };
     return say("article.unpriced", values);
   }
   if (kind === "notChosen") return say("article.notChosen");

@@ -3,6 +3,9 @@
 
 const DRAWING = "http://www.w3.org/2000/svg";
 
+/** The element of the page that has that id. */
+export const found = (id) => document.getElementById(id);
+
 function built(made, attributes, children) {
   for (const [name, value] of Object.entries(attributes)) {
     if (value !== undefined) made.setAttribute(name, value);

@@ -3,7 +3,7 @@
 
 import { ASKED, RANGE } from "./address.js";
 import { endOfMonths, inFullWords, isDay, plusMonths, today } from "./days.js";
-import { element } from "./elements.js";
+import { element, found } from "./elements.js";
 import { readAll } from "./fields.js";
 import { codeInWords, codesOf, formatter, say, sayParts, wordsOfCode } from "./wording.js";
 
@@ -12,8 +12,6 @@ const NAMES = { country: "region", currency: "currency" };
 
 // The fields that stand behind "change".
 const FOLDED = ["day", "country", "currency", "type"];
-
-const found = (id) => document.getElementById(id);
 
 /** From a month before a day on, a year at once. */
 export function yearAround(day) {

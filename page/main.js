@@ -2,7 +2,7 @@
 
 import { addressOf, readAddress } from "./address.js";
 import { Article } from "./article.js";
-import { element } from "./elements.js";
+import { element, found } from "./elements.js";
 import { Missing } from "./missing.js";
 import { Order } from "./order.js";
 import { Reports } from "./reports.js";
@@ -11,8 +11,6 @@ import { Scanner } from "./scan.js";
 import { areRenewed, loadSettings, loadWords } from "./settings.js";
 import { areTitlesKept } from "./titles.js";
 import { formatter, labelAll, say, sayCount, speak } from "./wording.js";
-
-const found = (id) => document.getElementById(id);
 
 /** What a view tells of the desk, in the note above it. */
 const watch = {

@@ -1,14 +1,12 @@
 // The view of missing messages: for each wholesaler where its series stands, how many wait, and what is missing.
 
 import { inWords, timeInWords, today } from "./days.js";
-import { element } from "./elements.js";
+import { element, found } from "./elements.js";
 import { allOf, howMany, rangesInShort } from "./reports.js";
 import { lastOfSender, rangesOfSender } from "./request.js";
 import { seriesInWords } from "./settings.js";
 import { strip, stripLegend } from "./strip.js";
 import { say, sayCount } from "./wording.js";
-
-const found = (id) => document.getElementById(id);
 
 function rangeInWords(range) {
   const [from, until] = range;

@@ -41,7 +41,7 @@ function availabilityCell({ availability }) {
 /** The price of an offer, or that it has none of the type for so few copies, in the currency. */
 function priceCell({ amount }, { type, currency, quantity }) {
   if (amount !== null) return [money(amount, currency)];
-  const words = say(`article.noPriceOf.${kindOf(type)}`, { copies: copiesInWords(quantity), currency });
+  const words = say("article.noPriceOf", { type, copies: copiesInWords(quantity), currency });
   return [element("span", { class: "lacking" }, words)];
 }
 

@@ -90,15 +90,22 @@ export function stateOf({ wrong, answer, isUnsure, change, right = [], ...book }
   return { offer, isByHand, need };
 }
 
-/** The offers that have no price for the question, of another wholesaler than the one that is ordered. */
-export function unpricedBeside({ offers }, ordered) {
-  return offers.filter((offer) => !isPriced(offer) && offer.series !== ordered?.series);
+/** Whether an offer has a price at one of the numbers of copies that are known. */
+const hasPriceIn = (copies) => (offer) => copies.some((answer) => answer.offers.some(
+  (other) => keyOf(other) === keyOf(offer) && isPriced(other),
+));
+
+/**
+ * The offers that have no price for the question, nor at another number of copies that is known, of another wholesaler
+ * than the one that is ordered.
+ */
+export function unpricedBeside({ offers, copies = [] }, ordered) {
+  const hasPrice = hasPriceIn(copies);
+  return offers.filter((offer) => !isPriced(offer) && offer.series !== ordered?.series && !hasPrice(offer));
 }
 
 /** The offers that a rule admits and that have no price, at none of the numbers of copies that are known. */
 export function unpricedIn(offers, { rules }, copies = []) {
-  const hasPrice = (offer) => copies.some((answer) => answer.offers.some(
-    (other) => keyOf(other) === keyOf(offer) && isPriced(other),
-  ));
+  const hasPrice = hasPriceIn(copies);
   return offers.filter((offer) => !isPriced(offer) && areAdmitting(rules, offer) && !hasPrice(offer));
 }

@@ -2,7 +2,7 @@
 
 import { ask } from "./desk.js";
 import { dayKeys, rangeKeys } from "./fields.js";
-import { othersAdmitted } from "./better.js";
+import { othersAdmittable } from "./better.js";
 import { keyOf } from "./offers.js";
 import { agree, lastAhead, LEFT_OUT, offersOfCalendar, orderedOf, unpricedIn } from "./order-answers.js";
 import { askedOn, MOST_COPIES, nextOfAll, nextQuantity, withAnswer } from "./quantities.js";
@@ -56,8 +56,9 @@ export class OrderAsking {
   #settings;
   #signal;
   #watchOfOne;
-  // How many questions may still look for what is better.
-  #left = 0;
+  // How many questions may still look for what is better, and the books for which some were counted.
+  #left = MORE_QUESTIONS;
+  #counted = new Set();
 
   constructor(question, settings, signal, watch) {
     this.#question = question;
@@ -73,7 +74,15 @@ export class OrderAsking {
   }
 
   #ask(path, keys) {
+    this.#left -= 1;
     return ask(path, keys, this.#signal, this.#watchOfOne());
+  }
+
+  /** Counts the questions that a book may have: all of them, or, where it has its answer, without those that it had. */
+  #count(book, had = 0) {
+    if (this.#counted.has(book)) return;
+    this.#counted.add(book);
+    this.#left += QUESTIONS - had;
   }
 
   #askOf({ isbn, copies }, what, changes = {}) {
@@ -84,12 +93,12 @@ export class OrderAsking {
     return this.#ask(`articles/${isbn}/${what}`, keys);
   }
 
-  /** The offers of a book with what they cost: with the change ahead where it is ordered. */
-  async #offersOf(book, isOrdered) {
-    const outcome = await this.#askOf(book, isOrdered ? "calendar" : "price");
+  /** The offers of a book with what they cost: with what comes ahead, where nobody leaves it out. */
+  async #offersOf(book, isWanted) {
+    const outcome = await this.#askOf(book, isWanted ? "calendar" : "price");
     if (outcome.kind !== "answer") return { refusal: outcome };
     const { offers } = outcome.body;
-    return { offers: isOrdered ? offersOfCalendar(offers, this.#question.day) : offers };
+    return { offers: isWanted ? offersOfCalendar(offers, this.#question.day) : offers };
   }
 
   /** The offers of a book by another type or in another currency; none where the desk refuses. */
@@ -103,12 +112,6 @@ export class OrderAsking {
     return this.#retailType === "" ? [] : this.#offersWith(book, { type: this.#retailType });
   }
 
-  /** Whether one more question may look for what is better. */
-  #isAllowed() {
-    this.#left -= 1;
-    return this.#left >= 0;
-  }
-
   /** The offers of a book at another number of copies, as an answer; `undefined` where the desk refuses. */
   async #askQuantity(book, quantity) {
     const outcome = await this.#askOf({ ...book, copies: quantity }, "price");
@@ -117,34 +120,38 @@ export class OrderAsking {
 
   /** The same, where one more question is allowed. */
   #askAllowed(book, quantity) {
-    return this.#isAllowed() ? this.#askQuantity(book, quantity) : undefined;
+    return this.#left > 0 ? this.#askQuantity(book, quantity) : undefined;
   }
 
-  /** The offers of a book at the numbers of copies from which on they have a price, where some have none for so few. */
-  async #moreOf(book, offers) {
-    if (unpricedIn(offers, this.#settings).length === 0) return undefined;
-    const here = { quantity: book.copies, offers };
-    const most = await this.#askQuantity(book, MOST_COPIES);
-    const answers = most === undefined ? [here] : withAnswer([here], most);
+  /**
+   * Looks from how many copies on an answered book of which nothing is ordered has a price, where somebody has none
+   * for so few: `copies` of its answer.
+   */
+  async lookForMore(book) {
+    const { offers } = book.answer;
+    if (unpricedIn(offers, this.#settings).length === 0) return;
+    const known = await this.#withCopies(book, MOST_COPIES);
     const next = (all) => nextQuantity(all, book.copies);
-    return askedOn(answers, next, (quantity) => this.#askQuantity(book, quantity));
+    book.answer.copies = await askedOn(known, next, (quantity) => this.#askAllowed(book, quantity));
   }
 
   /**
    * Looks for what is better than what is ordered of answered books: other numbers of copies, `copies` of an answer
-   * then, and prices by other types and in other currencies, `others`. What tells most for one question is asked of
-   * all books first; `tell` hears of a book after each step, with how many steps are done and how many there are.
+   * then, and, of others too, prices by other types and in other currencies, `others`. What tells most for one
+   * question is asked of all books first; `tell` hears of a book after each step, with how many steps are done and how
+   * many there are.
    */
   async lookForBetter(books, tell) {
+    const ofOrdered = (act) => (book) => (book.answer.ordered === undefined ? undefined : act(book));
     const steps = [
-      async (book) => { book.answer.most = await this.#withCopies(book, MOST_COPIES); },
-      async (book) => { book.answer.copies = await this.#copiesOf(book, book.answer.most); },
+      ofOrdered(async (book) => { book.answer.most = await this.#withCopies(book, MOST_COPIES); }),
+      ofOrdered(async (book) => { book.answer.copies = await this.#copiesOf(book, book.answer.most); }),
       async (book) => { book.answer.others = await this.#othersOf(book); },
-      (book) => this.#askFewer(book, 1),
-      (book) => this.#askFewer(book, Math.max(book.copies - 1, 1)),
+      ofOrdered((book) => this.#askFewer(book, 1)),
+      ofOrdered((book) => this.#askFewer(book, Math.max(book.copies - 1, 1))),
     ];
-    const before = this.#retailType === "" ? 2 : 3;
-    this.#left = books.length * (QUESTIONS - before) + MORE_QUESTIONS;
+    const had = this.#retailType === "" ? 2 : 3;
+    for (const book of books) this.#count(book, had);
     let done = 0;
     for (const step of steps) {
       await eachOf(books, async (book) => {
@@ -161,7 +168,7 @@ export class OrderAsking {
    */
   #copiesOf(book, known) {
     const { offers, ordered } = book.answer;
-    const looked = othersAdmitted(offers, ordered, this.#settings);
+    const looked = othersAdmittable(offers, ordered, this.#settings);
     const next = (all) => nextOfAll(all, book.copies, ordered, looked);
     return askedOn(known, next, (quantity) => this.#askAllowed(book, quantity));
   }
@@ -190,7 +197,7 @@ export class OrderAsking {
       ...NET_TYPES.filter((other) => other !== type).map((other) => ({ type: other })),
     ];
     for (const change of lacking.length > 0 ? changes : []) {
-      if (!this.#isAllowed()) break;
+      if (this.#left <= 0) break;
       for (const offer of await this.#offersWith(book, change)) found.push({ ...offer, ...change });
     }
     const keys = lacking.map(keyOf);
@@ -199,29 +206,28 @@ export class OrderAsking {
 
   /**
    * The choice and the offers of a book, of one moment if that can be had, or a `refusal`. Where it is ordered,
-   * `ordered` is the offer; else, where somebody has no price for so few, `copies` has the offers at other numbers.
-   * `retail` are the offers by the type of recommended prices.
+   * `ordered` is the offer. `retail` are the offers by the type of recommended prices.
    */
   async answerOf(book, hand) {
+    this.#count(book);
     for (let tries = 1; ; tries += 1) {
       const outcome = await this.#askOf(book, "choice");
       if (outcome.kind !== "answer") return { refusal: outcome };
       const { choice } = outcome.body;
-      const isOrdered = hand === undefined ? choice !== null : hand !== LEFT_OUT;
       const [{ offers, refusal }, retail] = await Promise.all([
-        this.#offersOf(book, isOrdered), this.#retailOf(book),
+        this.#offersOf(book, hand !== LEFT_OUT), this.#retailOf(book),
       ]);
       if (refusal !== undefined) return { refusal };
       if (tries < TRIES && !agree(choice, offers)) continue;
       const answer = { choice, offers, retail, at: Date.now() };
       const { offer } = orderedOf(answer, hand);
-      if (offer === undefined) return { ...answer, copies: await this.#moreOf(book, offers) };
-      return { ...answer, ordered: offer };
+      return offer === undefined ? answer : { ...answer, ordered: offer };
     }
   }
 
   /** Whether what is ordered of a book is still as it was answered. */
   async isAsBefore(book, { offer, isByHand }) {
+    this.#left += 1;
     const outcome = await this.#askOf(book, isByHand ? "price" : "choice");
     if (outcome.kind !== "answer") return false;
     const { offers, choice } = outcome.body;

@@ -1,7 +1,7 @@
 // The columns of a pasted table: which has the ISBN and which the copies, above three of its rows, for a buyer to
 // change; what was chosen is kept for tables with the same heading.
 
-import { element, table } from "./elements.js";
+import { element, found, table } from "./elements.js";
 import { keep, recall } from "./storage.js";
 import { say } from "./wording.js";
 
@@ -13,7 +13,6 @@ const MOST_HEADINGS = 20;
 const OPEN = "";
 const NONE = "none";
 
-const found = (id) => document.getElementById(id);
 const headingOf = (names) => names.map((name) => name.trim().toLowerCase()).join("\t");
 
 /** What was chosen for headings, the last one first; nothing where something else lies there. */
@@ -24,8 +23,9 @@ function kept() {
 
 /** A column as one can choose it: its number, so that a key finds it, and its name or its first value. */
 function columnInWords(at, { names, samples }) {
-  const name = names?.[at] ?? samples[0]?.[at] ?? "";
-  return say("order.column", { number: String(at + 1), name });
+  const number = String(at + 1);
+  if (names !== undefined) return say("order.column", { number, name: names[at] ?? "" });
+  return say("order.columnLike", { number, name: samples[0]?.[at] ?? "" });
 }
 
 function optionsOf(columns, chosen, others) {

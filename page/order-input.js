@@ -1,5 +1,6 @@
 // The lines of an order list as they are pasted, typed or opened, and the columns of a table that they are.
 
+import { found } from "./elements.js";
 import { isbnsIn } from "./isbn-in-text.js";
 import { Columns } from "./order-columns.js";
 import { MOST_LINES, piecesOf, readList, textOf } from "./order-lines.js";
@@ -11,8 +12,6 @@ const MOST_BYTES = 1_000_000;
 // A longer text is read once nobody has typed for so many milliseconds.
 const LONG = 4_000;
 const PAUSE = 150;
-
-const found = (id) => document.getElementById(id);
 
 /** Says what is wrong with the lines, or, with the empty text, that nothing is. */
 function tellWrong(words) {
@@ -160,11 +159,21 @@ export class OrderInput {
     lines.addEventListener("keydown", (event) => {
       if (event.key === "Enter" && (event.ctrlKey || event.metaKey)) found("list-form").requestSubmit();
     });
+    this.#holdHeight(lines);
     found("list-form").addEventListener("submit", (event) => {
       event.preventDefault();
       clearTimeout(this.#timer);
       this.#acts.lookUp();
     });
+  }
+
+  /** The lines keep their height while something else is pressed: else it would move from under the press. */
+  #holdHeight(lines) {
+    document.addEventListener("pointerdown", () => {
+      if (document.activeElement === lines) lines.classList.add("held");
+    }, true);
+    const release = () => setTimeout(() => lines.classList.remove("held"), 0);
+    for (const kind of ["pointerup", "pointercancel"]) document.addEventListener(kind, release, true);
   }
 
   #readFiles() {

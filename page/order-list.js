@@ -2,7 +2,7 @@
 
 import { keyOf } from "./offers.js";
 import { filledRows } from "./list-rows.js";
-import { rightKey, stateOf } from "./order-answers.js";
+import { LEFT_OUT, rightKey, stateOf } from "./order-answers.js";
 
 const areSame = (one, other) => JSON.stringify(one) === JSON.stringify(other);
 
@@ -22,15 +22,17 @@ function isKept(before, book, made) {
 }
 
 export class OrderList {
-  /** The text that was looked up, and the question (day, country, currency, type). */
+  /** The text that was looked up, the line of its heading if it has one, and the question (day, country, currency, type). */
   text = "";
+  heading;
   question;
   books = [];
   isAsking = false;
   // By ISBN.
   #hands = new Map();
-  // When orders left the page, by series, that of all without one.
+  // When orders left the page, by series, that of all without one; and the books that left it, in an order or alone.
   #saved = new Map();
+  #gone = new Set();
   #shop;
 
   /** `shop` has from how many copies (`manyCopies`) and what sum on (`manyMoney`, in `currency`) a person looks. */
@@ -53,7 +55,7 @@ export class OrderList {
     });
     const isbns = books.map(({ isbn }) => isbn);
     for (const isbn of this.#hands.keys()) if (!isSame || !isbns.includes(isbn)) this.#hands.delete(isbn);
-    this.#saved.clear();
+    this.noteChange();
   }
 
   /** How many choices by hand the list has. */
@@ -63,7 +65,7 @@ export class OrderList {
 
   forgetHands() {
     this.#hands.clear();
-    this.#saved.clear();
+    this.noteChange();
   }
 
   handOf({ isbn }) {
@@ -74,7 +76,7 @@ export class OrderList {
   choose({ isbn }, hand) {
     if (hand === undefined) this.#hands.delete(isbn);
     else this.#hands.set(isbn, hand);
-    this.#saved.clear();
+    this.noteChange();
   }
 
   /** Keeps that a buyer says that a book is right, for which a person should look. */
@@ -89,9 +91,15 @@ export class OrderList {
     return stateOf(book, this.handOf(book), { copies: manyCopies, money, type: this.question?.type });
   }
 
-  /** Notes in which way and when the order of a series, or, with `undefined`, of all left the page. */
-  noteSaved(series, way, at) {
+  /** Notes in which way and when books of the order of a series, or, with `undefined`, of all left the page. */
+  noteSaved(series, books, way, at) {
     this.#saved.set(series, [...this.savedOf(series), { way, at }]);
+    this.noteGone(books);
+  }
+
+  /** Notes that books left the page, if in no order. */
+  noteGone(books) {
+    for (const book of books) this.#gone.add(book);
   }
 
   /** The ways and times in which an order left the page since the list changed. */
@@ -102,21 +110,21 @@ export class OrderList {
   /** The list is another one than what left the page. */
   noteChange() {
     this.#saved.clear();
+    this.#gone.clear();
   }
 
-  /** Whether something of the list is ordered that has not left the page. */
+  /** Whether the list has a book that has not left the page, but for those that a hand left out. */
   isUnsaved() {
-    if (this.#saved.has(undefined)) return false;
-    return this.ordered().some(({ state: { offer } }) => !this.#saved.has(offer.series));
+    return this.books.some((book) => !this.#gone.has(book) && this.handOf(book) !== LEFT_OUT);
   }
 
-  /** The lines of the text whose books are in no order, or are among those left out. */
+  /** The books that are in no order, or are among those left out, with their lines of the text below its heading. */
   rest(leftOut = []) {
     const ordered = this.ordered().map(({ book }) => book).filter((book) => !leftOut.includes(book));
     const books = this.books.filter((book) => !ordered.includes(book));
     const lines = new Set(books.flatMap((book) => book.lines));
-    const rows = filledRows(this.text).filter(({ line }) => lines.has(line)).map(({ row }) => row);
-    return { count: books.length, rows };
+    const rows = filledRows(this.text).filter(({ line }) => lines.has(line) || line === this.heading);
+    return { books, count: books.length, rows: rows.map(({ row }) => row) };
   }
 
   /** The books with their states; those that need a person first, once all are answered. */
@@ -166,9 +174,18 @@ export class OrderList {
     return this.askable().filter((book) => this.isShort(book));
   }
 
-  /** The books whose answers do not yet say whether another number of copies is better. */
-  withoutCopies() {
-    return this.askable().filter(({ answer }) => answer?.ordered !== undefined && answer.copies === undefined);
+  /** The books whose answers do not yet say what is better than what is ordered, or what there is in its place. */
+  withoutBetter() {
+    return this.askable().filter((book) => {
+      const { offers = [], ordered, copies, others } = book.answer ?? {};
+      if (ordered !== undefined) return copies === undefined;
+      return offers.length > 0 && others === undefined && this.handOf(book) === undefined;
+    });
+  }
+
+  /** The answered books of which nothing is ordered, though no hand leaves them out, and that nobody has for nothing. */
+  withoutOrder() {
+    return this.withoutBetter().filter(({ answer }) => answer.ordered === undefined && answer.copies === undefined);
   }
 
   /** The series of all offers that were answered. */

@@ -25,7 +25,7 @@ export function needsList(rows, goTo) {
       const link = element("button", { type: "button", class: "link" }, linesInWords(book));
       link.setAttribute("aria-label", say("order.toLine", { lines: linesInWords(book) }));
       link.addEventListener("click", () => goTo(book, reason));
-      return [", ", link];
+      return [" ", link];
     });
     const lines = element("span", {}, ...links.slice(1));
     return element("li", {}, ...sayParts(`order.reasons.${reason}`, { count: counted(books.length), lines }));

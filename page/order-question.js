@@ -1,13 +1,14 @@
 // The day, country, currency and price type of an order list: the shop's own, until a buyer sets others.
 
 import { inFullWords, today } from "./days.js";
-import { element } from "./elements.js";
+import { element, found } from "./elements.js";
 import { readAll } from "./fields.js";
 import { codeInWords, codesOf, say, wordsOfCode } from "./wording.js";
 
 const NAMES = ["day", "country", "currency", "type"];
 
-const found = (name) => document.getElementById(`list-${name}`);
+/** The field or the words of the question of that name. */
+const field = (name) => found(`list-${name}`);
 
 function typeInWords(code) {
   const words = wordsOfCode("priceTypes", code);
@@ -26,14 +27,14 @@ export class OrderQuestion {
     const options = codes.map((code) =>
       element("option", { value: code }, codeInWords("priceTypes", code)),
     );
-    found("type").replaceChildren(...options);
+    field("type").replaceChildren(...options);
     for (const name of NAMES) {
-      found(name).addEventListener("input", () => {
+      field(name).addEventListener("input", () => {
         if (name === "day") this.#today = undefined;
         changed();
       });
     }
-    found("usual").addEventListener("click", () => {
+    field("usual").addEventListener("click", () => {
       this.#fill();
       changed();
     });
@@ -43,7 +44,7 @@ export class OrderQuestion {
   #fill() {
     this.#today = today();
     const texts = { day: this.#today, ...this.#usual };
-    for (const name of NAMES) found(name).value = texts[name];
+    for (const name of NAMES) field(name).value = texts[name];
   }
 
   /** The values of the fields, or `undefined` where one is wrong, which then has the focus. */
@@ -53,8 +54,8 @@ export class OrderQuestion {
     this.#mark(problems);
     const first = NAMES.find((name) => problems[name] !== undefined);
     if (first === undefined) return values;
-    found("question").open = true;
-    found(first).focus();
+    field("question").open = true;
+    field(first).focus();
     return undefined;
   }
 
@@ -62,7 +63,7 @@ export class OrderQuestion {
   followToday() {
     if (this.#today === undefined) return;
     this.#today = today();
-    if (found("day").value !== this.#today) found("day").value = this.#today;
+    if (field("day").value !== this.#today) field("day").value = this.#today;
   }
 
   /** The question in words, of which what is not the shop's own stands out. */
@@ -90,14 +91,14 @@ export class OrderQuestion {
   }
 
   #texts() {
-    return Object.fromEntries(NAMES.map((name) => [name, found(name).value]));
+    return Object.fromEntries(NAMES.map((name) => [name, field(name).value]));
   }
 
   #mark(problems) {
     for (const name of NAMES) {
-      found(`${name}-wrong`).textContent = problems[name] ?? "";
-      if (problems[name] === undefined) found(name).removeAttribute("aria-invalid");
-      else found(name).setAttribute("aria-invalid", "true");
+      field(`${name}-wrong`).textContent = problems[name] ?? "";
+      if (problems[name] === undefined) field(name).removeAttribute("aria-invalid");
+      else field(name).setAttribute("aria-invalid", "true");
     }
   }
 }

@@ -1,5 +1,6 @@
 // What an order list shows of its answers: how far it is, the books that need a person, sums, and rows.
 
+import { found } from "./elements.js";
 import { needsList, sumsTable } from "./order-parts.js";
 import { sumsOf } from "./order-sums.js";
 import { orderTable, otherCopies, redraw } from "./order-table.js";
@@ -8,7 +9,6 @@ import { formatter, say, sayCount } from "./wording.js";
 
 const PARTS = ["list-needs", "sums-part", "list-part"];
 
-const found = (id) => document.getElementById(id);
 const clock = (at) => formatter(Intl.DateTimeFormat, { timeStyle: "medium" }).format(at);
 const counted = (number) => formatter(Intl.NumberFormat).format(number);
 
@@ -189,11 +189,11 @@ export class OrderResults {
 
   /** Draws the row of a book anew where another number of copies is better, or somebody has a price otherwise. */
   drawCopies(list, book) {
-    const { offer } = list.stateOf(book);
+    const state = list.stateOf(book);
     const context = this.#context(list);
     const { others = [] } = book.answer;
-    if (offer === undefined || (others.length === 0 && otherCopies(book, offer, context).length === 0)) return;
-    redraw(this.#rowOf(book), book, list.stateOf(book), context);
+    const isBetter = state.offer !== undefined && otherCopies(book, state.offer, context).length > 0;
+    if (others.length > 0 || isBetter) redraw(this.#rowOf(book), book, state, context);
   }
 
   /** Draws the row of a book soon, with those of others that are answered meanwhile. */

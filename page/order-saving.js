@@ -2,8 +2,9 @@
 
 import { money, sumOf, times } from "./amounts.js";
 import { ABOVE, fileNameOf, formOf } from "./csv-form.js";
-import { today } from "./days.js";
-import { element, table } from "./elements.js";
+import { inWords, today } from "./days.js";
+import { copiesInWords } from "./decision.js";
+import { element, found, table } from "./elements.js";
 import { cellsOf, remarkOf } from "./order-cells.js";
 import { csvOf, linesToPaste } from "./order-file.js";
 import { kindOf } from "./price-types.js";
@@ -16,8 +17,6 @@ const AMOUNTS = ["copies", "price", "sum", "rrp", "margin"];
 
 // As long as a browser may take to begin with a file.
 const KEPT = 60_000;
-
-const found = (id) => document.getElementById(id);
 
 /** The names of columns in words; a price of a type that customers pay is a retail price. */
 export function headsOf(columns, type) {
@@ -102,16 +101,22 @@ export function printList(rows) {
 /** What stands once above the order of a wholesaler: each with what it is. */
 function paperHead(series, { settings, order }) {
   const { account = "" } = settings.series.find(({ name }) => name === series) ?? {};
-  const texts = { order, date: today(), shop: settings.shop, address: settings.address, account };
+  const texts = { order, date: inWords(today()), shop: settings.shop, address: settings.address, account };
   return Object.entries(texts).filter(([, text]) => text !== "").map(([name, text]) => (
     element("p", {}, say("order.onPaper", { name: say(`order.columns.${name}`), text }))
   ));
 }
 
+/** The columns of a paper: those of the form that are not above it, and the remark where a price may be old. */
+function columnsOnPaper(rows, series, { settings, isOld }) {
+  const columns = formOf(settings, series).columns.filter((name) => ![...ABOVE, "remark"].includes(name));
+  return rows.some((row) => remarkOf(row, isOld) !== "") ? [...columns, "remark"] : columns;
+}
+
 /** Prints the order of a wholesaler: what its form has, and nothing of another one. */
 export function printOrder(rows, series, context) {
   const { settings, currency, type } = context;
-  const columns = formOf(settings, series).columns.filter((name) => !ABOVE.includes(name));
+  const columns = columnsOnPaper(rows, series, context);
   const heads = headsOf(columns, type).map((name, at) => ({
     name, className: AMOUNTS.includes(columns[at]) ? "amount" : undefined,
   }));
@@ -120,12 +125,13 @@ export function printOrder(rows, series, context) {
     return { cells: columns.map((name) => [element("bdi", {}, cells[name])]) };
   });
   const sum = sumOf(rows.map(({ book, state: { offer } }) => times(offer.amount, book.copies)));
+  const copies = rows.reduce((count, { book }) => count + book.copies, 0);
   const heading = element("h1", { id: "paper-order" }, say("order.paper", { name: wholesalerOf(settings, series) }));
   found("paper").replaceChildren(
     heading,
     ...paperHead(series, context),
     table("paper-order", heads, lines),
-    element("p", { class: "sum" }, say("order.paperSum", { sum: money(sum, currency) })),
+    element("p", { class: "sum" }, say("order.paperSum", { sum: money(sum, currency), copies: copiesInWords(copies) })),
   );
   print(ON_PAPER, []);
 }

@@ -5,7 +5,7 @@ import { difference, money, signedMoney, times } from "./amounts.js";
 import { catalogueLink } from "./catalogue.js";
 import { dayInShort } from "./days.js";
 import { elsewhereInWords, fallsInWords, onlyMoreInWords } from "./better.js";
-import { betterInWords } from "./decision.js";
+import { betterInWords, copiesInWords } from "./decision.js";
 import { element, table, tableRow } from "./elements.js";
 import { isBook } from "./isbn.js";
 import { keyOf } from "./offers.js";
@@ -114,10 +114,11 @@ export function needInWords({ need, offer }, book, { settings, currency, type })
     if (kind === "fault") return `${words} ${say("order.notAgain")}`;
     return kind === "refused" ? say("wrong.refused", { reason }) : words;
   }
+  if (need === "unpriced") return say("order.needs.unpriced", { type, currency, copies: copiesInWords(copies) });
   if (need !== "changed") {
     const sum = offer === undefined ? "" : money(times(offer.amount, copies), currency);
     const many = formatter(Intl.NumberFormat).format(copies ?? 0);
-    return say(`order.needs.${need}`, { written, note, type, currency, sum, copies: many });
+    return say(`order.needs.${need}`, { written, note, sum, copies: many });
   }
   const { series, amount } = change;
   return say("order.needs.changed", {
@@ -155,15 +156,30 @@ function otherPriceInWords({ type, amount, currency: other }, currency) {
   return say("article.otherType", { words: codeInWords("priceTypes", type), amount: money(amount, currency) });
 }
 
-/** Who has no price for what is asked, and what it has by another type or in another currency. */
-export function unpricedNotes({ answer }, ordered, { settings, type, currency }) {
-  const beside = unpricedBeside(answer, ordered);
-  const names = [...new Set(beside.map(({ series }) => series))];
+/** The wholesalers that have no price for what is asked, nor for more copies, each with its prices otherwise in words. */
+function unpricedOf({ answer }, ordered, { currency }) {
+  const names = [...new Set(unpricedBeside(answer, ordered).map(({ series }) => series))];
   return names.map((series) => {
-    const words = say("order.unpricedBeside", { wholesalers: wholesalerOf(settings, series), type, currency });
     const others = (answer.others ?? []).filter((offer) => offer.series === series);
-    return [words, ...new Set(others.map((offer) => otherPriceInWords(offer, currency)))].join("; ");
+    return { series, prices: [...new Set(others.map((offer) => otherPriceInWords(offer, currency)))] };
   });
+}
+
+/** Who has no price for what is asked, and what it has by another type or in another currency. */
+function unpricedNotes(book, ordered, context) {
+  const { settings, type, currency } = context;
+  const copies = copiesInWords(book.copies);
+  return unpricedOf(book, ordered, context).map(({ series, prices }) => {
+    const wholesalers = wholesalerOf(settings, series);
+    return [say("order.unpricedBeside", { wholesalers, type, currency, copies }), ...prices].join("; ");
+  });
+}
+
+/** The same of a book that nobody has otherwise, which is said already: what it has by another type or currency. */
+function otherwiseNotes(book, context) {
+  return unpricedOf(book, undefined, context).filter(({ prices }) => prices.length > 0).map(({ series, prices }) => (
+    `${wholesalerOf(context.settings, series)}: ${prices.join("; ")}`
+  ));
 }
 
 // What a buyer may look at and say that it is right.
@@ -208,18 +224,28 @@ function ownNote(note, isBehind) {
   return element("span", { class: "own", title: note }, ...apart, element("bdi", {}, note));
 }
 
-/** What could be had of a book of which nothing is ordered: more copies, another type or currency. */
-function besideNeed(book, { settings, currency, type }) {
+/** What could be had of a book of which nothing is ordered: a price soon, more copies, another type or currency. */
+function besideNeed(book, need, context) {
+  const { settings, day, currency } = context;
   const { offers, copies } = book.answer;
-  const more = copies === undefined ? [] : onlyMoreInWords(offers, { answers: copies, currency }, settings);
-  return [...more, ...unpricedNotes(book, undefined, { settings, currency, type })].map((words) => ` · ${words}`);
+  const isTold = need === "onlyMore" || copies === undefined;
+  return [
+    ...fallsInWords(offers, { day, currency }, settings),
+    ...(isTold ? [] : onlyMoreInWords(offers, { answers: copies, currency }, settings)),
+    ...(need === "unpriced" ? otherwiseNotes(book, context) : unpricedNotes(book, undefined, context)),
+  ];
 }
+
+// What is needed where somebody offers a book, of which nothing is ordered.
+const UNORDERED = ["notChosen", "unpriced", "onlyMore"];
 
 /** What stands in place of a wholesaler: why there is none, or that the desk has not answered yet. */
 function withoutOffer(book, state, context) {
   if (state.need !== undefined) {
     const need = element("strong", { class: "need" }, needInWords(state, book, context));
-    if (state.need === "notChosen" || state.need === "unpriced") return [need, ...besideNeed(book, context)];
+    if (UNORDERED.includes(state.need)) {
+      return [need, ...besideNeed(book, state.need, context).map((words) => ` · ${words}`)];
+    }
     if (state.need !== "noOffers") return [need];
     return [need, " ", ...catalogueLink(book.isbn, say("order.inCatalogue"), context.settings)];
   }
@@ -264,8 +290,9 @@ function isbnCell(book, context) {
   const paper = element("bdi", { class: "isbn on-paper" }, text);
   if (wrong !== undefined) return [field, paper];
   const address = addressOf("article", { isbn, quantity: String(copies) });
-  const link = element("a", { class: "to-article", href: address, target: "_blank", rel: "noopener" });
-  link.setAttribute("aria-label", say("order.toArticle", { isbn }));
+  const title = say("order.toArticle", { isbn });
+  const link = element("a", { class: "to-article", href: address, target: "_blank", rel: "noopener", title });
+  link.setAttribute("aria-label", title);
   return [field, link, paper];
 }
 
@@ -281,8 +308,9 @@ function copiesCell(book, context) {
 
 /** The button that takes a row out of the list. */
 function removeButton(book, context) {
-  const button = element("button", { type: "button", class: "small remove", "data-field": "remove" });
-  button.setAttribute("aria-label", say("order.removeOf", { isbn: book.isbn ?? book.written }));
+  const title = say("order.removeOf", { isbn: book.isbn ?? book.written });
+  const button = element("button", { type: "button", class: "small remove", "data-field": "remove", title });
+  button.setAttribute("aria-label", title);
   button.addEventListener("click", () => context.edit(book, undefined));
   return button;
 }
@@ -356,6 +384,12 @@ function makeRow(book, state, context) {
   return row;
 }
 
+/** How many letters the longest name of a wholesaler has, for which there is room in each row. */
+function longestName(rows, { settings }) {
+  const names = new Set(rows.flatMap(({ book }) => (book.answer?.offers ?? []).map(({ series }) => series)));
+  return Math.max(0, ...[...names].map((series) => wholesalerOf(settings, series).length));
+}
+
 /**
  * The table of books with their states, named by the heading with that id, with those of the rows `before` that say
  * the same still. The context has the `settings`, the `currency` and `type` asked for, `handOf` a book, the `reports`
@@ -363,6 +397,7 @@ function makeRow(book, state, context) {
  */
 export function orderTable(heading, rows, context, before = []) {
   const whole = table(heading, columnsOf(context), []);
+  whole.style.setProperty("--name-length", String(longestName(rows, context)));
   const known = new Map(before.map((row) => [made.get(row).book, row]));
   const isSame = (row, book) => row !== undefined && made.get(row).contents === contentsOf(book, context);
   whole.tBodies[0].append(...rows.map(({ book, state }) => {

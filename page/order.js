@@ -1,6 +1,7 @@
 // The view of an order list: its lines, what the desk answers about each book, and the orders of it.
 
 import { isAbandoned } from "./desk.js";
+import { found } from "./elements.js";
 import { isbnsIn } from "./isbn-in-text.js";
 import { eachOf, OrderAsking } from "./order-asking.js";
 import { FormerOrders } from "./order-before.js";
@@ -16,8 +17,6 @@ import { askToSave, endQuestion, offerRest, restInWords } from "./save-question.
 import { wholesalerOf } from "./settings.js";
 import { fileOf, titlesOf } from "./titles.js";
 import { say, sayCount } from "./wording.js";
-
-const found = (id) => document.getElementById(id);
 
 /** Says something in the live region. */
 function tell(words) {
@@ -192,6 +191,7 @@ export class Order {
     const { books, text, columns, isSame } = taken;
     this.#list.begin(text, question, books, isSame);
     this.#list.columns = this.#columnsOf(columns);
+    this.#list.heading = columns?.heading?.line;
     showHands(this.#list.hands);
     this.#noteChanges();
     this.#goOn();
@@ -224,6 +224,7 @@ export class Order {
       await this.#askEach(asking, list.open());
       // What a hand chose meanwhile.
       await this.#askEach(asking, list.short());
+      await eachOf(list.withoutOrder(), (book) => asking.lookForMore(book));
       list.isAsking = false;
       const places = [document.body, ...["stop", "look-up", "lines"].map(found)];
       const isLost = places.includes(document.activeElement);
@@ -252,7 +253,7 @@ export class Order {
   /** Looks for what is better, once nothing else is asked: an order does not wait for it. */
   #askBetter(asking) {
     const list = this.#list;
-    const books = list.withoutCopies();
+    const books = list.withoutBetter();
     showCopies(0, books.length);
     return asking.lookForBetter(books, (book, done, all) => {
       this.#results.drawCopies(list, book);
@@ -364,7 +365,7 @@ export class Order {
       if (changed.length > 0) return tellSaved(sayCount("order.changed", changed.length));
       for (const { book } of rows) book.change = undefined;
       // Before what is printed is on paper.
-      list.noteSaved(series, way, Date.now());
+      list.noteSaved(series, rows.map(({ book }) => book), way, Date.now());
       this.#results.drawSums(list);
       return this.#letGo(way, series, rows);
     });
@@ -412,7 +413,9 @@ export class Order {
       tellSaved(say("order.printed", { name, lines }) + told);
     }
     offerRest(rest, async (text) => {
-      if (await copyText(text, found("saved"))) tellSaved(sayCount("order.restCopied", rest.count));
+      if (!(await copyText(text, found("saved")))) return;
+      list.noteGone(rest.books);
+      tellSaved(sayCount("order.restCopied", rest.count));
     });
   }
 }

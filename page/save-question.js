@@ -1,8 +1,7 @@
 // What a buyer is asked before an order leaves the page, where something in it needs a person or may be old.
 
+import { found } from "./elements.js";
 import { say, sayCount } from "./wording.js";
-
-const found = (id) => document.getElementById(id);
 
 const ANSWERS = { "save-all": "all", "save-right": "right", "save-none": "none" };
 

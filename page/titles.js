@@ -108,9 +108,9 @@ function differNodes(titles, settings) {
 }
 
 /** The same as nodes, each text kept apart from what stands beside it, and in small where no feed said a title. */
-export function titleNodes(titles, settings) {
+export function titleNodes(titles, settings, none = "titles.noneHere") {
   const texts = titleTexts(titles);
-  if (texts.length === 0) return [element("small", {}, say("titles.none"))];
+  if (texts.length === 0) return [element("small", {}, say(none))];
   const nodes = texts.flatMap((text) => [" · ", element("bdi", {}, text)]).slice(1);
   const whole = { class: "clamped", title: texts.join(" · ") };
   return [element("span", whole, ...nodes), ...differNodes(titles, settings)];
@@ -118,7 +118,7 @@ export function titleNodes(titles, settings) {
 
 /** The same behind "Title", with whose feed said it, and that it is not proved. */
 export function titleSaid(titles, settings) {
-  if (titles.length === 0) return titleNodes(titles, settings);
+  if (titles.length === 0) return titleNodes(titles, settings, "titles.none");
   const said = say("titles.said", { wholesaler: wholesalerOf(settings, titles[0].series) });
   return [say("titles.label"), " ", ...titleNodes(titles, settings), " · ", element("small", {}, said)];
 }

@@ -11,7 +11,7 @@ from tests.running import Outcome
 NORTH = ["North Books", "in stock 21"]
 SOUTH = ["South Books", "in stock 21"]
 WEST = ["Western Wholesale", "out of stock 31"]
-NONE = "no retail price in GBP"
+NONE = "no price of type 02 for 1 copy in GBP"
 SAME = "same for more"
 SAME_FOR_TEN = "same for more"
 BREAK = "1: £11.8010: £9.95"
@@ -38,15 +38,16 @@ def has_calendar(browser: Browser) -> bool:
     return bool(browser.run("return !document.getElementById('calendar').hidden"))
 
 
+def answered_now(browser: Browser) -> list[list[str]]:
+    """The rows of the offers, if all that is asked beside their prices is answered too."""
+    found: list[list[str]] = browser.call("offerCells")
+    waits = any(word in cell for row in found for cell in row for word in WAITING)
+    return found if has_calendar(browser) and not waits else []
+
+
 def answered(browser: Browser) -> list[list[str]]:
     """The rows of the offers, once all that is asked beside their prices is answered too."""
-
-    def rows() -> list[list[str]]:
-        found: list[list[str]] = browser.call("offerCells")
-        waits = any(word in cell for row in found for cell in row for word in WAITING)
-        return found if has_calendar(browser) and not waits else []
-
-    return browser.wait(rows) or []
+    return browser.wait(lambda: answered_now(browser)) or []
 
 
 def ask(browser: Browser, address: str) -> list[list[str]]:
@@ -92,6 +93,8 @@ def empty(site: Site, browser: Browser) -> Iterator[Outcome]:
       const ring = parseFloat(getComputedStyle(field).outlineWidth);
       return field.getBoundingClientRect().top - label.getBoundingClientRect().bottom - ring;""")
     yield Outcome(f"empty: the ring ends {room} below the label", room >= 0, True)
+    tops = browser.run("return [...document.querySelectorAll('.ask-line label')].map((label) => label.getBoundingClientRect().top)")
+    yield Outcome("empty: the labels stand on one line", len(set(tops)), 1)
     ask(browser, article())
     yield Outcome("an answer is there in its place", browser.one("#start").is_displayed(), False)
 
@@ -103,7 +106,8 @@ def ten_copies(site: Site, browser: Browser) -> Iterator[Outcome]:
 
 def another_country(site: Site, browser: Browser) -> Iterator[Outcome]:
     prices = [row[2] for row in ask(browser, article(country="IE", quantity="10"))]
-    yield Outcome("Ireland: South does not sell there", prices, ["£11.50", NONE, "£8.00"])
+    none = "no price of type 02 for 10 copies in GBP"
+    yield Outcome("Ireland: South does not sell there", prices, ["£11.50", none, "£8.00"])
 
 
 def no_rule(site: Site, browser: Browser) -> Iterator[Outcome]:
@@ -186,7 +190,7 @@ def typed_question(site: Site, browser: Browser) -> Iterator[Outcome]:
 def own_type(site: Site, browser: Browser) -> Iterator[Outcome]:
     """A type that has no words here can be asked for by the address."""
     prices = [row[2] for row in ask(browser, article(type="77"))]
-    yield Outcome("a type without words: the answer", prices, ["no price of this type for 1 copy in GBP"] * 3)
+    yield Outcome("a type without words: the answer", prices, ["no price of type 77 for 1 copy in GBP"] * 3)
     shown = browser.run("return document.querySelector('#type').selectedOptions[0].textContent")
     yield Outcome("a type without words: its field", shown, "77 – no words for this code")
 

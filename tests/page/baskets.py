@@ -4,6 +4,8 @@ and what is told of offers beside the one that is ordered."""
 import time
 from collections.abc import Iterator
 from datetime import date
+from decimal import Decimal
+from pathlib import Path
 
 from selenium.webdriver.common.keys import Keys
 
@@ -32,6 +34,7 @@ FORMS = {
     "alpha": {"columns": ["isbn", "copies", "order"], "heading": ["EAN", "QTY", "REF"], "file": "alpha-{day}.csv",
               "isbn": "text"},
     "beta": {"columns": ["copies", "isbn", "account"], "heading": False, "separator": ";", "file": "{order}.txt"},
+    "gamma": {"columns": ["isbn", "copies", "second"], "separator": "|", "file": "{series}_{order}.csv"},
 }
 MOST_TILL_KEYS, MOST_TILL_SECONDS = 60, 120
 
@@ -70,8 +73,8 @@ def from_a_till(site: Site, browser: Browser) -> Iterator[Outcome]:
     status(browser, "30 of 30 looked up. No book needs you.")
     desk = {line.split("/")[3] for line in site.requests()[asked:] if "/choice?" in line}
     yield Outcome("till: only that book is asked for", desk, {isbn_of(2)})
-    browser.one("#order-reference").send_keys("2026-118")
-    keys.count += len("2026-118")
+    keys.tab_back_to("order-reference")
+    keys.type("2026-118")
     for name in WHOLESALERS:
         keys.tab_to(f"csv-{name}")
         keys.press(Keys.ENTER)
@@ -79,28 +82,37 @@ def from_a_till(site: Site, browser: Browser) -> Iterator[Outcome]:
             browser.wait(lambda: browser.one("#save-question").is_displayed())
             keys.tab_to("save-all")
             keys.press(Keys.ENTER)
-        saved_status(browser, "Saved as " + {"alpha": "alpha-", "beta": "2026-118.txt", "gamma": "order-"}[name])
+        saved_status(browser, "Saved as " + {"alpha": "alpha-", "beta": "2026-118.txt", "gamma": "gamma_2026-118.csv"}[name])
     seconds = time.monotonic() - begun
     wanted = ordered(numbers)
     day = browser.run("return new Date().toLocaleDateString('sv')")
-    texts = [saved(browser, folder, name) for name in (f"alpha-{day}.csv", "2026-118.txt", f"order-{day}-gamma.csv")]
+    texts = [saved(browser, folder, name) for name in (f"alpha-{day}.csv", "2026-118.txt", "gamma_2026-118.csv")]
     alpha = [f'="{isbn_of(number)}",{copies},2026-118' for number, copies, _ in wanted["alpha"]]
     yield Outcome("till: alpha's form", texts[0], MARK + "\r\n".join(["EAN,QTY,REF", *alpha, ""]))
     beta = [f"{copies};{isbn_of(number)};B-7" for number, copies, _ in wanted["beta"]]
     yield Outcome("till: beta's form", texts[1], MARK + "\r\n".join([*beta, ""]))
-    gamma = [[isbn_of(number), str(copies)] for number, copies, _ in wanted["gamma"]]
-    yield Outcome("till: gamma's form", [row[:2] for row in file_rows(texts[2])[1:]], gamma)
+    gamma = [f"{isbn_of(number)}|{copies}|Alpha Books" for number, copies, _ in wanted["gamma"]]
+    yield Outcome("till: gamma's form", texts[2], MARK + "\r\n".join(["ISBN|Copies|Second choice", *gamma, ""]))
     yield Outcome(f"till: {keys.count} keys are {MOST_TILL_KEYS} at most", keys.count <= MOST_TILL_KEYS, True)
     yield Outcome(f"till: {seconds:.0f} s are {MOST_TILL_SECONDS} at most", seconds <= MOST_TILL_SECONDS, True)
-    former = str(folder / "2026-118.txt")
-    browser.one("#before-files").send_keys(former)
-    told = browser.wait_for_text("#before-status", "compared")
-    yield Outcome("till: a former order", told, "1 file of former orders is compared; it is not kept.")
-    number, copies, _ = wanted["beta"][0]
-    note = f"ordered before: {copies} cop{'y' if copies == 1 else 'ies'} (2026-118.txt)"
-    yield Outcome("till: what it has is told", note in row_of(browser, isbn_of(number))[-1], True)
-    yield Outcome("till: and nothing else", "ordered before" in row_of(browser, isbn_of(0))[-1], False)
+    yield from compared(browser, folder, wanted, [f"alpha-{day}.csv", "2026-118.txt", "gamma_2026-118.csv"])
     site.write_settings(order_desk.settings())
+
+
+def compared(
+    browser: Browser, folder: Path, wanted: dict[str, list[tuple[int, int, Decimal]]], files: list[str]
+) -> Iterator[Outcome]:
+    """Former orders in each wholesaler's form are compared."""
+    browser.one("#before-files").send_keys("\n".join(str(folder / name) for name in files))
+    told = browser.wait_for_text("#before-status", "compared")
+    yield Outcome("till: former orders", told, "3 files of former orders are compared; they are not kept.")
+    for name, file in zip(WHOLESALERS, files, strict=True):
+        number, copies, _ = wanted[name][0]
+        note = f"ordered before: {copies} cop{'y' if copies == 1 else 'ies'} ({file})"
+        said = row_of(browser, isbn_of(number))[-1]
+        yield Outcome(f"till: what {name} had is told", (note in said, said.count("ordered before")), (True, 1))
+    stores = browser.run("return JSON.stringify([{ ...localStorage }, { ...sessionStorage }, document.cookie])")
+    yield Outcome("till: nothing of it is kept", [word for word in ("2026-118", isbn_of(0)) if word in stores], [])
 
 
 def rows_change(site: Site, browser: Browser) -> Iterator[Outcome]:
@@ -136,15 +148,21 @@ def beside(site: Site, browser: Browser) -> Iterator[Outcome]:
     """What is better at another offer soon, or in another currency, is told in the list and in the article."""
     site.write_settings(order_desk.settings(currencies=["EUR"]))
     falls = f"From {said_day(order_desk.fall(date.today()))} on Beta & Sons takes {money(order_desk.FALLEN)} a copy."
-    abroad = "Beta & Sons: no price of type 05 for so many in GBP; \u20ac6.10 (not compared)"
+    abroad = "Beta & Sons: no price of type 05 for 1 copy in GBP; \u20ac6.10 (not compared)"
     open_list(browser)
     look_up(browser, f"{FALLING} 2\n{order_desk.ABROAD}\n{order_desk.PENNY}")
     notes = [falls, abroad]
     browser.wait(lambda: notes_of(browser, FALLING, order_desk.ABROAD) == notes, 60)
     yield Outcome("beside: in the list", notes_of(browser, FALLING, order_desk.ABROAD), notes)
-    look_up(browser, f"{order_desk.HIDDEN} 3")
+    look_up(browser, f"{order_desk.HIDDEN} 3\n{order_desk.EUROS_ALONE}\n{order_desk.LATER}")
     hidden = "Alpha Books sells it from 5 copies on, at \u00a36.00 each."
     yield Outcome("beside: from five copies on, though somebody has a price", hidden in said_of(browser, order_desk.HIDDEN), True)
+    browser.wait(lambda: browser.text("#list-copies") == "")
+    lacking = "It is offered, but without a price of type 05 for 1 copy in GBP. \u00b7 "
+    told = [row_of(browser, isbn)[3].strip() for isbn in (order_desk.EUROS_ALONE, order_desk.LATER)]
+    later = falls.replace("Beta & Sons", "Alpha Books")
+    wanted = [f"{lacking}Beta & Sons: \u20ac6.10 (not compared)", f"{lacking}{later}"]
+    yield Outcome("beside: of what nobody sells now", told, wanted)
     look_up(browser, f"{FALLING} 2\n{order_desk.ABROAD}\n{order_desk.PENNY}")
     notes_of(browser)
     far = "\u00a30.01 is far below the next offer, \u00a37.10: ask before you order."
@@ -166,15 +184,15 @@ def margins(site: Site, browser: Browser) -> Iterator[Outcome]:
     save_to(browser, folder)
     site.write_settings(order_desk.settings(recommended_type="02"))
     browser.open(f"#article?isbn={RECOMMENDED}&quantity=1")
-    yield Outcome("margins: in the article", said(browser, "RRP \u00a312.00 \u00b7 margin 50%"), True)
+    yield Outcome("margins: in the article", said(browser, "RRP \u00a312.00 \u00b7 margin 40%"), True)
     open_list(browser)
     look_up(browser, f"{RECOMMENDED} 2")
-    yield Outcome("margins: in the list", row_of(browser, RECOMMENDED)[5], "RRP \u00a312.00 \u00b7 50% \u00a36.00")
+    yield Outcome("margins: in the list", row_of(browser, RECOMMENDED)[5], "RRP \u00a312.00 \u00b7 40% \u00a37.20")
     browser.one("#csv-all").click()
     saved_status(browser, "Saved")
     head, row = file_rows(saved(browser, folder))
     cells = dict(zip(head, row, strict=True))
-    yield Outcome("margins: in the file", [cells["RRP"], cells["Margin"]], ["12.00", "50%"])
+    yield Outcome("margins: in the file", [cells["RRP"], cells["Margin"]], ["12.00", "40%"])
     site.write_settings(order_desk.settings())
 
 

@@ -26,6 +26,9 @@ STRANGER = "stranger.example.net"
 
 WIDE = (1100, 900)
 
+# How long a wait is between two looks.
+FIRST_PAUSE, LONGEST_PAUSE = 0.02, 0.3
+
 # The texts of the functions that are run in a page.
 SCRIPTS = Path(__file__).with_name("functions.js").read_text(encoding="utf-8")
 FUNCTIONS = {found[1]: found[0] for found in re.finditer(r"^function (\w+)\(.*?^}", SCRIPTS, re.M | re.S)}
@@ -110,15 +113,18 @@ class Browser:
         return lambda: self.driver.execute_cdp_cmd("Page.removeScriptToEvaluateOnNewDocument", put)
 
     def wait(self, holds: Callable[[], Found], seconds: float = SECONDS) -> Found | None:
-        """Waits until it holds, and gives what it gave; after so many seconds, what it gave last."""
+        """Waits until it holds, and gives what it gave; after so many seconds, what it gave last. It looks the more
+        seldom the longer it waits, since each look takes time of the browser that is waited for."""
         end = time.monotonic() + seconds
+        pause = FIRST_PAUSE
         while True:
             came: Found | None = None
             with contextlib.suppress(StaleElementReferenceException):
                 came = holds()
             if came or time.monotonic() > end:
                 return came
-            time.sleep(0.05)
+            time.sleep(pause)
+            pause = min(1.5 * pause, LONGEST_PAUSE)
 
     def wait_for_text(self, selector: str, words: str, seconds: float = SECONDS) -> str:
         """Waits until a text has these words; gives that text, or else the last one."""

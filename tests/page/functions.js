@@ -92,13 +92,15 @@ function loseReplies(isbn) {
 function basket(name) {
   const all = (selector) => [...document.querySelectorAll(selector)];
   const height = (selector) => Math.ceil(document.querySelector(selector).getBoundingClientRect().height);
-  const canvas = document.createElement('canvas').getContext('2d');
+  // As wide as its name is a field of which nothing holds the width.
   const isCut = (field) => {
-    const style = getComputedStyle(field);
-    canvas.font = style.font;
-    // The arrow of a field of choices takes some 20 pixels.
-    const room = field.clientWidth - parseFloat(style.paddingLeft) - parseFloat(style.paddingRight) - 16;
-    return canvas.measureText(field.selectedOptions[0].textContent).width > room;
+    const free = field.cloneNode(true);
+    free.value = field.value;
+    Object.assign(free.style, { position: 'absolute', maxWidth: 'none' });
+    field.after(free);
+    const isWider = free.getBoundingClientRect().width > field.getBoundingClientRect().width + 0.5;
+    free.remove();
+    return isWider;
   };
   return {
     height: height('#list-part'),
@@ -134,6 +136,17 @@ function noteLookUp() {
   new MutationObserver(() => {
     if (status.textContent.startsWith('500 of 500')) window.lookedUpAt ??= performance.now();
   }).observe(status, { childList: true, characterData: true, subtree: true });
+}
+
+// Notes the rows that move from now on.
+function noteShifts() {
+  window.shifts = [];
+  new PerformanceObserver((list) => {
+    for (const { value, sources, hadRecentInput } of list.getEntries()) {
+      const isRow = sources.some(({ node }) => node?.parentElement?.closest('#list tbody') ?? false);
+      if (isRow && !hadRecentInput) window.shifts.push(value);
+    }
+  }).observe({ type: 'layout-shift' });
 }
 
 // The seconds between the two, how many questions were answered meanwhile, and the milliseconds of one.

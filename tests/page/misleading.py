@@ -9,6 +9,7 @@ from typing import Any
 from urllib.parse import unquote
 
 from selenium.webdriver.common.action_chains import ActionChains
+from selenium.webdriver.common.keys import Keys
 
 from tests.page.articles import answered, ask, has_calendar, noted, said
 from tests.page.browser import Browser
@@ -99,6 +100,11 @@ def scanned_lines(site: Site, browser: Browser) -> Iterator[Outcome]:
     yield Outcome("scanned into lines, what is heard late is no line", lines, f"{ISBN}\n" * 5)
     focus = browser.run("return [document.activeElement.id, location.hash]")
     yield Outcome("scanned into lines: the focus", focus, ["lines", "#order"])
+    browser.run("document.getElementById('look-up').focus()")
+    scan(browser, f"{OTHER_ISBN}\n")
+    lines = browser.wait(lambda: browser.run("return document.getElementById('lines').value").endswith(f"{OTHER_ISBN}\n"))
+    yield Outcome("scanned at a button, it is a line of this view", (lines, browser.run("return location.hash")), (True, "#order"))
+    browser.one("#lines").send_keys(Keys.BACKSPACE * (len(OTHER_ISBN) + 1))
     browser.call("focusFixedText")
     scan(browser, OTHER_ISBN)
     lines = browser.wait(lambda: browser.run("return document.getElementById('lines').value").endswith(f"{OTHER_ISBN}\n"))
@@ -231,7 +237,7 @@ def breaks(site: Site, browser: Browser) -> Iterator[Outcome]:
         yield Outcome("the asked number among them, and one beyond", browser.call("offerCells")[0][4], cell)
         yield Outcome("the asked number is marked", browser.text("#offers .copies strong"), "12: £4.14")
         ask(browser, article(FIVE_ISBN, type="05"))
-        sentence = "No wholesaler has a price for 1 copy of type 05 – supplier's net price, without tax"
+        sentence = "No wholesaler has a price in GBP for 1 copy of type 05 – supplier's net price, without tax"
         yield Outcome("from five on only: the sentence", said(browser, sentence), True)
         yield Outcome("from five on only: who sells it", noted(browser, "net sells it from 5 copies on, at £5.00 each."), True)
         yield Outcome("from five on only: the row", browser.call("offerCells")[0][3], "1: no price5: £5.00")

@@ -69,6 +69,9 @@ RECOMMENDED = isbn_of(9014)
 PENNY = isbn_of(9015)
 # One that is sold from five copies on, and that another wholesaler, whom no rule takes, has a price for.
 HIDDEN = isbn_of(9016)
+# One that another wholesaler has in euros alone, and one that has a price in nine days.
+EUROS_ALONE = isbn_of(9017)
+LATER = isbn_of(9018)
 # A book whose price a case changes, so that the five hundred keep theirs.
 CHANGING = isbn_of(9008)
 CHANGING_FROM, CHANGING_TO = Decimal("5.09"), Decimal("5.55")
@@ -103,9 +106,10 @@ def special_rows(gln: str, today: date) -> list[str]:
         *product("s-11", IN_EUROS, gln, "21", "Price,,7.20,,,,,,", f"Price,,{EUROS},EUR,,,,,"),
         *product("s-12", FALLING, gln, "21", "Price,,9.90,,,,,,"),
         *product("s-13", ABROAD, gln, "21", "Price,,11.20,,,,,,"),
-        *product("s-14", RECOMMENDED, gln, "21", "Price,,6.00,,,,,,", "Price,02,12.00,,,,,,"),
+        *product("s-14", RECOMMENDED, gln, "21", "Price,,7.20,,,,,,", "Price,02,12.00,,,,,,"),
         *product("s-15", PENNY, gln, "21", "Price,,0.01,,,,,,"),
         *product("s-16", HIDDEN, gln, "21", "Price,,6.00,,,,,,,5"),
+        *product("s-18", LATER, gln, "21", f"Price,,{FALLEN},,,,,{compact(fall(today))},"),
         *changing_rows(gln, CHANGING_FROM),
     ]
 
@@ -119,6 +123,7 @@ def rows_of_beta(gln: str, today: date) -> list[str]:
         *product("b-13", ABROAD, gln, "21", "Price,,6.10,EUR,,,,,"),
         *product("b-15", PENNY, gln, "21", "Price,,7.10,,,,,,"),
         *product("b-16", HIDDEN, gln, "40", "Price,,7.00,,,,,,"),
+        *product("b-17", EUROS_ALONE, gln, "21", "Price,,6.10,EUR,,,,,"),
     ]
 
 

@@ -80,12 +80,13 @@ def basket(site: Site, browser: Browser) -> Iterator[Outcome]:
             own = json.loads(order_desk.settings(language, recommended_type="02"))
             own["series"][0]["words"] = LONG_NAME
             site.write_settings(json.dumps(own))
-            for width in (1100, 1600):
+            for width in (1100, 1280, 1600):
                 browser.size(width, SCREEN)
                 open_list(browser)
                 browser.call("putLines", text)
                 browser.one("#look-up").click()
                 browser.wait(lambda: browser.one("#sums-part").is_displayed())
+                browser.call("noteShifts")
                 browser.wait(lambda: len(browser.all("#list .clamped")) == BOOKS)
                 yield from laid_out(browser, f"basket, {language}, {width} pixels")
     browser.size(1100, SCREEN)
@@ -99,6 +100,7 @@ def laid_out(browser: Browser, name: str) -> Iterator[Outcome]:
     yield Outcome(f"{name}: the name of a wholesaler is whole", found["cutNames"], [])
     yield Outcome(f"{name}: ISBNs and copies are whole", found["cutFields"], [])
     yield Outcome(f"{name}: a title is a line", found["tallTitles"], [])
+    yield Outcome(f"{name}: no row moves for it", browser.run("return window.shifts"), [])
     yield Outcome(f"{name}: no column's name is cut", found["cutHeads"], [])
     wide = browser.run("return document.documentElement.scrollWidth > innerWidth")
     yield Outcome(f"{name}: the page is no wider than the window", wide, False)

@@ -2,9 +2,7 @@
 
 import csv
 import io
-import os
 import re
-import time
 from collections.abc import Iterator
 from decimal import Decimal
 from pathlib import Path
@@ -18,7 +16,7 @@ from tests.page.browser import Browser
 from tests.page.days import with_clock
 from tests.page.order_desk import WHOLESALERS, chosen_of, isbn_of, offers_of
 from tests.page.reports import allow_clipboard
-from tests.page.site import RATE, NO_LIMIT, Site
+from tests.page.site import Site
 from tests.running import Outcome
 
 MARK = "\ufeff"
@@ -157,6 +155,14 @@ class Keyboard:
         self.count += len(text)
         ActionChains(self.browser.driver).send_keys(text).perform()
 
+    def tab_back_to(self, id: str) -> None:
+        for _ in range(10):
+            if self.browser.run("return document.activeElement.id") == id:
+                return
+            self.count += 2
+            ActionChains(self.browser.driver).key_down(Keys.SHIFT).send_keys(Keys.TAB).key_up(Keys.SHIFT).perform()
+        raise AssertionError(f"the tabulator does not come back to {id}")
+
     def tab_to(self, id: str) -> None:
         for _ in range(60):
             if self.browser.run("return document.activeElement.id") == id:
@@ -243,7 +249,7 @@ def needs(site: Site, browser: Browser) -> Iterator[Outcome]:
     unasked = [line for line in desk if "9780306406158" in line or isbn_of(3) in line]
     yield Outcome("what is wrong is not asked for", unasked, [])
     calendars = [line for line in desk if "/calendar?" in line]
-    yield Outcome("calendars of what is ordered alone", len(calendars), 5)
+    yield Outcome("a calendar of each book", len(calendars), 8)
     yield Outcome("no note goes to the server", [line for line in desk if "Anna" in line or "window" in line], [])
     row = row_of(browser, isbn_of(0))
     yield Outcome("copies of one ISBN are added up", [row[0], row[2]], ["1, 9", "3"])
@@ -251,7 +257,7 @@ def needs(site: Site, browser: Browser) -> Iterator[Outcome]:
     rising = row_of(browser, order_desk.RISING)[-1]
     yield Outcome("a price that rises", rising.startswith("until ") and rising.endswith(", then £12.99"), True)
     beside = row_of(browser, order_desk.BESIDE)[-1]
-    yield Outcome("an offer without a price", beside, "Gamma: no price of type 05 for so many in GBP")
+    yield Outcome("an offer without a price", beside, "Gamma: no price of type 05 for 1 copy in GBP")
     line = browser.one("#list-needs button")
     line.click()
     chosen = browser.run("return document.activeElement.closest('tr').querySelector('.isbn').textContent")
@@ -447,7 +453,8 @@ def seen_texts(browser: Browser, selector: str) -> list[str]:
 
 def printed(site: Site, browser: Browser) -> Iterator[Outcome]:
     """On paper there is the order of a wholesaler, with its name and time, and nothing else."""
-    site.write_settings(order_desk.settings(shop="High Street Books", accounts={"beta": "B-7"}))
+    forms: dict[str, object] = {"gamma": {"columns": ["isbn", "copies"]}}
+    site.write_settings(order_desk.settings(shop="High Street Books", accounts={"beta": "B-7"}, forms=forms))
     open_list(browser)
     look_up(browser, lines_of(range(6)))
     browser.one("#order-reference").send_keys("2026-118")
@@ -458,10 +465,13 @@ def printed(site: Site, browser: Browser) -> Iterator[Outcome]:
     wanted = [isbn_of(number) for number, _, _ in ordered(range(6))["beta"]]
     yield Outcome("the rows on paper", seen_texts(browser, "#paper tbody th"), wanted)
     total = money(sum_of(ordered(range(6))["beta"]))
-    yield Outcome("its sum alone", browser.text("#paper .sum"), f"Sum: {total}")
+    copies = sum(copies for _, copies, _ in ordered(range(6))["beta"])
+    yield Outcome("its sum alone", browser.text("#paper .sum"), f"Sum: {total}, {copies} copies")
     yield Outcome("whose order it is", browser.text("#paper h1"), "Order: Beta & Sons")
-    day = browser.run("return new Date().toLocaleDateString('sv')")
+    day = browser.run("return new Date().toLocaleDateString('en-GB', { dateStyle: 'long' })")
     above = ["Order reference: 2026-118", f"Date: {day}", "Shop: High Street Books", "Account: B-7"]
+    heads = ["ISBN", "Copies", "Price", "Sum", "Reference"]
+    yield Outcome("its columns", browser.texts("#paper thead th"), heads)
     yield Outcome("what stands above it", browser.texts("#paper p")[:-1], above)
     seen = browser.run("return document.body.innerText")
     others = [word for word in ("Alpha", "Gamma", "customer") if word in seen]
@@ -531,84 +541,6 @@ def without_reply(site: Site, browser: Browser) -> Iterator[Outcome]:
     yield Outcome("no reply: no button then", browser.one("#go-on").is_displayed(), False)
 
 
-WHOLE = range(order_desk.BOOKS)
-
-# The seconds after which a list is given up, and those that it may take, on a machine that has much else to do. With
-# nothing else to do it takes less than ten.
-PATIENCE = 600
-MOST_SECONDS = 120
-
-
-def timed(browser: Browser) -> Iterator[Outcome]:
-    """What five hundred lines took, which is printed, since a busy machine takes longer than a shop's."""
-    seconds, count, each = browser.call("lookUpTimes")
-    load = os.getloadavg()[0] / (os.cpu_count() or 1)
-    print(
-        f"page: 500 lines took {seconds:.1f} s, {count} questions of {each:.1f} ms, on a machine with {load:.1f} "
-        "processes a core",
-        flush=True,
-    )
-    yield Outcome("a choice and an offer for each line", count, 1000)
-    longest = max((duration for _, duration in browser.run("return window.blocks")), default=0)
-    print(f"page: the longest block of 500 lines took {longest:.0f} ms", flush=True)
-    yield Outcome("rows stand still while others are answered", browser.run("return window.shifts"), [])
-    yield Outcome(f"{seconds:.1f} seconds are {MOST_SECONDS} at most", seconds <= MOST_SECONDS, True)
-
-
-def whole_list(site: Site, browser: Browser) -> Iterator[Outcome]:
-    """Five hundred lines behind nginx as it is shipped, while a colleague at the same address asks too."""
-    site.stop_nginx()
-    site.configure(RATE)
-    site.start_nginx()
-    open_list(browser)
-    browser.call("putLines", f"{lines_of(WHOLE)}\n{lines_of(WHOLE)}\n{isbn_of(0)}")
-    browser.one("#look-up").click()
-    words = "These are 1,001 lines; a list has 1000 at most. Please divide it."
-    yield Outcome("one line too many", browser.wait_for_text("#lines-wrong", "1,001"), words)
-    browser.call("putLines", lines_of(WHOLE))
-    asked = len(site.requests())
-    browser.call("noteLookUp")
-    begun = time.monotonic()
-    browser.one("#look-up").click()
-    colleague = []
-    while not browser.text("#list-status").startswith("500 of 500") and time.monotonic() < begun + PATIENCE:
-        colleague.append(site.fetch("/desk/series/alpha/gaps")[0])
-        time.sleep(0.2)
-    yield Outcome("five hundred lines", browser.text("#list-status"), "500 of 500 looked up. No book needs you.")
-    yield from timed(browser)
-    yield Outcome("a colleague is answered", set(colleague), {200})
-    came = {line.split(" ")[0] for line in site.requests()[asked:]}
-    yield Outcome("nobody has asked too often", came, {"200"})
-    wanted = ordered(WHOLE)
-    total = sum((sum_of(books) for books in wanted.values()), Decimal(0))
-    yield Outcome("their sum", sums(browser)[-1][3], money(total))
-    site.stop_nginx()
-    site.configure(NO_LIMIT)
-    site.start_nginx()
-
-
-def stopped(site: Site, browser: Browser) -> Iterator[Outcome]:
-    """A list is stopped and gone on with; a desk that is away is told, and asked again by itself."""
-    open_list(browser)
-    browser.call("putLines", lines_of(WHOLE))
-    browser.one("#look-up").click()
-    browser.wait(lambda: browser.run("return document.getElementById('list-progress').value") > 0)
-    browser.one("#stop").click()
-    told = status(browser, "of 500 looked up")
-    done = int(told.split(" ")[0])
-    yield Outcome(f"stopped after {done} books", 0 < done < 500, True)
-    go_on = browser.text("#go-on")
-    yield Outcome("the others are counted", go_on, f"Go on with the other {500 - done} books")
-    browser.call("putLines", lines_of(range(20)))
-    site.stop_desk()
-    browser.one("#look-up").click()
-    words = "The desk is not running, or is just being started. The page asks again by itself every 5 seconds."
-    yield Outcome("a desk that is away", browser.wait_for_text("#down", "not running"), words)
-    site.start_desk()
-    yield Outcome("it is asked again", status(browser, "20 of 20").startswith("20 of 20 looked up."), True)
-    yield Outcome("the note is gone", browser.one("#down").is_displayed(), False)
-
-
 def refused(site: Site, browser: Browser) -> Iterator[Outcome]:
     """A server that was asked too often, and a desk with a fault, are told; the line is asked for again."""
     open_list(browser)
@@ -647,7 +579,7 @@ def columns(site: Site, browser: Browser) -> Iterator[Outcome]:
     browser.call("putLines", text)
     browser.one("#look-up").click()
     told = browser.wait_for_text("#columns-wrong", "copies")
-    words = "Please say which column has the copies: nothing is looked up before."
+    words = "Please choose the column of the copies, by its number or with the mouse: nothing is looked up before that."
     yield Outcome("columns: two candidates", told, words)
     yield Outcome("columns: the field has the focus", browser.run("return document.activeElement.id"), "copies-column")
     rows = [row[:3] for row in browser.rows("#columns-sample")]
@@ -695,13 +627,14 @@ def asked_before(site: Site, browser: Browser) -> Iterator[Outcome]:
     yield Outcome("what is in no order is told", told, "1 book. 4 of the list are in no order.")
     isbns = [row[:2] for row in file_rows(saved(browser, folder))[1:]]
     yield Outcome("only what needs nobody", isbns, [[isbn_of(0), "2"]])
+    asks = "const leaving = new Event('beforeunload', { cancelable: true }); window.dispatchEvent(leaving);"
+    asks += "return leaving.defaultPrevented"
+    yield Outcome("leaving asks for what is in no order", browser.run(asks), True)
     browser.one("#copy-rest").click()
     saved_status(browser, "Copied")
     text = browser.driver.execute_async_script("navigator.clipboard.readText().then(arguments[0])")
     yield Outcome("and can be copied", text, "\n".join(lines[1:]))
     yield Outcome("what left the page is marked", browser.texts("#sums tr.all .mark")[0].startswith("CSV "), True)
-    asks = "const leaving = new Event('beforeunload', { cancelable: true }); window.dispatchEvent(leaving);"
-    asks += "return leaving.defaultPrevented"
     yield Outcome("nothing is lost by leaving", browser.run(asks), False)
     right = f"button[aria-label='What is ordered of {isbn_of(1)} is right']"
     browser.one(right).click()
@@ -764,5 +697,5 @@ def missing_marks(site: Site, browser: Browser) -> Iterator[Outcome]:
 
 CASES = [
     begins, columns, asked_before, thirty_books, needs, by_hand, other_copies, as_of, changed, older, in_german, copied,
-    printed, from_a_file, missing_marks, another_question, kept, refused, without_reply, stopped, whole_list,
+    printed, from_a_file, missing_marks, another_question, kept, refused, without_reply,
 ]

@@ -9,7 +9,7 @@ from tests.page import order_desk
 from tests.page.articles import ask
 from tests.page.browser import Browser
 from tests.page.days import with_clock
-from tests.page.order_desk import DEARER, NOBODYS, RISING, isbn_of
+from tests.page.order_desk import DEARER, EUROS_ALONE, RECOMMENDED, RISING, isbn_of
 from tests.page.orders import look_up, open_list
 from tests.page.site import Site
 from tests.page.week import SHOP
@@ -45,15 +45,17 @@ MESSAGES = [
 
 # The lines of an order list, and what customers they are for.
 LINES = [
-    f"{isbn_of(118)};2;Mrs Lindqvist", f"{isbn_of(11)};1;shelf", f"{RISING};3;school", f"{DEARER};12",
-    "9780500000154;1;window", f"{NOBODYS};1;Mr Okafor",
+    "ISBN;Stock;Order;Customer", f"{isbn_of(11)};4;1;shelf", f"{RISING};1;3;school", f"{DEARER};2;12;",
+    f"{RECOMMENDED};0;4;shelf", "9780500000154;0;1;window", f"{EUROS_ALONE};0;1;Ms Weber",
 ]
 
 WIDTH = 900
 # A row of an order list is drawn as on a screen where names are whole.
 WIDE = 1104
+# A sheet of A4.
+SHEET = 794
 MARGIN = 24
-MOST_BYTES = 180_000
+MOST_BYTES = 200_000
 
 
 def shot(browser: Browser, name: str, last: str, width: int = WIDTH) -> Outcome:
@@ -93,14 +95,29 @@ def taken(site: Site, browser: Browser) -> Iterator[Outcome]:
 
 def order_list(site: Site, browser: Browser) -> Iterator[Outcome]:
     order_desk.deliver(site, DAY)
-    site.write_settings(order_desk.settings(shop="High Street Books"))
+    site.write_settings(order_desk.settings(
+        accounts={"alpha": "1177"}, currencies=["EUR"], recommended_type="02", shop="High Street Books",
+        address="12 High Street, York",
+    ))
     with on_the_day(browser):
         open_list(browser)
         look_up(browser, "\n".join(LINES))
         browser.wait(lambda: browser.text("#list-copies") == "")
+        browser.one("#order-reference").send_keys("2025-118")
         browser.run("document.activeElement.blur()")
         yield shot(browser, "page-order.png", "#list-part", WIDE)
+        yield from on_paper(browser)
     site.write_settings()
+
+
+def on_paper(browser: Browser) -> Iterator[Outcome]:
+    """The order of a wholesaler as it is printed."""
+    browser.run("window.print = () => { window.isPrinted = true; }")
+    browser.one("#print-alpha").click()
+    browser.wait(lambda: browser.run("return window.isPrinted"))
+    browser.driver.execute_cdp_cmd("Emulation.setEmulatedMedia", {"media": "print"})
+    yield shot(browser, "page-paper.png", "#paper .sum", SHEET)
+    browser.driver.execute_cdp_cmd("Emulation.setEmulatedMedia", {"media": ""})
 
 
 CASES = [taken, order_list]

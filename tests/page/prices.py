@@ -27,7 +27,7 @@ def settings(site: Site, **changes: object) -> Iterator[None]:
 
 # The wholesaler has three records of the book, so the sentence says which.
 BUY = "Buy 1 from net (\u2068K-2\u2069) at £8.125 a copy"
-NO_NET = "no net price for 1 copy in GBP"
+NO_NET = "no price of type 05 for 1 copy in GBP"
 
 
 def kinds(site: Site, browser: Browser) -> Iterator[Outcome]:
@@ -56,7 +56,7 @@ def other_types(site: Site, browser: Browser) -> Iterator[Outcome]:
     browser.open(article(NET_ISBN, **NET))
     yield Outcome("beside net prices: what another offer has", answered(browser)[2][2:5], [NO_NET, "", types[2]])
     rows = ask(browser, article(NET_ISBN, **NET | {"type": "02"}))
-    words = "No wholesaler has a price for 1 copy of type 02 – recommended retail price, with tax"
+    words = "No wholesaler has a price in GBP for 1 copy of type 02 – recommended retail price, with tax"
     yield Outcome("no price of the type: it is said", said(browser, words), True)
     yield Outcome("no price of the type: no rule is blamed", "rule" in browser.text("#article-status"), False)
     yield Outcome("no price of the type: the types that there are", [row[3] for row in rows], types)
@@ -128,7 +128,7 @@ def german(site: Site, browser: Browser) -> Iterator[Outcome]:
 def in_german(browser: Browser) -> Iterator[Outcome]:
     rows = ask(browser, article(NET_ISBN, **EURO))
     amounts = [row[2].replace("\u00a0", " ") for row in rows]
-    yield Outcome("German amounts", amounts, ["1.234,50 €", "24,00 €", "kein Nettopreis für 1 Exemplar in EUR"])
+    yield Outcome("German amounts", amounts, ["1.234,50 €", "24,00 €", "kein Preis der Art 05 für 1 Exemplar in EUR"])
     status = browser.text("#article-status").replace("\u00a0", " ")
     sentence = "Am 10. April 2025, in DE, in EUR, nach Preisart 05: 1 bei net (\u2068K-2\u2069) kaufen, zu 24,00 € je Exemplar"
     yield Outcome("a German sentence", status.startswith(sentence), True)

@@ -9,8 +9,8 @@ from pathlib import Path
 from typing import NamedTuple
 
 from tests.page import (
-    articles, baskets, calendars, days, hostile, isbns, keyboard, misleading, order_screens, orders, origins, passwords,
-    pictures, prices, refusals, reports, screens, stops, titles,
+    articles, baskets, calendars, days, hostile, isbns, keyboard, long_lists, misleading, order_screens, orders, origins,
+    passwords, pictures, prices, refusals, reports, screens, stops, titles,
 )
 from tests.page.browser import Browser, browsing
 from tests.page.site import Site, running
@@ -34,6 +34,7 @@ SEQUENCES = [
     Sequence("questions", [*articles.CASES, *isbns.CASES, *days.CASES, *prices.CASES]),
     Sequence("views", [*calendars.CASES, *reports.CASES, *hostile.CASES, *refusals.CASES]),
     Sequence("orders", orders.CASES),
+    Sequence("long lists", long_lists.CASES),
     Sequence("baskets", [*baskets.CASES, *order_screens.CASES, *titles.CASES]),
     Sequence("misleading", misleading.CASES),
     Sequence("screens", [*keyboard.CASES, *screens.CASES, *origins.CASES]),

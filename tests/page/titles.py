@@ -19,6 +19,7 @@ COLUMN = "Title (not proved)"
 HEAD = "Title, as a feed said last (not proved)"
 SAID = "as a feed of Beta & Sons said last; not proved"
 UNKNOWN = "no feed of its wholesalers has said a title"
+UNKNOWN_HERE = "no title known"
 DIFFERS = "Alpha Books says: Older"
 WHOLE = "The Lamplighter’s Almanac: A year of small lights · Éilís Byrne (author); Noor Haddad (illustrator) · Quayside Editions"
 
@@ -126,10 +127,10 @@ def of_a_list(site: Site, browser: Browser) -> Iterator[Outcome]:
     open_list(browser)
     look_up(browser, f"{ISBN} 2\n{OTHER}\n{HOSTILE_ISBN}\n{UNTITLED}\n{order_desk.NOBODYS}")
     came = browser.wait(lambda: row_of(browser, UNTITLED)[2])
-    yield Outcome("a book without a title", came, UNKNOWN)
+    yield Outcome("a book without a title", came, UNKNOWN_HERE)
     found = [row_of(browser, isbn)[2] for isbn in (ISBN, OTHER, HOSTILE_ISBN, order_desk.NOBODYS)]
     whole = f"{HOSTILE}: onetwo · \u05d0\u05d1 (author) · {{isbn}}"
-    yield Outcome("the titles of a list", found, [f"{WHOLE} · {DIFFERS}", "=1+1", whole, UNKNOWN])
+    yield Outcome("the titles of a list", found, [f"{WHOLE} · {DIFFERS}", "=1+1", whole, UNKNOWN_HERE])
     yield Outcome("their column", browser.texts("#list thead th")[2], COLUMN)
     paths = asked(site, since)
     files = [path for path in paths if path.startswith("/titles/")]

@@ -39,6 +39,19 @@ test("more copies from another wholesaler that cost less in all", () => {
   assert.deepEqual(elsewhereInWords(...question("40")), []);
 });
 
+test("what is dearer than a rule takes is told where it falls, or from more copies on, to what one takes", () => {
+  const north = offer("north", "19.000");
+  const south = offer("south", "25.000", { later: [{ from: "2026-12-01", amount: "21.000" }, { from: "2026-12-05", amount: "18.000" }] });
+  const answers = [at(9, north, south), at(10, north, offer("south", "15.000"))];
+  const question = { ...QUESTION, ordered: north, quantity: 9, answers };
+  assert.deepEqual(elsewhereInWords([north, south], question, SETTINGS), [
+    "More copies from South Books cost less in all: 10 copies at £15.00 each, £150.00 in all.",
+  ]);
+  const falls = ["From 5 December 2026 on South Books takes £18.00 a copy."];
+  assert.deepEqual(fallsInWords([north, south], question, SETTINGS), falls);
+  assert.deepEqual(fallsInWords([south], QUESTION, SETTINGS), falls);
+});
+
 test("who sells from more copies on alone is told beside a price", () => {
   const offers = [offer("north", "7.000"), offer("south", null)];
   const answers = [at(3, ...offers), at(4, ...offers), at(5, offers[0], offer("south", "6.000"))];

@@ -90,6 +90,20 @@ test("former orders are read in any of the forms", () => {
   assert.equal(copiesIn("9780306406157;2;3", settings), undefined);
 });
 
+test("of several forms without names of columns a former order is read in the one that its file's name has", () => {
+  const forms = [
+    { columns: ["copies", "isbn", "order"], heading: false, file: "alpha-{day}.csv" },
+    { columns: ["isbn", "order", "copies"], heading: false, file: "{series}_{order}.csv" },
+  ];
+  const series = forms.map((csv, at) => ({ name: ["alpha", "beta"][at], words: "A", csv }));
+  const settings = { series, type: "05", hasTitles: false, retailType: "" };
+  const numbers = "9780306406157,2026,4\r\n9780131103627,2026,1\r\n";
+  assert.deepEqual([...copiesIn(numbers, settings, "beta_2026.csv")], [["9780306406157", 4], ["9780131103627", 1]]);
+  assert.equal(copiesIn(numbers, settings, "other.csv"), undefined);
+  assert.equal(copiesIn(numbers, settings, "alpha-2026-11-21.csv"), undefined);
+  assert.deepEqual([...copiesIn("4,9780306406157,2026\r\n", settings, "alpha-2026-11-21.csv")], [["9780306406157", 4]]);
+});
+
 test("a budget is an amount in either way of writing", () => {
   const texts = ["500", "500.00", "500,5", "1,234.50", "1.234,50", "1 234", "12.5", "", "x", "-1"];
   assert.deepEqual(texts.map(budgetOf), ["500", "500.00", "500.5", "1234.50", "1234.50", "1234", "12.5", undefined, undefined, undefined]);

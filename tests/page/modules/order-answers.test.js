@@ -142,13 +142,17 @@ test("an answer is short where another offer is ordered than it was asked for", 
   assert.deepEqual(list.short(), []);
 });
 
-test("an answer whose other numbers of copies are not known yet is asked for them", () => {
+test("an answer of which is not known yet what is better is asked for that", () => {
   const list = new OrderList();
   list.begin("", {}, [BOOK, { ...BOOK, isbn: "2" }, { ...BOOK, isbn: "3" }, { ...BOOK, isbn: "4" }]);
   list.books[0].answer = { choice: chosen(SOUTH), offers: [SOUTH], ordered: SOUTH };
   list.books[1].answer = { choice: chosen(SOUTH), offers: [SOUTH], ordered: SOUTH, copies: [] };
   list.books[2].answer = { choice: null, offers: [NORTH] };
-  assert.deepEqual(list.withoutCopies().map(({ id }) => id), [0]);
+  assert.deepEqual(list.withoutBetter().map(({ id }) => id), [0, 2]);
+  assert.deepEqual(list.withoutOrder().map(({ id }) => id), [2]);
+  list.books[2].answer.others = [];
+  list.choose(list.books[2], LEFT_OUT);
+  assert.deepEqual(list.withoutBetter().map(({ id }) => id), [0]);
 });
 
 test("what a hand chose belongs to its list, and is ordered from that wholesaler", () => {
@@ -205,17 +209,19 @@ test("what a person says is right needs nobody, for those copies at that price",
 test("an order that left the page is marked until the list changes", () => {
   const list = listOf({});
   assert.equal(list.isUnsaved(), true);
-  list.noteSaved("north", "csv", 5);
+  list.noteSaved("north", [], "csv", 5);
   assert.equal(list.isUnsaved(), true);
-  list.noteSaved("south", "csv", 6);
-  list.noteSaved("south", "print", 7);
+  list.noteSaved("south", list.books, "csv", 6);
+  list.noteSaved("south", list.books, "print", 7);
   assert.deepEqual(list.savedOf("south"), [{ way: "csv", at: 6 }, { way: "print", at: 7 }]);
   assert.equal(list.isUnsaved(), false);
   list.choose(BOOK, LEFT_OUT);
   assert.deepEqual([list.savedOf("south"), list.isUnsaved()], [[], false]);
   list.choose(BOOK, undefined);
   assert.equal(list.isUnsaved(), true);
-  list.noteSaved(undefined, "csv", 8);
+  list.noteSaved(undefined, [], "csv", 8);
+  assert.equal(list.isUnsaved(), true);
+  list.noteGone(list.books);
   assert.equal(list.isUnsaved(), false);
 });
 
@@ -227,10 +233,17 @@ test("what is in no order is told by its lines", () => {
   const answer = { choice: chosen(SOUTH), offers: [SOUTH] };
   list.books[0].answer = answer;
   list.books[2].answer = answer;
-  assert.deepEqual(list.rest(), { count: 1, rows: ["2;0"] });
+  const rest = (leftOut) => {
+    const { books, ...found } = list.rest(leftOut);
+    return { ...found, isbns: books.map(({ isbn }) => isbn) };
+  };
+  assert.deepEqual(rest(), { count: 1, rows: ["2;0"], isbns: [BOOK.isbn] });
   list.choose({ isbn: "3" }, LEFT_OUT);
-  assert.deepEqual(list.rest(), { count: 2, rows: ["2;0", "3;1"] });
-  assert.deepEqual(list.rest([list.books[0]]), { count: 3, rows: ["1;2", "2;0", "3;1", "1;4"] });
+  assert.deepEqual(rest(), { count: 2, rows: ["2;0", "3;1"], isbns: [BOOK.isbn, "3"] });
+  assert.deepEqual(rest([list.books[0]]).rows, ["1;2", "2;0", "3;1", "1;4"]);
+  // So that it is read as it was, where it is pasted once more.
+  list.heading = 1;
+  assert.deepEqual(rest().rows, ["ISBN;Qty", "2;0", "3;1"]);
 });
 
 test("an edited list keeps what is unchanged, so that its rows stay", () => {

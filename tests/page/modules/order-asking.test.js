@@ -137,6 +137,30 @@ test("there are four questions for a line at most, and two dozen for a list", as
   }
 });
 
+// Nothing is chosen, since nobody has a price for so few; each number from which on one is there is another one's.
+test("so there are where nothing is ordered", async () => {
+  replies = {
+    choice: choiceOf(null), calendar: calendarOf(null),
+    price: byQuantity((quantity) => [{ ...HEAD, amount: quantity < 777 ? null : (9 - quantity / 1_000_000).toFixed(6) }]),
+  };
+  const list = asking({ currencies: ["EUR", "USD"] });
+  const books = [...Array(100).keys()].map((at) => ({ isbn: `97803064${at}`, copies: 20 }));
+  for (const book of books) book.answer = await list.answerOf(book, undefined);
+  for (const book of books) await list.lookForMore(book);
+  await list.lookForBetter(books, () => {});
+  assert.ok(asked.length <= 4 * books.length + 24, `${asked.length}`);
+});
+
+test("what nobody has in this currency is asked for in others, though nothing is ordered", async () => {
+  const price = (url) => priceOf(url.searchParams.get("currency") === "EUR" ? "6.100" : null);
+  replies = { choice: choiceOf(null), calendar: calendarOf(null), price };
+  const list = asking({ currencies: ["EUR"] });
+  const book = { ...BOOK, answer: await list.answerOf(BOOK, undefined) };
+  await list.lookForMore(book);
+  await list.lookForBetter([book], () => {});
+  assert.deepEqual(book.answer.others, [{ ...HEAD, amount: "6.100", currency: "EUR" }]);
+});
+
 test("where prices of other copies are refused, there are those of the book's own", async () => {
   replies = { price: { answer: "refused", reason: "bad-query" } };
   assert.deepEqual(quantitiesOf((await better()).copies), [2]);
@@ -144,17 +168,23 @@ test("where prices of other copies are refused, there are those of the book's ow
 
 test("a book without a price for so few copies is asked for from how many on it has one", async () => {
   const amountOf = (quantity) => (quantity < 5 ? null : "5.000");
-  replies = { choice: choiceOf(null), price: (url) => priceOf(amountOf(Number(url.searchParams.get("quantity")))) };
-  const { ordered, copies } = await asking().answerOf(BOOK, undefined);
-  assert.equal(ordered, undefined);
+  replies = {
+    choice: choiceOf(null), calendar: calendarOf(null),
+    price: (url) => priceOf(amountOf(Number(url.searchParams.get("quantity")))),
+  };
+  const list = asking();
+  const book = { ...BOOK, answer: await list.answerOf(BOOK, undefined) };
+  assert.equal(book.answer.ordered, undefined);
+  await list.lookForMore(book);
+  const { copies } = book.answer;
   const [before, first] = copies.slice(copies.findIndex(({ offers }) => offers[0].amount !== null) - 1);
   assert.deepEqual([before.quantity, first.quantity], [4, 5]);
 });
 
-test("what is not ordered is asked for no calendar", async () => {
+test("what a hand left out is asked for no calendar", async () => {
   replies = { choice: choiceOf(null), price: priceOf("9.000"), calendar: calendarOf("9.000") };
   await asking().answerOf(BOOK, undefined);
-  assert.deepEqual(names(), ["choice", "price"]);
+  assert.deepEqual(names(), ["choice", "calendar"]);
   asked.length = 0;
   await asking().answerOf(BOOK, LEFT_OUT);
   assert.deepEqual(names(), ["choice", "price"]);

@@ -4,7 +4,7 @@ import assert from "node:assert/strict";
 import { readFileSync } from "node:fs";
 import { test } from "node:test";
 
-import { chooseSo, rulesOf } from "../page/rules.js";
+import { areAdmitting, chooseSo, rulesOf } from "../page/rules.js";
 
 const ruleWords = (text) => rulesOf(text).map(({ words }) => words);
 const admits = (text) => rulesOf(text).map((rule) => rule.admits);
@@ -102,5 +102,9 @@ test("what it chooses by other rules is not, where it matters", () => {
 });
 
 test("where a rule is not read, nothing is said against the desk", () => {
+  for (const rules of [undefined, [...RULES, { words: "", admits: undefined }]]) {
+    assert.equal(areAdmitting(rules, offer("west", "9.000", "31")), true);
+  }
+  assert.equal(areAdmitting(RULES, offer("west", "9.000", "31")), false);
   assert.equal(chooseSo([...RULES, { words: "", admits: undefined }], [NORTH, SOUTH], by(1, NORTH)), true);
 });

@@ -1,0 +1,145 @@
+"""Order lists of five hundred books: how long they take, and what a buyer does meanwhile."""
+
+import os
+import time
+from collections.abc import Iterator
+from decimal import Decimal
+
+from selenium.webdriver.common.action_chains import ActionChains
+from selenium.webdriver.common.keys import Keys
+
+from tests.page import order_desk
+from tests.page.baskets import with_wholesalers
+from tests.page.browser import Browser
+from tests.page.order_desk import isbn_of
+from tests.page.orders import file_rows, lines_of, money, open_list, ordered, save_to, saved, status, sum_of, sums
+from tests.page.site import NO_LIMIT, RATE, Site
+from tests.running import Outcome
+
+WHOLE = range(order_desk.BOOKS)
+
+# The seconds after which a list is given up, and those that it may take, on a machine that has much else to do. With
+# nothing else to do it takes less than ten.
+PATIENCE = 600
+MOST_SECONDS = 120
+
+
+def timed(browser: Browser) -> Iterator[Outcome]:
+    """What five hundred lines took, which is printed, since a busy machine takes longer than a shop's."""
+    seconds, count, each = browser.call("lookUpTimes")
+    load = os.getloadavg()[0] / (os.cpu_count() or 1)
+    print(
+        f"page: 500 lines took {seconds:.1f} s, {count} questions of {each:.1f} ms, on a machine with {load:.1f} "
+        "processes a core",
+        flush=True,
+    )
+    yield Outcome("a choice and an offer for each line", count, 1000)
+    longest = max((duration for _, duration in browser.run("return window.blocks")), default=0)
+    print(f"page: the longest block of 500 lines took {longest:.0f} ms", flush=True)
+    yield Outcome("rows stand still while others are answered", browser.run("return window.shifts"), [])
+    yield Outcome(f"{seconds:.1f} seconds are {MOST_SECONDS} at most", seconds <= MOST_SECONDS, True)
+
+
+# Keys that are typed, and the milliseconds of a processor that each may take where other programs run beside; with
+# nothing else to do it is to be less than 16.
+KEYS, KEY = 20, 64
+
+
+def busy(browser: Browser) -> float:
+    """The seconds of a processor that the page has taken, whatever else the machine does."""
+    browser.driver.execute_cdp_cmd("Performance.enable", {"timeDomain": "threadTicks"})
+    metrics = browser.driver.execute_cdp_cmd("Performance.getMetrics", {})["metrics"]
+    return float(next(metric["value"] for metric in metrics if metric["name"] == "TaskDuration"))
+
+
+def typed(browser: Browser) -> Iterator[Outcome]:
+    """How long the page is busy with a key in a long list, which is printed too."""
+    browser.wait(lambda: browser.text("#list-copies") == "", PATIENCE)
+    browser.one("#lines").send_keys(Keys.CONTROL, Keys.END)
+    # The first one dims what was looked up.
+    browser.one("#lines").send_keys("1")
+    browser.wait(lambda: browser.run("return document.getElementById('sums-part').inert"))
+    before = busy(browser)
+    for _ in range(KEYS):
+        ActionChains(browser.driver).send_keys("1").perform()
+    each = (busy(browser) - before) / KEYS * 1000
+    browser.one("#lines").send_keys(Keys.BACKSPACE * (KEYS + 1))
+    print(f"page: a key in a list of {len(WHOLE)} lines took {each:.1f} ms of a processor", flush=True)
+    yield Outcome(f"{each:.1f} ms a key are {KEY} at most", each <= KEY, True)
+    browser.wait(lambda: not browser.run("return document.getElementById('sums-part').inert"))
+
+
+def saved_whole(site: Site, browser: Browser) -> Iterator[Outcome]:
+    """What saving an order of them all took, which asks for each once more."""
+    folder = site.room.path("whole")
+    save_to(browser, folder)
+    browser.one("#csv-all").click()
+    browser.wait(lambda: browser.one("#save-question").is_displayed())
+    begun = time.monotonic()
+    browser.one("#save-all").click()
+    browser.wait(lambda: browser.text("#saved-status").startswith("Saved"), PATIENCE)
+    seconds = time.monotonic() - begun
+    print(f"page: an order of {len(WHOLE)} books was saved in {seconds:.1f} s, of 388 in {seconds * 388 / len(WHOLE):.1f} s")
+    count = len(file_rows(saved(browser, folder))) - 1
+    yield Outcome("they are all saved", (count, seconds <= MOST_SECONDS), (len(WHOLE), True))
+
+
+def whole_list(site: Site, browser: Browser) -> Iterator[Outcome]:
+    """Five hundred lines behind nginx as it is shipped, while a colleague at the same address asks too."""
+    site.stop_nginx()
+    site.configure(RATE)
+    site.start_nginx()
+    open_list(browser)
+    browser.call("putLines", f"{lines_of(WHOLE)}\n{lines_of(WHOLE)}\n{isbn_of(0)}")
+    browser.one("#look-up").click()
+    words = "These are 1,001 lines; a list has 1000 at most. Please divide it."
+    yield Outcome("one line too many", browser.wait_for_text("#lines-wrong", "1,001"), words)
+    browser.call("putLines", lines_of(WHOLE))
+    asked = len(site.requests())
+    browser.call("noteLookUp")
+    begun = time.monotonic()
+    browser.one("#look-up").click()
+    colleague = []
+    while not browser.text("#list-status").startswith("500 of 500") and time.monotonic() < begun + PATIENCE:
+        colleague.append(site.fetch("/desk/series/alpha/gaps")[0])
+        time.sleep(0.2)
+    yield Outcome("five hundred lines", browser.text("#list-status"), "500 of 500 looked up. No book needs you.")
+    yield from timed(browser)
+    yield Outcome("a colleague is answered", set(colleague), {200})
+    wanted = ordered(WHOLE)
+    total = sum((sum_of(books) for books in wanted.values()), Decimal(0))
+    yield Outcome("their sum", sums(browser)[-1][3], money(total))
+    came = {line.split(" ")[0] for line in site.requests()[asked:]}
+    yield Outcome("nobody has asked too often", came, {"200"})
+    yield from typed(browser)
+    yield from saved_whole(site, browser)
+    refused = [line for line in site.requests()[asked:] if line.startswith("429")]
+    yield Outcome("nor where it is saved", refused, [])
+    site.stop_nginx()
+    site.configure(NO_LIMIT)
+    site.start_nginx()
+
+
+def stopped(site: Site, browser: Browser) -> Iterator[Outcome]:
+    """A list is stopped and gone on with; a desk that is away is told, and asked again by itself."""
+    open_list(browser)
+    browser.call("putLines", lines_of(WHOLE))
+    browser.one("#look-up").click()
+    browser.wait(lambda: browser.run("return document.getElementById('list-progress').value") > 0)
+    browser.one("#stop").click()
+    told = status(browser, "of 500 looked up")
+    done = int(told.split(" ")[0])
+    yield Outcome(f"stopped after {done} books", 0 < done < 500, True)
+    go_on = browser.text("#go-on")
+    yield Outcome("the others are counted", go_on, f"Go on with the other {500 - done} books")
+    browser.call("putLines", lines_of(range(20)))
+    site.stop_desk()
+    browser.one("#look-up").click()
+    words = "The desk is not running, or is just being started. The page asks again by itself every 5 seconds."
+    yield Outcome("a desk that is away", browser.wait_for_text("#down", "not running"), words)
+    site.start_desk()
+    yield Outcome("it is asked again", status(browser, "20 of 20").startswith("20 of 20 looked up."), True)
+    yield Outcome("the note is gone", browser.one("#down").is_displayed(), False)
+
+
+CASES = [with_wholesalers, whole_list, stopped]

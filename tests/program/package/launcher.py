@@ -6,6 +6,7 @@ import subprocess
 import time
 from collections.abc import Iterator
 
+from message_records.rows import LARGEST_BATCH
 from tests.program.desk import helps
 from tests.program.room import SECONDS, UNREADABLE, Ran, Room
 from tests.running import Outcome
@@ -128,6 +129,10 @@ def a_batch_without_a_program(room: Room) -> Iterator[Outcome]:
     room.path("status").write_text("0")
     for line in WANTING:
         yield Outcome(f"launcher: unbuilt, {line}", launch(room, *line.split()), wanting())
+    # The program refuses what has a byte more than a batch may have.
+    came = launch(room, "batch", given=b"\n" * (LARGEST_BATCH + 9))
+    wanted = answered(given=b"\n" * (LARGEST_BATCH + 1))
+    yield Outcome("launcher: a batch that is too large", came == wanted or len(came.output), True)
     came = launch(room, "batch", given=UNREADABLE)
     yield Outcome("launcher: an input that fails", came, Ran(3, b"", unproved() + told("input: read")))
     for stream, line in (("<&-", "input: read"), ("</dev/null >/dev/full", "output")):
@@ -148,6 +153,26 @@ def help_without_a_program(room: Room) -> Iterator[Outcome]:
     yield Outcome("launcher: unbuilt, -h", launch(room, "-h"), Ran(0, helps.texts()[0][1]))
     for word in ("--version", "-V"):
         yield Outcome(f"launcher: unbuilt, {word}", launch(room, word), Ran(0, b"onixdesk 9.8.7\n"))
+
+
+# What makes the repository's first commit, and prints its hash.
+COMMIT = "git init -q && git add crates.txt && git -c user.name=a -c user.email=a commit -qm first && git rev-parse HEAD"
+
+
+def the_commit(room: Room) -> Iterator[Outcome]:
+    """Behind the version stands the commit, and whether files were changed since, of a program that is built too."""
+    lay_out(room)
+    version = b"onixdesk 9.8.7\n"
+    yield Outcome("launcher: no commit", launch(room, "--version"), Ran(0, version))
+    made = room.call(["sh", "-c", COMMIT])
+    line = b"commit " + made.output
+    yield Outcome("launcher: a commit", (made.status, launch(room, "-V")), (0, Ran(0, version + line)))
+    command(room, "tools/build")
+    built = launch(room, "--version")
+    yield Outcome("launcher: the commit of a built program", built.output.endswith(line) and built.output != line, True)
+    room.path("crates.txt").write_text("# Changed.\n")
+    changed = line.replace(b"\n", b", changed\n")
+    yield Outcome("launcher: changed files", launch(room, "--version"), Ran(0, version + changed))
 
 
 def without_an_answer(room: Room) -> Iterator[Outcome]:

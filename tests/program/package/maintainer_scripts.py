@@ -1,0 +1,129 @@
+"""What the package's scripts do before an upgrade, and at a removal: each is run on a root of its own, where stand-ins of
+what changes users and units write down what they are told."""
+
+import os
+from collections.abc import Iterator
+from fnmatch import fnmatch
+from pathlib import Path
+
+from tests.program.inbox.inboxes import script
+from tests.program.room import Ran, Room
+from tests.running import Outcome
+from tools.root import ROOT
+
+# Users and units are the machine's.
+TOLD = ["deb-systemd-invoke", "deb-systemd-helper", "userdel", "usermod"]
+
+# What a desk, its copies and an inbox keep that has taken a file; and what is made anew from it, or of use no more.
+DATA = [
+    "onixdesk/shop.db", "onixdesk/shop.db-wal", "onixdesk-copies/2026-11-27T02-30-12Z/shop.db",
+    "onixdesk-inbox/north/done/1.csv", "onixdesk-inbox/north/numbers", "onixdesk-inbox/north/refused/cut.xml",
+]
+MADE = [
+    "onixdesk-figures/started", "onixdesk-prices/prices.csv", "onixdesk-mail/read", "onixdesk-metrics/onixdesk.prom",
+    "onixdesk-titles/titles/97812/97812345.json", "onixdesk-title-rows/1-1-north", "onixdesk-fetch/north/key",
+    *(f"onixdesk-inbox/north/{name}" for name in ("lock", "told", "waits", "stopped", "last", "work/messages/1.csv")),
+]
+# An inbox that has taken nothing.
+IDLE = ["lock", "told", "work/x"]
+
+
+def unit_files() -> list[Path]:
+    return sorted(path for path in (ROOT / "programs").rglob("onixdesk*") if path.suffix in (".service", ".timer", ".path"))
+
+
+def at(room: Room, name: str, *words: str) -> Ran:
+    """How that script ends; what the stand-ins were told stands in the file `told`."""
+    text = (ROOT / f"packaging/debian/onixdesk.{name}").read_text(encoding="utf-8").replace("#DEBHELPER#", "")
+    for place in ("/etc/", "/run/", "/var/"):
+        text = text.replace(place, f"{room.folder}{place}")
+    for program in TOLD:
+        script(room, f"bin/{program}", f'echo {program} "$@" >>"{room.path("told")}"')
+    room.write(name, text.encode())
+    room.path("told").unlink(missing_ok=True)
+    return room.call(["sh", name, *words], environment={**os.environ, "PATH": f"{room.path('bin')}:{os.environ['PATH']}"})
+
+
+def told(room: Room) -> list[str]:
+    return room.path("told").read_text().splitlines() if room.path("told").exists() else []
+
+
+def make(room: Room, *names: str) -> None:
+    for name in names:
+        room.path(name).parent.mkdir(parents=True, exist_ok=True)
+        room.path(name).write_text("")
+
+
+def found(room: Room) -> list[str]:
+    """All files below /var and /etc, and the folders that have none."""
+    paths = [path for place in ("var", "etc") for path in room.path(place).rglob("*")]
+    return sorted(str(path.relative_to(room.folder)) for path in paths if not path.is_dir() or not any(path.iterdir()))
+
+
+def before_an_upgrade(room: Room) -> Iterator[Outcome]:
+    for folder in ("bin", "run/systemd/system"):
+        room.path(folder).mkdir(parents=True)
+    wanted = [
+        "deb-systemd-invoke stop onixdesk-inbox.path onixdesk-inbox.service", "deb-systemd-helper purge onixdesk-inbox.path",
+        "deb-systemd-helper unmask onixdesk-inbox.path",
+    ]
+    for words, lines in [(["upgrade", "0.1.0"], wanted), (["upgrade", "0.2.0"], []), (["install"], [])]:
+        came = at(room, "preinst", *words)
+        yield Outcome(f"preinst {' '.join(words)}", (came, told(room)), (Ran(0), lines))
+
+
+def a_removal(room: Room) -> Iterator[Outcome]:
+    """Each unit of the package is stopped, those before the desk that send to it; an upgrade stops none here."""
+    for folder in ("bin", "run/systemd/system"):
+        room.path(folder).mkdir(parents=True)
+    came = at(room, "prerm", "remove")
+    stopped = told(room)[0].split()[2:] if told(room) else []
+    names = [path.name.replace("@", "@north") for path in unit_files()]
+    left = [name for name in names if not any(fnmatch(name, pattern) for pattern in stopped)]
+    yield Outcome("prerm remove: each unit is stopped", (came, len(names) > 15, left), (Ran(0), True, []))
+    yield Outcome("prerm remove: the desk is the last", stopped[-1:], ["onixdesk.service"])
+    yield Outcome("prerm upgrade", (at(room, "prerm", "upgrade", "0.3.0"), told(room)), (Ran(0), []))
+    room.path("run/systemd/system").rmdir()
+    yield Outcome("prerm without systemd", (at(room, "prerm", "remove"), told(room)), (Ran(0), []))
+
+
+def shop(room: Room, data: list[str]) -> list[str]:
+    """A shop's files, with all of its units enabled; the links of these."""
+    room.path("bin").mkdir()
+    make(room, *(f"var/lib/{name}" for name in [*data, *MADE]))
+    links = []
+    for unit in unit_files():
+        if "\n[Install]\n" in unit.read_text(encoding="utf-8") and unit.name != "onixdesk.service":
+            links.append(f"etc/systemd/system/{unit.suffix[1:]}s.target.wants/{unit.name.replace('@', '@north')}")
+    make(room, *links)
+    return links
+
+
+def a_purge(room: Room) -> Iterator[Outcome]:
+    """The shop's data stay, and the users that own them; what is made of them goes, and so do the links of the units."""
+    links = shop(room, DATA)
+    room.path("var/lib/onixdesk-incoming/north").mkdir(parents=True)
+    room.path("var/lib/onixdesk-incoming/south").mkdir()
+    make(room, "etc/onixdesk/inbox/north.conf")
+    before = found(room)
+    yield Outcome("postrm remove", (at(room, "postrm", "remove"), told(room), found(room)), (Ran(0), [], before))
+    yield Outcome("postrm purge: links", len(links) > 7, True)
+    came = at(room, "postrm", "purge")
+    kept = [f"var/lib/{name}" for name in DATA] + ["etc/onixdesk/inbox/north.conf", "var/lib/onixdesk-incoming/north"]
+    left = [name for name in found(room) if not name.startswith("etc/systemd/")]
+    yield Outcome("postrm purge: the data stay", (came, left), (Ran(0), sorted(kept)))
+    yield Outcome("postrm purge: no link is left", [name for name in links if room.path(name).exists()], [])
+    yield Outcome("postrm purge: users", told(room), ["userdel onixdesk-titles", "userdel onixdesk-fetch"])
+    yield Outcome("postrm purge, once more", (at(room, "postrm", "purge").status, found(room)[-1:]), (0, sorted(kept)[-1:]))
+
+
+def a_purge_without_data(room: Room) -> Iterator[Outcome]:
+    """Nothing is left, and no user."""
+    shop(room, [f"onixdesk-inbox/west/{name}" for name in IDLE])
+    for folder in ("onixdesk", "onixdesk-copies", "onixdesk-incoming/north", "onixdesk-inbox/west/done"):
+        room.path(f"var/lib/{folder}").mkdir(parents=True)
+    came = at(room, "postrm", "purge")
+    left = [name for name in found(room) if not name.startswith("etc/systemd/")]
+    yield Outcome("postrm purge without data: nothing is left", (came, left), (Ran(0), ["var/lib"]))
+    users = [f"userdel onixdesk{name}" for name in ("-titles", "-fetch", "", "-inbox")]
+    yield Outcome("postrm purge without data: no user is left", told(room), users)

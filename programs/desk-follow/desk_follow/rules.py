@@ -14,7 +14,8 @@ is_series = re.compile(r"[a-z0-9-]{1,32}|\*").fullmatch
 is_code = re.compile("[0-9]{2}").fullmatch
 is_amount = re.compile(r"([0-9]{1,9})(?:\.([0-9]{1,3}))?").fullmatch
 
-KEYS = {"series", "codes"}
+# The keys of a rule: those that have to be there, and those that may.
+KEYS, OTHER_KEYS = {"series", "codes"}, {"max"}
 
 
 class BadRules(Fault):
@@ -39,7 +40,7 @@ def thousandths(text: str) -> int | None:
 
 def rule_of(number: int, item: object) -> Rule | None:
     """The rule that an item of the file is; nothing where it is none."""
-    if number > MOST_RULES or not isinstance(item, dict) or not KEYS <= item.keys() <= KEYS | {"max"}:
+    if number > MOST_RULES or not isinstance(item, dict) or not KEYS <= item.keys() <= KEYS | OTHER_KEYS:
         return None
     series, codes, most = item["series"], item["codes"], item.get("max")
     if not isinstance(series, str) or not is_series(series):

@@ -115,7 +115,7 @@ def tell_changes(comparison: Comparison, options: argparse.Namespace) -> None:
     changes = comparison.end()
     print(csv_of(changes), end="", flush=True)
     if changes and options.mail:
-        mail(options.mail, f"onixdesk: {len(changes)} changes of prices", words_of(changes), options.outbox)
+        mail(options.mail, f"onixdesk: changes of prices: {len(changes)}", words_of(changes), options.outbox)
 
 
 def write(options: argparse.Namespace, program: Path) -> int:
@@ -127,14 +127,19 @@ def write(options: argparse.Namespace, program: Path) -> int:
     file: Path = options.folder / form.file_name({"day": options.day})
     with asked(options, shop, listed, program) as answers, put_whole(file) as new:
         new.write(form.head())
+        place = chosen = 0
         for place, (isbn, answered) in enumerate(answers, 1):
             cells = row(isbn, answered, options.day, shop, titles)
             new.write(line_of(form, cells))
+            chosen += "price" in cells
             if comparison:
                 comparison.add(cells)
             progress(place)
         if comparison:
             tell_changes(comparison, options)
+    if place and not chosen:
+        tell(f"{file}: of {place} articles nothing is chosen: no rule of the precedence table admits an offer, or"
+            " desk.json has another price type, currency or country than their prices")
     return DONE
 
 

@@ -18,7 +18,6 @@ from desk_restore.command_line import DESK, INBOXES
 from desk_restore.users import acting_as, now, owner_of
 
 PROGRAM = "desk-renew"
-
 RULES = Path("/etc/onixdesk/rules.toml")
 
 DESCRIPTION = """\

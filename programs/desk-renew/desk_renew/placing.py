@@ -16,6 +16,7 @@ from desk_restore.placing import exchange_or_go_on
 
 READY = "ready."
 
+
 def standings(database: Path) -> list[Standing | None]:
     """How both files of a desk stand."""
     return [standing(database), standing(log_of(database))]

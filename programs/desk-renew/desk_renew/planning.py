@@ -15,7 +15,6 @@ from message_records.rows import LARGEST_BATCH, text_of
 
 # The contents of a number that was waived, and of a message without products.
 WAIVED, EMPTY = "waived", ""
-
 SERIES = "SELECT * FROM series ORDER BY name"
 HELD = "SELECT number, contents FROM held WHERE series = ? ORDER BY number"
 

@@ -13,7 +13,7 @@ from dataclasses import dataclass
 from pathlib import Path
 from typing import Any
 
-from command_lines.ending import BAD_CALL, Fault
+from command_lines.ending import BAD_CALL, BadCall, Fault
 from onixdesk_inbox import telling
 from onixdesk_inbox.feeding import Feed, feed_of
 from onixdesk_inbox.names import PACKED, shown
@@ -132,8 +132,9 @@ class Converter:
             raise Unconverted(in_settings(lines.last))
         if status == -signal.SIGKILL:
             raise Refusal("its conversion was killed, as where it takes more memory than the unit allows")
-        why = lines.first if status == BAD_CALL else lines.last
-        raise Fault(f"the converter ends with status {status}: {why}")
+        if status == BAD_CALL:
+            raise BadCall(f"the converter ends with status {status}: {lines.first}")
+        raise Fault(f"the converter ends with status {status}: {lines.last}")
 
     def run(self, words: list[str], source: Path, is_packed: bool, answer: Path) -> int:
         """Its status. Damage where the file cannot be unpacked."""

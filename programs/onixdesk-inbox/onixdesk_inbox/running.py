@@ -2,7 +2,7 @@
 
 from dataclasses import asdict
 
-from command_lines.ending import Fault
+from command_lines.ending import BadCall, Fault
 from onixdesk_inbox.incoming import Candidate, Incoming, copy, why_not_copied
 from onixdesk_inbox.memory import Stopped
 from onixdesk_inbox.names import shown
@@ -63,6 +63,8 @@ class Run(Resuming):
                 pass
             if not self.is_stopped:
                 self.state.memory.keep_stopped(None)
+        except BadCall as fault:
+            self.leave_all(str(fault), is_error=True)
         except Fault as fault:
             self.leave_all(str(fault))
         except OSError as error:
@@ -127,9 +129,9 @@ class Run(Resuming):
             raise self.stop(candidate, copied.digest, str(stop)) from None
         self.incoming.remove(candidate)
 
-    def leave_all(self, why: str) -> None:
-        """After a fault all that could be taken waits."""
+    def leave_all(self, why: str, is_error: bool = False) -> None:
+        """After a fault all that could be taken waits; where the settings are wrong, that is an error."""
         candidates, self.left = self.incoming.look()
         begun = self.begun()
         names = [candidate.name for candidate in candidates] + ([begun.name] if begun else [])
-        self.left |= {name: Left(why, waits=True) for name in names}
+        self.left |= {name: Left(why, waits=not is_error, is_error=is_error) for name in names}

@@ -120,6 +120,9 @@ class Told:
                 if left[name].is_stopped:
                     voice.of_file(ERROR, name, said)
                     is_error = True
+                elif left[name].is_error:
+                    lines.of_file(ERROR, name, said)
+                    is_error = True
                 else:
                     lines.of_file(NOTICE if left[name].waits else WARNING, name, said)
             if not lying.is_long_told and now - lying.since >= LONG_SECONDS:

@@ -22,11 +22,12 @@ class Taken:
 @dataclass(frozen=True)
 class Left:
     """Why a file lies on. One that waits is looked at again by the next run; for one that is not taken
-    somebody has to do something, and on one that is stopped somebody has to decide."""
+    somebody has to do something, at once where that is an error, and on one that is stopped somebody has to decide."""
 
     why: str
     waits: bool = False
     is_stopped: bool = False
+    is_error: bool = False
 
     def __str__(self) -> str:
         return f"{'stopped' if self.is_stopped else 'waiting' if self.waits else 'not taken'}: {self.why}"

@@ -3,7 +3,7 @@
 import csv
 import io
 import subprocess
-from collections.abc import Callable
+from collections.abc import Callable, Iterator
 from dataclasses import dataclass
 from pathlib import Path
 
@@ -19,12 +19,12 @@ class Desk:
     file: Path
     show: Callable[[str], None]
 
-    def run(self, *words: str | Path, given: str = "") -> list[list[str]]:
-        """What the desk answers. Fault where it cannot."""
+    def run(self, *words: str | Path, given: str = "") -> Iterator[list[str]]:
+        """What the desk answers, whose records are read one after the other. Fault where it cannot."""
         ran = subprocess.run([self.program, "--db", self.file, *words], input=given.encode(), capture_output=True)
         if ran.returncode not in (DONE, FAILED):
             raise Fault(ran.stderr.decode(errors="replace").strip() or f"{self.program}: status {ran.returncode}")
-        return list(csv.reader(io.StringIO(ran.stdout.decode())))
+        return csv.reader(io.StringIO(ran.stdout.decode()))
 
     def take(self, header: Header, messages: list[Path]) -> None:
         """Agrees the series and takes the messages. Fault where the desk refuses one."""

@@ -14,17 +14,16 @@ import http.client
 import http.server
 import shutil
 import signal
-import socket
 import subprocess
 import sys
 import tempfile
 from collections.abc import Iterator
 from pathlib import Path
 
+from tools.ports import HOST, free_port
 from tools.root import ROOT
 from tools.words import Word
 
-HOST = "127.0.0.1"
 PORT = 8081
 
 # The book of demo.csv.
@@ -48,12 +47,6 @@ def requests() -> bytes:
     more = (ROOT / "examples/page/demo.csv").read_bytes()
     dated = more.replace(b"LAST", day_in(DAYS)).replace(b"NEXT", day_in(DAYS + 1))
     return (ROOT / "examples/shop/week.csv").read_bytes() + dated
-
-
-def free_port() -> int:
-    with socket.create_server((HOST, 0)) as found:
-        port: int = found.getsockname()[1]
-        return port
 
 
 @contextlib.contextmanager

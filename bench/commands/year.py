@@ -10,6 +10,7 @@ answered otherwise than before, or later than by the seconds that the desk was s
 
 import argparse
 import os
+import re
 import resource
 import signal
 import socket
@@ -22,8 +23,9 @@ from pathlib import Path
 from bench.figures import year
 from bench.figures.desk import proved_program
 from bench.figures.runs import BenchmarkFault
-from bench.figures.served import HOST, Served, free_port
+from bench.figures.served import Served
 from bench.figures.year_picture import Line, picture
+from tools.ports import HOST, free_port
 from tools.root import PACKAGES, ROOT
 from tools.words import Word
 
@@ -86,9 +88,11 @@ class Asking(threading.Thread):
         self.wrong: list[str] = []
 
     def ask(self, target: str) -> bytes:
+        """The body of the reply, without the first number of a report, which a renewal changes."""
         with socket.create_connection((HOST, self.port), timeout=600) as peer:
             peer.sendall(f"GET {target} HTTP/1.1\r\n\r\n".encode())
-            return b"".join(iter(lambda: peer.recv(65_536), b""))
+            reply = b"".join(iter(lambda: peer.recv(65_536), b""))
+        return re.sub(rb'"first":\d+,', b"", reply.partition(b"\r\n\r\n")[2])
 
     def patiently(self, target: str) -> bytes:
         while not self.is_ended:

@@ -14,10 +14,11 @@ from typing import NamedTuple
 from bench.figures import articles, tables, texts
 from bench.figures.desk import Desk
 from bench.figures.runs import BenchmarkFault, Taken
-from bench.figures.served import Served, free_port
+from bench.figures.served import Served
 from bench.figures.sizes import Size
 from bench.figures.tools import SOURCES
 from bench.figures.twin import Twin, tests_of
+from tools.ports import free_port
 from tools.words import Word
 
 GAPS = f"/series/{articles.SERIES}/gaps"

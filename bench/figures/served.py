@@ -8,16 +8,8 @@ from collections.abc import Sequence
 from pathlib import Path
 
 from bench.figures.runs import BenchmarkFault, Taken
+from tools.ports import HOST
 from tools.words import Word, sought
-
-HOST = "127.0.0.1"
-
-
-def free_port() -> int:
-    with socket.socket() as listener:
-        listener.bind((HOST, 0))
-        port: int = listener.getsockname()[1]
-    return port
 
 
 class Served:

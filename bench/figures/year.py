@@ -1,5 +1,6 @@
-"""What a desk gets in a year: each day a feed of all articles of one series; now and then an update, a deletion, a repeat
-and a number that is waived; a series all of whose articles are deleted; and at the end messages that wait."""
+"""What a desk gets in a year: each day a feed of all articles of one series, in as many messages as that takes; now and
+then an update, a deletion, a repeat and a day that is waived; a series all of whose articles are deleted; and at the end
+messages that wait."""
 
 from collections.abc import Iterator
 
@@ -7,6 +8,9 @@ from collections.abc import Iterator
 NORTH, SOUTH, EAST = "north", "south", "east"
 
 AGREEMENTS = "".join(f"Agree,{name},06,{name},06,shop,1\n" for name in (NORTH, SOUTH, EAST))
+
+# A message has at most 20,000 records, and a product here four.
+LARGEST = 4_999
 
 # On every so many days something else comes.
 UPDATES, DELETIONS, REPEATS, WAIVERS = 5, 10, 30, 60
@@ -39,21 +43,34 @@ def of_day(day: int, articles: int) -> list[str]:
     return [product(each, 500 + (each * 7 + day) % 900) for each in numbers]
 
 
+def parts_of(articles: int) -> int:
+    """How many messages the feed of a day takes; each day has as many, so that each has its own numbers."""
+    return -(-articles // LARGEST)
+
+
+def messages(series: str, day: int, products: list[str], parts: int) -> Iterator[str]:
+    """The messages of the feed of a day, counted from 1."""
+    size = -(-len(products) // parts)
+    for part in range(parts):
+        yield message(series, (day - 1) * parts + part + 1, products[part * size : (part + 1) * size])
+
+
 def requests(days: int, articles: int) -> Iterator[str]:
     """All requests of the year, in their order."""
-    yield message(SOUTH, 1, [product(each, 700) for each in range(1, articles // 2 + 1)])
-    yield message(SOUTH, 2, [deletion(each) for each in range(1, articles // 2 + 1)])
+    parts = parts_of(articles)
+    yield from messages(SOUTH, 1, [product(each, 700) for each in range(1, articles // 2 + 1)], parts)
+    yield from messages(SOUTH, 2, [deletion(each) for each in range(1, articles // 2 + 1)], parts)
     for day in range(1, days + 1):
         if day % WAIVERS == 0:
-            yield f"Waive,{NORTH},{day}\n"
+            yield from (f"Waive,{NORTH},{(day - 1) * parts + part}\n" for part in range(1, parts + 1))
             continue
-        text = message(NORTH, day, of_day(day, articles))
-        yield text
+        feed = list(messages(NORTH, day, of_day(day, articles), parts))
+        yield from feed
         if day % REPEATS == 0:
-            yield text
-    for number in (days + 2, days + 4):
-        yield message(NORTH, number, of_day(number, articles))
-    yield f"Waive,{NORTH},{days + 5}\n"
+            yield from feed
+    for day in (days + 2, days + 4):
+        yield from messages(NORTH, day, of_day(day, articles), parts)
+    yield f"Waive,{NORTH},{(days + 5) * parts}\n"
 
 
 def targets(articles: int, count: int) -> list[str]:

@@ -11,8 +11,8 @@ from typing import NamedTuple
 from tests.running import PROGRAM, Cases, Outcome
 from tools.words import Word
 
-# No run of a case takes a tenth of it; a program that hangs fails its case.
-SECONDS = 120
+# No run of a case takes a tenth of it, also on a machine that has much else to do; a program that hangs fails its case.
+SECONDS = 1200
 
 # An input of which each read fails, as that of a folder does.
 UNREADABLE = None

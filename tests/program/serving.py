@@ -8,8 +8,8 @@ import threading
 from collections.abc import Iterator, Sequence
 from typing import NamedTuple
 
-from bench.figures.served import HOST as HOST, free_port as free_port
 from tests.program.room import SECONDS, Ran, Room
+from tools.ports import HOST as HOST, free_port as free_port
 
 # How often a port is looked for that no other program takes in the meantime.
 TRIES = 20

@@ -146,6 +146,24 @@ def a_port_that_is_taken(room: Room) -> Iterator[Outcome]:
         yield Outcome("a port that is taken", came, wanted)
 
 
+# Of the port 8080: as it may be written, and as it may not.
+SPELLINGS = ["8080", "08080", "0000000000000000000008080", "+8080"]
+REFUSED = ["", "-8080", "8080.0", "8,080", " 8080", "8080 ", "8080x", "0x1f90", "8e3", "+", "++8080", "99999999999999999999", "\uff18\uff10"]
+
+
+def spellings_of_a_port(room: Room) -> Iterator[Outcome]:
+    """Digits, with zeros or a plus before them; told by the number of one that is taken."""
+    with socket.create_server((HOST, 0)) as listener:
+        port = str(listener.getsockname()[1])
+        for spelling in SPELLINGS:
+            came = room.run("serve", "--port", spelling.replace("8080", port), "--requests", "1", given=UNREADABLE)
+            yield Outcome(f"a port as {spelling!r}", came, Ran(3, b"", f"onixdesk: port {port}\n".encode()))
+        for spelling in REFUSED:
+            came = room.run("serve", "--port", spelling.replace("8080", port), "--requests", "1", given=UNREADABLE)
+            found = came.status, came.output, came.errors.startswith(b"error: ")
+            yield Outcome(f"a port as {spelling!r}", found, (2, b"", True))
+
+
 def unwritten_lines(room: Room) -> Iterator[Outcome]:
     """The desk ends before it serves a client, where it cannot say that it listens."""
     wanted = Ran(3, b"", b"onixdesk: output\n")

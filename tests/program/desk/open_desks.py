@@ -153,7 +153,7 @@ def a_client_that_stalls(room: Room) -> Iterator[Outcome]:
         came = sent(room, QUESTION)
         waited = time.monotonic() - began
         yield Outcome("a stall: the batch behind it", came, Ran(0, NO_GAPS % (1, b"")))
-        yield Outcome("a stall: how long it was waited for", 9 < waited < 30, True)
+        yield Outcome("a stall: how long it was waited for", 9 < waited < 100, True)
         yield Outcome("a stall: its answers", receive(silent), b"")
         yield Outcome("a stall: the lines", desk.ended(), desk.wanted(["fault", "batch 0"]))
 

@@ -45,7 +45,7 @@ TOLD: dict[str, dict[str, str]] = {
         "runuser -u onixdesk-inbox -- /usr/share/onixdesk/bin/onixdesk-titles rebuild": f"{SYSTEMD}: try_titles",
         "addgroup --system onixdesk-north": f"{DEBIAN}: set_up_inbox",
         "adduser --system --group --no-create-home --home /nonexistent onixdesk-inbox": OF_PACKAGE,
-        "install -d -m 700 /etc/onixdesk/fetch/north.secrets": "nowhere: it reaches a wholesaler's server",
+        "install -d -m 700 /etc/onixdesk/fetch/north.secrets": "packaging/feeds-under-systemd: try_fetches",
         "adduser --system --group --no-create-home --home /nonexistent onixdesk-fetch": OF_PACKAGE,
     },
     "docs/METRICS.md": {
@@ -72,7 +72,8 @@ TOLD: dict[str, dict[str, str]] = {
     "docs/PRICES.md": {
         "bin/desk-prices --rules rules.toml shop.db FOLDER": "files.desk_prices: of_a_copy",
         "desk-prices --list stock.csv": "files.desk_prices: of_a_list",
-        "sed -i 's/^  \"price_type\":/": "nowhere: it starts a timer",
+        "sed -i 's/^  \"price_type\":/": f"{SYSTEMD}: try_prices",
+        "printf '[[rule]]": f"{SYSTEMD}: try_prices",
         "printf '9781234567897": "nowhere: it adds to a file of the machine",
         "install -m 755 programs/desk-prices/": OF_PACKAGE,
     },

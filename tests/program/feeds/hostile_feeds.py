@@ -13,7 +13,7 @@ from typing import NamedTuple
 from tests.program.feeds.convert.case_files import FRAMES
 from tests.program.feeds.convert.running import convert, measured
 from tests.program.feeds.convert.wanted_runs import PRODUCT, message_of
-from tests.program.room import SECONDS, Group, Ran, Room
+from tests.program.room import Group, Ran, Room
 from tests.program.written_cases import REPEATED, TESTS, Written, read_file, unescaped
 from tests.running import Outcome
 
@@ -22,8 +22,8 @@ MEMORY = 48 * 1_048_576
 
 PLACE = re.compile("onixdesk: -:[12]:[0-9]+: refused: .+\n")
 
-# Of processor time, with the start of the program.
-BOMB_SECONDS = 1
+# Of processor time, with the start of the program: of what is refused at once, and of what is read to its end.
+BOMB_SECONDS, LARGE_SECONDS = 1, 120
 
 FRAME = FRAMES["products"]
 
@@ -160,5 +160,5 @@ def nothing_else_is_opened(room: Room) -> Iterator[Outcome]:
 
 GROUPS = [
     *(Group(case.name, partial(check, case, BOMB_SECONDS)) for case in read("bombs")),
-    *(Group(case.name, partial(check, case, SECONDS)) for case in LARGE),
+    *(Group(case.name, partial(check, case, LARGE_SECONDS)) for case in LARGE),
 ]

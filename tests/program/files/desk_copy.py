@@ -2,10 +2,11 @@
 missing."""
 
 import os
+import pty
 import random
 import re
-import shutil
 import sqlite3
+import subprocess
 import threading
 import time
 from collections.abc import Callable, Iterator
@@ -13,8 +14,11 @@ from concurrent.futures import ThreadPoolExecutor
 from contextlib import closing, contextmanager
 from pathlib import Path
 
+from command_lines.progress import NOBODY, Progress
 from desk_copy import copying
 from tests.program.databases import DATABASE, MINIMUM, TABLES, batch, execute
+from tests.program.feeds.convert.endings import all_of
+from tests.program.inbox.inboxes import within
 from tests.program.messages import AGREEMENT, priced_by_number
 from tests.program.room import Ran, Room
 from tests.program.serving import HOST, Serving, posted, serving
@@ -25,7 +29,7 @@ from tools.words import Row, Word
 PROGRAM = ROOT / "bin/desk-copy"
 
 
-COPIES = 200
+COPIES = 40
 AT_ONCE = 2
 
 # Products of a message, which brings each of them at a new price. The log is copied into the database every some
@@ -121,8 +125,8 @@ def under_messages(room: Room) -> Iterator[Outcome]:
     with sending(room) as sender:
         with ThreadPoolExecutor(AT_ONCE) as pool:
             wrong = [*filter(None, pool.map(lambda place: taken(room, sender, place), range(COPIES)))]
-    yield Outcome("200 copies of a desk that takes messages", wrong[:3], [])
-    yield Outcome("the desk takes them all the while", (sender.unexpected, sender.answered > 30), ([], True))
+    yield Outcome("copies of a desk that takes messages", wrong[:3], [])
+    yield Outcome("the desk takes them all the while", (sender.unexpected, sender.answered > 10), ([], True))
 
 
 def files(folder: Path) -> dict[str, bytes]:
@@ -184,7 +188,7 @@ def kept(room: Room) -> Iterator[Outcome]:
     yield Outcome("a second that a copy has", (ran.status, found > taken[-1]), (0, True))
     copy(room, "--keep", "2", DATABASE, "copies")
     found = sorted(each.name for each in room.path("copies").iterdir())
-    yield Outcome("the new one stays where others have later names", (len(found), found[0] > new.name, found[1]), (3, True, ahead[1]))
+    yield Outcome("the new one stays where others have later names", (len(found), new.name < found[0] < ahead[0], found[1]), (3, True, ahead[1]))
 
 
 def crowded_articles(room: Room) -> Iterator[Outcome]:
@@ -232,11 +236,19 @@ def unsound(room: Room) -> Iterator[Outcome]:
     damaged = bytearray(room.path(DATABASE).read_bytes())
     damaged[3 * 4096 : 3 * 4096 + 200] = b"\xa5" * 200
     room.write("damaged.db", damaged)
+    execute(room, f"{TABLES} {MINIMUM} INSERT INTO record VALUES ('nobody', 'R1')", "orphan.db")
+    # An index has the names where it is said to have the identifiers.
+    crossed = "CREATE INDEX by_name ON series (name); PRAGMA writable_schema = ON; UPDATE sqlite_schema" \
+              " SET sql = 'CREATE INDEX by_name ON series (sender_value)' WHERE name = 'by_name'"
+    series = "INSERT INTO series VALUES ('north', '06', '4012345000009', '', '', 1, 1);"
+    execute(room, f"{TABLES} {MINIMUM} {series} {crossed}", "crossed.db")
     for name, found in [
         ("text.db", b"file is not a database"),
         ("other.db", b"no such table: meta"),
         ("empty.db", b"its tables have no version"),
         ("damaged.db", b""),
+        ("orphan.db", b"a row of record has no parent"),
+        ("crossed.db", b"row 1 missing from index by_name"),
     ]:
         came = copy(room, name, "copy")
         begun = b"desk-copy: %s: a copy of it is not sound: %s" % (name.encode(), found)
@@ -244,46 +256,24 @@ def unsound(room: Room) -> Iterator[Outcome]:
     yield Outcome("no copy is left", room.path("copy").exists(), False)
 
 
-class Toucher(threading.Thread):
-    """Touches a file until it is ended; `longest` is the longest time that it left the file alone, in seconds."""
-
-    def __init__(self, file: Path):
-        super().__init__()
-        self.file = file
-        self.ended = threading.Event()
-        self.longest = 0.0
-
-    def run(self) -> None:
-        before = time.monotonic()
-        while not self.ended.wait(0.02):
-            begun = time.monotonic()
-            self.file.touch()
-            self.longest = max(self.longest, time.monotonic() - before)
-            before = begun
-        self.longest = max(self.longest, time.monotonic() - before)
-
-
-def copied_while_touched(room: Room, file: Path) -> Ran:
-    """A copy of a second, during which the file is never left alone for so long as a copy takes for rest: on a busy
-    machine the first tries may be none of these, and say nothing."""
-    for _ in range(30):
-        toucher = Toucher(file)
-        toucher.start()
-        try:
-            came = copy(room, "--seconds", "1", DATABASE, "copy")
-        finally:
-            toucher.ended.set()
-            toucher.join()
-        if toucher.longest < 0.08:
-            return came
-        shutil.rmtree(room.path("copy"), ignore_errors=True)
-    raise TimeoutError("the machine is too busy to touch a file all the while")
+# Runs the program over a log that was written a twentieth of a second before it is looked at.
+ALWAYS_WRITTEN = """
+import sys, time
+from desk_copy import copying
+from desk_copy.command_line import main
+standing = copying.standing
+def written_now(file):
+    found = standing(file)
+    return found._replace(modified=time.time_ns() - 50_000_000) if file.name.endswith("-wal") else found
+copying.standing = written_now
+sys.exit(main())
+"""
 
 
 def changed_all_the_while(room: Room) -> Iterator[Outcome]:
     batch(room, AGREEMENT)
     log = room.path(f"{DATABASE}-wal")
-    came = copied_while_touched(room, log)
+    came = room.call(within(ALWAYS_WRITTEN, "--seconds", "1", DATABASE, "copy"))
     line = f"desk-copy: {DATABASE}-wal: it was never left as it is for long enough, in 1 s\n"
     yield Outcome("a log that is always written", came, Ran(3, b"", line.encode()))
     later = time.time() + 86_400
@@ -299,8 +289,8 @@ def before_each_copy(act: Callable[[Path, int], object]) -> Iterator[list[str]]:
     copied: list[str] = []
     copy_file = copying.copy_file
 
-    def with_it(source: Path, target: Path) -> None:
-        copy_file(source, target)
+    def with_it(source: Path, target: Path, progress: Progress = NOBODY) -> None:
+        copy_file(source, target, progress)
         copied.append(source.name)
         act(source, len(copied))
 
@@ -354,6 +344,55 @@ def written_meanwhile(room: Room) -> Iterator[Outcome]:
             copying.copy_desk(room.path("d"), room.path("to"), 10)
         came = tuple(each.read_bytes() for each in sorted(room.path("to").iterdir()))
         yield Outcome(f"written meanwhile: {name}", (" ".join(order), came), (copied, ends))
+    # In this group too, since groups run side by side, and each would replace what copies a file.
+    yield from just_written(room, head)
+
+
+def just_written(room: Room, head: bytes) -> Iterator[Outcome]:
+    """A file is copied a tenth of a second behind its last write, or later."""
+    room.path("rested").mkdir()
+    room.write("d", b"1")
+    room.write("d-wal", head)
+    rests = []
+
+    def note(source: Path, _: int) -> None:
+        found = source.stat()
+        rests.append(time.time_ns() - max(found.st_mtime_ns, found.st_ctime_ns))
+
+    with before_each_copy(note):
+        copying.copy_desk(room.path("d"), room.path("rested"), 10)
+    yield Outcome("a copy of what was just written", (len(rests), min(rests) >= 100_000_000), (2, True))
+
+
+def on_a_terminal(room: Room) -> Iterator[Outcome]:
+    """A line shows what is done, and is taken away at the end; where it is no terminal there is none."""
+    batch(room, AGREEMENT)
+    command = [ROOT / "bin/desk-copy", room.path(DATABASE)]
+    ours, theirs = pty.openpty()
+    ran = subprocess.run([*command, room.path("shown")], stdout=subprocess.DEVNULL, stderr=theirs)
+    os.close(theirs)
+    shown = all_of(ours)
+    found = ran.returncode, b": SQLite tries the copy" in shown, shown.endswith(b"\r\x1b[K")
+    yield Outcome("desk-copy on a terminal", found, (0, True, True))
+    came = room.call([*command, room.path("not_shown")])
+    yield Outcome("desk-copy elsewhere", (came.status, came.errors), (0, b""))
+
+
+def pieces_are_shown(room: Room) -> Iterator[Outcome]:
+    """How much of a file is copied, by pieces."""
+    room.write("old", bytes(3 * copying.PIECE))
+    told: list[tuple[str, int, int]] = []
+
+    class Heard(Progress):
+        def bytes(self, name: str, done: int, size: int) -> None:
+            told.append((name, done, size))
+
+    progress = Heard("desk-copy")
+    with open(room.path("old"), "rb") as old, open(room.path("new"), "wb") as new:
+        copying.copy_pieces(old, new, "old", progress)
+    size = 3 * copying.PIECE
+    yield Outcome("desk-copy: the pieces", told, [("old", copying.PIECE * done, size) for done in range(3)])
+    yield Outcome("desk-copy: what was copied", room.path("new").read_bytes() == bytes(size), True)
 
 
 def of_another_port(room: Room) -> Iterator[Outcome]:

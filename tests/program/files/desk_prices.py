@@ -7,11 +7,15 @@ import json
 import re
 import socket
 import threading
-import time
 from collections.abc import Iterator
 from pathlib import Path
+from types import SimpleNamespace
+from unittest.mock import patch
 
+from command_lines.ending import Fault
 from desk_prices.asking import Questions
+from desk_prices.rows import row
+from onixdesk_titles.kept_titles import Titles
 from shop_files.desk_json import shop_of
 from shop_files.form import BadForm, form_of
 from tests.program.databases import DATABASE, batch
@@ -151,6 +155,20 @@ def of_a_copy(room: Room) -> Iterator[Outcome]:
     yield Outcome("prices: of another day", [line for line in lines if line.startswith(TWO)], [wanted])
 
 
+def nothing_chosen(room: Room) -> Iterator[Outcome]:
+    """A file without any price is told: a table has no rules, as that of the package, or the prices are of another type."""
+    make_shop(room)
+    told = "nothing is chosen: no rule of the precedence table admits an offer, or desk.json has another price type, currency or"
+    line = f"desk-prices: {room.path('out/prices.csv')}: of 3 articles {told} country than their prices\n".replace(f"{room.folder}/", "")
+    room.write("rules.toml", ROOT.joinpath("programs/onixdesk/rules.toml").read_bytes())
+    yield Outcome("prices: without rules", prices(room), Ran(0, b"", line.encode()))
+    lines = written(room)["prices.csv"].splitlines()
+    yield Outcome("prices: without rules, the file", len(lines), 4)
+    room.write("rules.toml", RULES)
+    room.write("desk.json", json.dumps(SETTINGS | {"price_type": "01"}).encode())
+    yield Outcome("prices: of another type", prices(room), Ran(0, b"", line.encode()))
+
+
 def in_a_form(room: Room) -> Iterator[Outcome]:
     form = {"columns": ["price", "isbn"], "file": "till-{day}.txt", "separator": ";", "decimal": ",", "heading": False}
     make_shop(room, price_file=form)
@@ -189,7 +207,7 @@ def of_a_list(room: Room) -> Iterator[Outcome]:
 
 
 class SlowDesk(threading.Thread):
-    """Answers batches at a socket, at 2 ms an article, and keeps how many articles each had."""
+    """Answers batches at a socket, at 2 ms an article by a clock of its own, and keeps how many articles each had."""
 
     def __init__(self, path: Path) -> None:
         super().__init__(daemon=True)
@@ -197,6 +215,7 @@ class SlowDesk(threading.Thread):
         self.listening.bind(str(path))
         self.listening.listen()
         self.counts: list[int] = []
+        self.now = 0.0
 
     def run(self) -> None:
         while True:
@@ -205,7 +224,7 @@ class SlowDesk(threading.Thread):
                 asked = [line.split(",")[:2] for line in text.read().splitlines()]
                 isbns = [isbn for kind, isbn in asked if kind == "AskChoice"]
                 self.counts.append(len(isbns))
-                time.sleep(0.002 * len(isbns))
+                self.now += 0.002 * len(isbns)
                 none = {"AskChoice": "choice,{},none\n"}
                 text.write("".join(none.get(kind, "price,{},0\n").format(isbn) for kind, isbn in asked))
 
@@ -215,10 +234,51 @@ def batches_for_an_open_desk(room: Room) -> Iterator[Outcome]:
     desk = SlowDesk(room.path("slow"))
     desk.start()
     isbns = [f"{9780000000000 + place}" for place in range(100)]
-    came = [isbn for isbn, _ in Questions("20250301", shop_of(SETTINGS)).of_socket(isbns, room.path("slow"))]
+    with patch("desk_prices.asking.time", SimpleNamespace(monotonic=lambda: desk.now)):
+        came = [isbn for isbn, _ in Questions("20250301", shop_of(SETTINGS)).of_socket(isbns, room.path("slow"))]
     yield Outcome("batches for an open desk: all articles", came, isbns)
     yield Outcome("batches for an open desk: their size", max(desk.counts) <= 25, True)
     yield Outcome("batches for an open desk: more than one article", max(desk.counts) > 1, True)
+
+
+def offered(series: str, amount: str) -> list[list[str]]:
+    """An offer of a calendar with one price."""
+    return [["offer", series, "R", "1", "21", "1"], ["span", "20250301", "20260302", amount]]
+
+
+def least_of_others(_room: Room) -> Iterator[Outcome]:
+    """Of the prices of the others the least counts, also where it has more digits before another one's first."""
+    spans = [*offered("north", "8.000"), *offered("south", "10.000"), *offered("east", "9.000"), *offered("west", "")]
+    answers = [[["choice", TWO, "1", "north", "R", "1", "21", "8.000"]], [["calendar", TWO, "4"], *spans]]
+    shop = shop_of(SETTINGS | {"quantities": [1], "recommended_type": ""})
+    cells = row(TWO, answers, "20250301", shop, Titles(None))
+    yield Outcome("prices: the least of the others", cells["others_least"], "9.000")
+
+
+def answers_about_others(_room: Room) -> Iterator[Outcome]:
+    """An answer about another article, or none, is no line of this one."""
+    questions = Questions("20250301", shop_of(SETTINGS | {"quantities": [1], "recommended_type": ""}))
+    for name, answers in [
+        ("another", [[["choice", ONE, "none"]], [["calendar", ONE, "0"]]]),
+        ("one too few", [[["choice", TWO, "none"]]]),
+        ("refused", [[["choice", TWO, "none"]], [["refused", "malformed"]]]),
+    ]:
+        said = ""
+        try:
+            [*questions.told([TWO], iter(answers))]
+        except Fault as fault:
+            said = str(fault)
+        yield Outcome(f"prices: an answer about {name}", said.startswith(f"the desk does not answer about {TWO}: "), True)
+
+
+def other_identifiers(room: Room) -> Iterator[Outcome]:
+    """What has thirteen digits under another type of identifier is no article that is asked about."""
+    make_shop(room)
+    lines = product("R9", THREE, ",8,,,,,,")
+    lines[0] = f"Product,R9,03,01,{THREE[:-1]}0,02,{ONE}"
+    batch(room, message(2, NORTH, lines))
+    prices(room)
+    yield Outcome("prices: other identifiers", [line[:13] for line in written(room)["prices.csv"].splitlines()[1:]], [*LINES])
 
 
 def whole_or_not(room: Room) -> Iterator[Outcome]:
@@ -301,7 +361,7 @@ def since(room: Room) -> Iterator[Outcome]:
 
 
 MAILED = [
-    "To: a@example.org\nSubject: onixdesk: 6 changes of prices\nMIME-Version: 1.0\n"
+    "To: a@example.org\nSubject: onixdesk: changes of prices: 6\nMIME-Version: 1.0\n"
     "Content-Type: text/plain; charset=UTF-8\nContent-Transfer-Encoding: 8bit",
     "Nobody offers any more, or no rule chooses any more (1):\n9780000000103  5.00 GBP  North Books",
     "Cost more (1):\n9780000000102  5.00 to 5.01 GBP  North Books",
@@ -324,7 +384,7 @@ def watched(room: Room) -> Iterator[Outcome]:
     wanted = [["cheaper", "9780000000101"], ["new", "9780000000105"]]
     yield Outcome("watched: what has changed", [row[:2] for row in changed(came)], wanted)
     mails = [each.read_text().splitlines()[:2] for each in room.path("mails").iterdir()]
-    yield Outcome("watched: the mails", mails, [["To: a@example.org", "Subject: onixdesk: 2 changes of prices"]])
+    yield Outcome("watched: the mails", mails, [["To: a@example.org", "Subject: onixdesk: changes of prices: 2"]])
     yield Outcome("watched: none is sent", room.path("mailed").exists(), False)
     came = prices(room, *words)
     yield Outcome("watched: nothing has changed", (changed(came), len([*room.path("mails").iterdir()])), ([], 1))

@@ -47,7 +47,11 @@ def make_programs(room: Room, units: str, failing: str) -> Path:
     begun = f'echo "$name$*" >>"{room.path("calls")}"; case "$*" in *"{failing}"*) exit 3 ;; esac'
     script(room, "programs/onixdesk", f'exec "{room.program}" "$@"')
     script(room, "programs/onixdesk-inbox", f'name="onixdesk-inbox "; {begun}')
-    script(room, "programs/systemctl", f'name=; {begun}; [ "$1" != list-units ] || cat "{room.path("units")}"')
+    # The third word of a line is the state of the unit.
+    listing = f"""for word; do case $word in --state=*) states=,${{word#*=}}, ;; esac; done
+while read -r unit loaded state rest; do case $states in *,$state,*) echo "$unit $loaded $state $rest" ;; esac
+done <"{room.path("units")}\""""
+    script(room, "programs/systemctl", f'name=; {begun}; [ "$1" = list-units ] || exit 0\n{listing}')
     return folder
 
 

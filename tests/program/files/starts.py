@@ -1,10 +1,12 @@
 """The start of a service: programs/onixdesk/wait-for-desk.sh waits until a desk answers, and the unit has it so."""
 
+import contextlib
 import os
 import socket
 import subprocess
+import threading
 import time
-from collections.abc import Iterator
+from collections.abc import Callable, Iterator
 from pathlib import Path
 
 from tests.program.databases import DATABASE, batch
@@ -108,6 +110,51 @@ def in_vain(room: Room) -> Iterator[Outcome]:
         taken = other.getsockname()[1]
         ran = wait(room, taken, "empty.db", process=ended.pid)
         yield Outcome("wait-for-desk.sh: a port that another program has", ran, wanted)
+
+
+@contextlib.contextmanager
+def meeting(act: Callable[[socket.socket], None]) -> Iterator[int]:
+    """A port whose connections meet that."""
+    with socket.create_server((HOST, 0)) as server:
+        def meet() -> None:
+            with contextlib.suppress(OSError):
+                while True:
+                    peer, _ = server.accept()
+                    with peer:
+                        act(peer)
+        thread = threading.Thread(target=meet)
+        thread.start()
+        try:
+            yield server.getsockname()[1]
+        finally:
+            server.shutdown(socket.SHUT_RDWR)
+            thread.join()
+
+
+def end_and_wait(process: subprocess.Popen[bytes]) -> None:
+    process.kill()
+    process.wait()
+
+
+def other_programs(room: Room) -> Iterator[Outcome]:
+    """What accepts a connection and does not answer is no desk, nor is what answers once the desk has ended."""
+    room.write("empty.db", b"")
+    with meeting(lambda _: None) as port:
+        wanted = Ran(1, b"", f"wait-for-desk.sh: nobody answers at port {port}, after 1 s\n".encode())
+        yield Outcome("wait-for-desk.sh: connections without answers", wait(room, port, "empty.db", 1), wanted)
+    desk = subprocess.Popen(["sleep", "1000"])
+
+    def end_and_answer(peer: socket.socket) -> None:
+        end_and_wait(desk)
+        peer.sendall(b"HTTP/1.1 404 Not Found\r\n\r\n")
+
+    try:
+        with meeting(end_and_answer) as port:
+            came = wait(room, port, "empty.db", process=desk.pid)
+    finally:
+        end_and_wait(desk)
+    wanted = Ran(1, b"", b"wait-for-desk.sh: the desk has ended\n")
+    yield Outcome("wait-for-desk.sh: an answer once the desk has ended", came, wanted)
 
 
 def unit(_room: Room) -> Iterator[Outcome]:

@@ -15,8 +15,9 @@ from collections.abc import Callable, Iterator
 from pathlib import Path
 
 from desk_metrics import folders
-from onixdesk_fetch.server import LISTED, is_name, linked
-from onixdesk_fetch.settings import read_settings
+from command_lines.ending import Fault
+from onixdesk_fetch.server import LISTED, Offered, Server, is_name, linked
+from onixdesk_fetch.settings import Settings, read_settings
 from tests.program.feeds.convert.failing_files import small_disk
 from tests.program.inbox.inboxes import files_in
 from tests.program.room import SECONDS, Ran, Room
@@ -218,6 +219,10 @@ def bounds(room: Room) -> Iterator[Outcome]:
         for files in (2, 4, 5):
             fetch.run()
             yield Outcome(f"fetch: two files a run, {files}", len(fetch.came()), files)
+        fetch.files.joinpath("5.xml").write_bytes(b"5" * 1000)
+        fetch.set(URL=url, BYTES_A_DAY=5_500)
+        yield Outcome("fetch: five thousand bytes came before", (fetch.run().status, len(fetch.came())), (0, 5))
+        fetch.files.joinpath("5.xml").unlink()
         fetch.files.joinpath("6.xml").write_bytes(b"6" * 100_000)
         fetch.set(URL=url, BYTES_A_DAY=50_000)
         came = fetch.run()
@@ -230,6 +235,25 @@ def bounds(room: Room) -> Iterator[Outcome]:
         line = "1.xml: the inbox has not taken the file of this name that came before"
         yield Outcome("fetch: a file that still lies there", (fetch.run().errors, fetch.came()["1.xml"]),
                       (said(line).errors, b"1" * 1000))
+
+
+class Cut(Server):
+    """A server from which half of a file comes, and curl says nothing."""
+
+    def get(self, url: str, target: Path, seconds: float, most: int, *words: str) -> None:
+        target.write_bytes(b"half")
+
+
+def a_file_that_is_cut(room: Room) -> Iterator[Outcome]:
+    """Fewer bytes than the listing has are no whole file."""
+    cut = Cut(Settings("sftp://a.example/"), "", None)
+    for size, wanted in [(None, ""), (4, ""), (8, "a.xml: 4 bytes came, and the server says 8")]:
+        said = ""
+        try:
+            cut.fetch(Offered("a.xml", size, "", "sftp://a.example/a.xml"), room.path("part"), 1, 100)
+        except Fault as fault:
+            said = str(fault)
+        yield Outcome(f"fetch: half of a file of {size} bytes", said, wanted)
 
 
 def a_name_with_the_day(room: Room) -> Iterator[Outcome]:

@@ -25,6 +25,7 @@ from tests.program.inbox.inboxes import (
     said,
     script,
     taken,
+    within,
 )
 from tests.program.messages import AGREED
 from tests.program.inbox.packed_feeds import packed
@@ -233,9 +234,9 @@ def what_waits(room: Room) -> Iterator[Outcome]:
         inbox = Inbox(room, desk.port, WORDS="--unknown")
         came = inbox.run()
         lines = came.errors.decode().splitlines()
-        starts = [f"onixdesk-inbox: {name}: waiting: the converter ends with status 2: " for name in files]
+        starts = [f"onixdesk-inbox: {name}: not taken: the converter ends with status 2: " for name in files]
         found = came.status, [line.startswith(start) for line, start in zip(lines, starts, strict=True)]
-        yield Outcome("inbox: bad words for the converter", (found, inbox.lying()), ((0, [True] * 2), files))
+        yield Outcome("inbox: bad words for the converter", (found, inbox.lying()), ((1, [True] * 2), files))
         inbox.set()
         wanted = said("a.xml: done: number 1 applied", "b.csv: done: number 2 applied")
         yield Outcome("inbox: what waited is taken", (inbox.run(), inbox.lying()), (wanted, {}))
@@ -244,6 +245,16 @@ def what_waits(room: Room) -> Iterator[Outcome]:
             **taken("done", "b.csv", files["b.csv"], of_series(2)),
         }
         yield Outcome("inbox: what waited is kept", inbox.kept(), kept)
+
+
+# Runs a program by a clock that stands.
+AT_A_MOMENT = """
+import runpy, sys, time
+moment = float(sys.argv[1])
+time.time = lambda: moment
+sys.argv = sys.argv[2:]
+runpy.run_path(sys.argv[0], run_name="__main__")
+"""
 
 
 def what_is_still_written(room: Room) -> Iterator[Outcome]:
@@ -260,12 +271,13 @@ def what_is_still_written(room: Room) -> Iterator[Outcome]:
             "c.xml.part: waiting: its name is of a file that is still being written",
         ]
         yield Outcome("inbox: what is still written", (inbox.run(), inbox.lying()), (said(*lines), files))
-        # Long enough that a busy machine looks at the renamed file in time.
-        inbox.set(UNCHANGED_SECONDS=30)
-        time.sleep(30.1)
+        # Just so long after the first was written, which is before the other one got its name.
+        moment = (inbox.incoming / "a.xml").stat().st_ctime + 600.001
+        time.sleep(0.05)
         (inbox.incoming / "c.xml.part").rename(inbox.incoming / "c.xml")
-        lines = "a.xml: done: number 1 applied", "c.xml: waiting: it changed less than 30 s ago"
-        yield Outcome("inbox: what is written", inbox.run(), said(*lines))
+        lines = "a.xml: done: number 1 applied", "c.xml: waiting: it changed less than 600 s ago"
+        came = ended(inbox.start(before=within(AT_A_MOMENT, str(moment))))
+        yield Outcome("inbox: what is written", came, said(*lines))
 
 
 def what_lies_long(room: Room) -> Iterator[Outcome]:
@@ -319,12 +331,14 @@ def what_changes_meanwhile(change: str, room: Room) -> Iterator[Outcome]:
 def conversions_that_do_not_end(room: Room) -> Iterator[Outcome]:
     """One that takes too long, and one that is killed: their files are refused, so that they hold up no other."""
     batch(room, AGREEMENT)
-    program = script(room, "converter", 'for word; do :; done; case $(cat "$word") in long) exec sleep 60 ;;'
+    goes_on = room.path("goes-on")
+    program = script(room, "converter", f'for word; do :; done; case $(cat "$word") in long) sleep 60; touch {goes_on} ;;'
                      ' big) kill -KILL $$ ;; stopped) kill -TERM $$ ;; esac')
     inbox = Inbox(room, 1, CONVERSION_SECONDS=1)
     inbox.put({"a.xml": b"long"})
     wanted = said("a.xml: refused: its conversion took more than 1 s", status=1)
     yield Outcome("inbox: a conversion that does not end", inbox.run("--converter", program), wanted)
+    yield Outcome("inbox: a conversion that does not end is ended", goes_on.exists(), False)
     inbox.set(CONVERSION_SECONDS=SECONDS)
     inbox.put({"b.xml": b"big"})
     line = "b.xml: refused: its conversion was killed, as where it takes more memory than the unit allows"

@@ -64,6 +64,20 @@ def refused_for_a_mistake(room: Room) -> Iterator[Outcome]:
         yield Outcome("again: another reason", inbox.run("--again", "lacking"), said(line))
 
 
+def what_a_report_says(room: Room) -> Iterator[Outcome]:
+    """By the desk's report it lacks what is missing between others, and what is below its first number."""
+    inbox = Inbox(room, 1)
+    with desk_of(room, inbox, AGREED.format("S", 1)):
+        inbox.put({f"w{number}.xml": numbered([f"R{number}"], number) for number in (1, 2, 3)})
+        inbox.run()
+    with desk_of(room, inbox, AGREED.format("S", 1) + "Waive,north,1\nWaive,north,3\n"):
+        wanted = said("w2.xml: done: number 2 applied")
+        yield Outcome("again: what is missing between others", inbox.run("--again", "lacking"), wanted)
+    with desk_of(room, inbox, AGREED.format("S", 2) + "Waive,north,2\nWaive,north,3\n"):
+        wanted = said("w1.xml: refused: number 1 is below the first number of the series, 2", status=1)
+        yield Outcome("again: what is below the first", inbox.run("--again", "lacking"), wanted)
+
+
 def what_does_not_fit(room: Room) -> Iterator[Outcome]:
     """What was done and is refused now is an error, and stays where it can be taken again; a number that two files
     have says of neither that the desk has it."""

@@ -174,6 +174,17 @@ def swapped(what: str, room: Room) -> Iterator[Outcome]:
     yield Outcome(f"inbox: nothing is kept of {what}", inbox.kept(), {})
 
 
+def gone_before_others(room: Room) -> Iterator[Outcome]:
+    """What comes behind a file that is taken away meanwhile is taken in the same run."""
+    batch(room, AGREEMENT)
+    with serving(room, WORDS, CONNECTIONS) as desk:
+        inbox = Inbox(room, desk.port)
+        inbox.put({"a.csv": message_of("R1"), "b.csv": message_of("R2")})
+        statement, _ = SWAPS["nothing"]
+        came = ended(inbox.start(before=within(SWAPPING, inbox.incoming / "a.csv", "", statement)))
+        yield Outcome("inbox: behind a file that is gone", came, said("b.csv: done: number 1 applied"))
+
+
 # Runs the inbox, and once, before a file of that name is removed or gets another one, puts another in its place.
 REPLACING = """
 import os, runpy, sys

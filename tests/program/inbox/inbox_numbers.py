@@ -29,6 +29,7 @@ from tests.program.inbox.inboxes import (
     unnumbered,
     within,
 )
+from tests.program.inbox.titles import main_of
 from tests.program.room import Group, Ran, Room
 from tests.program.serving import StandIn, serving, standing_in
 from tests.running import Outcome
@@ -107,10 +108,10 @@ def run_at_a_failing_desk(inbox: Inbox, status: int, body: bytes) -> Ran:
     return run_at(inbox, type("Handler", (Failing,), {"status": status, "body": body}))
 
 
-def run_at(inbox: Inbox, handler: type[StandIn]) -> Ran:
+def run_at(inbox: Inbox, handler: type[StandIn], **settings: object) -> Ran:
     """A run at a desk that answers so."""
     with standing_in(handler) as port:
-        inbox.set(NUMBER="next", DESK=f"http://127.0.0.1:{port}")
+        inbox.set(NUMBER="next", DESK=f"http://127.0.0.1:{port}", **settings)
         return inbox.run()
 
 
@@ -212,8 +213,8 @@ runpy.run_path(sys.argv[0], run_name="__main__")
 CONVERTER = """while [ $# -gt 1 ]; do case $1 in --number) number=$2; shift ;; -o) folder=$2; shift ;; esac; shift; done
 sed "s/NUMBER/${number-3}/" "$1" >"$folder/feed.csv\""""
 
-# The steps are shared out among so many groups, that stand side by side.
-SHARES = 4
+# Each group has every fourth step, and begins with one of its own; tests/killed tries each system call.
+SHARES, OF_OWN, OF_NEXT = 4, 0, 2
 
 KILLED = -signal.SIGKILL
 
@@ -245,6 +246,41 @@ def numbers_that_others_took(room: Room) -> Iterator[Outcome]:
     refusal = "c.xml: refused: another message of number 3 was taken before; a correction needs a number of its own"
     wanted = said(refusal, status=1)
     yield Outcome("inbox: a number of before that is another's", run_at(inbox, type("Desk", (Contested,), {"lost": 99})), wanted)
+
+
+class Partly(Failing):
+    """A desk that answers the second message of a feed otherwise than the first."""
+
+    second = OTHER.format(2)
+
+    def do_POST(self) -> None:
+        number = int(self.posted().decode().partition("\n")[0].split(",")[6])
+        status, _, body = (of_series(1) if number == 1 else self.second).partition(" ")
+        self.reply(int(status), body.encode())
+
+
+# Of a feed that gets a number it makes two messages, of that and of the next.
+IN_TWO = CONVERTER.replace("sed", "for part in 0 1; do sed").replace("${number-3}", "$((number+part))").replace(
+    '/feed.csv"', '/feed-$part.csv"; done'
+)
+
+
+def parts_of_two_answers(room: Room) -> Iterator[Outcome]:
+    """Of two parts the second may wait, or be another's: the number of the first is the feed's, and stays."""
+    waits = HELD.format(2, "north", 4)
+    why = "another message of number 2 was taken before; a correction needs a number of its own"
+    for name, second, line, status in [
+        ("held", waits, "done: numbers 1 to 2: 1 applied, 1 held, waiting for 4", 0),
+        ("another's", OTHER.format(2), f"done in part: number 1 applied; not applied: {why}", 1),
+    ]:
+        inbox = Inbox(room, 1)
+        shutil.rmtree(inbox.state, ignore_errors=True)
+        inbox.converter = script(room, "converter", IN_TWO)
+        inbox.put({"a.xml": unwritten("S", "R1")})
+        came = run_at(inbox, type("Desk", (Partly,), {"second": second}), WORDS="--parts 2")
+        yield Outcome(f"inbox: a second part that is {name}", came, said(f"a.xml: {line}", status=status))
+        given = [f"{digest(unwritten('S', 'R1'))} 1"]
+        yield Outcome(f"inbox: a second part that is {name}, the number", numbers_kept(inbox), given)
 
 
 def two_states(room: Room) -> Iterator[Outcome]:
@@ -298,6 +334,32 @@ def killed_with_own_numbers(share: int, room: Room) -> Iterator[Outcome]:
         yield Outcome("inbox: the desk after all stops", gaps_of(desk, "north"), GAPS)
 
 
+# The inbox is killed once it has moved the first of two files to those that are done.
+KILLED_AT_ITS_END = """
+import os
+replace = os.replace
+def killed(old, new):
+    replace(old, new)
+    if "/done/" in str(new):
+        os.kill(os.getpid(), 9)
+os.replace = killed
+"""
+
+
+def killed_at_its_end(room: Room) -> Iterator[Outcome]:
+    """No file is at its end without the answer to it."""
+    batch(room, AGREEMENT)
+    with serving(room, WORDS, CONNECTIONS) as desk:
+        inbox = Inbox(room, desk.port)
+        inbox.put({"a.csv": message_of("R1")})
+        came = room.call(main_of("onixdesk_inbox", KILLED_AT_ITS_END, *inbox.words()[1:]))
+        at_end = [name for name in inbox.kept() if name.startswith("done/")]
+        yield Outcome("inbox: killed at the end of a file", (came.status, at_end), (KILLED, ["done/a.csv.answer"]))
+        inbox.run()
+        wanted = taken("done", "a.csv", message_of("R1"), of_series(1, replaced=1))
+        yield Outcome("inbox: killed at the end of a file, then", inbox.kept(), wanted)
+
+
 GAPS = b'{"answer":"gaps","first":1,"greatest":3,"held":1,"missing":[[1,2]],"next":1,"series":"north"}'
 
 
@@ -337,9 +399,6 @@ def numbers_in(inbox: Inbox) -> int:
 
 
 GROUPS = [
-    *(Group(f"inbox: killed, share {share}", partial(killed_with_own_numbers, share)) for share in range(SHARES)),
-    *(
-        Group(f"inbox: killed with next numbers, share {share}", partial(killed_with_next_numbers, share))
-        for share in range(SHARES)
-    ),
+    Group("inbox: killed", partial(killed_with_own_numbers, OF_OWN)),
+    Group("inbox: killed with next numbers", partial(killed_with_next_numbers, OF_NEXT)),
 ]

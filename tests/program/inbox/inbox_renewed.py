@@ -6,7 +6,7 @@ from collections.abc import Iterator
 from tests.program.feeds.convert.wanted_runs import message_of
 from tests.program.inbox.inbox_again import AGREED, desk_of
 from tests.program.inbox.inbox_numbers import digest, numbers_kept
-from tests.program.inbox.inboxes import Inbox, numbered, said, unnumbered
+from tests.program.inbox.inboxes import OTHER, Inbox, numbered, of_series, said, unnumbered
 from tests.program.room import Room
 from tests.running import Outcome
 
@@ -91,3 +91,44 @@ def in_part(room: Room) -> Iterator[Outcome]:
         places = [json.loads(line[4:])["number"] for line in lines if line.startswith("200 ")]
         yield Outcome("renewed: in part, the answer", places, [3, 4])
         yield Outcome("renewed: in part, again", inbox.run("--again", "lacking"), said())
+
+
+def behind_the_next(room: Room) -> Iterator[Outcome]:
+    """What came behind the copy of which the desk was renewed is not in it."""
+    inbox = Inbox(room, 1)
+    with desk_of(room, inbox, AGREED.format("S", 1)):
+        inbox.put({f"w{number}.xml": numbered([f"R{number}"], number) for number in (1, 2, 3, 4)})
+        inbox.run()
+    renew(inbox)
+    with desk_of(room, inbox, RENEWED):
+        came = inbox.run("--again", "lacking")
+        yield Outcome("renewed: behind the next number", came, said("w4.xml: done: number 4 applied"))
+
+
+def an_older_copy(room: Room) -> Iterator[Outcome]:
+    """A desk of before it was renewed is asked, also once it has as many numbers."""
+    inbox = Inbox(room, 1)
+    names = [f"w{number}.xml" for number in (1, 2, 3)]
+    with desk_of(room, inbox, AGREED.format("S", 1)):
+        inbox.put({name: numbered([f"R{name[1]}"], int(name[1])) for name in names})
+        inbox.run()
+        renew(inbox)
+        lines = [f"{name}: done: number {name[1]} applied" for name in names]
+        yield Outcome("renewed: an older copy of as many numbers", inbox.run("--again", "all"), said(*lines))
+
+
+def refused_in_part(room: Room) -> Iterator[Outcome]:
+    """Of a feed whose second message was refused that one is posted again."""
+    inbox = Inbox(room, 1, WORDS="--parts 2")
+    feed = numbered(["R1", "R2"], 1)
+    done = inbox.state / "done"
+    done.mkdir(mode=0o700, parents=True)
+    inbox.state.chmod(0o700)
+    done.joinpath("a.xml").write_bytes(feed)
+    done.joinpath("a.xml.answer").write_text(f"{of_series(1)}\n{OTHER.format(2)}\n", encoding="ascii")
+    renew(inbox)
+    with desk_of(room, inbox, RENEWED, WORDS="--parts 2"):
+        inbox.put({"b.xml": feed})
+        why = "number 2 is below the first number of the series, 3"
+        line = f"b.xml: done in part: number 1 applied; not applied: {why}; kept as a.xml"
+        yield Outcome("renewed: refused in part", inbox.run(), said(line, status=1))

@@ -92,6 +92,8 @@ def places(_room: Room) -> Iterator[Outcome]:
         "StateDirectoryMode=0700",
         f"ReadWritePaths=-{incoming}%i",
         "SyslogLevel=err",
+        # A conversion that takes too much memory ends alone.
+        "OOMPolicy=continue",
     ]
     yield Outcome("units: the places of the service", [line for line in wanted if line not in service], [])
     watched = [line for line in lines_of("onixdesk-inbox@.path") if line.startswith("Path")]

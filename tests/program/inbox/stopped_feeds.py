@@ -2,6 +2,7 @@
 docs/HTTP.md has them, and which counts what is posted."""
 
 import json
+import re
 import shutil
 from collections.abc import Iterator
 from functools import partial
@@ -70,6 +71,14 @@ def records(articles: list[str], amounts: list[str], number: int = 5, currency: 
     return "\n".join([*lines, f"EndMessage,{len(lines)}", ""]).encode()
 
 
+def in_two_currencies(amount: str, other: str) -> bytes:
+    """The same with a price in EUR behind each."""
+    price = f"Price,02,{amount},GBP,,WORLD,,,\n"
+    text = records(ARTICLES, [amount] * 20).decode().replace(price, f"{price}{price.replace(amount, other).replace('GBP', 'EUR')}")
+    count = text.count("\n") - 1
+    return re.sub("EndMessage,[0-9]+", f"EndMessage,{count}", text).encode()
+
+
 def feed(products: list[str], number: int = 5) -> bytes:
     frame = FRAMES["products"]
     text = "\n".join([frame.before, *products, frame.behind])
@@ -128,6 +137,7 @@ CASES = [
          "3 of 10 prices change by more than a factor of two: "),
     Case("all of nine prices jump", "a.csv", records(*few(9)), ""),
     Case("jumps are allowed", "a.csv", records(ARTICLES, ["1000"] * 20), "", settings={"STOP_JUMPS": "no"}),
+    Case("prices in EUR that are new, beside those in GBP", "a.csv", in_two_currencies("10", "100"), ""),
     Case("another wholesaler's feed", "a.csv", records(OTHERS, SAME), "20 of 20 articles are none that north offers: "),
     Case("16 of 20 articles are new", "a.csv", records(OTHERS[:16] + ARTICLES[:4], SAME), ""),
     Case("17 of 20 articles are new", "a.csv", records(OTHERS[:17] + ARTICLES[:3], SAME),
@@ -138,6 +148,8 @@ CASES = [
     Case("ten of twenty records without prices", "a.csv", records(ARTICLES, [*["10"] * 10, *[""] * 10]), ""),
     Case("a feed of ECZ prices", "a.xml", feed([in_ecz(place) for place in range(20)]), EMPTIED),
     Case("a feed of ECZ markets", "a.xml", feed([emptied(place) for place in range(20)]), EMPTIED),
+    Case("two parts, of which the second is new", "a.xml", feed([in_ecz(place) for place in range(20)], 2), EMPTIED,
+         4, 3, {"WORDS": "--parts 2"}),
     Case("nine products in ECZ", "a.xml", feed([in_ecz(place) for place in range(9)]), ""),
     Case("a feed without products", "a.xml", feed([]), "it has no Product, and no NoProduct; "),
     Case("a feed that says so", "a.xml", feed(["<NoProduct/>"]), ""),
@@ -276,6 +288,7 @@ def without_numbers(room: Room) -> Iterator[Outcome]:
         yield Outcome("stopped: the number of then", (line[: len(begins)], len(desk.posts)), (begins, 1))
 
 
+# Each group has every fourth step; tests/killed tries each system call.
 SHARES, MOST, LEAST = 4, 60, 12
 
 
@@ -312,7 +325,6 @@ def killed_at_any_step(decision: str, share: int, room: Room) -> Iterator[Outcom
 
 
 GROUPS = [
-    Group(f"stopped: killed, {decision}, share {share}", partial(killed_at_any_step, decision, share))
-    for decision in ("--let-in", "--refuse")
-    for share in range(SHARES)
+    Group(f"stopped: killed, {decision}", partial(killed_at_any_step, decision, share))
+    for decision, share in [("--let-in", 0), ("--refuse", 2)]
 ]

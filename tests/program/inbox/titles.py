@@ -11,6 +11,7 @@ from functools import partial
 from pathlib import Path
 from typing import Any
 
+from onixdesk_inbox.handing import messages_in
 from tests.program.feeds.convert.wanted_runs import zipped
 from tests.program.documents.examples import block
 from tests.program.inbox.inboxes import Inbox, files_in, of_series, said, script, within
@@ -206,8 +207,15 @@ FAULTS = {
     "exit 1": "why",
     "exit 0": "why",
     "kill -KILL $$": "its conversion was killed, as where it takes more memory than the unit allows",
-    "exec sleep 60": "its conversion took more than 2 s",
+    "exec sleep 60": "its conversion took more than 1 s",
 }
+
+# The conversion for the titles alone has so many seconds.
+HARDLY_ANY_TIME = """
+from dataclasses import replace
+from onixdesk_inbox import handing
+handing.replace = lambda converter, **more: replace(converter, seconds=1, **more)
+"""
 
 
 def faults(room: Room) -> Iterator[Outcome]:
@@ -215,13 +223,14 @@ def faults(room: Room) -> Iterator[Outcome]:
     shop = Shop(room)
 
     def told(what: str, name: str, data: bytes, why: str, before: str = "") -> Outcome:
-        came = shop.feed({name: data}, before=before, CONVERSION_SECONDS=2)
+        came = shop.feed({name: data}, before=before)
         return Outcome(f"titles: {what}", came, said(f"{name}: done: number 1 applied", f"{name}: no titles: {why}"))
 
     for end, why in FAULTS.items():
         of_titles = f'case "$*" in *--titles*) echo "onixdesk: feed.xml: refused: why" >&2; {end} ;; esac'
         script(room, "converter", f"{of_titles}\n{CONVERTER}")
-        yield told(f"a converter that ends by {end}", "a.xml", feed(1), why)
+        before = HARDLY_ANY_TIME if "sleep" in end else ""
+        yield told(f"a converter that ends by {end}", "a.xml", feed(1), why, before)
     script(room, "converter", CONVERTER)
     large = zipped({"a": feed(1, row(ONE, "A" * 60))})
     bound = "from onixdesk_inbox import handing; handing.MOST_UNPACKED = 60"
@@ -250,6 +259,27 @@ def a_run_that_is_killed(step: str, room: Room) -> Iterator[Outcome]:
     yield Outcome(f"titles: the run after {step}", (shop.take(), shop.first(), shop.waiting()), (Ran(0), new, []))
     left = [path.name for path in shop.kept.rglob("*.new")]
     yield Outcome(f"titles: nothing is left beside after {step}", left, [])
+
+
+# The inbox is killed as its rows get a name in the folder where they wait.
+KILLED_AT_ROWS = """
+import os
+replace = os.replace
+def killed(old, new):
+    if "/rows/" in str(new):
+        os.kill(os.getpid(), 9)
+    replace(old, new)
+os.replace = killed
+"""
+
+
+def rows_that_are_being_written(room: Room) -> Iterator[Outcome]:
+    """Rows have the name by which they are taken once they are whole."""
+    shop = Shop(room)
+    came = shop.feed({"a.xml": feed(1, row(ONE, "A"))}, before=KILLED_AT_ROWS)
+    yield Outcome("titles: an inbox that is killed", (came.status, messages_in(shop.rows)), (-9, []))
+    shop.feed({})
+    yield Outcome("titles: the rows then", [message.number for _, message in messages_in(shop.rows)], [1])
 
 
 def a_full_disk(room: Room) -> Iterator[Outcome]:

@@ -11,7 +11,6 @@ from tests.running import Outcome
 NORTH = ["North Books", "in stock 21"]
 SOUTH = ["South Books", "in stock 21"]
 WEST = ["Western Wholesale", "out of stock 31"]
-NONE = "no price of type 02 for 1 copy in GBP"
 SAME = "same for more"
 SAME_FOR_TEN = "same for more"
 BREAK = "1: £11.8010: £9.95"

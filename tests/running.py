@@ -85,10 +85,21 @@ def command_line(name: str, text: str | None) -> argparse.ArgumentParser:
     """The words by which the cases and the program that is tested are chosen."""
     parser = argparse.ArgumentParser(name, description=text, formatter_class=argparse.RawDescriptionHelpFormatter)
     parser.add_argument("program", metavar="PROGRAM", type=Path, nargs="?")
-    parser.add_argument("-k", metavar="PATTERN", action="append", type=pattern_of, default=[], dest="patterns",
-        help="only the groups 'MODULE: NAME' that have this text, or keep to it where it has a *; several are joined")
-    parser.add_argument("--case", metavar="TEXT", default="", help="of these only the cases whose name has this text;"
-        " what the others before them do is done")
+    parser.add_argument(
+        "-k",
+        metavar="PATTERN",
+        action="append",
+        type=pattern_of,
+        default=[],
+        dest="patterns",
+        help="only the groups 'MODULE: NAME' that have this text, or keep to it where it has a *; several are joined",
+    )
+    parser.add_argument(
+        "--case",
+        metavar="TEXT",
+        default="",
+        help="of these only the cases whose name has this text;" " what the others before them do is done",
+    )
     parser.add_argument("--list", action="store_true", help="write the names of the groups, and try none")
     return parser
 

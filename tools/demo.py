@@ -52,7 +52,9 @@ def requests() -> bytes:
 @contextlib.contextmanager
 def desk(program: Path) -> Iterator[int]:
     """A desk that has the week, at the port that is given."""
-    print("demo: a desk is given a shop's week, for which the unproved program takes a while", file=sys.stderr, flush=True)
+    print(
+        "demo: a desk is given a shop's week, for which the unproved program takes a while", file=sys.stderr, flush=True
+    )
     folder = tempfile.mkdtemp(prefix="onixdesk-")
     command: list[Word] = [program, "--db", "shop.db", "--rules", RULES]
     subprocess.run([*command, "batch"], cwd=folder, input=requests(), stdout=subprocess.DEVNULL)

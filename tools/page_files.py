@@ -61,7 +61,9 @@ def wrapped(name: str) -> str:
     if any(line.count("`") % 2 for line in text.splitlines()):
         raise Unreadable(f"{name} has a text of several lines, which may look like a comment")
     exported = [found for _, found in EXPORT.findall(text)]
-    taken = IMPORT.sub(lambda found: f"const {{{found[1].replace(' as ', ': ')}}} = {constant(beside(name, found[2]))};\n", text)
+    taken = IMPORT.sub(
+        lambda found: f"const {{{found[1].replace(' as ', ': ')}}} = {constant(beside(name, found[2]))};\n", text
+    )
     body = COMMENT.sub("", EXPORT.sub(r"\1 \2", taken))
     if left := re.search(r"^(?:import|export)\b.*|\bimport\(.*|^await\b.*", body, re.M):
         raise Unreadable(f"{name}: {left[0]}")

@@ -116,7 +116,9 @@ class Tree:
         words = [self.folder / command, *self.words_of(command, groups)]
         # Into a file: what a fault leaves running would keep a pipe open.
         with tempfile.TemporaryFile("w+", errors="backslashreplace") as said:
-            ran = subprocess.run(words, cwd=self.folder, stdin=subprocess.DEVNULL, stdout=said, stderr=said, timeout=SECONDS)
+            ran = subprocess.run(
+                words, cwd=self.folder, stdin=subprocess.DEVNULL, stdout=said, stderr=said, timeout=SECONDS
+            )
             said.seek(0)
             lines = said.read().splitlines()
         pattern = FAILED_OF.get(command, FAILED)
@@ -156,7 +158,9 @@ def arguments() -> argparse.Namespace:
         "tools/planted", description=__doc__, formatter_class=argparse.RawDescriptionHelpFormatter
     )
     parser.add_argument("--program", type=Path, default=PROGRAM, help="the built program; the proved one without it")
-    parser.add_argument("--without-baseline", action="store_true", help="does not run the groups without a fault before")
+    parser.add_argument(
+        "--without-baseline", action="store_true", help="does not run the groups without a fault before"
+    )
     parser.add_argument("names", metavar="NAME", nargs="*")
     return parser.parse_args()
 

@@ -70,7 +70,9 @@ def words_over(crate: Any, built: set[str], flags: list[str]) -> list[str]:
 
 
 def main() -> int:
-    parser = argparse.ArgumentParser("bench/check", description=__doc__, formatter_class=argparse.RawDescriptionHelpFormatter)
+    parser = argparse.ArgumentParser(
+        "bench/check", description=__doc__, formatter_class=argparse.RawDescriptionHelpFormatter
+    )
     parser.add_argument("--from", dest="clone", metavar="CLONE", type=Path, default=ROOT)
     parser.add_argument("crate", metavar="CRATE")
     given, flags = parser.parse_known_args()

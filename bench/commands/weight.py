@@ -155,7 +155,9 @@ def weigh(command: list[str], file: Path | None) -> tuple[int, list[str]]:
 
 
 def main() -> int:
-    parser = argparse.ArgumentParser("bench/weight", description=__doc__, formatter_class=argparse.RawDescriptionHelpFormatter)
+    parser = argparse.ArgumentParser(
+        "bench/weight", description=__doc__, formatter_class=argparse.RawDescriptionHelpFormatter
+    )
     parser.add_argument("--file", type=Path, metavar="FILE")
     parser.add_argument("--ends", action="store_true")
     parser.add_argument("--log", type=Path, metavar="FILE")

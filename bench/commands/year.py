@@ -132,10 +132,18 @@ def answer_of(path: Path, text: str) -> str:
 def fill(program: Path, folder: Path, days: int, articles: int) -> list[tuple[float, float]]:
     """Gives the desk its year, as batches at its socket; the megabytes of its file after so many requests for a day."""
     sizes = []
-    subprocess.run([program, "--db", "shop.db", "batch"], cwd=folder, input=year.AGREEMENTS, text=True, check=True,
-        stdout=subprocess.DEVNULL)
+    subprocess.run(
+        [program, "--db", "shop.db", "batch"],
+        cwd=folder,
+        input=year.AGREEMENTS,
+        text=True,
+        check=True,
+        stdout=subprocess.DEVNULL,
+    )
     port = free_port()
-    served = Served([program, "--db", folder / "shop.db", "serve", "--port", str(port), "--batches", folder / "b"], port)
+    served = Served(
+        [program, "--db", folder / "shop.db", "serve", "--port", str(port), "--batches", folder / "b"], port
+    )
     try:
         for request in year.requests(days, articles):
             answer = answer_of(folder / "b", request)
@@ -157,7 +165,10 @@ def start(program: Path, folder: Path, name: str) -> None:
     served.process.send_signal(signal.SIGTERM)
     served.process.wait()
     served.kill()
-    print(f"a start of {name}, {(folder / name).stat().st_size / 1e6:.1f} MB: {seconds:.1f} s, {memory:.0f} MB", flush=True)
+    print(
+        f"a start of {name}, {(folder / name).stat().st_size / 1e6:.1f} MB: {seconds:.1f} s, {memory:.0f} MB",
+        flush=True,
+    )
 
 
 def renew(program: Path, folder: Path, port: int, targets: list[str]) -> int:

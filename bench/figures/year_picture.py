@@ -39,11 +39,16 @@ def picture(lines: list[Line], limit: float, days: int = 365, most: int = 1000) 
         )
         return "M" + "L".join(places)
 
-    drawn = [*lines, Line("above this a desk does not start any more, with the limit of its unit", [(0, limit), (days, limit)])]
+    drawn = [
+        *lines,
+        Line("above this a desk does not start any more, with the limit of its unit", [(0, limit), (days, limit)]),
+    ]
     parts = [*axes(days, most)]
     for place, (line, colour) in enumerate(zip(drawn, COLOURS, strict=False)):
         y = BOTTOM + 55 + 15 * place
         parts.append(f'<path d="{path(line.points)}" fill="none" stroke="{colour}" stroke-width="2"/>')
-        parts.append(f'<path d="M{LEFT} {y - 4}h30" stroke="{colour}" stroke-width="2"/>{text(LEFT + 38, y, line.name, "start")}')
+        parts.append(
+            f'<path d="M{LEFT} {y - 4}h30" stroke="{colour}" stroke-width="2"/>{text(LEFT + 38, y, line.name, "start")}'
+        )
     head = f'<svg xmlns="http://www.w3.org/2000/svg" viewBox="0 0 {WIDTH} {HEIGHT}" font-family="sans-serif" font-size="13">'
     return "\n".join([head, f'<rect width="{WIDTH}" height="{HEIGHT}" fill="white"/>', *parts, "</svg>\n"])

@@ -29,7 +29,11 @@ class Maker:
     def agreement(self) -> str:
         """One that stands, or one whose name or whose parties are taken."""
         series, other = self.series(), self.series()
-        kinds = [series.agreement(), f"Agree,{series.name},06,4888888888888,,,1\n", f"Agree,another,{other.parties},1\n"]
+        kinds = [
+            series.agreement(),
+            f"Agree,{series.name},06,4888888888888,,,1\n",
+            f"Agree,another,{other.parties},1\n",
+        ]
         return self.random.choice(kinds)
 
     def requests(self, count: int) -> list[str]:

@@ -15,7 +15,7 @@ FIRST = {"north": 1, "south": 7, "west-2": 999_999_970, "0": 1}
 RULES = Path(__file__).with_name("rules.toml").read_text(encoding="utf-8")
 
 # The days are those around the turn of a year, and the first and the last ones.
-DAYS = ([f"2024123{day}" for day in (0, 1)] + [f"2025010{day}" for day in range(1, 8)] + ["00010101", "99991231"])
+DAYS = [f"2024123{day}" for day in (0, 1)] + [f"2025010{day}" for day in range(1, 8)] + ["00010101", "99991231"]
 
 
 def field(text: str) -> str:

@@ -50,7 +50,10 @@ class OfCopy(Scenario):
 
     def wrong_at_end(self) -> Iterator[str]:
         # A copy that is there is whole.
-        if not self.room.path("copy").exists() and (ran := run_again(self.room, self.words(), self.environment())).status:
+        if (
+            not self.room.path("copy").exists()
+            and (ran := run_again(self.room, self.words(), self.environment())).status
+        ):
             yield f"{ran}"
         yield from self.wrong_then()
         for left in self.room.folder.glob(f"{UNFINISHED}*"):
@@ -132,7 +135,11 @@ class OfRestore(Scenario):
         """What stood there, by each name that it has now; a log that a killed run had put there is moved away too."""
         names = {each.name.removesuffix("-wal") for each in self.room.folder.glob(f"{DATABASE}.*")}
         found = [
-            {name: path.read_bytes() for name in self.old if (path := self.room.path(name.replace(DATABASE, each))).exists()}
+            {
+                name: path.read_bytes()
+                for name in self.old
+                if (path := self.room.path(name.replace(DATABASE, each))).exists()
+            }
             for each in sorted(names)
         ]
         return [files for files in found if files != {LOG: self.new[LOG]}]

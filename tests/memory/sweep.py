@@ -49,10 +49,7 @@ class Sweep(NamedTuple):
 
     def parts(self, count: int) -> list["Sweep"]:
         """So many sweeps that together refuse the same requests."""
-        return [
-            self._replace(first=self.first + part * self.step, step=self.step * count)
-            for part in range(count)
-        ]
+        return [self._replace(first=self.first + part * self.step, step=self.step * count) for part in range(count)]
 
 
 class Run(NamedTuple):

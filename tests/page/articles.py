@@ -87,12 +87,16 @@ def empty(site: Site, browser: Browser) -> Iterator[Outcome]:
     words = browser.wait_for_text("#start", "ISBN")
     told = "Scan or type an ISBN: the page says from whom to buy the book, at what price, and why."
     yield Outcome("empty: what to do", words.startswith(told), True)
-    room = browser.run("""
+    room = browser.run(
+        """
       const [label, field] = ['label[for=isbn]', '#isbn'].map((name) => document.querySelector(name));
       const ring = parseFloat(getComputedStyle(field).outlineWidth);
-      return field.getBoundingClientRect().top - label.getBoundingClientRect().bottom - ring;""")
+      return field.getBoundingClientRect().top - label.getBoundingClientRect().bottom - ring;"""
+    )
     yield Outcome(f"empty: the ring ends {room} below the label", room >= 0, True)
-    tops = browser.run("return [...document.querySelectorAll('.ask-line label')].map((label) => label.getBoundingClientRect().top)")
+    tops = browser.run(
+        "return [...document.querySelectorAll('.ask-line label')].map((label) => label.getBoundingClientRect().top)"
+    )
     yield Outcome("empty: the labels stand on one line", len(set(tops)), 1)
     ask(browser, article())
     yield Outcome("an answer is there in its place", browser.one("#start").is_displayed(), False)

@@ -14,8 +14,21 @@ from tests.page.articles import noted, said
 from tests.page.browser import Browser
 from tests.page.order_desk import FALLING, RECOMMENDED, WHOLESALERS, isbn_of, offers_of
 from tests.page.orders import (
-    MARK, Keyboard, file_rows, look_up, money, notes_of, open_list, ordered, row_of, said_of, save_to, saved, saved_status,
-    status, sums,
+    MARK,
+    Keyboard,
+    file_rows,
+    look_up,
+    money,
+    notes_of,
+    open_list,
+    ordered,
+    row_of,
+    said_of,
+    save_to,
+    saved,
+    saved_status,
+    status,
+    sums,
 )
 from tests.page.reports import allow_clipboard
 from tests.page.scanning import scan
@@ -31,8 +44,12 @@ def with_wholesalers(site: Site, browser: Browser) -> Iterator[Outcome]:
 
 
 FORMS = {
-    "alpha": {"columns": ["isbn", "copies", "order"], "heading": ["EAN", "QTY", "REF"], "file": "alpha-{day}.csv",
-              "isbn": "text"},
+    "alpha": {
+        "columns": ["isbn", "copies", "order"],
+        "heading": ["EAN", "QTY", "REF"],
+        "file": "alpha-{day}.csv",
+        "isbn": "text",
+    },
     "beta": {"columns": ["copies", "isbn", "account"], "heading": False, "separator": ";", "file": "{order}.txt"},
     "gamma": {"columns": ["isbn", "copies", "second"], "separator": "|", "file": "{series}_{order}.csv"},
 }
@@ -82,7 +99,9 @@ def from_a_till(site: Site, browser: Browser) -> Iterator[Outcome]:
             browser.wait(lambda: browser.one("#save-question").is_displayed())
             keys.tab_to("save-all")
             keys.press(Keys.ENTER)
-        saved_status(browser, "Saved as " + {"alpha": "alpha-", "beta": "2026-118.txt", "gamma": "gamma_2026-118.csv"}[name])
+        saved_status(
+            browser, "Saved as " + {"alpha": "alpha-", "beta": "2026-118.txt", "gamma": "gamma_2026-118.csv"}[name]
+        )
     seconds = time.monotonic() - begun
     wanted = ordered(numbers)
     day = browser.run("return new Date().toLocaleDateString('sv')")
@@ -156,7 +175,9 @@ def beside(site: Site, browser: Browser) -> Iterator[Outcome]:
     yield Outcome("beside: in the list", notes_of(browser, FALLING, order_desk.ABROAD), notes)
     look_up(browser, f"{order_desk.HIDDEN} 3\n{order_desk.EUROS_ALONE}\n{order_desk.LATER}")
     hidden = "Alpha Books sells it from 5 copies on, at \u00a36.00 each."
-    yield Outcome("beside: from five copies on, though somebody has a price", hidden in said_of(browser, order_desk.HIDDEN), True)
+    yield Outcome(
+        "beside: from five copies on, though somebody has a price", hidden in said_of(browser, order_desk.HIDDEN), True
+    )
     browser.wait(lambda: browser.text("#list-copies") == "")
     lacking = "It is offered, but without a price of type 05 for 1 copy in GBP. \u00b7 "
     told = [row_of(browser, isbn)[3].strip() for isbn in (order_desk.EUROS_ALONE, order_desk.LATER)]
@@ -166,7 +187,9 @@ def beside(site: Site, browser: Browser) -> Iterator[Outcome]:
     look_up(browser, f"{FALLING} 2\n{order_desk.ABROAD}\n{order_desk.PENNY}")
     notes_of(browser)
     far = "\u00a30.01 is far below the next offer, \u00a37.10: ask before you order."
-    yield Outcome("beside: a price that is far from others", notes_of(browser, order_desk.PENNY)[0].startswith(far), True)
+    yield Outcome(
+        "beside: a price that is far from others", notes_of(browser, order_desk.PENNY)[0].startswith(far), True
+    )
     needs = browser.texts("#list-needs li")
     yield Outcome("beside: it needs a person", needs, ["Price far from others (1): line 3"])
     for isbn, words in ((FALLING, falls), (order_desk.PENNY, far), (order_desk.HIDDEN, hidden)):
@@ -210,7 +233,11 @@ def budget_and_carriage(site: Site, browser: Browser) -> Iterator[Outcome]:
     yield Outcome("a list within the budget", came, True)
     told = browser.rows("#sums")[0][4]
     more = money(2 * (alpha.amount - beta.amount))
-    yield Outcome("the step to free carriage", f"1 book of another wholesaler, ordered here for +{more}, makes it free." in told, True)
+    yield Outcome(
+        "the step to free carriage",
+        f"1 book of another wholesaler, ordered here for +{more}, makes it free." in told,
+        True,
+    )
     browser.one("#move-alpha").click()
     came = browser.wait(lambda: browser.rows("#sums")[0][4] == "free, from \u00a350.00 on")
     yield Outcome("its button orders there", came, True)

@@ -37,8 +37,7 @@ def parts(spans: list[Span], first: date, last: date) -> list[tuple[float, float
     """Which part of a range from its first day to its last each span takes."""
     count = (last - first).days + 1
     return [
-        ((day(span["first"]) - first).days / count, ((day(span["last"]) - first).days + 1) / count)
-        for span in spans
+        ((day(span["first"]) - first).days / count, ((day(span["last"]) - first).days + 1) / count) for span in spans
     ]
 
 
@@ -178,8 +177,7 @@ def same_table(site: Site, browser: Browser) -> Iterator[Outcome]:
         "west": "Western Wholesale, out of stock",
     }
     wanted = [
-        [names[series], in_words(begin), in_words(end), f"£{amount[:-1]}"]
-        for series, begin, end, amount in SPANS
+        [names[series], in_words(begin), in_words(end), f"£{amount[:-1]}"] for series, begin, end, amount in SPANS
     ]
     yield Outcome("the table of the calendar", browser.rows("#spans"), wanted)
     open_calendar(browser, HOSTILE_ISBN, date(2025, 4, 2), date(2025, 4, 3))

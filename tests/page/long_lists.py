@@ -79,7 +79,9 @@ def saved_whole(site: Site, browser: Browser) -> Iterator[Outcome]:
     browser.one("#save-all").click()
     browser.wait(lambda: browser.text("#saved-status").startswith("Saved"), PATIENCE)
     seconds = time.monotonic() - begun
-    print(f"page: an order of {len(WHOLE)} books was saved in {seconds:.1f} s, of 388 in {seconds * 388 / len(WHOLE):.1f} s")
+    print(
+        f"page: an order of {len(WHOLE)} books was saved in {seconds:.1f} s, of 388 in {seconds * 388 / len(WHOLE):.1f} s"
+    )
     count = len(file_rows(saved(browser, folder))) - 1
     yield Outcome("they are all saved", (count, seconds <= MOST_SECONDS), (len(WHOLE), True))
 

@@ -19,9 +19,19 @@ from tests.page.reports import days_ago, open_missing, request
 from tests.page.scanning import scan
 from tests.page.site import Site
 from tests.page.week import (
-    BREAKS_ISBN, DEARER_ISBN, FIVE_ISBN, ISBN, NET_ISBN, NET_SENDER, OTHER_ISBN, SHOP, ZERO_ISBN, article,
+    BREAKS_ISBN,
+    DEARER_ISBN,
+    FIVE_ISBN,
+    ISBN,
+    NET_ISBN,
+    NET_SENDER,
+    OTHER_ISBN,
+    SHOP,
+    ZERO_ISBN,
+    article,
 )
 from tests.running import Outcome
+
 
 def fields(browser: Browser) -> list[Any]:
     names = ["isbn", "quantity", "day", "type"]
@@ -102,12 +112,18 @@ def scanned_lines(site: Site, browser: Browser) -> Iterator[Outcome]:
     yield Outcome("scanned into lines: the focus", focus, ["lines", "#order"])
     browser.run("document.getElementById('look-up').focus()")
     scan(browser, f"{OTHER_ISBN}\n")
-    lines = browser.wait(lambda: browser.run("return document.getElementById('lines').value").endswith(f"{OTHER_ISBN}\n"))
-    yield Outcome("scanned at a button, it is a line of this view", (lines, browser.run("return location.hash")), (True, "#order"))
+    lines = browser.wait(
+        lambda: browser.run("return document.getElementById('lines').value").endswith(f"{OTHER_ISBN}\n")
+    )
+    yield Outcome(
+        "scanned at a button, it is a line of this view", (lines, browser.run("return location.hash")), (True, "#order")
+    )
     browser.one("#lines").send_keys(Keys.BACKSPACE * (len(OTHER_ISBN) + 1))
     browser.call("focusFixedText")
     scan(browser, OTHER_ISBN)
-    lines = browser.wait(lambda: browser.run("return document.getElementById('lines').value").endswith(f"{OTHER_ISBN}\n"))
+    lines = browser.wait(
+        lambda: browser.run("return document.getElementById('lines').value").endswith(f"{OTHER_ISBN}\n")
+    )
     yield Outcome("scanned at a text that cannot be changed, it is a line", lines, True)
 
 
@@ -239,7 +255,9 @@ def breaks(site: Site, browser: Browser) -> Iterator[Outcome]:
         ask(browser, article(FIVE_ISBN, type="05"))
         sentence = "No wholesaler has a price in GBP for 1 copy of type 05 – supplier's net price, without tax"
         yield Outcome("from five on only: the sentence", said(browser, sentence), True)
-        yield Outcome("from five on only: who sells it", noted(browser, "net sells it from 5 copies on, at £5.00 each."), True)
+        yield Outcome(
+            "from five on only: who sells it", noted(browser, "net sells it from 5 copies on, at £5.00 each."), True
+        )
         yield Outcome("from five on only: the row", browser.call("offerCells")[0][3], "1: no price5: £5.00")
         ask(browser, article(DEARER_ISBN, quantity="10", type="05"))
         told = "Fewer copies cost less each: 9 copies at £8.66 each, £77.94 in all."
@@ -301,8 +319,13 @@ def aliases(site: Site, browser: Browser) -> Iterator[Outcome]:
 def own_numbers(site: Site, browser: Browser) -> Iterator[Outcome]:
     """A request is in the wholesaler's numbers, between GLNs, and opens as a mail."""
     north = {
-        "name": "north", "words": "North Books", "parts": 5, "number_offset": 0,
-        "sender": "4012345000009", "addressee": "5012345678900", "mail": "edi@north.example",
+        "name": "north",
+        "words": "North Books",
+        "parts": 5,
+        "number_offset": 0,
+        "sender": "4012345000009",
+        "addressee": "5012345678900",
+        "mail": "edi@north.example",
     }
     with settings(site, series=[north]):
         open_missing(browser)
@@ -334,7 +357,11 @@ OTHER_TABLES = [
     ("fewer rules", FIRST, "The desk chose by rule 2, but rules.toml has 1 rule: it was changed"),
     ("none", "# None yet\n", "The desk chose by rule 2, but rules.toml has 0 rules: it was changed"),
     ("one more in front", None, OTHERWISE),
-    ("another first one", '[[rule]]\nseries = "south"\ncodes = ["21"]\n\n[[rule]]\nseries = "*"\ncodes = ["21"]\n', OTHERWISE),
+    (
+        "another first one",
+        '[[rule]]\nseries = "south"\ncodes = ["21"]\n\n[[rule]]\nseries = "*"\ncodes = ["21"]\n',
+        OTHERWISE,
+    ),
 ]
 
 
@@ -372,6 +399,18 @@ def words_of_rules(site: Site, browser: Browser) -> Iterator[Outcome]:
 
 
 CASES = [
-    scans, scanned_twice, scanned_lines, typed_digits, whole_sentence, back_to_usual, marked_wholesalers, breaks, until,
-    wrong_numbers, aliases, own_numbers, words_of_rules, asked_anew,
+    scans,
+    scanned_twice,
+    scanned_lines,
+    typed_digits,
+    whole_sentence,
+    back_to_usual,
+    marked_wholesalers,
+    breaks,
+    until,
+    wrong_numbers,
+    aliases,
+    own_numbers,
+    words_of_rules,
+    asked_anew,
 ]

@@ -164,7 +164,9 @@ def batch(today: date) -> str:
 
 
 def settings(
-    language: str = "en-GB", forms: dict[str, object] | None = None, accounts: dict[str, str] | None = None,
+    language: str = "en-GB",
+    forms: dict[str, object] | None = None,
+    accounts: dict[str, str] | None = None,
     **others: object,
 ) -> str:
     """desk.json with these wholesalers, some with forms of their files and accounts."""

@@ -115,7 +115,9 @@ def headers(site: Site, browser: Browser) -> Iterator[Outcome]:
         open_list(browser)
         look_up(browser, isbn_of(1))
         browser.wait(lambda: browser.all("#list .clamped"))
-        heads = browser.run("return [...document.querySelectorAll('#list tbody [role=rowheader]')].map((cell) => cell.className)")
+        heads = browser.run(
+            "return [...document.querySelectorAll('#list tbody [role=rowheader]')].map((cell) => cell.className)"
+        )
         yield Outcome("headers: of a row", heads, ["book", "title"])
         found = [name for role, name, _ in nodes(browser) if role in ("region", "form", "navigation")]
         yield Outcome("headers: parts of the page", sorted(set(found)), sorted(found))

@@ -112,8 +112,15 @@ def file_rows(text: str, separator: str = ",") -> list[list[str]]:
 def rows_of(series: str, books: list[tuple[int, int, Decimal]], day: str) -> list[list[str]]:
     return [
         [
-            isbn_of(number), str(copies), cell(amount), cell(copies * amount), "GBP", f"{series}-{number}",
-            OLD if series == "gamma" else "", "", day,
+            isbn_of(number),
+            str(copies),
+            cell(amount),
+            cell(copies * amount),
+            "GBP",
+            f"{series}-{number}",
+            OLD if series == "gamma" else "",
+            "",
+            day,
         ]
         for number, copies, amount in books
     ]
@@ -239,8 +246,15 @@ def needs(site: Site, browser: Browser) -> Iterator[Outcome]:
     look_up(browser, NEEDS)
     reasons = [item.split(" (")[0] for item in browser.texts("#list-needs li")]
     wanted = [
-        "Not a valid ISBN", "Shortened by a spreadsheet", "No ISBN", "Nobody offers it", "No rule chooses",
-        "Offered without a price of this type", "Costs nothing", "Wrong copies", "Unsure how many copies",
+        "Not a valid ISBN",
+        "Shortened by a spreadsheet",
+        "No ISBN",
+        "Nobody offers it",
+        "No rule chooses",
+        "Offered without a price of this type",
+        "Costs nothing",
+        "Wrong copies",
+        "Unsure how many copies",
     ]
     yield Outcome("why books need a person", sorted(reasons), sorted(wanted))
     lines = [row[0] for row in browser.rows("#list")]
@@ -397,7 +411,9 @@ def older(site: Site, browser: Browser) -> Iterator[Outcome]:
     open_list(browser)
     look_up(browser, isbn_of(15))
     yield Outcome("lines that are no table have no columns", browser.one("#columns").is_displayed(), False)
-    yield Outcome("what is of these lines can be ordered", browser.run("return document.getElementById('sums-part').inert"), False)
+    yield Outcome(
+        "what is of these lines can be ordered", browser.run("return document.getElementById('sums-part').inert"), False
+    )
     browser.one("#lines").send_keys("0")
     told = browser.text("#list-old")
     yield Outcome("other lines are told", told, "The lines or the question have changed since: look them up again.")
@@ -497,8 +513,8 @@ def from_a_file(site: Site, browser: Browser) -> Iterator[Outcome]:
     """Files as spreadsheets write them are lines; what is no text is told."""
     open_list(browser)
     files = {
-        "utf8.csv": f"{MARK}ISBN;Copies;Customer\r\n{isbn_of(4)};2;\"Jürgen; 5 €\"\r\n".encode(),
-        "windows.csv": f"ISBN;Copies;Customer\r\n{isbn_of(4)};2;\"Jürgen; 5 €\"\r\n".encode("cp1252"),
+        "utf8.csv": f'{MARK}ISBN;Copies;Customer\r\n{isbn_of(4)};2;"Jürgen; 5 €"\r\n'.encode(),
+        "windows.csv": f'ISBN;Copies;Customer\r\n{isbn_of(4)};2;"Jürgen; 5 €"\r\n'.encode("cp1252"),
         "utf16.txt": f"{isbn_of(4)}\t2\tJürgen; 5 €\r\n".encode("utf-16"),
     }
     for name, data in files.items():
@@ -696,6 +712,23 @@ def missing_marks(site: Site, browser: Browser) -> Iterator[Outcome]:
 
 
 CASES = [
-    begins, columns, asked_before, thirty_books, needs, by_hand, other_copies, as_of, changed, older, in_german, copied,
-    printed, from_a_file, missing_marks, another_question, kept, refused, without_reply,
+    begins,
+    columns,
+    asked_before,
+    thirty_books,
+    needs,
+    by_hand,
+    other_copies,
+    as_of,
+    changed,
+    older,
+    in_german,
+    copied,
+    printed,
+    from_a_file,
+    missing_marks,
+    another_question,
+    kept,
+    refused,
+    without_reply,
 ]

@@ -37,16 +37,26 @@ def message(sender: str, number: int, reference: str, supply: str, *prices: str)
 MESSAGES = [
     message("4012345000009", 3, "N-400", "North Books,20,", ",15.06,,,,,,", ",13.99,,,,,,,10"),
     message(
-        "5000000000005", 4, "S4", "South Books,21,",
-        ",4.36,,,,,,20250430", ",4.14,,,,,,20250430,10", ",4.58,,,,,20250501,",
+        "5000000000005",
+        4,
+        "S4",
+        "South Books,21,",
+        ",4.36,,,,,,20250430",
+        ",4.14,,,,,,20250430,10",
+        ",4.58,,,,,20250501,",
     ),
     message("9300000000007", 41, "W-9", "Western Wholesale,21,", "02,7.99,,,,,,"),
 ]
 
 # The lines of an order list, and what customers they are for.
 LINES = [
-    "ISBN;Stock;Order;Customer", f"{isbn_of(11)};4;1;shelf", f"{RISING};1;3;school", f"{DEARER};2;12;",
-    f"{RECOMMENDED};0;4;shelf", "9780500000154;0;1;window", f"{EUROS_ALONE};0;1;Ms Weber",
+    "ISBN;Stock;Order;Customer",
+    f"{isbn_of(11)};4;1;shelf",
+    f"{RISING};1;3;school",
+    f"{DEARER};2;12;",
+    f"{RECOMMENDED};0;4;shelf",
+    "9780500000154;0;1;window",
+    f"{EUROS_ALONE};0;1;Ms Weber",
 ]
 
 WIDTH = 900
@@ -95,10 +105,15 @@ def taken(site: Site, browser: Browser) -> Iterator[Outcome]:
 
 def order_list(site: Site, browser: Browser) -> Iterator[Outcome]:
     order_desk.deliver(site, DAY)
-    site.write_settings(order_desk.settings(
-        accounts={"alpha": "1177"}, currencies=["EUR"], recommended_type="02", shop="High Street Books",
-        address="12 High Street, York",
-    ))
+    site.write_settings(
+        order_desk.settings(
+            accounts={"alpha": "1177"},
+            currencies=["EUR"],
+            recommended_type="02",
+            shop="High Street Books",
+            address="12 High Street, York",
+        )
+    )
     with on_the_day(browser):
         open_list(browser)
         look_up(browser, "\n".join(LINES))

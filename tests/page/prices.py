@@ -130,7 +130,9 @@ def in_german(browser: Browser) -> Iterator[Outcome]:
     amounts = [row[2].replace("\u00a0", " ") for row in rows]
     yield Outcome("German amounts", amounts, ["1.234,50 €", "24,00 €", "kein Preis der Art 05 für 1 Exemplar in EUR"])
     status = browser.text("#article-status").replace("\u00a0", " ")
-    sentence = "Am 10. April 2025, in DE, in EUR, nach Preisart 05: 1 bei net (\u2068K-2\u2069) kaufen, zu 24,00 € je Exemplar"
+    sentence = (
+        "Am 10. April 2025, in DE, in EUR, nach Preisart 05: 1 bei net (\u2068K-2\u2069) kaufen, zu 24,00 € je Exemplar"
+    )
     yield Outcome("a German sentence", status.startswith(sentence), True)
     yield Outcome("German words of codes", rows[0][1], "am Lager 21")
     unfold(browser)
@@ -174,7 +176,7 @@ def own_words(site: Site, browser: Browser) -> Iterator[Outcome]:
         "“article.nothing” is no name of words that the page has.",
         "“article.day” is 5, which is not what the page has there.",
         "“__proto__” is no name of words that the page has.",
-        "“wrong” is \"x\", which is not what the page has there.",
+        '“wrong” is "x", which is not what the page has there.',
     ]
     yield Outcome("own words: what is wrong", browser.texts("#settings-wrong li"), wanted)
     heads = browser.texts("#settings-wrong h2")

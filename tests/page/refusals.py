@@ -56,9 +56,7 @@ def fields(site: Site, browser: Browser) -> Iterator[Outcome]:
         browser.run("location.hash = arguments[0]", article(**{"isbn": ISBN, **given}))
         browser.wait(lambda: told(browser) == {name: words}, 20)
         yield Outcome(f"a wrong field, {given}", told(browser), {name: words})
-        state = browser.run(
-            "return [document.activeElement.id, document.activeElement.getAttribute('aria-invalid')]"
-        )
+        state = browser.run("return [document.activeElement.id, document.activeElement.getAttribute('aria-invalid')]")
         yield Outcome(f"a wrong field, {given}: the focus", state, [name, "true"])
         yield Outcome(f"a wrong field, {given}: no answer", browser.one("#answer").is_displayed(), False)
     asked = [line for line in site.requests()[before:] if "/desk/articles/" in line]
@@ -97,9 +95,7 @@ def ranges(site: Site, browser: Browser) -> Iterator[Outcome]:
 
 # What else may reply, put in the place of the desk's reply, and what is told.
 BAD_QUERY = "The desk could not read the question. Please look at each field again."
-FORBIDDEN = (
-    "The web server refused the request (status 403). Whoever looks after this page should look at its rules."
-)
+FORBIDDEN = "The web server refused the request (status 403). Whoever looks after this page should look at its rules."
 
 
 def strange(status: int) -> str:

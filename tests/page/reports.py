@@ -146,7 +146,7 @@ def days_ago(count: int) -> str:
 def since_words(count: int) -> str:
     day = date.today() - timedelta(days=count)
     days = "1 day" if count == 1 else f"{count} days"
-    return (f"No new message for {days}, as far as this browser has seen (since {day.day} {day:%B} {day.year}).")
+    return f"No new message for {days}, as far as this browser has seen (since {day.day} {day:%B} {day.year})."
 
 
 REMEMBER = "localStorage.setItem('onixdesk-seen', JSON.stringify(arguments[0]))"
@@ -198,7 +198,7 @@ def unknown_series(site: Site, browser: Browser) -> Iterator[Outcome]:
     text = (PAGE / "desk.json").read_text(encoding="utf-8")
     site.write_settings(text.replace('"name": "south"', '"name": "sooth"'))
     open_missing(browser)
-    words = 'The desk has no agreement with the name “sooth”. Look at desk.json, or make the agreement.'
+    words = "The desk has no agreement with the name “sooth”. Look at desk.json, or make the agreement."
     yield Outcome("an unknown series", browser.text("#report-sooth"), words)
     yield Outcome("beside an unknown series", "40" in browser.text(WEST), True)
     said = browser.text("#missing-status")

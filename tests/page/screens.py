@@ -58,6 +58,7 @@ def paper(site: Site, browser: Browser) -> Iterator[Outcome]:
     browser.driver.execute_cdp_cmd("Emulation.setEmulatedMedia", {"media": ""})
     browser.size(1100, 900)
 
+
 LEAST_BORDER = 3
 
 
@@ -140,8 +141,18 @@ def at_once(site: Site, browser: Browser) -> Iterator[Outcome]:
 
 # Roles that a screen reader stops at, each of which has to have a name.
 NAMED = {
-    "textbox", "combobox", "button", "link", "table", "image", "heading", "navigation", "region",
-    "Date", "form", "columnheader",
+    "textbox",
+    "combobox",
+    "button",
+    "link",
+    "table",
+    "image",
+    "heading",
+    "navigation",
+    "region",
+    "Date",
+    "form",
+    "columnheader",
 }
 
 
@@ -185,8 +196,12 @@ def fields(site: Site, browser: Browser) -> Iterator[Outcome]:
     found = nodes(browser)
     labels = [(role, name) for role, name, _ in found if role in ("textbox", "combobox", "Date")]
     wanted = [
-        ("Date", "Day"), ("combobox", "Price type"), ("textbox", "Copies"), ("textbox", "Country"),
-        ("textbox", "Currency"), ("textbox", "ISBN"),
+        ("Date", "Day"),
+        ("combobox", "Price type"),
+        ("textbox", "Copies"),
+        ("textbox", "Country"),
+        ("textbox", "Currency"),
+        ("textbox", "ISBN"),
     ]
     yield Outcome("accessible: the fields", sorted(labels), wanted)
     told = next(description for role, name, description in found if (role, name) == ("textbox", "ISBN"))

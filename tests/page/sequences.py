@@ -9,8 +9,26 @@ from pathlib import Path
 from typing import NamedTuple
 
 from tests.page import (
-    articles, baskets, calendars, days, hostile, isbns, keyboard, long_lists, misleading, order_screens, orders, origins,
-    passwords, pictures, prices, refusals, reports, screens, stops, titles,
+    articles,
+    baskets,
+    calendars,
+    days,
+    hostile,
+    isbns,
+    keyboard,
+    long_lists,
+    misleading,
+    order_screens,
+    orders,
+    origins,
+    passwords,
+    pictures,
+    prices,
+    refusals,
+    reports,
+    screens,
+    stops,
+    titles,
 )
 from tests.page.browser import Browser, browsing
 from tests.page.site import Site, running

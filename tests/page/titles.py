@@ -24,8 +24,18 @@ DIFFERS = "Alpha Books says: Older"
 WHOLE = "The Lamplighter’s Almanac: A year of small lights · Éilís Byrne (author); Noor Haddad (illustrator) · Quayside Editions"
 
 TITLES = {
-    ISBN: [["beta", 5, 1795849200, "The Lamplighter’s Almanac", "A year of small lights",
-            "Éilís Byrne (A01); Noor Haddad (A12)", "Quayside Editions"], ["alpha", 9, 1795849100, "Older", "", "", ""]],
+    ISBN: [
+        [
+            "beta",
+            5,
+            1795849200,
+            "The Lamplighter’s Almanac",
+            "A year of small lights",
+            "Éilís Byrne (A01); Noor Haddad (A12)",
+            "Quayside Editions",
+        ],
+        ["alpha", 9, 1795849100, "Older", "", "", ""],
+    ],
     OTHER: [["alpha", 9, 1795849300], ["beta", 1, 1795849100, "=1+1", "", "", ""]],
     # Gamma does not offer it.
     UNTITLED: [["gamma", 1, 1795849200, "Another book", "", "", ""]],

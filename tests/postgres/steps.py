@@ -85,9 +85,7 @@ def two_at_once(cluster: Cluster, room: Room) -> Iterator[Outcome]:
     deliver(room, 1, agreement=AGREEMENT)
     for number in range(2, 8):
         running = [
-            subprocess.Popen(
-                words_of(room, database), cwd=room.folder, stdout=subprocess.PIPE, stderr=subprocess.PIPE
-            )
+            subprocess.Popen(words_of(room, database), cwd=room.folder, stdout=subprocess.PIPE, stderr=subprocess.PIPE)
             for _ in range(2)
         ]
         ended = [(process.communicate(timeout=SECONDS)[1], process.returncode) for process in running]
@@ -182,9 +180,7 @@ def several_series(cluster: Cluster, room: Room) -> Iterator[Outcome]:
     ]:
         room.run("--db", DATABASE, "batch", given=text.encode())
         ran = follow(room, database, "--compare")
-        yield Outcome(
-            f"rows, {name}", (ran.status, ran.errors, in_postgres(database) == in_file(room)), (0, b"", True)
-        )
+        yield Outcome(f"rows, {name}", (ran.status, ran.errors, in_postgres(database) == in_file(room)), (0, b"", True))
     execute(database, "UPDATE desk.price SET amount = amount + 1 WHERE reference = 'R7'")
     ran = follow(room, database, "--compare")
     line = b"desk-follow: price: 29 rows, which are not those in the database\n"

@@ -25,7 +25,8 @@ def checks_of(module: Any, *over: type) -> list[tuple[str, Callable[..., Iterato
     return [
         (name.replace("_", " "), check)
         for name, check in vars(module).items()
-        if inspect.isfunction(check) and check.__module__ == module.__name__
+        if inspect.isfunction(check)
+        and check.__module__ == module.__name__
         and [*check.__annotations__.values()] == [*over, Iterator[Outcome]]
     ]
 

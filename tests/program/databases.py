@@ -50,7 +50,8 @@ def all_rows(room: Room, file: str = DATABASE) -> dict[str, list[Row]]:
 
 def made(statements: str, tables: str = TABLES) -> str:
     """The statements that make tables, of version 1 if no others are given, with rows: those of statements, and those of
-    messages of the series `north` that these put into `priced`, each of which puts a record at a price of some pounds."""
+    messages of the series `north` that these put into `priced`, each of which puts a record at a price of some pounds.
+    """
     return f"{tables} CREATE TEMP TABLE priced (number INTEGER, amount INTEGER); {statements} {PRICED}"
 
 

@@ -45,7 +45,10 @@ LAYERS = {
         "what is answered",
         ["price_rules", "catalogue_rules", "series_rules", "desk_memory"],
     ),
-    "Base": ("what a message says, files by name", ["csv_records", "program_files", "onix_terms", "onix_records", "onix_message"]),
+    "Base": (
+        "what a message says, files by name",
+        ["csv_records", "program_files", "onix_terms", "onix_records", "onix_message"],
+    ),
 }
 
 

@@ -32,7 +32,12 @@ def unreached(root: Path) -> list[Name]:
         if name not in found:
             found.add(name)
             left += uses.get(name, ())
-    return [Name(file.crate, file.name, word) for file in files for word in file.comments if not is_reached(file, word, found)]
+    return [
+        Name(file.crate, file.name, word)
+        for file in files
+        for word in file.comments
+        if not is_reached(file, word, found)
+    ]
 
 
 if __name__ == "__main__":

@@ -125,9 +125,7 @@ def put_changes(cursor: Cursor, source: Source, fronts: dict[str, Touched]) -> B
     return Brought(False, len(numbers), len(records))
 
 
-AGREEMENTS = (
-    "SELECT name, sender_type, sender_value, addressee_type, addressee_value, first_number FROM {}series"
-)
+AGREEMENTS = "SELECT name, sender_type, sender_value, addressee_type, addressee_value, first_number FROM {}series"
 
 
 def changes(cursor: Cursor, source: Source) -> dict[str, Touched] | None:

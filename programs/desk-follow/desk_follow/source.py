@@ -69,9 +69,7 @@ class Source:
         return [name for (name,) in self.ask("SELECT name FROM pragma_table_info(?)", table)]
 
     def key(self, table: str) -> list[str]:
-        return [
-            name for (name,) in self.ask("SELECT name FROM pragma_table_info(?) WHERE pk ORDER BY pk", table)
-        ]
+        return [name for (name,) in self.ask("SELECT name FROM pragma_table_info(?) WHERE pk ORDER BY pk", table)]
 
     def line(self, table: str) -> str:
         """The expression that makes of a row a line for COPY."""
@@ -141,7 +139,5 @@ def opened(database: Path) -> Iterator[Source]:
         source = Source(connection)
         version = source.version()
         if version != VERSION:
-            raise Fault(
-                f"{database.name}: it is of version {version} of a desk's tables, in place of {VERSION}"
-            )
+            raise Fault(f"{database.name}: it is of version {version} of a desk's tables, in place of {VERSION}")
         yield source

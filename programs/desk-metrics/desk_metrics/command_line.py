@@ -32,7 +32,6 @@ left out, with a line on standard error that says why; 2 for a bad command line;
 docs/METRICS.md has the metrics."""
 
 
-
 def command_line() -> argparse.ArgumentParser:
     parser = parser_of(PROGRAM, DESCRIPTION, STATUSES)
     add = parser.add_argument

@@ -58,14 +58,26 @@ def command_line() -> argparse.ArgumentParser:
     add("--settings", metavar="FILE", type=Path, default=Path("/etc/onixdesk/page/desk.json"), help="desk.json")
     add("--rules", metavar="FILE", type=Path, help="the precedence table; nothing is chosen without it")
     add("--titles", metavar="FOLDER", type=Path, help="where onixdesk-titles keeps titles; none without it")
-    add("--day", metavar="YYYYMMDD", type=day_of, default=f"{date.today():%Y%m%d}", help="of the prices; today without it")
+    add(
+        "--day",
+        metavar="YYYYMMDD",
+        type=day_of,
+        default=f"{date.today():%Y%m%d}",
+        help="of the prices; today without it",
+    )
     add("--list", metavar="FILE", type=Path, help="only the articles of a list, also if nobody offers them")
     add("--since", metavar="OLD", type=Path, help="write what changed since this earlier file")
     add("--ahead", metavar="N", type=count, default=30, help="and which prices change within N days; 30 without it")
     add("--watch", metavar="FILE", type=Path, help="of the articles of this list only")
     add("--mail", metavar="ADDRESS", default="", help="and mail it, if something changed")
     add("--outbox", metavar="FOLDER", type=Path, help="put the mail there in place of sending it")
-    add("--room", metavar="FOLDER", type=Path, default=Path("/var/tmp"), help="has room for the copy; /var/tmp without it")
+    add(
+        "--room",
+        metavar="FOLDER",
+        type=Path,
+        default=Path("/var/tmp"),
+        help="has room for the copy; /var/tmp without it",
+    )
     add_source(parser)
     add("folder", metavar="FOLDER", type=Path, help="where the file is put")
     return parser
@@ -138,8 +150,10 @@ def write(options: argparse.Namespace, program: Path) -> int:
         if comparison:
             tell_changes(comparison, options)
     if place and not chosen:
-        tell(f"{file}: of {place} articles nothing is chosen: no rule of the precedence table admits an offer, or"
-            " desk.json has another price type, currency or country than their prices")
+        tell(
+            f"{file}: of {place} articles nothing is chosen: no rule of the precedence table admits an offer, or"
+            " desk.json has another price type, currency or country than their prices"
+        )
     return DONE
 
 

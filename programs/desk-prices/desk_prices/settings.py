@@ -32,9 +32,12 @@ def form_in(shop: Shop) -> Form:
 
 def line_of(form: Form, cells: dict[str, str]) -> str:
     """The line of an article whose numbers are as the desk writes them."""
-    return form.line({
-        name: form.amount(text) if name in NUMBERS or name.startswith("price") else text for name, text in cells.items()
-    })
+    return form.line(
+        {
+            name: form.amount(text) if name in NUMBERS or name.startswith("price") else text
+            for name, text in cells.items()
+        }
+    )
 
 
 def last_day(day: str) -> str:

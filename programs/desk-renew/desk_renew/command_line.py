@@ -41,12 +41,27 @@ def command_line() -> argparse.ArgumentParser:
     parser = parser_of(PROGRAM, DESCRIPTION, STATUSES)
     add = parser.add_argument
     add("--db", metavar="FILE", type=Path, default=DESK, help=f"the database of the desk; {DESK} without it")
-    add("--inboxes", metavar="FOLDER", type=Path, default=INBOXES,
-        help=f"has a folder for each series, in which its inbox keeps what it took; {INBOXES} without it")
-    add("--rules", metavar="FILE", type=Path, default=RULES,
-        help=f"the precedence table by which both desks are asked, if there is one; {RULES} without it")
-    add("--seconds", metavar="N", type=count, default=600,
-        help="how long a moment is waited for in which the desk writes nothing; 600 without it")
+    add(
+        "--inboxes",
+        metavar="FOLDER",
+        type=Path,
+        default=INBOXES,
+        help=f"has a folder for each series, in which its inbox keeps what it took; {INBOXES} without it",
+    )
+    add(
+        "--rules",
+        metavar="FILE",
+        type=Path,
+        default=RULES,
+        help=f"the precedence table by which both desks are asked, if there is one; {RULES} without it",
+    )
+    add(
+        "--seconds",
+        metavar="N",
+        type=count,
+        default=600,
+        help="how long a moment is waited for in which the desk writes nothing; 600 without it",
+    )
     add("--yes", action="store_true", help="renews it without being asked")
     return parser
 

@@ -41,10 +41,18 @@ def command_line() -> argparse.ArgumentParser:
     parser = parser_of(PROGRAM, DESCRIPTION, STATUSES)
     add = parser.add_argument
     add("--db", metavar="FILE", type=Path, default=DESK, help=f"the database of the desk; {DESK} without it")
-    add("--inboxes", metavar="FOLDER", type=Path, default=INBOXES,
-        help=f"has a folder for each series, in which its inbox keeps what it took; {INBOXES} without it")
-    add("--fewer-series", action="store_true",
-        help="takes a copy also if it lacks a series of the desk that stands there, or has none")
+    add(
+        "--inboxes",
+        metavar="FOLDER",
+        type=Path,
+        default=INBOXES,
+        help=f"has a folder for each series, in which its inbox keeps what it took; {INBOXES} without it",
+    )
+    add(
+        "--fewer-series",
+        action="store_true",
+        help="takes a copy also if it lacks a series of the desk that stands there, or has none",
+    )
     add("copy", metavar="COPY", type=Path, help="a folder with the two files of a desk, of the name of FILE")
     return parser
 

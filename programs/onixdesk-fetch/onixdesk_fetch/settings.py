@@ -52,8 +52,13 @@ def yes(value: str) -> bool:
 
 
 READERS: dict[str, tuple[str, Callable[[str], object]]] = {
-    "URL": ("url", url), "USER": ("user", str), "PATTERN": ("pattern", str), "REMOVE": ("remove", yes),
-    "FILES": ("files", count), "BYTES_A_DAY": ("bytes_a_day", count), "SECONDS": ("seconds", count),
+    "URL": ("url", url),
+    "USER": ("user", str),
+    "PATTERN": ("pattern", str),
+    "REMOVE": ("remove", yes),
+    "FILES": ("files", count),
+    "BYTES_A_DAY": ("bytes_a_day", count),
+    "SECONDS": ("seconds", count),
 }
 
 

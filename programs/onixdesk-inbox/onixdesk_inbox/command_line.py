@@ -66,16 +66,25 @@ def command_line() -> argparse.ArgumentParser:
     add = parser.add_argument
     add("--settings", metavar="FILE", type=Path, help=f"{SETTINGS.format('SERIES')} without it")
     add("--incoming", metavar="FOLDER", type=Path, help=f"{INCOMING.format('SERIES')} without it")
-    add("--state", metavar="FOLDER", type=Path,
-        help=f"{STATE.format('SERIES')} without it; nobody else may write there")
+    add(
+        "--state", metavar="FOLDER", type=Path, help=f"{STATE.format('SERIES')} without it; nobody else may write there"
+    )
     add("--converter", metavar="PROGRAM", type=Path, help="onix-to-csv beside this program without it")
-    add("--again", metavar="SINCE", type=since,
+    add(
+        "--again",
+        metavar="SINCE",
+        type=since,
         help="take again what was done, and what was refused for a mistake that may be corrected, and nothing new: of"
-        " that `all`, what the desk is `lacking`, or what was answered since a time as 2026-11-27T02-30-00Z of UTC")
+        " that `all`, what the desk is `lacking`, or what was answered since a time as 2026-11-27T02-30-00Z of UTC",
+    )
     add("--check", action="store_true", help="only read the settings, and try their WORDS; status 2 where one is wrong")
     decision = parser.add_mutually_exclusive_group()
-    decision.add_argument("--let-in", metavar="NAME", help="have the next run take the file that is stopped, or one in"
-        " refused once it is moved back, if it has the bytes that were looked at")
+    decision.add_argument(
+        "--let-in",
+        metavar="NAME",
+        help="have the next run take the file that is stopped, or one in"
+        " refused once it is moved back, if it has the bytes that were looked at",
+    )
     decision.add_argument("--refuse", metavar="NAME", help="have the next run refuse the file that is stopped")
     add("series", metavar="SERIES", type=series, help="the name of the series that the desk has agreed")
     return parser

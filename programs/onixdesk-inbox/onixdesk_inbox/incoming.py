@@ -52,9 +52,7 @@ class State:
 
 
 def state_of(status: os.stat_result) -> State:
-    return State(
-        status.st_dev, status.st_ino, status.st_size, status.st_mtime_ns, status.st_ctime_ns
-    )
+    return State(status.st_dev, status.st_ino, status.st_size, status.st_mtime_ns, status.st_ctime_ns)
 
 
 def is_sticky(folder: int) -> bool:
@@ -161,8 +159,13 @@ class Incoming:
         for number in range(1, NAMES):
             with contextlib.suppress(FileExistsError):
                 try:
-                    os.link(own, numbered(name, number), src_dir_fd=self.folder, dst_dir_fd=self.folder,
-                        follow_symlinks=False)
+                    os.link(
+                        own,
+                        numbered(name, number),
+                        src_dir_fd=self.folder,
+                        dst_dir_fd=self.folder,
+                        follow_symlinks=False,
+                    )
                     os.unlink(own, dir_fd=self.folder)
                 except PermissionError:
                     new = f"{TAKEN.removeprefix('.')}{secrets.token_hex(8)}{ending(name) or ''}"

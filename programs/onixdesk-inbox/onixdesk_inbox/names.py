@@ -35,9 +35,7 @@ def kind(name: str) -> str | None:
 def printable(text: str) -> str:
     """The text with an escape in place of each character that moves or changes what a terminal shows, and of
     each byte that is no UTF-8."""
-    return "".join(
-        character if character.isprintable() else ascii(character)[1:-1] for character in text
-    )
+    return "".join(character if character.isprintable() else ascii(character)[1:-1] for character in text)
 
 
 def shown(text: str) -> str:

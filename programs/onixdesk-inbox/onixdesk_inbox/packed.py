@@ -29,7 +29,8 @@ class Damage(Exception):
 class Readable(Protocol):
     """What gives bytes."""
 
-    def read(self, size: int, /) -> bytes: ...
+    def read(self, size: int, /) -> bytes:
+        ...
 
 
 def open_entry(file: IO[bytes]) -> Readable:

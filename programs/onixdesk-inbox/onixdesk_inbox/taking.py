@@ -142,8 +142,12 @@ class Taker:
         taken = posted.taken(self.series)
         more = ["these bytes had that number before"] if came_before else []
         more += [f"notes: {'; '.join(lines.summary)}"] if lines.summary else []
-        return replace(taken, said="; ".join([taken.said, *more]), wrong_products=lines.wrong_products,
-            is_late=came_before and copied.answered is None and self.is_late(copied, posted))
+        return replace(
+            taken,
+            said="; ".join([taken.said, *more]),
+            wrong_products=lines.wrong_products,
+            is_late=came_before and copied.answered is None and self.is_late(copied, posted),
+        )
 
     def is_late(self, copied: Copied, posted: Posted) -> bool:
         """Whether a feed that had its number before changes nothing, since the desk has a later one."""

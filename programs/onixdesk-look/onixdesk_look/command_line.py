@@ -39,15 +39,23 @@ or written. docs/ONIX.md has what to ask a wholesaler for."""
 def command_line() -> argparse.ArgumentParser:
     parser = parser_of(PROGRAM, DESCRIPTION, STATUSES)
     add = parser.add_argument
-    add("--like", metavar="FILE", type=Path, help="the desk.json of the buyers' page, which has the shop's country,"
-        f" currency and type of price; {LIKE} without it, or the one beside this program")
+    add(
+        "--like",
+        metavar="FILE",
+        type=Path,
+        help="the desk.json of the buyers' page, which has the shop's country,"
+        f" currency and type of price; {LIKE} without it, or the one beside this program",
+    )
     add("--day", metavar="DAY", type=day, help="the day of the prices, as 20261127; today without it")
     add("--series", metavar="NAME", type=series, help="the name for the agreement; after the FILE's name without it")
     add("--words", metavar="WORDS", type=words, default=(), help="words for onixdesk convert, as in WORDS of an inbox")
     add("--csv", action="store_true", help="write the page as a table: FILE, section, item, value")
     add("--notes", metavar="CSV", type=Path, help="write the converter's notes into this file; for a single FILE")
-    add("--mail", choices=letter.LANGUAGES, help="write a text to the wholesaler that goes with the notes in place of"
-        " the page; for a single FILE")
+    add(
+        "--mail",
+        choices=letter.LANGUAGES,
+        help="write a text to the wholesaler that goes with the notes in place of" " the page; for a single FILE",
+    )
     add("--program", metavar="PROGRAM", type=Path, help="onixdesk beside this program without it")
     add("files", metavar="FILE", type=Path, nargs="+", help="a feed in XML")
     return parser

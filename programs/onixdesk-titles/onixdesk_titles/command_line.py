@@ -44,8 +44,13 @@ def command_line(programs: Path) -> argparse.ArgumentParser:
             of_command.add_argument(f"--{name}", metavar="PATH", type=Path, default=place, help=f"{place} without it")
 
     add("take", take, rows=ROWS, titles=KEPT)
-    add("rebuild", hand_over_again, settings=Path(SETTINGS).parent, state=Path(STATE).parent,
-        converter=programs / "onix-to-csv")
+    add(
+        "rebuild",
+        hand_over_again,
+        settings=Path(SETTINGS).parent,
+        state=Path(STATE).parent,
+        converter=programs / "onix-to-csv",
+    )
     return parser
 
 

@@ -10,7 +10,6 @@ from typing import Any
 from message_records.rows import LARGEST_BATCH, text_of
 
 
-
 class TooLarge(Exception):
     """A record that no message takes, by its reference."""
 

@@ -108,7 +108,12 @@ def read_header(message: Path) -> Header:
 def price_of(row: list[str], header: Header) -> Price:
     minimum = row[9] if len(row) > 9 else ""
     return Price(
-        row[1] or header.price_type, row[2], row[3] or header.currency, Territory(*row[4:7]), row[7], row[8],
+        row[1] or header.price_type,
+        row[2],
+        row[3] or header.currency,
+        Territory(*row[4:7]),
+        row[7],
+        row[8],
         int(minimum or 1),
     )
 

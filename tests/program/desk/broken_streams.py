@@ -97,7 +97,7 @@ class Limited(Room):
 
     def __init__(self, room: Room, blocks: int) -> None:
         super().__init__(Path("/bin/sh"), room.folder)
-        script = f"trap '' XFSZ; ulimit -f {blocks}; exec \"$0\" \"$@\""
+        script = f'trap \'\' XFSZ; ulimit -f {blocks}; exec "$0" "$@"'
         self.before = ["-c", script, str(room.program)]
 
     def run(self, *words: Word | bytes, given: bytes | None = b"", is_full: bool = False) -> Ran:

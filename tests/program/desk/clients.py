@@ -46,7 +46,6 @@ GAPS = Exchange(
 )
 
 
-
 # How many connections are served by a desk that has no number of them.
 UNENDED = 40
 
@@ -54,7 +53,7 @@ UNENDED = 40
 def clients_of_a_port(room: Room) -> Iterator[Outcome]:
     """None of them stops the desk. All are connected before the first that is waited for is let go."""
     yield Outcome("the agreement", batch(room, AGREEMENT), Ran(0, AGREED))
-    with (serving(room, ["--db", DATABASE], len(CLIENTS)) as desk, contextlib.ExitStack() as connections):
+    with serving(room, ["--db", DATABASE], len(CLIENTS)) as desk, contextlib.ExitStack() as connections:
         for client in CLIENTS:
             last = connected(desk.port)
             last.sendall(client.sends)
@@ -148,7 +147,21 @@ def a_port_that_is_taken(room: Room) -> Iterator[Outcome]:
 
 # Of the port 8080: as it may be written, and as it may not.
 SPELLINGS = ["8080", "08080", "0000000000000000000008080", "+8080"]
-REFUSED = ["", "-8080", "8080.0", "8,080", " 8080", "8080 ", "8080x", "0x1f90", "8e3", "+", "++8080", "99999999999999999999", "\uff18\uff10"]
+REFUSED = [
+    "",
+    "-8080",
+    "8080.0",
+    "8,080",
+    " 8080",
+    "8080 ",
+    "8080x",
+    "0x1f90",
+    "8e3",
+    "+",
+    "++8080",
+    "99999999999999999999",
+    "\uff18\uff10",
+]
 
 
 def spellings_of_a_port(room: Room) -> Iterator[Outcome]:

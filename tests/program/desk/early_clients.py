@@ -57,7 +57,11 @@ def taken_by(port: int) -> str | None:
 
 def wait_in_line(room: Room) -> Iterator[Outcome]:
     """The desk is stopped as soon as a client is connected, before it has said that it listens."""
-    for text, answer in (AGREEMENT, b"agreed,north,1\n"), (large(1), applied(1, RECORDS)), (large(2), applied(2, RECORDS)):
+    for text, answer in (
+        (AGREEMENT, b"agreed,north,1\n"),
+        (large(1), applied(1, RECORDS)),
+        (large(2), applied(2, RECORDS)),
+    ):
         yield Outcome("an early client: the desk", batch(room, text), Ran(0, answer))
     port = free_port()
     desk = room.start("--db", DATABASE, "serve", "--port", str(port), "--requests", "1")

@@ -6,7 +6,17 @@ from functools import partial
 
 from tests.program.databases import DATABASE, batch, execute
 from tests.program.desk.exchange_cases import (
-    AGREEMENTS, APPLIED, DELIVERY, NO_NUMBERS, NOT_ALLOWED, ONE_NUMBER, OPEN_INPUTS, RULES, exchanges, inputs, refusal,
+    AGREEMENTS,
+    APPLIED,
+    DELIVERY,
+    NO_NUMBERS,
+    NOT_ALLOWED,
+    ONE_NUMBER,
+    OPEN_INPUTS,
+    RULES,
+    exchanges,
+    inputs,
+    refusal,
 )
 from tests.program.room import Group, Ran, Room
 from tests.program.serving import Exchange, Serving, in_pieces, serving

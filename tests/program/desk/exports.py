@@ -42,7 +42,9 @@ def lists(room: Room) -> Iterator[Outcome]:
     for command, text in LISTS.items():
         yield Outcome(f"lists: {command}", listed(room, command), Ran(0, text))
         yield Outcome(f"lists: the rows behind {command}", all_rows(room), rows)
-    yield Outcome("lists: the gaps of one", room.run("--db", DATABASE, "gaps", "south"), Ran(0, GAPS.splitlines(True)[-1]))
+    yield Outcome(
+        "lists: the gaps of one", room.run("--db", DATABASE, "gaps", "south"), Ran(0, GAPS.splitlines(True)[-1])
+    )
 
 
 def again(room: Room) -> Iterator[Outcome]:
@@ -244,7 +246,7 @@ def shell(room: Room, lines: list[str]) -> Ran:
     """Runs lines of a page at the desk of the room, as a shell does to which they are pasted."""
     text = "\n".join(lines).replace("/var/lib/onixdesk/shop.db", DATABASE).replace("/shop.db", f"/{DATABASE}")
     program, copy = shlex.quote(str(room.program)), shlex.quote(str(ROOT / "bin/desk-copy"))
-    calls = f"onixdesk() {{ {program} \"$@\"; }}\ncopy() {{ {copy} \"$@\" >&2; }}\n"
+    calls = f'onixdesk() {{ {program} "$@"; }}\ncopy() {{ {copy} "$@" >&2; }}\n'
     return room.call(["sh", "-c", calls + text.replace("desk-copy ", "copy ")])
 
 

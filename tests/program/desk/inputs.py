@@ -23,8 +23,7 @@ INPUTS = [
         AGREEMENT + OPENING + PRODUCT * 19_998 + b"EndMessage,19999\n",
         Ran(
             0,
-            b"agreed,north,1\n"
-            b"applied,north,1,replaced=19998,updated=0,deleted=0,unknown=0,ignored=0\n",
+            b"agreed,north,1\n" b"applied,north,1,replaced=19998,updated=0,deleted=0,unknown=0,ignored=0\n",
         ),
     ),
     (

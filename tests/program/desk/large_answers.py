@@ -50,12 +50,16 @@ def of_one_article(room: Room) -> Iterator[Outcome]:
         reply = desk.reply([f"GET /articles/{ISBN}/price?{QUERY} HTTP/1.1\r\n\r\n".encode()])
         taken = most_memory(desk) - before
         head, _, body = reply.partition(b"\r\n\r\n")
-        yield Outcome("many offers: the head", head.splitlines()[::2], [
-            b"HTTP/1.1 200 OK", b"Content-Length: %d" % len(body)])
+        yield Outcome(
+            "many offers: the head", head.splitlines()[::2], [b"HTTP/1.1 200 OK", b"Content-Length: %d" % len(body)]
+        )
         offers = json.loads(body)["offers"]
         yield Outcome("many offers: the offers", [offer["reference"] for offer in offers], references())
-        yield Outcome("many offers: the last", offers[-1], {
-            "amount": "12.990", "availability": "21", "place": 1, "reference": references()[-1], "series": "north"})
+        yield Outcome(
+            "many offers: the last",
+            offers[-1],
+            {"amount": "12.990", "availability": "21", "place": 1, "reference": references()[-1], "series": "north"},
+        )
         most = 2 * len(body) + LISTED * len(offers)
         yield Outcome("many offers: memory beyond twice the answer", max(taken - most, 0), 0)
         desk.reply([GAPS.input])

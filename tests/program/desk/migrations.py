@@ -7,12 +7,23 @@ from functools import partial
 from typing import NamedTuple
 
 from tests.program.databases import (
-    DATABASE, FOLDER, MINIMUM, TABLES, all_rows, batch, complaints, execute, made, rows, table_names,
+    DATABASE,
+    FOLDER,
+    MINIMUM,
+    TABLES,
+    all_rows,
+    batch,
+    complaints,
+    execute,
+    made,
+    rows,
+    table_names,
 )
 from tests.program.room import Group, Ran, Room
 from tests.program.written_cases import Written, read_file
 from tests.running import Outcome
 from tools.words import Row
+
 
 class Case(NamedTuple):
     """The statements that make the file, what the desk is asked once it is of version 2, with which status and what it

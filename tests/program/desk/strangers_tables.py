@@ -59,7 +59,9 @@ def is_not_made(command: str, room: Room) -> Iterator[Outcome]:
     for words in ["--db", DATABASE], EXISTING:
         came = room.run(*words, *command.split(), given=UNREADABLE)
         yield Outcome(f"a missing file: {' '.join([*words, command])}", came, UNUSABLE)
-    yield Outcome(f"a missing file: the folder after {command}", [path.name for path in room.folder.iterdir()], ["parts"])
+    yield Outcome(
+        f"a missing file: the folder after {command}", [path.name for path in room.folder.iterdir()], ["parts"]
+    )
     room.write(DATABASE, b"")
     came = room.run("--db", DATABASE, *command.split(), given=UNREADABLE)
     yield Outcome(f"an empty file: {command}", came, UNUSABLE)
@@ -69,7 +71,9 @@ def is_not_made(command: str, room: Room) -> Iterator[Outcome]:
     found = room.path(DATABASE).read_bytes()
     came = room.run("--db", DATABASE, *command.split(), given=UNREADABLE)
     yield Outcome(f"a database without a table: {command}", came, UNUSABLE)
-    yield Outcome(f"a database without a table: the file after {command}", room.path(DATABASE).read_bytes() == found, True)
+    yield Outcome(
+        f"a database without a table: the file after {command}", room.path(DATABASE).read_bytes() == found, True
+    )
 
 
 # Two days of a desk. The first has a message before its turn, one again, and one with other contents.
@@ -103,9 +107,12 @@ def in_order(room: Room) -> Iterator[Outcome]:
         ("first", FIRST_DAY, 1, FIRST_ANSWERS),
         ("second", SECOND_DAY, 1, SECOND_ANSWERS),
         # Given again, each message has the answer of its first delivery, and nothing changes.
-        ("second, again", SECOND_DAY.replace(b"AskCatalogue,north\n", b""), 1, b"".join(
-            [applied(2, 1), applied(3, 1), applied(5), b"waived,north,4\nrefused,had,north,2\n"]
-        )),
+        (
+            "second, again",
+            SECOND_DAY.replace(b"AskCatalogue,north\n", b""),
+            1,
+            b"".join([applied(2, 1), applied(3, 1), applied(5), b"waived,north,4\nrefused,had,north,2\n"]),
+        ),
     ]:
         yield Outcome(f"a desk beside strangers' tables: the {day} day", batch(room, asked), Ran(status, answers))
         yield Outcome(

@@ -107,7 +107,7 @@ def own_file(room: Room) -> Iterator[Outcome]:
     like_the_repository(room)
     room.path(str(BUILT.parent.relative_to(ROOT))).mkdir(parents=True)
     room.path(str(BUILT.relative_to(ROOT))).symlink_to(room.program)
-    look, = re.findall("`(bin/onixdesk-look [^`]*my.xml)`", (ROOT / "README.md").read_text(encoding="utf-8"))
+    (look,) = re.findall("`(bin/onixdesk-look [^`]*my.xml)`", (ROOT / "README.md").read_text(encoding="utf-8"))
     looked = room.call(["sh", "-c", look])
     yield Outcome(f"README.md: {look}", (looked.status, b"messages needed, --parts: 1\n" in looked.output), (0, True))
 
@@ -151,7 +151,9 @@ def desk_in_a_file(room: Room) -> Iterator[Outcome]:
     agreement = block(TOUR, "bin/onixdesk --db shop.db agreements")[1].encode()
     yield Outcome("docs/TOUR.md: a feed is looked at", (looked.status, agreement in looked.output), (0, True))
     answers = room.run("--db", "shop.db", "batch", given=written(block(TOUR, "AskPrice,9781234567897,20250410")))
-    kinds = [line.partition(b",")[0] for line in answers.output.splitlines() if not line.startswith((b"offer", b"span"))]
+    kinds = [
+        line.partition(b",")[0] for line in answers.output.splitlines() if not line.startswith((b"offer", b"span"))
+    ]
     yield Outcome("docs/TOUR.md: its questions", kinds, [b"price", b"choice", b"calendar"])
 
 
@@ -221,7 +223,7 @@ def served_as_told(room: Room) -> Iterator[Outcome]:
 def waivers_as_told(room: Room) -> Iterator[Outcome]:
     """The numbers that a change of parts leaves out, as docs/ONIX.md waives them."""
     room.run("--db", "shop.db", "batch", given=AGREEMENT)
-    command, = block("docs/ONIX.md", "  seq -f 'Waive,north,")
+    (command,) = block("docs/ONIX.md", "  seq -f 'Waive,north,")
     # The first hundred of them: each is a transaction.
     came = room.call(["sh", "-c", command.replace(" 18000 ", " 15400 ")], environment=on_path(room))
     lines = came.output.decode().splitlines()

@@ -17,8 +17,8 @@ def records_are_deleted(room: Room) -> Iterator[Outcome]:
     with machine(room, written([f"Agree,north,{NORTH},6", *lines, f"EndMessage,{len(lines)}"])) as desk:
         offers = {isbn: len(found) for isbn, found in desk.prices(A, B).items()}
         yield Outcome("many records: before", offers, {A: 3, B: 1})
-        block, = (block for block in blocks("docs/RELIABILITY.md") if any("split -l" in line for line in block))
+        (block,) = (block for block in blocks("docs/RELIABILITY.md") if any("split -l" in line for line in block))
         ran = desk.run(block)
         answer = b"applied,north,7,replaced=0,updated=0,deleted=3,unknown=0,ignored=0\n"
-        yield Outcome("many records are deleted", (ran.status, ran.output[-len(answer):]), (0, answer))
+        yield Outcome("many records are deleted", (ran.status, ran.output[-len(answer) :]), (0, answer))
         yield Outcome("many records: behind", desk.prices(A, B), {A: [], B: [f"north R{B[-3:]} 20.000"]})

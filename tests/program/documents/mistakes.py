@@ -64,7 +64,7 @@ BLOCKS = {
 
 def block_with(first: str) -> list[str]:
     """The one block that has a line that begins so."""
-    found, = (lines for lines in blocks(PAGE) if any(line.startswith(first) for line in lines))
+    (found,) = (lines for lines in blocks(PAGE) if any(line.startswith(first) for line in lines))
     return found
 
 
@@ -93,16 +93,24 @@ def a_first_number_too_high(room: Room) -> Iterator[Outcome]:
     records = agreed(first=2) + others + more[0] + b"\n" + more[1]
     yield Outcome("a first number too high: more than a batch may have", len(records) > LIMIT, True)
     with machine(room, records, SENDER="06,4012345000009") as desk:
-        files = {"1.csv": message(1, (A, "14.00"), (B, "9.00")), "2.csv": message(2, (C, "12.99")),
-            "3.csv": message(3, (A, "16.00"))}
-        lines = ["1.csv: refused: number 1 is below the first number of the series, 2",
-            "2.csv: done: number 2 applied", "3.csv: done: number 3 applied"]
+        files = {
+            "1.csv": message(1, (A, "14.00"), (B, "9.00")),
+            "2.csv": message(2, (C, "12.99")),
+            "3.csv": message(3, (A, "16.00")),
+        }
+        lines = [
+            "1.csv: refused: number 1 is below the first number of the series, 2",
+            "2.csv: done: number 2 applied",
+            "3.csv: done: number 3 applied",
+        ]
         yield Outcome("a first number too high: the inbox", desk.take(files), lines)
         before, behind = {"a": "16.000", "c": "12.990"}, {"a": "16.000", "b": "9.000", "c": "12.990"}
         yield from undone(desk, "a first number too high", before, behind)
         report = desk.ask("AskGaps,south", "AskGaps,north")
-        wanted = ["gaps,south,first=1,next=3,greatest=2,held=0,missing=0",
-            "gaps,north,first=1,next=4,greatest=3,held=0,missing=0"]
+        wanted = [
+            "gaps,south,first=1,next=3,greatest=2,held=0,missing=0",
+            "gaps,north,first=1,next=4,greatest=3,held=0,missing=0",
+        ]
         yield Outcome("a first number too high: the reports", report, wanted)
 
 
@@ -143,10 +151,16 @@ def a_wrong_number(room: Room) -> Iterator[Outcome]:
 def a_waiver_too_early(room: Room) -> Iterator[Outcome]:
     with machine(room, agreed() + b"Waive,north,5\n" + b"Waive,north,1\nWaive,north,2\nWaive,north,3\n") as desk:
         desk.settings(SENDER="06,4012345000009")
-        files = {"4.csv": message(4, (A, "14.00"), (B, "5.00")), "5.csv": message(5, (A, "16.00"), (C, "7.00")),
-            "6.csv": message(6, (B, "6.00"))}
-        lines = ["4.csv: done: number 4 applied", "5.csv: refused: number 5 was waived",
-            "6.csv: done: number 6 applied"]
+        files = {
+            "4.csv": message(4, (A, "14.00"), (B, "5.00")),
+            "5.csv": message(5, (A, "16.00"), (C, "7.00")),
+            "6.csv": message(6, (B, "6.00")),
+        }
+        lines = [
+            "4.csv: done: number 4 applied",
+            "5.csv: refused: number 5 was waived",
+            "6.csv: done: number 6 applied",
+        ]
         yield Outcome("a waiver too early: the inbox", desk.take(files), lines)
         before, behind = {"a": "14.000", "b": "6.000"}, {"a": "16.000", "b": "6.000", "c": "7.000"}
         yield from undone(desk, "a waiver too early", before, behind)
@@ -156,8 +170,11 @@ def with_a_wrong_message(room: Room, name: str) -> Iterator[Outcome]:
     """One that was applied is taken out, and what comes behind it is not held."""
     with machine(room, agreed(), SENDER="06,4012345000009") as desk:
         desk.run(["desk-copy /var/lib/onixdesk/shop.db /var/lib/onixdesk-copies/2026-11-27T02-30-12Z"])
-        files = {"1.csv": message(1, (A, "10.00")), "wrong.xml": message(2, (A, "1.00"), (B, "1.00")),
-            "3.csv": message(3, (C, "7.00"))}
+        files = {
+            "1.csv": message(1, (A, "10.00")),
+            "wrong.xml": message(2, (A, "1.00"), (B, "1.00")),
+            "3.csv": message(3, (C, "7.00")),
+        }
         lines = [f"{file}: done: number {number} applied" for number, file in enumerate(files, 1)]
         yield Outcome(f"{name}: the inbox", desk.take(files), lines)
         before, behind = {"a": "1.000", "b": "1.000", "c": "7.000"}, {"a": "10.000", "c": "7.000"}
@@ -194,16 +211,26 @@ def two_shops(room: Room) -> Iterator[Outcome]:
     """The second shop's desk has its series alone, with what was waived."""
     second = NORTH.replace("5012345678900", "5012345678917")
     records = agreed() + written([f"Agree,other,{second},1", "Waive,other,2"])
-    records += message(1, (A, "10.00")) + message(1, (B, "20.00"), parties=second) + message(3, (C, "7.00"), parties=second)
+    records += (
+        message(1, (A, "10.00")) + message(1, (B, "20.00"), parties=second) + message(3, (C, "7.00"), parties=second)
+    )
     with machine(room, records) as desk:
         offered = {isbn: len(found) for isbn, found in desk.prices(A, B, C).items()}
         yield Outcome("two shops: one desk has both", offered, {A: 1, B: 1, C: 1})
         ran = desk.run(block_with(BLOCKS["two shops"]))
         yield Outcome("two shops: the second desk is made", (ran.status, ran.status and ran.errors), (0, 0))
         asked = "".join(f"AskPrice,{isbn},20250501,GB,GBP,02\n" for isbn in (A, B, C))
-        came = room.run("--db", "var/lib/onixdesk/second.db", "--existing", "batch", given=f"{asked}AskGaps,other\n".encode())
-        wanted = [f"price,{A},0", f"price,{B},1", f"offer,other,R{B[-3:]},1,21,20.000", f"price,{C},1",
-            f"offer,other,R{C[-3:]},1,21,7.000", "gaps,other,first=1,next=4,greatest=3,held=0,missing=0"]
+        came = room.run(
+            "--db", "var/lib/onixdesk/second.db", "--existing", "batch", given=f"{asked}AskGaps,other\n".encode()
+        )
+        wanted = [
+            f"price,{A},0",
+            f"price,{B},1",
+            f"offer,other,R{B[-3:]},1,21,20.000",
+            f"price,{C},1",
+            f"offer,other,R{C[-3:]},1,21,7.000",
+            "gaps,other,first=1,next=4,greatest=3,held=0,missing=0",
+        ]
         yield Outcome("two shops: the second desk", came.output.decode().splitlines(), wanted)
 
 
@@ -213,7 +240,9 @@ def causes(room: Room) -> Iterator[Outcome]:
     rows = re.findall(r"^\| `(.+?)` \| .+? \| (?:`(.+?)` )?\|$", text, re.M)
     yield Outcome("why malformed: causes", len(rows), 11)
     for wrong, right in rows:
-        yield Outcome(f"why malformed: {wrong}", room.run("batch", given=written([wrong])).output, b"refused,malformed,1\n")
+        yield Outcome(
+            f"why malformed: {wrong}", room.run("batch", given=written([wrong])).output, b"refused,malformed,1\n"
+        )
         answer = room.run("batch", given=written([right] if right else [])).output
         yield Outcome(f"why malformed: {right}", (bool(answer) == bool(right), b"malformed" in answer), (True, False))
 

@@ -20,20 +20,30 @@ def block_of(first: str) -> list[str]:
 def renewed_and_back(room: Room) -> Iterator[Outcome]:
     """The desk has all that it had, and its inbox goes on; the old desk, put back, gets what came since."""
     with machine(room, agreed(), SENDER="any") as desk:
-        files = {"w1.csv": message(1, (A, "8.00"), (B, "9.00")), "w2.csv": message(2, (A, "8.50")), "w4.csv": message(4, (C, "7"))}
+        files = {
+            "w1.csv": message(1, (A, "8.00"), (B, "9.00")),
+            "w2.csv": message(2, (A, "8.50")),
+            "w4.csv": message(4, (C, "7")),
+        }
         desk.take(files)
         before = desk.prices(A, B, C)
         yield Outcome("renewal: before", before, offers(a="8.500", b="9.000"))
         (line,) = block_of("desk-renew")
         ran = desk.run([f"{line} <<<yes"])
-        said = "north: begins at 2 in place of 1, next is 3; 1 to 1 are before-first then; 2 to 2 are other-contents then"
+        said = (
+            "north: begins at 2 in place of 1, next is 3; 1 to 1 are before-first then; 2 to 2 are other-contents then"
+        )
         yield Outcome("renewal: what is said", (ran.status, ran.output.decode().splitlines()[0]), (0, said))
         (shown,) = block_of("north: begins")
         words = [word for word in shown.split() if not word.rstrip(",;").isdigit()]
-        yield Outcome("renewal: as the page has it", words, [word for word in said.split() if not word.rstrip(",;").isdigit()])
+        yield Outcome(
+            "renewal: as the page has it", words, [word for word in said.split() if not word.rstrip(",;").isdigit()]
+        )
         yield Outcome("renewal: the prices", desk.prices(A, B, C), before)
         report = desk.ask("AskGaps,north")
-        yield Outcome("renewal: the gaps", report, ["gaps,north,first=2,next=3,greatest=4,held=1,missing=1", "missing,3,3"])
+        yield Outcome(
+            "renewal: the gaps", report, ["gaps,north,first=2,next=3,greatest=4,held=1,missing=1", "missing,3,3"]
+        )
         lines = desk.take({"again.csv": files["w1.csv"], "w3.csv": message(3, (B, "9.50"))})
         wanted = ["again.csv: done: had it already: number 1; kept as w1.csv", "w3.csv: done: number 3 applied"]
         yield Outcome("renewal: the inbox", lines, wanted)

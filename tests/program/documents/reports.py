@@ -15,8 +15,9 @@ PAGE = "docs/REPORTS.md"
 TITLES = "/var/lib/onixdesk-titles"
 
 # As onixdesk-titles keeps them: series, number, moment, title, subtitle, contributors and publisher.
-KEPT = {"9781234567897": [["north", 2, 1741100000, "A Week of Books", "", "Ann Author", "House"], ["west", 40, 1740000000]]}
-
+KEPT = {
+    "9781234567897": [["north", 2, 1741100000, "A Week of Books", "", "Ann Author", "House"], ["west", 40, 1740000000]]
+}
 
 
 def desks(room: Room) -> Ran:
@@ -40,7 +41,7 @@ def questions(room: Room) -> Iterator[Outcome]:
     room.path("days").mkdir()
     yield Outcome(f"{PAGE}: the copy", desks(room).status, 0)
     asked = [lines for lines in blocks(PAGE) if lines[0].startswith("sqlite3 ")]
-    for (command, shown), in map(commands, asked):
+    for ((command, shown),) in map(commands, asked):
         came = room.call(["sh", "-c", command.replace(TITLES, str(room.folder))])
         yield Outcome(f"{PAGE}: {command}", came, Ran(0, written(shown)))
     yield Outcome(f"{PAGE}: its questions", len(asked), 5)
@@ -53,6 +54,8 @@ def tables(room: Room) -> Iterator[Outcome]:
     with contextlib.closing(sqlite3.connect(room.path("shop.db"))) as desk:
         found = [name for name, in desk.execute("SELECT name FROM sqlite_schema WHERE type = 'table' ORDER BY name")]
         columns = {row[1] for name in found for row in desk.execute(f"PRAGMA table_info({name})")}
-    yield Outcome(f"{PAGE}: the tables", [name for name in found if f"- `{name}`" not in text and f", `{name}`" not in text], [])
+    yield Outcome(
+        f"{PAGE}: the tables", [name for name in found if f"- `{name}`" not in text and f", `{name}`" not in text], []
+    )
     yield Outcome(f"{PAGE}: the columns", sorted(name for name in columns - {"item"} if f"`{name}`" not in text), [])
     yield Outcome(f"{PAGE}: the tables of the desk", len(found), 9)

@@ -10,7 +10,12 @@ from tests.program.room import Room
 from tests.running import Outcome
 from tools.root import ROOT
 
-EXAMPLES, LAID, DEBIAN, SYSTEMD = "documents.examples", "package.without_package", "packaging/try-in-debian", "packaging/under-systemd"
+EXAMPLES, LAID, DEBIAN, SYSTEMD = (
+    "documents.examples",
+    "package.without_package",
+    "packaging/try-in-debian",
+    "packaging/under-systemd",
+)
 
 # The units and users of the machine are those of the package.
 OF_PACKAGE = f"{LAID}: without_the_package"
@@ -72,7 +77,7 @@ TOLD: dict[str, dict[str, str]] = {
     "docs/PRICES.md": {
         "bin/desk-prices --rules rules.toml shop.db FOLDER": "files.desk_prices: of_a_copy",
         "desk-prices --list stock.csv": "files.desk_prices: of_a_list",
-        "sed -i 's/^  \"price_type\":/": f"{SYSTEMD}: try_prices",
+        'sed -i \'s/^  "price_type":/': f"{SYSTEMD}: try_prices",
         "printf '[[rule]]": f"{SYSTEMD}: try_prices",
         "printf '9781234567897": "nowhere: it adds to a file of the machine",
         "install -m 755 programs/desk-prices/": OF_PACKAGE,

@@ -6,7 +6,16 @@ from typing import TypeVar
 
 from tests.program.feeds.feed_prices import DISCOUNTS
 from tests.program.feeds.feed_trees import (
-    Detail, Identifier, Market, Message, Price, PriceDate, Product, Stranger, Supply, Territory,
+    Detail,
+    Identifier,
+    Market,
+    Message,
+    Price,
+    PriceDate,
+    Product,
+    Stranger,
+    Supply,
+    Territory,
 )
 
 # What a text of a feed may be made of: letters, what CSV and XML quote, and characters of one to four bytes.
@@ -297,7 +306,9 @@ class Maker:
 
     def price(self, message: Message) -> Price:
         has_amount = not self.is_one_of(6)
-        amount = f"{self.random.randrange(1, 1000)}" + self.random.choice(["", ".5", ".99", ".125", ".5000", ".12500000"])
+        amount = f"{self.random.randrange(1, 1000)}" + self.random.choice(
+            ["", ".5", ".99", ".125", ".5000", ".12500000"]
+        )
         price = Price(
             self.code() if not message.price_type else self.maybe("02"),
             amount if has_amount else "",

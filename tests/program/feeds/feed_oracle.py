@@ -5,13 +5,35 @@ import re
 from dataclasses import dataclass, field
 
 from tests.program.feeds.feed_prices import (
-    REGION, closes, foreign_reasons, gives_nothing, has_foreign_date, is_dated, key_of, price_record, wrong_reasons,
+    REGION,
+    closes,
+    foreign_reasons,
+    gives_nothing,
+    has_foreign_date,
+    is_dated,
+    key_of,
+    price_record,
+    wrong_reasons,
 )
 from tests.program.feeds.feed_terms import (
-    is_code, is_country, is_currency, is_empty_or, is_field, is_filled, is_number, is_repeat, matches,
+    is_code,
+    is_country,
+    is_currency,
+    is_empty_or,
+    is_field,
+    is_filled,
+    is_number,
+    is_repeat,
+    matches,
 )
 from tests.program.feeds.feed_territories import (
-    are_taken, read_as_others, regions_in_the_way, regions_left_out, territory_fields, union_fields, wrong_in,
+    are_taken,
+    read_as_others,
+    regions_in_the_way,
+    regions_left_out,
+    territory_fields,
+    union_fields,
+    wrong_in,
 )
 from tests.program.feeds.feed_trees import Detail, Identifier, Market, Message, Price, Product, Supply, Territory, Words
 
@@ -234,7 +256,12 @@ class Judge:
         self.is_of_world = False
 
     def note(
-        self, about: object, *reasons: str, names: tuple[str, ...] = ANY, is_wrong: bool = False, of_product: bool = False
+        self,
+        about: object,
+        *reasons: str,
+        names: tuple[str, ...] = ANY,
+        is_wrong: bool = False,
+        of_product: bool = False,
     ) -> None:
         self.notes.append(Note(about, self.product.reference, reasons or ANY, names, is_wrong, of_product))
 

@@ -15,7 +15,16 @@ from xml.parsers import expat
 from tests.program.feeds.convert.case_files import SHORT_TAGS
 from tests.program.feeds.feed_prices import DISCOUNTS
 from tests.program.feeds.feed_trees import (
-    Detail, Identifier, Market, Message, Price, PriceDate, Product, Stranger, Supply, Territory,
+    Detail,
+    Identifier,
+    Market,
+    Message,
+    Price,
+    PriceDate,
+    Product,
+    Stranger,
+    Supply,
+    Territory,
 )
 from tests.program.feeds.feed_writing import COUNTED, COUNTED_ALONE, Place
 
@@ -30,8 +39,14 @@ TWO_COLONS = re.compile(rb"</?[^<>\s/:]*:[^<>\s/:]*:|</?:|<[^<>\s/]*:[\s/>]")
 REFERENCE_NAMES = {tag: name for name, tag in SHORT_TAGS.items()}
 
 OLD = [
-    "PriceTypeCode", "ClassOfTrade", "PriceEffectiveFrom", "PriceEffectiveUntil", "CountryCode", "CountryExcluded",
-    "TerritoryExcluded", "(j303)",
+    "PriceTypeCode",
+    "ClassOfTrade",
+    "PriceEffectiveFrom",
+    "PriceEffectiveUntil",
+    "CountryCode",
+    "CountryExcluded",
+    "TerritoryExcluded",
+    "(j303)",
 ]
 OLD_OF_DETAIL = ["SupplyToCountry", "SupplyToRegion", "SupplyToCountryExcluded", "SupplyToTerritory"]
 
@@ -102,7 +117,9 @@ class Element:
         """The name of an element that does not repeat and comes again, but in a PriceDate; empty where there is none."""
         names = [each.name for each in self.below if each.name not in REPEATABLE]
         again = [name for name in names if names.count(name) > 1]
-        return next(iter(again + [each.again() for each in self.below if each.name != "PriceDate" and each.again()]), "")
+        return next(
+            iter(again + [each.again() for each in self.below if each.name != "PriceDate" and each.again()]), ""
+        )
 
     def all_strangers(self) -> list[Stranger]:
         return self.strangers + [stranger for each in self.below for stranger in each.all_strangers()]

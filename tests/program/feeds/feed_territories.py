@@ -40,7 +40,9 @@ def regions_in_the_way(territory: Territory) -> list[str]:
 
 def countries_in_the_way(territory: Territory) -> list[str]:
     """The countries among the regions, for which the desk would not take a territory."""
-    return [region for region in regions_alone(territory) + regions_of(territory.excluded_regions) if is_country(region)]
+    return [
+        region for region in regions_alone(territory) + regions_of(territory.excluded_regions) if is_country(region)
+    ]
 
 
 def is_silent(territory: Territory) -> bool:

@@ -14,7 +14,16 @@ from tests.program.feeds.convert.case_files import SHORT_TAGS
 from tests.program.feeds.feed_names import Names
 from tests.program.feeds.feed_prices import DISCOUNTS
 from tests.program.feeds.feed_trees import (
-    Detail, Identifier, Market, Message, Price, PriceDate, Product, Stranger, Supply, Territory,
+    Detail,
+    Identifier,
+    Market,
+    Message,
+    Price,
+    PriceDate,
+    Product,
+    Stranger,
+    Supply,
+    Territory,
 )
 
 # What stands for a namespace of ONIX: reference names and short tags have one each.
@@ -44,8 +53,10 @@ class Encoding(NamedTuple):
 ENCODINGS = [
     *(Encoding(name, "utf-8") for name in ("", "UTF-8", "utf-8", "UTF8", "utf8", "utf_8")),
     Encoding("UTF-8", "utf-8", codecs.BOM_UTF8),
-    *(Encoding("UTF-16", codec, mark) for codec, mark in
-      [("utf-16-le", codecs.BOM_UTF16_LE), ("utf-16-be", codecs.BOM_UTF16_BE)]),
+    *(
+        Encoding("UTF-16", codec, mark)
+        for codec, mark in [("utf-16-le", codecs.BOM_UTF16_LE), ("utf-16-be", codecs.BOM_UTF16_BE)]
+    ),
     # A mark outweighs the declaration, and a declared UTF-16 without one is UTF-8.
     Encoding("ISO-8859-1", "utf-8", codecs.BOM_UTF8),
     Encoding("UTF-8", "utf-16-le", codecs.BOM_UTF16_LE),
@@ -134,7 +145,9 @@ class Writer:
         self.random = random
         self.encoding = random.choice(ENCODINGS)
         self.is_short = random.random() < 0.5
-        self.names = Names(random, random.choice(["", "", NAMESPACES[self.is_short], NAMESPACES[self.is_short], "urn:own"]))
+        self.names = Names(
+            random, random.choice(["", "", NAMESPACES[self.is_short], NAMESPACES[self.is_short], "urn:own"])
+        )
         # The composites around what is written, the innermost last, and the stranger that one of them is to have.
         self.around: list[str] = []
         self.stranger: Stranger | None = None
@@ -191,8 +204,7 @@ class Writer:
         if len(text) > 500:
             return escape(text).encode("ascii", "xmlcharrefreplace").decode()
         written = "".join(
-            self.character(character) + (self.aside() if self.is_one_of(40) else "")
-            for character in text
+            self.character(character) + (self.aside() if self.is_one_of(40) else "") for character in text
         )
         space = self.random.choice(["", "", "", *SPACES])
         return space + written + space
@@ -557,4 +569,6 @@ class Writer:
 
         starts = {of: place(offset) for of, offset in self.starts.items()}
         ends = {of: place(offset) for of, offset in self.ends.items()}
-        return Written(self.encoding.mark + text.encode(self.encoding.codec), starts, ends, self.sizes, self.count_of_again)
+        return Written(
+            self.encoding.mark + text.encode(self.encoding.codec), starts, ends, self.sizes, self.count_of_again
+        )

@@ -106,7 +106,9 @@ LARGE = [
     *read("tokens"),
     Case("identifiers of characters that have four bytes", wide_identifiers),
     Case("a start tag of 300,000 attributes in UTF-16", in_utf16),
-    Case("the second half of a character in UTF-16", lambda: iter([f"{FRAME.before}<x>".encode("utf-16") + b"\x00\xdc"])),
+    Case(
+        "the second half of a character in UTF-16", lambda: iter([f"{FRAME.before}<x>".encode("utf-16") + b"\x00\xdc"])
+    ),
 ]
 
 

@@ -59,7 +59,9 @@ CASES = [
     Case(
         "as many prefixes more at each depth",
         lambda: feed(
-            AS_MANY, *nested([declared(range(MOST), ROOT, f"q{number}x{{}}") for number in range(DEEP)], ""), PRODUCT.format("R1")
+            AS_MANY,
+            *nested([declared(range(MOST), ROOT, f"q{number}x{{}}") for number in range(DEEP)], ""),
+            PRODUCT.format("R1"),
         ),
         taken=["R1"],
     ),

@@ -70,14 +70,20 @@ ARTICLES = [
     Article(supplied(dated("14", "20250402")), "its price begins later"),
     Article(supplied(dated("15", "20250331")), "its price has ended"),
     Article(supplied(PRICE, IRELAND), "not offered in GB"),
-    Article(supplied(PRICE.replace("</Price>", f"<Territory>{IRELAND}</Territory></Price>")),
-            "its price is not for GB"),
-    Article(supplied("<Price><PriceType>05</PriceType><PriceAmount>1</PriceAmount></Price>"),
-            "no price of type 02, but of type 05"),
-    Article(supplied(PRICE.replace("</Price>", "<CurrencyCode>EUR</CurrencyCode></Price>")),
-            "no price in GBP, but in EUR"),
-    Article(supplied(PRICE.replace("<PriceAmount>", "<MinimumOrderQuantity>5</MinimumOrderQuantity><PriceAmount>")),
-            "its price is for several copies"),
+    Article(
+        supplied(PRICE.replace("</Price>", f"<Territory>{IRELAND}</Territory></Price>")), "its price is not for GB"
+    ),
+    Article(
+        supplied("<Price><PriceType>05</PriceType><PriceAmount>1</PriceAmount></Price>"),
+        "no price of type 02, but of type 05",
+    ),
+    Article(
+        supplied(PRICE.replace("</Price>", "<CurrencyCode>EUR</CurrencyCode></Price>")), "no price in GBP, but in EUR"
+    ),
+    Article(
+        supplied(PRICE.replace("<PriceAmount>", "<MinimumOrderQuantity>5</MinimumOrderQuantity><PriceAmount>")),
+        "its price is for several copies",
+    ),
     Article(supplied("", more="<UnpricedItemType>02</UnpricedItemType>"), "no price: UnpricedItemType 02"),
     Article(supplied(""), "no price is left"),
     Article("", "no supply is left"),
@@ -146,10 +152,14 @@ TOO_FEW = ROOT / "crates/feed_files/src/refusal.rt"
 def parts(room: Room) -> Iterator[Outcome]:
     """Where the converter says that two messages are needed there are two, and four times as many are to be agreed."""
     needs = sought(r'"(the message needs \{count\} parts)', TOO_FEW.read_text(encoding="utf-8")).format(count=2)
-    program = script(room, "onixdesk", f"""case "$*" in
+    program = script(
+        room,
+        "onixdesk",
+        f"""case "$*" in
 *--parts*|--db*) exec "{room.program}" "$@" ;;
 *) echo "onixdesk: large.xml:2:1: refused: {needs}, not 1" >&2; exit 1 ;;
-esac""")
+esac""",
+    )
     text = "<MessageNumber>3</MessageNumber>"
     room.write("large.xml", feed([product(place, ARTICLES[0]) for place in range(10)], text))
     status, found = table(room, "--program", program, "large.xml")
@@ -184,8 +194,13 @@ def notes_and_letters(room: Room) -> Iterator[Outcome]:
     converted = room.run("convert", "--wrong", "all", sample).errors.decode()
     lines = [f"onixdesk: {sample}:{row[2]}:{row[3]}: {row[0]}: {row[4]}" for row in rows[1:]]
     yield Outcome("look: the notes are the converter's", lines, converted.splitlines()[: len(lines)])
-    isbns = dict(re.findall("^Product,([^,]+),03(?:,01,[^,]+)?,(?:03|15),([0-9]{13})",
-                            sample.with_suffix(".csv").read_text(encoding="utf-8"), flags=re.MULTILINE))
+    isbns = dict(
+        re.findall(
+            "^Product,([^,]+),03(?:,01,[^,]+)?,(?:03|15),([0-9]{13})",
+            sample.with_suffix(".csv").read_text(encoding="utf-8"),
+            flags=re.MULTILINE,
+        )
+    )
     named = {row[0]: row[1] for row in rows[1:] if row[1]}
     yield Outcome("look: the ISBNs of the notes", named, {reference: isbns.get(reference) for reference in named})
     for language, first in ("en", "Subject: "), ("de", "Betreff: "):
@@ -230,8 +245,15 @@ def refused_feeds(room: Room) -> Iterator[Outcome]:
 def bad_words(room: Room) -> Iterator[Outcome]:
     room.write("a.xml", feed_of("R1"))
     room.write("other.json", b"[]")
-    for line in ("", "--mail en a.xml a.xml", "--mail fr a.xml", "--words=-o a.xml", "--words=--unknown a.xml",
-                 "--like other.json a.xml", "--day today a.xml"):
+    for line in (
+        "",
+        "--mail en a.xml a.xml",
+        "--mail fr a.xml",
+        "--words=-o a.xml",
+        "--words=--unknown a.xml",
+        "--like other.json a.xml",
+        "--day today a.xml",
+    ):
         words = line.split()
         came = look(room, *words)
         yield Outcome(f"look: bad words {words}", (came.status, came.output), (2, b""))

@@ -32,7 +32,14 @@ RUNS: list[tuple[list[str], int]] = [
     (["--part", "2", "a.xml"], 2),
     (["--help"], 0),
 ]
-FILES = {"a.xml": ONE, "b.xml": TWO, "wrong.xml": WRONG, "bad.xml": BAD, "a.xml.gz": gzip.compress(ONE), "a.zip": zipped({"a": ONE})}
+FILES = {
+    "a.xml": ONE,
+    "b.xml": TWO,
+    "wrong.xml": WRONG,
+    "bad.xml": BAD,
+    "a.xml.gz": gzip.compress(ONE),
+    "a.zip": zipped({"a": ONE}),
+}
 
 
 def make_shop(room: Room) -> None:

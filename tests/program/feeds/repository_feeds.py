@@ -18,7 +18,9 @@ from tests.program.serving import serving
 from tests.running import Outcome
 from tools.root import ROOT
 
-FEEDS = sorted(path for folder in ("examples/shop/onix", "tests/feeds", "tests/titles") for path in (ROOT / folder).glob("*.xml"))
+FEEDS = sorted(
+    path for folder in ("examples/shop/onix", "tests/feeds", "tests/titles") for path in (ROOT / folder).glob("*.xml")
+)
 
 PARTS = [1, 3, 40]
 
@@ -72,7 +74,9 @@ def delivered(path: Path, parts: int, room: Room) -> Iterator[Outcome]:
 
 def reply(number: int, counts: str) -> str:
     """The reply to a message that was applied."""
-    return of_series(number, "s", **{name: int(count) for name, count in (each.split("=") for each in counts.split(","))})
+    return of_series(
+        number, "s", **{name: int(count) for name, count in (each.split("=") for each in counts.split(","))}
+    )
 
 
 def taken(path: Path, parts: int, room: Room) -> Iterator[Outcome]:

@@ -83,8 +83,7 @@ def together(room: Room) -> Iterator[Outcome]:
     given = agreements + room.path("two-products.csv").read_bytes()
     wanted = Ran(
         0,
-        b"agreed,tidewater,42\n"
-        b"applied,tidewater,42,replaced=2,updated=0,deleted=0,unknown=0,ignored=0\n",
+        b"agreed,tidewater,42\n" b"applied,tidewater,42,replaced=2,updated=0,deleted=0,unknown=0,ignored=0\n",
     )
     yield Outcome("convert, and the desk takes it", room.run("batch", given=given), wanted)
 

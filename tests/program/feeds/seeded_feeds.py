@@ -15,7 +15,16 @@ from typing import NamedTuple
 from tests.program.feeds.convert.running import convert
 from tests.program.feeds.feed_makers import BAD_CODES, NO_PARTS, PARTS, REGIONS, Maker
 from tests.program.feeds.feed_notes import (
-    NO_NOTES, Errors, Said, compared, count_line, is_named, miscounted, notes_in, read_errors, read_summary,
+    NO_NOTES,
+    Errors,
+    Said,
+    compared,
+    count_line,
+    is_named,
+    miscounted,
+    notes_in,
+    read_errors,
+    read_summary,
 )
 from tests.program.feeds.feed_prices import DISCOUNTS
 from tests.program.feeds.feed_territories import WORLD

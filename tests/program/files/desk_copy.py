@@ -148,9 +148,7 @@ def of_a_desk_at_rest(room: Room) -> Iterator[Outcome]:
     ran = copy(room, DATABASE, "copy")
     yield Outcome("both files, byte by byte", files(room.path("copy")), wanted)
     said = SAID % (b"copy/cases.db", len(wanted[DATABASE]), len(wanted[log]))
-    yield Outcome(
-        "what is said of it", (ran.status, bool(re.fullmatch(said, ran.output)), ran.errors), (0, True, b"")
-    )
+    yield Outcome("what is said of it", (ran.status, bool(re.fullmatch(said, ran.output)), ran.errors), (0, True, b""))
     modes = [each.stat().st_mode & 0o777 for each in [room.path("copy"), *room.path("copy").iterdir()]]
     yield Outcome("for its owner alone", modes, [0o700, 0o600, 0o600])
     room.path(log).unlink()
@@ -188,7 +186,11 @@ def kept(room: Room) -> Iterator[Outcome]:
     yield Outcome("a second that a copy has", (ran.status, found > taken[-1]), (0, True))
     copy(room, "--keep", "2", DATABASE, "copies")
     found = sorted(each.name for each in room.path("copies").iterdir())
-    yield Outcome("the new one stays where others have later names", (len(found), new.name < found[0] < ahead[0], found[1]), (3, True, ahead[1]))
+    yield Outcome(
+        "the new one stays where others have later names",
+        (len(found), new.name < found[0] < ahead[0], found[1]),
+        (3, True, ahead[1]),
+    )
 
 
 def crowded_articles(room: Room) -> Iterator[Outcome]:
@@ -207,8 +209,11 @@ def crowded_articles(room: Room) -> Iterator[Outcome]:
     why = "so that questions about it keep others waiting"
     line = f"desk-copy: warning: 1001 records have the ISBN 9781234567897, {why}\n"
     yield Outcome("crowded articles", (ran.status, ran.errors.decode()), (0, line))
-    yield Outcome("nothing is left beside the copy", sorted(path.name for path in room.path("copy").iterdir()),
-                  [DATABASE, f"{DATABASE}-wal"])
+    yield Outcome(
+        "nothing is left beside the copy",
+        sorted(path.name for path in room.path("copy").iterdir()),
+        [DATABASE, f"{DATABASE}-wal"],
+    )
 
 
 def refused(room: Room) -> Iterator[Outcome]:
@@ -238,8 +243,10 @@ def unsound(room: Room) -> Iterator[Outcome]:
     room.write("damaged.db", damaged)
     execute(room, f"{TABLES} {MINIMUM} INSERT INTO record VALUES ('nobody', 'R1')", "orphan.db")
     # An index has the names where it is said to have the identifiers.
-    crossed = "CREATE INDEX by_name ON series (name); PRAGMA writable_schema = ON; UPDATE sqlite_schema" \
-              " SET sql = 'CREATE INDEX by_name ON series (sender_value)' WHERE name = 'by_name'"
+    crossed = (
+        "CREATE INDEX by_name ON series (name); PRAGMA writable_schema = ON; UPDATE sqlite_schema"
+        " SET sql = 'CREATE INDEX by_name ON series (sender_value)' WHERE name = 'by_name'"
+    )
     series = "INSERT INTO series VALUES ('north', '06', '4012345000009', '', '', 1, 1);"
     execute(room, f"{TABLES} {MINIMUM} {series} {crossed}", "crossed.db")
     for name, found in [

@@ -44,9 +44,7 @@ def field(text: str) -> str:
 
 
 def message(number: int, references: list[str], sender: str = "S") -> str:
-    products = [
-        f"Product,{field(reference)},03,15,9781234567897,01,{field(reference)}\n" for reference in references
-    ]
+    products = [f"Product,{field(reference)},03,15,9781234567897,01,{field(reference)}\n" for reference in references]
     return f"Message,1,06,{sender},,,{number},,,,\n{''.join(products)}EndMessage,{len(products) + 1}\n"
 
 
@@ -105,24 +103,15 @@ def lines(room: Room) -> dict[str, list[list[str | None]]]:
     with opened(room.path(DATABASE)) as source:
         return {
             table: [
-                [value(text) for text in line.decode().removesuffix("\n").split("\t")]
-                for line in source.lines(table)
+                [value(text) for text in line.decode().removesuffix("\n").split("\t")] for line in source.lines(table)
             ]
             for table in TABLES
         }
 
 
 def rows_as_lines(room: Room) -> Iterator[Outcome]:
-    text = (
-        AGREEMENTS
-        + message(1, REFERENCES)
-        + message(5, REFERENCES[:2], "T")
-        + message(3, ["x"])
-        + message(9, ["y"])
-    )
-    prices = (
-        "Message,2,06,S,,,2,,,,\nProduct,R1,03,15,9781234567897\nProductSupply,,,\nSupplyDetail,04,,,N,21,\n"
-    )
+    text = AGREEMENTS + message(1, REFERENCES) + message(5, REFERENCES[:2], "T") + message(3, ["x"]) + message(9, ["y"])
+    prices = "Message,2,06,S,,,2,,,,\nProduct,R1,03,15,9781234567897\nProductSupply,,,\nSupplyDetail,04,,,N,21,\n"
     prices += "Price,02,1,GBP,,,,,\nPrice,02,2,GBP,,,,20250101,20251231,10\nEndMessage,6\n"
     batch(room, (text + prices).encode())
     with closing(sqlite3.connect(room.path(DATABASE))) as connection:

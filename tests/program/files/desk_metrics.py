@@ -81,7 +81,9 @@ def of_a_desk(room: Room) -> Iterator[Outcome]:
         since = {samples["onixdesk_series_next_number_change_timestamp_seconds", name] for name in ("north", "south")}
         yield Outcome("metrics: since when", all(before <= each <= after for each in since), True)
         text = room.path(FILE).read_text(encoding="utf-8")
-        text = re.sub(r"(_duration_seconds{.*} )\S+", r"\1SECONDS", re.sub(r"(_timestamp_seconds{.*} )\d+", r"\1NOW", text))
+        text = re.sub(
+            r"(_duration_seconds{.*} )\S+", r"\1SECONDS", re.sub(r"(_timestamp_seconds{.*} )\d+", r"\1NOW", text)
+        )
         yield Outcome("metrics: every byte", text, CASES.joinpath("desk.prom").read_text().replace("DESK", at(desk)))
         modes = {path.name: path.stat().st_mode & 0o777 for path in room.path("metrics").iterdir()}
         yield Outcome("metrics: who may read them", modes, {"onixdesk.prom": 0o644, "since.json": 0o644})
@@ -96,7 +98,9 @@ def of_inboxes(room: Room) -> Iterator[Outcome]:
         os.symlink(inbox.state, room.path("state/north"))
         shutil.copy(room.path("settings.conf"), room.path("settings/north.conf"))
         shutil.copy(ROOT / "programs/onixdesk-inbox/example.conf", room.path("settings/example.conf"))
-        inbox.put({"1.csv": bare(2), "2.csv": MALFORMED, "3.csv": bare(7), "4.txt": b"?", "5.csv.part": b"", "6.txt": b"?"})
+        inbox.put(
+            {"1.csv": bare(2), "2.csv": MALFORMED, "3.csv": bare(7), "4.txt": b"?", "5.csv.part": b"", "6.txt": b"?"}
+        )
         yield Outcome("metrics: an inbox that has not run", write(room), Ran(0))
         names = ("inbox_waiting_files", "inbox_refused_files", "inbox_last_taken_timestamp_seconds")
         yield Outcome("metrics: what waits then", [of_series(room).get(name) for name in names], [6, None, None])
@@ -108,7 +112,10 @@ def of_inboxes(room: Room) -> Iterator[Outcome]:
         came = of_series(room)
         yield Outcome("metrics: of an inbox", [came.get(name) for name in names], [3, 1, 1_764_003_600])
         wanted = [4, 7, 2, 2]
-        numbers = [came.get(f"series_{name}") for name in ("next_number", "greatest_number", "held_messages", "missing_messages")]
+        numbers = [
+            came.get(f"series_{name}")
+            for name in ("next_number", "greatest_number", "held_messages", "missing_messages")
+        ]
         yield Outcome("metrics: of its series", numbers, wanted)
         yield Outcome("metrics: of no other", {label for _, label in read(room)}, {"north", at(desk)})
 
@@ -124,7 +131,11 @@ def since_when(room: Room) -> Iterator[Outcome]:
         yield Outcome("since when: the same number", of_series(room)[name], 1000)
         of_south = of_series(room, "south")[name]
         yield Outcome("since when: another number", of_south > 1_764_000_000, True)
-        yield Outcome("since when: what is kept", json.loads(room.path(KEPT).read_text()), {"north": [2, 1000], "south": [7, of_south]})
+        yield Outcome(
+            "since when: what is kept",
+            json.loads(room.path(KEPT).read_text()),
+            {"north": [2, 1000], "south": [7, of_south]},
+        )
         write(room, "--desk", at(free_port()), "north")
         yield Outcome("since when: no desk answers", name in of_series(room), False)
         desk.reply([posted(bare(9))])
@@ -135,7 +146,9 @@ def since_when(room: Room) -> Iterator[Outcome]:
         desk.reply([posted(bare(2))])
         write(room, *words)
         came = of_series(room)
-        yield Outcome("since when: the gap is closed", [came["series_next_number"], came[name] > 1_764_000_000], [4, True])
+        yield Outcome(
+            "since when: the gap is closed", [came["series_next_number"], came[name] > 1_764_000_000], [4, True]
+        )
         for damage in (b"", b'{"north": [4, 10', b'{"north": 4}', b"[]", b"\xff"):
             room.write(KEPT, damage)
             ran = write(room, *words)
@@ -256,7 +269,9 @@ def replaced_whole(room: Room) -> Iterator[Outcome]:
         write(room, "--desk", at(free_port()), "north")
         before.seek(0)
         yield Outcome("replaced whole: the file of before", before.read(), wanted)
-    yield Outcome("replaced whole: what is there", sorted(os.listdir(room.path("metrics"))), ["onixdesk.prom", "since.json"])
+    yield Outcome(
+        "replaced whole: what is there", sorted(os.listdir(room.path("metrics"))), ["onixdesk.prom", "since.json"]
+    )
     renamed: list[tuple[str, str]] = []
     replace = os.replace
 
@@ -269,7 +284,9 @@ def replaced_whole(room: Room) -> Iterator[Outcome]:
         files.put(room.path(FILE), "anew\n")
     finally:
         os.replace = replace
-    yield Outcome("replaced whole: by a rename", (renamed[0][0].endswith(".prom"), renamed[0][1] != "anew\n"), (False, True))
+    yield Outcome(
+        "replaced whole: by a rename", (renamed[0][0].endswith(".prom"), renamed[0][1] != "anew\n"), (False, True)
+    )
     yield Outcome("replaced whole: then", room.path(FILE).read_text(encoding="utf-8"), "anew\n")
 
 
@@ -280,7 +297,9 @@ def alone(room: Room) -> Iterator[Outcome]:
         thread = threading.Thread(target=write, args=(room, "--seconds", "1", "--desk", at(port), "north"))
         thread.start()
         thread.join(1)
-        yield Outcome("two runs: the second waits", (thread.is_alive(), "8080" in room.path(FILE).read_text()), (True, True))
+        yield Outcome(
+            "two runs: the second waits", (thread.is_alive(), "8080" in room.path(FILE).read_text()), (True, True)
+        )
     thread.join()
     yield Outcome("two runs: then it runs", str(port) in room.path(FILE).read_text(), True)
 
@@ -299,7 +318,7 @@ def refused(room: Room) -> Iterator[Outcome]:
 
 def values_of_labels(room: Room) -> Iterator[Outcome]:
     """A backslash, a quotation mark and a line feed have a backslash before them, the last as the letter n."""
-    yield Outcome("labels: what is escaped", escaped('a\\b"c\nd'), r'a\\b\"c\nd')
+    yield Outcome("labels: what is escaped", escaped('a\\b"c\nd'), r"a\\b\"c\nd")
     samples = Samples()
     samples.add("onixdesk_up", 0, desk='"\n\\')
     yield Outcome("labels: within a sample", samples.text().splitlines()[-1], r'onixdesk_up{desk="\"\n\\"} 0')
@@ -318,9 +337,13 @@ def names(_room: Room) -> Iterator[Outcome]:
     wrong = [name for name in METRICS if not re.fullmatch("onixdesk(_[a-z]+)+", name) or not name.endswith(UNITS)]
     yield Outcome("names of metrics", (wrong, [name for name in METRICS if name.endswith(OF_COUNTERS)]), ([], []))
     page = PAGE.read_text(encoding="utf-8")
-    yield Outcome("docs/METRICS.md: the metrics", re.findall(r"^\| `(onixdesk_\w+){", page, flags=re.MULTILINE), [*METRICS])
+    yield Outcome(
+        "docs/METRICS.md: the metrics", re.findall(r"^\| `(onixdesk_\w+){", page, flags=re.MULTILINE), [*METRICS]
+    )
     rules = EXAMPLES.joinpath("alerts.yml").read_text(encoding="utf-8")
-    yield Outcome("the rules: of two alerts", re.findall("- alert: (.*)", rules), ["OnixdeskSilent", "OnixdeskSeriesWaits"])
+    yield Outcome(
+        "the rules: of two alerts", re.findall("- alert: (.*)", rules), ["OnixdeskSilent", "OnixdeskSeriesWaits"]
+    )
     named = set(re.findall(r"\bonixdesk_\w+", rules))
     yield Outcome("the rules: their metrics", (named - set(METRICS), bool(named)), (set(), True))
 
@@ -351,7 +374,11 @@ def by_promtool(room: Room) -> Iterator[Outcome]:
     yield Outcome("promtool: the rules", (checked.status, b"SUCCESS: 2 rules found" in checked.output), (0, True))
     shutil.copy(CASES / "alerts.yml", room.path("cases.yml"))
     tried = room.call(["promtool", "test", "rules", "cases.yml"])
-    yield Outcome("promtool: when they fire", (tried.status, tried.output + tried.errors), (0, b"Unit Testing:  cases.yml\n  SUCCESS\n\n"))
+    yield Outcome(
+        "promtool: when they fire",
+        (tried.status, tried.output + tried.errors),
+        (0, b"Unit Testing:  cases.yml\n  SUCCESS\n\n"),
+    )
 
 
 def units(_room: Room) -> Iterator[Outcome]:

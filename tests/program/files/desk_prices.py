@@ -159,7 +159,9 @@ def nothing_chosen(room: Room) -> Iterator[Outcome]:
     """A file without any price is told: a table has no rules, as that of the package, or the prices are of another type."""
     make_shop(room)
     told = "nothing is chosen: no rule of the precedence table admits an offer, or desk.json has another price type, currency or"
-    line = f"desk-prices: {room.path('out/prices.csv')}: of 3 articles {told} country than their prices\n".replace(f"{room.folder}/", "")
+    line = f"desk-prices: {room.path('out/prices.csv')}: of 3 articles {told} country than their prices\n".replace(
+        f"{room.folder}/", ""
+    )
     room.write("rules.toml", ROOT.joinpath("programs/onixdesk/rules.toml").read_bytes())
     yield Outcome("prices: without rules", prices(room), Ran(0, b"", line.encode()))
     lines = written(room)["prices.csv"].splitlines()
@@ -268,7 +270,9 @@ def answers_about_others(_room: Room) -> Iterator[Outcome]:
             [*questions.told([TWO], iter(answers))]
         except Fault as fault:
             said = str(fault)
-        yield Outcome(f"prices: an answer about {name}", said.startswith(f"the desk does not answer about {TWO}: "), True)
+        yield Outcome(
+            f"prices: an answer about {name}", said.startswith(f"the desk does not answer about {TWO}: "), True
+        )
 
 
 def other_identifiers(room: Room) -> Iterator[Outcome]:
@@ -278,7 +282,9 @@ def other_identifiers(room: Room) -> Iterator[Outcome]:
     lines[0] = f"Product,R9,03,01,{THREE[:-1]}0,02,{ONE}"
     batch(room, message(2, NORTH, lines))
     prices(room)
-    yield Outcome("prices: other identifiers", [line[:13] for line in written(room)["prices.csv"].splitlines()[1:]], [*LINES])
+    yield Outcome(
+        "prices: other identifiers", [line[:13] for line in written(room)["prices.csv"].splitlines()[1:]], [*LINES]
+    )
 
 
 def whole_or_not(room: Room) -> Iterator[Outcome]:

@@ -41,14 +41,23 @@ Agree,east,{EAST},1
 
 
 def message(parties: str, number: int, *lines: str) -> str:
-    return "".join(f"{line}\n" for line in [f"Message,2,{parties},{number},1,,,", *lines, f"EndMessage,{len(lines) + 1}"])
+    return "".join(
+        f"{line}\n" for line in [f"Message,2,{parties},{number},1,,,", *lines, f"EndMessage,{len(lines) + 1}"]
+    )
 
 
 def product(reference: str, notification: str = "03", *, amount: str = "8") -> list[str]:
-    return [f"Product,{reference},{notification},03,9781234567897,15,9781234567897", "ProductSupply,GB IE,,",
-        "SupplyDetail,04,06,4012345000009,North,21,", f"Price,05,{amount},GBP,,,,,20250331",
-        f"Price,05,{amount}.5,GBP,FR GB,,,20250401,,10", "SupplyDetail,04,,,N,40,01", "ProductSupply,,WORLD,US",
-        "SupplyDetail,01,,,\"No \"\"4\"\", Ltd\",20,", f"Price,02,{amount},EUR,,WORLD,AT,,"]
+    return [
+        f"Product,{reference},{notification},03,9781234567897,15,9781234567897",
+        "ProductSupply,GB IE,,",
+        "SupplyDetail,04,06,4012345000009,North,21,",
+        f"Price,05,{amount},GBP,,,,,20250331",
+        f"Price,05,{amount}.5,GBP,FR GB,,,20250401,,10",
+        "SupplyDetail,04,,,N,40,01",
+        "ProductSupply,,WORLD,US",
+        'SupplyDetail,01,,,"No ""4"", Ltd",20,',
+        f"Price,02,{amount},EUR,,WORLD,AT,,",
+    ]
 
 
 # Of north messages 1 to 5 are applied, with a repeat, an update, a deletion and a waiver, and 7, 8 and 10 wait; of
@@ -58,9 +67,14 @@ DESK = (
     + message(NORTH, 1, *product("R1"), *product("R2"), *product('"R 3,""x"'))
     + message(NORTH, 1, *product("R1"), *product("R2"), *product('"R 3,""x"'))
     + message(NORTH, 2, *product("R1", "04", amount="7"), "Product,R2,05,03,9781234567897")
-    + "Waive,north,3\n" + message(NORTH, 4, *product("R4"), "Product,R5,03,01,none") + message(NORTH, 5)
-    + message(NORTH, 7, *product("R1", amount="9")) + "Waive,north,8\n" + message(NORTH, 10)
-    + message(SOUTH, 5, *product("S1")) + message(SOUTH, 6, "Product,S1,05,03,9781234567897")
+    + "Waive,north,3\n"
+    + message(NORTH, 4, *product("R4"), "Product,R5,03,01,none")
+    + message(NORTH, 5)
+    + message(NORTH, 7, *product("R1", amount="9"))
+    + "Waive,north,8\n"
+    + message(NORTH, 10)
+    + message(SOUTH, 5, *product("S1"))
+    + message(SOUTH, 6, "Product,S1,05,03,9781234567897")
     + message(EAST, 2, *product("E1"))
 )
 
@@ -117,11 +131,16 @@ def with_what_it_has(room: Room) -> Iterator[Outcome]:
     yield Outcome("renewed: nothing else is left", (mode, [*room.folder.glob(".*")]), ([0o600] * 2, []))
     told = room.path("state/north/renewed").read_text()
     yield Outcome("renewed: the inbox is told", told, "north 1 2\neast 1 1\nnorth 5 6\nsouth 6 7\nwest 7 7\n")
-    stopped = ["stop onixdesk-inbox@north.path onixdesk-inbox@north.timer",
+    stopped = [
+        "stop onixdesk-inbox@north.path onixdesk-inbox@north.timer",
         "show --property=ActiveState --value onixdesk-inbox@north.service",
-        "stop onixdesk-inbox@north.service onixdesk.service onixdesk-copy.timer"]
-    started = ["reset-failed onixdesk.service", "start onixdesk.service",
-        "start onixdesk-inbox@north.path onixdesk-inbox@north.timer onixdesk-copy.timer"]
+        "stop onixdesk-inbox@north.service onixdesk.service onixdesk-copy.timer",
+    ]
+    started = [
+        "reset-failed onixdesk.service",
+        "start onixdesk.service",
+        "start onixdesk-inbox@north.path onixdesk-inbox@north.timer onixdesk-copy.timer",
+    ]
     yield Outcome("renewed: what is stopped and started", calls(room)[1:], [*stopped, *started])
     report = room.run("--db", DATABASE, "--existing", "gaps", "north")
     gaps = b"gaps,north,first=5,next=6,greatest=10,held=3,missing=2\nmissing,6,6\nmissing,9,9\n"
@@ -141,7 +160,7 @@ def in_several_messages(room: Room) -> Iterator[Outcome]:
     batch(room, DESK.encode())
     wanted = kept(room, DATABASE)
     came = renew(room, "--yes", most=20)
-    line = (b"north: begins at 4 in place of 1, next is 6; 1 to 3 are before-first then; 4 to 5 are other-contents then")
+    line = b"north: begins at 4 in place of 1, next is 6; 1 to 3 are before-first then; 4 to 5 are other-contents then"
     yield Outcome("renewed, in several messages", came.output.splitlines()[1:2], [line])
     yield Outcome("renewed, in several messages: what it has", kept(room, DATABASE), wanted)
 
@@ -164,7 +183,9 @@ def left_as_it_is(room: Room) -> Iterator[Outcome]:
     batch(room, (DESK + message(SOUTH, 7, *product("S1"), *product("S2"), *product("S3"), *product("S4"))).encode())
     line = b"desk-renew: the desk is left as it is: %s\n"
     too_few = b"south: its catalogue needs 4 numbers before 8, and it begins at 5"
-    too_large = b'; '.join(b"%s: no message takes its record %s" % each for each in [(b"north", b'R 3,"x'), (b"south", b"S1")])
+    too_large = b"; ".join(
+        b"%s: no message takes its record %s" % each for each in [(b"north", b'R 3,"x'), (b"south", b"S1")]
+    )
     for most, why in [(11, too_few), (10, too_large)]:
         came = renew(room, "--yes", most=most, units=UNITS)
         yield Outcome(f"left as it is: messages of {most} records", came, Ran(1, b"", line % why))
@@ -248,9 +269,7 @@ def put_back(room: Room) -> None:
 
 
 def renew_without_program(room: Room, steps: int = 0, waivers: int = 0, by: str = "SIGKILL") -> Ran:
-    return renew(
-        room, "--yes", units=UNITS, running=WITHOUT_PROGRAM, STEPS=str(steps), WAIVERS=str(waivers), SIGNAL=by
-    )
+    return renew(room, "--yes", units=UNITS, running=WITHOUT_PROGRAM, STEPS=str(steps), WAIVERS=str(waivers), SIGNAL=by)
 
 
 def first_number(room: Room) -> int | None:
@@ -349,6 +368,10 @@ def written_to_meanwhile(room: Room) -> Iterator[Outcome]:
     # The desk that was prepared lacks the waiver.
     yield Outcome("written to: begins again", (came.status, came.errors.startswith(again)), (1, True))
     yield Outcome("written to: the desk stands", (first_number(room), of_before(room)), (1, []))
-    yield Outcome("written to: the desk runs", [call for call in calls(room) if call == "start onixdesk.service"][:1], ["start onixdesk.service"])
+    yield Outcome(
+        "written to: the desk runs",
+        [call for call in calls(room) if call == "start onixdesk.service"][:1],
+        ["start onixdesk.service"],
+    )
     waived = [number for series, number, _ in all_rows(room, DATABASE)["held"] if series == "west"]
     yield Outcome("written to: the waiver is there", waived, [8])

@@ -92,17 +92,26 @@ def in_its_place(room: Room) -> Iterator[Outcome]:
     lost = {each: room.path(each).read_bytes() for each in (DATABASE, f"{DATABASE}-wal")}
     came = restore(room, f"copies/{name}")
     before = re.search(r"what stood there is \S*/(cases\.db\.[-\dTZ]+)\n", came.errors.decode())
-    yield Outcome("restored", (came.status, came.output), (0, b"gaps,north,first=1,next=2,greatest=1,held=0,missing=0\n"))
+    yield Outcome(
+        "restored", (came.status, came.output), (0, b"gaps,north,first=1,next=2,greatest=1,held=0,missing=0\n")
+    )
     yield Outcome("restored: the rows", rows_in(room.path(DATABASE)), wanted)
-    kept = {each: room.path(f"{before[1]}{each.removeprefix(DATABASE)}").read_bytes() for each in lost} if before else {}
+    kept = (
+        {each: room.path(f"{before[1]}{each.removeprefix(DATABASE)}").read_bytes() for each in lost} if before else {}
+    )
     yield Outcome("restored: those of before", kept, lost)
     modes = [room.path(each).stat().st_mode & 0o777 for each in lost]
     yield Outcome("restored: for the owner alone", modes, [0o600] * 2)
     listed, stopped, *others = calls(room)
     yield Outcome("restored: what is stopped", sorted(stopped.split()[1:]), sorted(NAMES))
     again = f"onixdesk-inbox --again lacking --state {room.path('state/north')} -- north"
-    started = ["reset-failed onixdesk.service", "start onixdesk.service", again,
-        "start onixdesk-inbox@north.path onixdesk-inbox@north.timer", "start onixdesk-copy.timer"]
+    started = [
+        "reset-failed onixdesk.service",
+        "start onixdesk.service",
+        again,
+        "start onixdesk-inbox@north.path onixdesk-inbox@north.timer",
+        "start onixdesk-copy.timer",
+    ]
     yield Outcome("restored: what is started", others, started)
     yield Outcome("restored: the desk", gaps(room), Ran(0, b"gaps,north,first=1,next=2,greatest=1,held=0,missing=0\n"))
 
@@ -201,7 +210,10 @@ def what_does_not_start(room: Room) -> Iterator[Outcome]:
     of_inbox = "onixdesk-inbox@north.path onixdesk-inbox@north.timer"
     came = restore(room, f"copies/{name}", failing="start onixdesk.service")
     *_, fault, last = ["", *came.errors.decode().splitlines()]
-    wanted = 3, [f"{left} onixdesk.service onixdesk-copy.timer {of_inbox}", "desk-restore: systemctl start onixdesk.service: "]
+    wanted = 3, [
+        f"{left} onixdesk.service onixdesk-copy.timer {of_inbox}",
+        "desk-restore: systemctl start onixdesk.service: ",
+    ]
     yield Outcome("a desk that does not start", (came.status, [fault, last]), wanted)
     came = restore(room, f"copies/{name}", failing="--again")
     *_, fault, last = came.errors.decode().splitlines()
@@ -265,7 +277,9 @@ def without_systemd(room: Room) -> Iterator[Outcome]:
         "desk-restore: start the desk; then each inbox with --again lacking, before it takes anything else",
         f"desk-restore: as by: runuser -u {state.owner()} -- {words}",
     ]
-    yield Outcome("without systemd", (came.status, came.errors.decode().splitlines()[-2:], len(calls(room))), (0, lines, 1))
+    yield Outcome(
+        "without systemd", (came.status, came.errors.decode().splitlines()[-2:], len(calls(room))), (0, lines, 1)
+    )
 
 
 def what_came_since(room: Room) -> Iterator[Outcome]:
@@ -294,8 +308,10 @@ def what_came_since(room: Room) -> Iterator[Outcome]:
         inbox.set(NUMBER="next", DESK=f"http://127.0.0.1:{desk.port}")
         inbox.put({"day.xml": unwritten("S", "R4")})
         lines = inbox.run("--again", "lacking").errors.decode().splitlines()
-        said = [f"onixdesk-inbox: day.{place}.xml: done: number {place} applied; these bytes had that number before"
-            for place in (2, 3, 4)]
+        said = [
+            f"onixdesk-inbox: day.{place}.xml: done: number {place} applied; these bytes had that number before"
+            for place in (2, 3, 4)
+        ]
         yield Outcome("three days: taken again", lines, said)
         yield Outcome("three days: what is new waits", list(inbox.lying()), ["day.xml"])
         came = inbox.run().errors.decode()

@@ -18,8 +18,16 @@ from tools.root import PACKAGES, ROOT
 DESK = "var/lib/onixdesk/shop.db"
 SOCKET = "run/onixdesk/batches"
 FOLDERS = [
-    "bin", "etc/onixdesk/inbox", "run/onixdesk", "tmp", "usr/share/onixdesk", "var/tmp", "var/lib/onixdesk",
-    "var/lib/onixdesk-copies", "var/lib/onixdesk-inbox/north", "var/lib/onixdesk-incoming/north",
+    "bin",
+    "etc/onixdesk/inbox",
+    "run/onixdesk",
+    "tmp",
+    "usr/share/onixdesk",
+    "var/tmp",
+    "var/lib/onixdesk",
+    "var/lib/onixdesk-copies",
+    "var/lib/onixdesk-inbox/north",
+    "var/lib/onixdesk-incoming/north",
 ]
 
 # A block may make a desk of several megabytes of text.

@@ -124,7 +124,9 @@ def not_again(room: Room) -> Iterator[Outcome]:
     def serve(program: Path) -> Ran:
         return shell(room, 500_000, SCRIPTS / "serve.sh", program, FIGURES="figures", FILE="shop.db")
 
-    yield Outcome("not again: what the desk says", serve(desk), Ran(3, b"listening 1\n", b"onixdesk: storage: memory\n"))
+    yield Outcome(
+        "not again: what the desk says", serve(desk), Ran(3, b"listening 1\n", b"onixdesk: storage: memory\n")
+    )
     came = may_start(room)
     lines = came.errors.decode().splitlines()
     told = [line.startswith("<3>start-memory.sh: ") for line in lines], "LimitDATA=976M" in lines[1]

@@ -100,9 +100,7 @@ def in_vain(room: Room) -> Iterator[Outcome]:
     ended = subprocess.Popen(["true"])
     ended.wait()
     wanted = Ran(1, b"", b"wait-for-desk.sh: the desk has ended\n")
-    yield Outcome(
-        "wait-for-desk.sh: a desk that has ended", wait(room, port, "missing.db", process=ended.pid), wanted
-    )
+    yield Outcome("wait-for-desk.sh: a desk that has ended", wait(room, port, "missing.db", process=ended.pid), wanted)
     # A process of root, asked after by another user.
     ran = wait(room, port, "empty.db", 1, process=1, user=None if os.geteuid() else 65534)
     yield Outcome("wait-for-desk.sh: a process of another user", ran, Ran(1, b"", line.format(port, 1).encode()))
@@ -116,12 +114,14 @@ def in_vain(room: Room) -> Iterator[Outcome]:
 def meeting(act: Callable[[socket.socket], None]) -> Iterator[int]:
     """A port whose connections meet that."""
     with socket.create_server((HOST, 0)) as server:
+
         def meet() -> None:
             with contextlib.suppress(OSError):
                 while True:
                     peer, _ = server.accept()
                     with peer:
                         act(peer)
+
         thread = threading.Thread(target=meet)
         thread.start()
         try:

@@ -33,13 +33,17 @@ def causes(room: Room) -> Iterator[Outcome]:
     room.write("text.db", b"no database" * 1000)
     execute(room, "CREATE TABLE meta (other TEXT)", "other.db")
     yield Outcome("unusable: a missing file", asked(room, "missing.db"), UNUSABLE)
-    yield Outcome("unusable: a missing file is told", "missing.db - No such file or directory" in told(room, "missing.db"), True)
+    yield Outcome(
+        "unusable: a missing file is told", "missing.db - No such file or directory" in told(room, "missing.db"), True
+    )
     text = told(room, "text.db")
     yield Outcome("unusable: no database", asked(room, "text.db"), UNUSABLE)
     yield Outcome("unusable: no database is told", ("SQLite format 3" in text, "no database" in text), (False, True))
     text = told(room, "other.db")
     yield Outcome("unusable: no desk's", asked(room, "other.db"), UNUSABLE)
-    yield Outcome("unusable: no desk's is told", ("SQLite format 3" in text, "a copy of it is not sound" in text), (True, True))
+    yield Outcome(
+        "unusable: no desk's is told", ("SQLite format 3" in text, "a copy of it is not sound" in text), (True, True)
+    )
     before = told(room, DATABASE)
     yield Outcome("unusable: a desk's", ("SQLite format 3" in before, "not sound" in before), (True, False))
     with serving(room, WORDS, CONNECTIONS) as desk:

@@ -86,11 +86,22 @@ def sftp(room: Room, host_key: str = "host") -> Iterator[str]:
             room.call(["ssh-keygen", "-q", "-t", "ed25519", "-N", "", "-f", room.path(name)])
     room.path("credentials/secrets_key.pub").replace(room.path("authorized"))
     port = free_port()
-    room.write("sshd_config", "\n".join([
-        f"Port {port}", f"ListenAddress {HOST}", f"HostKey {room.path(host_key)}", "StrictModes no", "UsePAM no",
-        f"AuthorizedKeysFile {room.path('authorized')}", f"PidFile {room.path('pid')}",
-        "Subsystem sftp internal-sftp", "",
-    ]).encode())
+    room.write(
+        "sshd_config",
+        "\n".join(
+            [
+                f"Port {port}",
+                f"ListenAddress {HOST}",
+                f"HostKey {room.path(host_key)}",
+                "StrictModes no",
+                "UsePAM no",
+                f"AuthorizedKeysFile {room.path('authorized')}",
+                f"PidFile {room.path('pid')}",
+                "Subsystem sftp internal-sftp",
+                "",
+            ]
+        ).encode(),
+    )
     Path("/run/sshd").mkdir(exist_ok=True)
     with server(room, port, shutil.which("sshd") or "", "-D", "-f", str(room.path("sshd_config"))):
         yield f"sftp://{HOST}:{port}{room.path('files')}/"
@@ -99,21 +110,56 @@ def sftp(room: Room, host_key: str = "host") -> Iterator[str]:
 
 def certificate(room: Room) -> None:
     if not room.path("c.pem").exists():
-        room.call(["openssl", "req", "-x509", "-newkey", "rsa:2048", "-nodes", "-keyout", "k.pem", "-out", "c.pem",
-                   "-days", "2", "-subj", "/CN=wholesaler.example"])
+        room.call(
+            [
+                "openssl",
+                "req",
+                "-x509",
+                "-newkey",
+                "rsa:2048",
+                "-nodes",
+                "-keyout",
+                "k.pem",
+                "-out",
+                "c.pem",
+                "-days",
+                "2",
+                "-subj",
+                "/CN=wholesaler.example",
+            ]
+        )
 
 
 @contextlib.contextmanager
 def ftps(room: Room) -> Iterator[str]:
     certificate(room)
     port = free_port()
-    room.write("vsftpd.conf", "\n".join([
-        "listen=YES", f"listen_address={HOST}", f"listen_port={port}", "background=NO", "anonymous_enable=YES",
-        f"anon_root={room.path('files')}", "no_anon_password=YES", "ssl_enable=YES", "allow_anon_ssl=YES",
-        "force_anon_data_ssl=YES", "force_anon_logins_ssl=YES", "require_ssl_reuse=NO", "implicit_ssl=YES",
-        f"rsa_cert_file={room.path('c.pem')}", f"rsa_private_key_file={room.path('k.pem')}",
-        "secure_chroot_dir=/run/sshd", "seccomp_sandbox=NO", "ssl_ciphers=HIGH", "",
-    ]).encode())
+    room.write(
+        "vsftpd.conf",
+        "\n".join(
+            [
+                "listen=YES",
+                f"listen_address={HOST}",
+                f"listen_port={port}",
+                "background=NO",
+                "anonymous_enable=YES",
+                f"anon_root={room.path('files')}",
+                "no_anon_password=YES",
+                "ssl_enable=YES",
+                "allow_anon_ssl=YES",
+                "force_anon_data_ssl=YES",
+                "force_anon_logins_ssl=YES",
+                "require_ssl_reuse=NO",
+                "implicit_ssl=YES",
+                f"rsa_cert_file={room.path('c.pem')}",
+                f"rsa_private_key_file={room.path('k.pem')}",
+                "secure_chroot_dir=/run/sshd",
+                "seccomp_sandbox=NO",
+                "ssl_ciphers=HIGH",
+                "",
+            ]
+        ).encode(),
+    )
     Path("/run/sshd").mkdir(exist_ok=True)
     room.folder.chmod(0o755)
     with server(room, port, shutil.which("vsftpd") or "", str(room.path("vsftpd.conf"))):
@@ -125,11 +171,14 @@ def https(room: Room) -> Iterator[str]:
     certificate(room)
     port = free_port()
     room.folder.chmod(0o755)
-    room.write("nginx.conf", f"""daemon off; pid {room.path('nginx.pid')}; error_log /dev/null;
+    room.write(
+        "nginx.conf",
+        f"""daemon off; pid {room.path('nginx.pid')}; error_log /dev/null;
 events {{}}
 http {{ access_log off; server {{ listen {HOST}:{port} ssl; ssl_certificate {room.path('c.pem')};
 ssl_certificate_key {room.path('k.pem')}; root {room.path('files')}; autoindex on; }} }}
-""".encode())
+""".encode(),
+    )
     with server(room, port, shutil.which("nginx") or "", "-e", "stderr", "-c", str(room.path("nginx.conf"))):
         yield f"https://{HOST}:{port}/"
 
@@ -165,8 +214,9 @@ def from_each_server(room: Room) -> Iterator[Outcome]:
                 path.unlink()
             yield Outcome(f"fetch: {kind}, nothing twice", (fetch.run(), fetch.came()), (said(), {}))
             fetch.files.joinpath("a.xml").write_bytes(CHANGED)
-            yield Outcome(f"fetch: {kind}, a changed file", (fetch.run(), fetch.came()),
-                          (said("1 fetched"), {"a.xml": CHANGED}))
+            yield Outcome(
+                f"fetch: {kind}, a changed file", (fetch.run(), fetch.came()), (said("1 fetched"), {"a.xml": CHANGED})
+            )
             os.utime(fetch.files / "b b.xml", (1_000_000_000, 1_000_000_000))
             yield Outcome(f"fetch: {kind}, the same bytes of another time", fetch.run(), said())
             yield Outcome(f"fetch: {kind}, the server's files", len(list(fetch.files.iterdir())), 4)
@@ -205,7 +255,9 @@ def another_key(room: Room) -> Iterator[Outcome]:
         yield Outcome("fetch: the other key, once it is trusted", fetch.run(), said("1 fetched"))
         kept = json.loads(fetch.state.joinpath("fetched").read_text())
         yield Outcome("fetch: the failures are forgotten", kept["failures"], 0)
-        yield Outcome("fetch: when it succeeded last", time.time() - (folders.last_fetched(fetch.state) or 0) < 600, True)
+        yield Outcome(
+            "fetch: when it succeeded last", time.time() - (folders.last_fetched(fetch.state) or 0) < 600, True
+        )
 
 
 def bounds(room: Room) -> Iterator[Outcome]:
@@ -233,8 +285,11 @@ def bounds(room: Room) -> Iterator[Outcome]:
         fetch.files.joinpath("6.xml").unlink()
         fetch.set(URL=url)
         line = "1.xml: the inbox has not taken the file of this name that came before"
-        yield Outcome("fetch: a file that still lies there", (fetch.run().errors, fetch.came()["1.xml"]),
-                      (said(line).errors, b"1" * 1000))
+        yield Outcome(
+            "fetch: a file that still lies there",
+            (fetch.run().errors, fetch.came()["1.xml"]),
+            (said(line).errors, b"1" * 1000),
+        )
 
 
 class Cut(Server):
@@ -279,15 +334,24 @@ def names_that_lead_elsewhere(_room: Room) -> Iterator[Outcome]:
     line = "-rw-r--r--    1 1000     1000         4096 Nov 28 19:46 price list.xml"
     found = LISTED.fullmatch(line)
     yield Outcome("fetch: a line of a listing", found and found.groups(), ("4096", "Nov 28 19:46", "price list.xml"))
-    for line in ("drwxr-xr-x 2 0 0 4096 Nov 28 19:46 folder.xml",
-                 "lrwxrwxrwx 1 0 0 4 Nov 28 19:46 a.xml -> /etc/passwd"):
+    for line in (
+        "drwxr-xr-x 2 0 0 4096 Nov 28 19:46 folder.xml",
+        "lrwxrwxrwx 1 0 0 4 Nov 28 19:46 a.xml -> /etc/passwd",
+    ):
         yield Outcome(f"fetch: no file, {line[:1]}", LISTED.fullmatch(line), None)
 
 
 def bad_settings(room: Room) -> Iterator[Outcome]:
     fetch = Fetch(room)
-    for text in ("", "URL=http://a/", "URL=sftp://a/b", "URL=https://u:p@a/", "URL=https://a/\nFILES=0",
-                 "URL=https://a/\nX=1", "URL=https://a/\nREMOVE=yes"):
+    for text in (
+        "",
+        "URL=http://a/",
+        "URL=sftp://a/b",
+        "URL=https://u:p@a/",
+        "URL=https://a/\nFILES=0",
+        "URL=https://a/\nX=1",
+        "URL=https://a/\nREMOVE=yes",
+    ):
         room.write("settings.conf", text.encode())
         yield Outcome(f"fetch: bad settings {text!r}", fetch.run().status, 2)
 
@@ -408,8 +472,13 @@ def unit(_room: Room) -> Iterator[Outcome]:
     forbidden = ROOT.joinpath("tests/units/forbidden.conf").read_text(encoding="utf-8").splitlines()
     wanted = [line for line in forbidden if not line.startswith(("IPAddress", "UMask"))]
     yield Outcome("fetch: what is forbidden to the unit", [line for line in wanted if line not in lines], [])
-    needed = ["UMask=0007", "User=onixdesk-fetch", "ReadWritePaths=-/var/lib/onixdesk-incoming/%i",
-              "StateDirectory=onixdesk-fetch/%i", "LoadCredential=secrets:/etc/onixdesk/fetch/%i.secrets"]
+    needed = [
+        "UMask=0007",
+        "User=onixdesk-fetch",
+        "ReadWritePaths=-/var/lib/onixdesk-incoming/%i",
+        "StateDirectory=onixdesk-fetch/%i",
+        "LoadCredential=secrets:/etc/onixdesk/fetch/%i.secrets",
+    ]
     yield Outcome("fetch: what the unit has", [line for line in needed if line not in lines], [])
 
 
@@ -422,6 +491,9 @@ def example_of_settings(room: Room) -> Iterator[Outcome]:
     yield Outcome("fetch: the example of settings", found, read_settings(room.path("one.conf")))
     page = ROOT.joinpath("docs/INBOX.md").read_text(encoding="utf-8")
     names = re.findall("^([A-Z_]+)=", text, flags=re.MULTILINE)
-    told = [name for line in re.findall(r"^\| (`[A-Z_]+=`.*?) \|", page, flags=re.MULTILINE)
-            for name in re.findall("`([A-Z_]+)=`", line)]
+    told = [
+        name
+        for line in re.findall(r"^\| (`[A-Z_]+=`.*?) \|", page, flags=re.MULTILINE)
+        for name in re.findall("`([A-Z_]+)=`", line)
+    ]
     yield Outcome("fetch: the settings of the page", told, names)

@@ -79,10 +79,21 @@ def each_kind_of_file(room: Room) -> Iterator[Outcome]:
 def what_the_converter_takes(room: Room) -> Iterator[Outcome]:
     """It gets each feed under an ending that it knows, and none of its name, and one that is packed as its standard
     input; what it refuses is told by its last line, and kept with the name that the feed came in by."""
-    feeds = {"a.xml": "feed.xml", "b.ONIX": "feed.onix", "c.onx": "feed.onx", "d.gz": "-", "e.xml.gz": "-",
-             "f.ZIP": "-", "g\x07.xml": "feed.xml"}
-    program = script(room, "converter", 'for word; do :; done; echo "$word $(cat "$word")" >>"$0.given"'
-                     '; echo "onixdesk: $word:3:7: refused: $# words" >&2; exit 1')
+    feeds = {
+        "a.xml": "feed.xml",
+        "b.ONIX": "feed.onix",
+        "c.onx": "feed.onx",
+        "d.gz": "-",
+        "e.xml.gz": "-",
+        "f.ZIP": "-",
+        "g\x07.xml": "feed.xml",
+    }
+    program = script(
+        room,
+        "converter",
+        'for word; do :; done; echo "$word $(cat "$word")" >>"$0.given"'
+        '; echo "onixdesk: $word:3:7: refused: $# words" >&2; exit 1',
+    )
     inbox = Inbox(room, 1, WORDS="--id-type 01 '--addressee' \"06,a b\"")
     inbox.put({name: packed(name, b"x%d" % place) for place, name in enumerate(feeds)})
     came = inbox.run("--converter", program)
@@ -90,8 +101,11 @@ def what_the_converter_takes(room: Room) -> Iterator[Outcome]:
     wanted = said(*(f"{name}: refused: 3:7: 7 words{WAITING}" for name in shown), status=1)
     yield Outcome("inbox: what the converter is given", came, wanted)
     given = room.path("converter.given").read_text().splitlines()
-    yield Outcome("inbox: the names that the converter is given", given, 
-                  [f"{file} x{place}" for place, file in enumerate(feeds.values())])
+    yield Outcome(
+        "inbox: the names that the converter is given",
+        given,
+        [f"{file} x{place}" for place, file in enumerate(feeds.values())],
+    )
     lines = {f"refused/{name}.answer": f"onixdesk: {name}:3:7: refused: 7 words\n".encode() for name in shown}
     kept = {name: data for name, data in inbox.kept().items() if name.endswith(".answer")}
     yield Outcome("inbox: the names that are kept", kept, lines)
@@ -101,12 +115,9 @@ def remedies(room: Room) -> Iterator[Outcome]:
     """What the converter proposes on its command line is told as an inbox has it in its settings."""
     told = {
         "no MessageNumber; --number N gives one": "no MessageNumber; NUMBER=next gives one",
-        "no sender identifier; --sender TYPE,VALUE gives one":
-            "no sender identifier; --sender TYPE,VALUE in WORDS gives one",
-        "several addressees; --addressee TYPE,VALUE picks one":
-            "several addressees; --addressee TYPE,VALUE in WORDS picks one",
-        "2 of 3 products wrong, the first R1; the sender has to mend it, or --wrong all lets them through":
-            "2 of 3 products wrong, the first R1; the sender has to mend it, or --wrong all in WORDS lets them through",
+        "no sender identifier; --sender TYPE,VALUE gives one": "no sender identifier; --sender TYPE,VALUE in WORDS gives one",
+        "several addressees; --addressee TYPE,VALUE picks one": "several addressees; --addressee TYPE,VALUE in WORDS picks one",
+        "2 of 3 products wrong, the first R1; the sender has to mend it, or --wrong all lets them through": "2 of 3 products wrong, the first R1; the sender has to mend it, or --wrong all in WORDS lets them through",
     }
     inbox = Inbox(room, 1)
     for place, (why, wanted) in enumerate(told.items()):
@@ -162,8 +173,10 @@ def words_of_the_converter(room: Room) -> Iterator[Outcome]:
         inbox.put({"a.xml": one, "b.xml": two})
         came = inbox.run()
         lines = came.errors.decode().splitlines()
-        begun = "onixdesk-inbox: a.xml: done in part: number 1 applied; not applied: another message of number 2 was taken"
-        yield Outcome("inbox: a part that is refused", (came.status, lines[0][:len(begun)]), (1, begun))
+        begun = (
+            "onixdesk-inbox: a.xml: done in part: number 1 applied; not applied: another message of number 2 was taken"
+        )
+        yield Outcome("inbox: a part that is refused", (came.status, lines[0][: len(begun)]), (1, begun))
         before = "onixdesk-inbox: b.xml: done, 1 product wrong: numbers 3 to 4 applied; notes: "
         found = lines[1].startswith(before), lines[1].endswith("1 note, 1 product wrong")
         yield Outcome("inbox: what is left out", found, (True, True))
@@ -192,8 +205,12 @@ def wrong_products(room: Room) -> Iterator[Outcome]:
     messages = {name: message_of("R1", number=number) for number, name in enumerate("abc", 1)}
     for name, data in messages.items():
         room.write(f"{name}.csv", data)
-    program = script(room, "converter", f'for file; do :; done; name=$(cat "$file"); last=$(cat {room.folder}/$name.last)'
-                     f'; [ $name = none ] || cp {room.folder}/$name.csv "$2"; echo "onixdesk: $last" >&2; exit 1')
+    program = script(
+        room,
+        "converter",
+        f'for file; do :; done; name=$(cat "$file"); last=$(cat {room.folder}/$name.last)'
+        f'; [ $name = none ] || cp {room.folder}/$name.csv "$2"; echo "onixdesk: $last" >&2; exit 1',
+    )
     for name, line in zip([*messages, "none"], [*WRONG, "feed.xml:2:1: refused: 2 of 3 products wrong"], strict=True):
         room.write(f"{name}.last", line.encode())
     with serving(room, WORDS, len(messages)) as desk:
@@ -332,8 +349,12 @@ def conversions_that_do_not_end(room: Room) -> Iterator[Outcome]:
     """One that takes too long, and one that is killed: their files are refused, so that they hold up no other."""
     batch(room, AGREEMENT)
     goes_on = room.path("goes-on")
-    program = script(room, "converter", f'for word; do :; done; case $(cat "$word") in long) sleep 60; touch {goes_on} ;;'
-                     ' big) kill -KILL $$ ;; stopped) kill -TERM $$ ;; esac')
+    program = script(
+        room,
+        "converter",
+        f'for word; do :; done; case $(cat "$word") in long) sleep 60; touch {goes_on} ;;'
+        " big) kill -KILL $$ ;; stopped) kill -TERM $$ ;; esac",
+    )
     inbox = Inbox(room, 1, CONVERSION_SECONDS=1)
     inbox.put({"a.xml": b"long"})
     wanted = said("a.xml: refused: its conversion took more than 1 s", status=1)
@@ -362,8 +383,11 @@ def very_many_notes(room: Room) -> Iterator[Outcome]:
     batch(room, AGREEMENT)
     room.write("a.csv", message_of("R1"))
     line = f"onixdesk: feed.xml:3:1: {'x' * 80}"
-    program = script(room, "converter", f'yes "{line}" | head -n {NOTES} >&2; cp {room.path("a.csv")} "$2"'
-                     '; echo "onixdesk: 500000 notes" >&2')
+    program = script(
+        room,
+        "converter",
+        f'yes "{line}" | head -n {NOTES} >&2; cp {room.path("a.csv")} "$2"' '; echo "onixdesk: 500000 notes" >&2',
+    )
     with serving(room, WORDS, 1) as desk:
         inbox = Inbox(room, desk.port)
         inbox.put({"a.xml": b"x"})

@@ -37,8 +37,13 @@ def files_that_programs_read(room: Room) -> Iterator[Outcome]:
         inbox.put({"a.xml": feed_of("R1")})
         folder = str(inbox.incoming)
         came = inbox.run(
-            HOME=folder, PYTHONPATH=folder, PYTHONSTARTUP=f"{folder}/argparse.py", CURL_HOME=folder,
-            http_proxy="http://127.0.0.1:1", BASH_ENV=f"{folder}/.curlrc", ENV=f"{folder}/.curlrc",
+            HOME=folder,
+            PYTHONPATH=folder,
+            PYTHONSTARTUP=f"{folder}/argparse.py",
+            CURL_HOME=folder,
+            http_proxy="http://127.0.0.1:1",
+            BASH_ENV=f"{folder}/.curlrc",
+            ENV=f"{folder}/.curlrc",
         )
         lines = [
             ".curlrc: waiting: its name is of a file that is still being written",
@@ -199,9 +204,12 @@ runpy.run_path(sys.argv[0], run_name="__main__")
 """
 
 # The same, and it is killed when the file of its own name is to be removed.
-KILLED = REPLACING.replace("def before(event, arguments):", """def before(event, arguments):
+KILLED = REPLACING.replace(
+    "def before(event, arguments):",
+    """def before(event, arguments):
     if event == "os.remove" and arguments[0].startswith(".onixdesk-taken-"):
-        os.kill(os.getpid(), 9)""")
+        os.kill(os.getpid(), 9)""",
+)
 
 
 def replaced_at_the_last_moment(room: Room) -> Iterator[Outcome]:

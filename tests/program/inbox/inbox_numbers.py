@@ -124,14 +124,18 @@ def numbers_after_faults(room: Room) -> Iterator[Outcome]:
     inbox.put({"a.xml": one})
     came = run_at_a_failing_desk(inbox, 422, ROW_1[4:].encode())
     wanted = said("a.xml: refused: row 1 of its records is malformed", status=1)
-    yield Outcome("inbox: a number of a refused feed", (came, numbers_kept(inbox)),
-                  (wanted, [f"{digest(one)} 1", f"{digest(one)} 0"]))
+    yield Outcome(
+        "inbox: a number of a refused feed",
+        (came, numbers_kept(inbox)),
+        (wanted, [f"{digest(one)} 1", f"{digest(one)} 0"]),
+    )
 
     inbox.put({"b.xml": two})
     came = run_at_a_failing_desk(inbox, Failing.status, Failing.body)
     fault = 'b.xml: waiting: the desk answers 503 {"answer":"fault","reason":"disk"}'
-    yield Outcome("inbox: a number of a feed that waits", (came, numbers_kept(inbox)[2:]),
-                  (said(fault), [f"{digest(two)} 1"]))
+    yield Outcome(
+        "inbox: a number of a feed that waits", (came, numbers_kept(inbox)[2:]), (said(fault), [f"{digest(two)} 1"])
+    )
     (inbox.incoming / "b.xml").unlink()
     inbox.put({"c.xml": three})
     os.utime(inbox.incoming / "c.xml", (1, 1))
@@ -240,12 +244,16 @@ def numbers_that_others_took(room: Room) -> Iterator[Outcome]:
     yield Outcome("inbox: numbers that others took, what is kept", numbers_kept(inbox), given)
     inbox.put({"b.xml": two})
     wanted = said("b.xml: waiting: each of 20 numbers that the desk gave went to another message first")
-    yield Outcome("inbox: numbers that others take always", run_at(inbox, type("Desk", (Contested,), {"lost": 99})), wanted)
+    yield Outcome(
+        "inbox: numbers that others take always", run_at(inbox, type("Desk", (Contested,), {"lost": 99})), wanted
+    )
     (inbox.incoming / "b.xml").unlink()
     inbox.put({"c.xml": one})
     refusal = "c.xml: refused: another message of number 3 was taken before; a correction needs a number of its own"
     wanted = said(refusal, status=1)
-    yield Outcome("inbox: a number of before that is another's", run_at(inbox, type("Desk", (Contested,), {"lost": 99})), wanted)
+    yield Outcome(
+        "inbox: a number of before that is another's", run_at(inbox, type("Desk", (Contested,), {"lost": 99})), wanted
+    )
 
 
 class Partly(Failing):
@@ -260,8 +268,10 @@ class Partly(Failing):
 
 
 # Of a feed that gets a number it makes two messages, of that and of the next.
-IN_TWO = CONVERTER.replace("sed", "for part in 0 1; do sed").replace("${number-3}", "$((number+part))").replace(
-    '/feed.csv"', '/feed-$part.csv"; done'
+IN_TWO = (
+    CONVERTER.replace("sed", "for part in 0 1; do sed")
+    .replace("${number-3}", "$((number+part))")
+    .replace('/feed.csv"', '/feed-$part.csv"; done')
 )
 
 

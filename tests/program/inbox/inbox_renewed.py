@@ -47,9 +47,12 @@ def with_own_numbers(room: Room) -> Iterator[Outcome]:
     # A desk of before it was renewed, which begins with other numbers.
     with desk_of(room, inbox, AGREED.format("S", 1)):
         lines = [f"w{number}.xml: done: number {number} applied" for number in (1, 2, 3, 4)]
-        lines += ["b.xml: refused as before: another message of number 3 was taken before; a correction needs a number"
-            " of its own", "a.xml: refused as before: another message of number 1 was taken before; a correction needs"
-            " a number of its own"]
+        lines += [
+            "b.xml: refused as before: another message of number 3 was taken before; a correction needs a number"
+            " of its own",
+            "a.xml: refused as before: another message of number 1 was taken before; a correction needs"
+            " a number of its own",
+        ]
         came = inbox.run("--again", "lacking").errors.decode().splitlines()
         yield Outcome("renewed: an older copy", sorted(came), sorted(f"onixdesk-inbox: {line}" for line in lines))
 

@@ -114,7 +114,10 @@ def many_that_lie(room: Room) -> Iterator[Outcome]:
         (inbox.incoming / f"{number:03}.rar").touch()
     for number in range(20):
         (inbox.incoming / f"z{number:02}.xml.part").touch()
-    why, under_way = "not taken: its name has no known ending", "waiting: its name is of a file that is still being written"
+    why, under_way = (
+        "not taken: its name has no known ending",
+        "waiting: its name is of a file that is still being written",
+    )
     lines = [f"{number:03}.rar: {why}" for number in range(100)]
     counts = f"and 150 more: {why}", f"and 20 more: {under_way}"
     yield Outcome("inbox: many that lie", inbox.run(), said(*lines, *counts))

@@ -32,8 +32,13 @@ def records_of_one_isbn(room: Room) -> Iterator[Outcome]:
         "5.csv": message(5, *[f"a,03,03,{ISBN},15,{ISBN}"] * 2),
     }
     why = f"refused: 3 records have the ISBN {ISBN}, and at most 2 may"
-    lines = ["1.csv: done: number 1 applied", f"2.csv: {why}", "3.csv: done: number 3 applied", f"4.csv: {why}",
-        "5.csv: done: number 5 applied"]
+    lines = [
+        "1.csv: done: number 1 applied",
+        f"2.csv: {why}",
+        "3.csv: done: number 3 applied",
+        f"4.csv: {why}",
+        "5.csv: done: number 5 applied",
+    ]
     with standing_in(Applying) as port:
         inbox = Inbox(room, port, RECORDS_OF_ONE_ISBN=2)
         inbox.put(files)

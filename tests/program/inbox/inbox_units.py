@@ -57,7 +57,9 @@ def what_a_restore_stops(_room: Room) -> Iterator[Outcome]:
     """A unit that a restore ends in its work has not failed, so nobody is mailed."""
     units = {path.name: path.read_text(encoding="utf-8").splitlines() for path in ROOT.glob("programs/*/*.service")}
     once = {name: lines for name, lines in units.items() if "Type=oneshot" in lines}
-    yield Outcome("units: those that end by themselves", {"onixdesk-inbox@.service", "onixdesk-copy.service"} <= {*once}, True)
+    yield Outcome(
+        "units: those that end by themselves", {"onixdesk-inbox@.service", "onixdesk-copy.service"} <= {*once}, True
+    )
     for name, lines in once.items():
         yield Outcome(f"units: {name} that is ended", "SuccessExitStatus=TERM 143" in lines, True)
 
@@ -74,7 +76,9 @@ def times(_room: Room) -> Iterator[Outcome]:
     its unit lets it."""
     page = ROOT.joinpath("docs/SCALE.md").read_text(encoding="utf-8")
     drain = int(sought(r"that was ([0-9]+) s in one request", page))
-    yield Outcome("units: how long a post may take", ("an inbox a post after an hour" in page, SECONDS_OF_A_POST), (True, 3600))
+    yield Outcome(
+        "units: how long a post may take", ("an inbox a post after an hour" in page, SECONDS_OF_A_POST), (True, 3600)
+    )
     unit = int(sought("^TimeoutStartSec=([0-9]+)h$", "\n".join(lines_of("onixdesk-inbox@.service")))) * 3600
     yield Outcome("units: times of a drain", drain < SECONDS_OF_A_POST < unit, True)
 
@@ -112,7 +116,9 @@ def example_of_settings(room: Room) -> Iterator[Outcome]:
     """Once the sender is set it is read, and has what holds where another line is left out."""
     text = FOLDER.joinpath("example.conf").read_text(encoding="utf-8")
     names = re.findall("^([A-Z_]+)=", text, flags=re.MULTILINE)
-    yield Outcome("units: the example of settings, the sender", re.findall("^SENDER=.*", text, flags=re.MULTILINE), ["SENDER="])
+    yield Outcome(
+        "units: the example of settings, the sender", re.findall("^SENDER=.*", text, flags=re.MULTILINE), ["SENDER="]
+    )
     text = text.replace("\nSENDER=\n", "\nSENDER=any\n")
     reading = (
         "from pathlib import Path; from onixdesk_inbox.settings import *;"
@@ -122,7 +128,10 @@ def example_of_settings(room: Room) -> Iterator[Outcome]:
         room.write("example.conf", (without_line(text, name) if name else text).encode())
         done = subprocess.run(
             within(reading),
-            cwd=room.folder, capture_output=True, text=True, timeout=SECONDS,
+            cwd=room.folder,
+            capture_output=True,
+            text=True,
+            timeout=SECONDS,
         )
         yield Outcome(f"units: the example of settings without {name}", (done.stdout, done.stderr), ("True\n", ""))
     page = ROOT.joinpath("docs/INBOX.md").read_text(encoding="utf-8")
@@ -152,8 +161,18 @@ def version(room: Room) -> Iterator[Outcome]:
     package = [*ROOT.glob("programs/*/*.1"), *ROOT.glob("packaging/debian/*"), *ROOT.glob("bin/*")]
     named = [path.name for path in package if path.is_file() and f"{number} " in path.read_text(encoding="utf-8")]
     yield Outcome("the version of the package", named, [])
-    for name in ("onixdesk.1", "onix-to-csv.1", "desk-copy.1", "desk-restore.1", "desk-follow.1", "desk-metrics.1",
-                 "onixdesk-look.1", "onixdesk-fetch.1", "desk-prices.1", "desk-renew.1"):
+    for name in (
+        "onixdesk.1",
+        "onix-to-csv.1",
+        "desk-copy.1",
+        "desk-restore.1",
+        "desk-follow.1",
+        "desk-metrics.1",
+        "onixdesk-look.1",
+        "onixdesk-fetch.1",
+        "desk-prices.1",
+        "desk-renew.1",
+    ):
         page = ROOT.joinpath("programs", name.removesuffix(".1"), name).read_text(encoding="utf-8")
         # The line that packaging/build gives the version.
         yield Outcome(f"the version of {name}", page.splitlines().count(".Os"), 1)

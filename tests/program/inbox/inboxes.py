@@ -34,9 +34,7 @@ WAITING = "; nothing of it is taken, and the messages behind its number wait"
 def of_series(number: int, series: str = "north", **counts: int) -> str:
     """The reply to a message that was applied."""
     names = ["deleted", "ignored"], ["replaced"], ["unknown", "updated"]
-    before, replaced, behind = (
-        ",".join(f'"{name}":{counts.get(name, 0)}' for name in each) for each in names
-    )
+    before, replaced, behind = (",".join(f'"{name}":{counts.get(name, 0)}' for name in each) for each in names)
     return f'200 {{"answer":"applied",{before},"number":{number},{replaced},"series":"{series}",{behind}}}'
 
 

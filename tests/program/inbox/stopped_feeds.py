@@ -74,7 +74,11 @@ def records(articles: list[str], amounts: list[str], number: int = 5, currency: 
 def in_two_currencies(amount: str, other: str) -> bytes:
     """The same with a price in EUR behind each."""
     price = f"Price,02,{amount},GBP,,WORLD,,,\n"
-    text = records(ARTICLES, [amount] * 20).decode().replace(price, f"{price}{price.replace(amount, other).replace('GBP', 'EUR')}")
+    text = (
+        records(ARTICLES, [amount] * 20)
+        .decode()
+        .replace(price, f"{price}{price.replace(amount, other).replace('GBP', 'EUR')}")
+    )
     count = text.count("\n") - 1
     return re.sub("EndMessage,[0-9]+", f"EndMessage,{count}", text).encode()
 
@@ -127,29 +131,48 @@ EMPTIED = "20 of 20 products have no supply or no price left: "
 
 CASES = [
     Case("the same prices", "a.csv", records(ARTICLES, SAME), ""),
-    Case("EUR in place of GBP", "a.csv", records(ARTICLES, SAME, currency="EUR"),
-         "20 of 20 articles lose their price of a type and currency: "),
+    Case(
+        "EUR in place of GBP",
+        "a.csv",
+        records(ARTICLES, SAME, currency="EUR"),
+        "20 of 20 articles lose their price of a type and currency: ",
+    ),
     Case("prices in pence", "a.csv", records(ARTICLES, ["1000"] * 20), JUMPS),
     Case("a sale at a third of the price", "a.csv", records(ARTICLES, ["3.33"] * 20), JUMPS),
     Case("twice the price, and half", "a.csv", records(ARTICLES, ["20", "5"] * 10), ""),
     Case("two of ten prices jump", "a.csv", records(ARTICLES[:10], prices("21", "4.99")), ""),
-    Case("three of ten prices jump", "a.csv", records(ARTICLES[:10], prices("21", "4.99", "100")),
-         "3 of 10 prices change by more than a factor of two: "),
+    Case(
+        "three of ten prices jump",
+        "a.csv",
+        records(ARTICLES[:10], prices("21", "4.99", "100")),
+        "3 of 10 prices change by more than a factor of two: ",
+    ),
     Case("all of nine prices jump", "a.csv", records(*few(9)), ""),
     Case("jumps are allowed", "a.csv", records(ARTICLES, ["1000"] * 20), "", settings={"STOP_JUMPS": "no"}),
     Case("prices in EUR that are new, beside those in GBP", "a.csv", in_two_currencies("10", "100"), ""),
     Case("another wholesaler's feed", "a.csv", records(OTHERS, SAME), "20 of 20 articles are none that north offers: "),
     Case("16 of 20 articles are new", "a.csv", records(OTHERS[:16] + ARTICLES[:4], SAME), ""),
-    Case("17 of 20 articles are new", "a.csv", records(OTHERS[:17] + ARTICLES[:3], SAME),
-         "17 of 20 articles are none that north offers: "),
+    Case(
+        "17 of 20 articles are new",
+        "a.csv",
+        records(OTHERS[:17] + ARTICLES[:3], SAME),
+        "17 of 20 articles are none that north offers: ",
+    ),
     Case("a first feed", "a.csv", records(OTHERS, SAME, 1), "", 1, None),
     Case("a feed of before", "a.csv", records(ARTICLES, ["1000"] * 20, 4), ""),
     Case("records without prices", "a.csv", records(ARTICLES, [""] * 20), EMPTIED),
     Case("ten of twenty records without prices", "a.csv", records(ARTICLES, [*["10"] * 10, *[""] * 10]), ""),
     Case("a feed of ECZ prices", "a.xml", feed([in_ecz(place) for place in range(20)]), EMPTIED),
     Case("a feed of ECZ markets", "a.xml", feed([emptied(place) for place in range(20)]), EMPTIED),
-    Case("two parts, of which the second is new", "a.xml", feed([in_ecz(place) for place in range(20)], 2), EMPTIED,
-         4, 3, {"WORDS": "--parts 2"}),
+    Case(
+        "two parts, of which the second is new",
+        "a.xml",
+        feed([in_ecz(place) for place in range(20)], 2),
+        EMPTIED,
+        4,
+        3,
+        {"WORDS": "--parts 2"},
+    ),
     Case("nine products in ECZ", "a.xml", feed([in_ecz(place) for place in range(9)]), ""),
     Case("a feed without products", "a.xml", feed([]), "it has no Product, and no NoProduct; "),
     Case("a feed that says so", "a.xml", feed(["<NoProduct/>"]), ""),
@@ -198,8 +221,10 @@ def what_the_line_has(room: Room) -> Iterator[Outcome]:
     examples = line.removeprefix(f"price list.csv: stopped: {JUMPS}").split("; ")
     shown = [example.split(" ", 1)[1] for example in examples[:3]]
     yield Outcome("stopped: examples", shown, ["02 GBP 10.000 to 1000"] * 3)
-    commands = "onixdesk-inbox --let-in 'price list.csv' north takes it, " \
-               "onixdesk-inbox --refuse 'price list.csv' north refuses it"
+    commands = (
+        "onixdesk-inbox --let-in 'price list.csv' north takes it, "
+        "onixdesk-inbox --refuse 'price list.csv' north refuses it"
+    )
     yield Outcome("stopped: what to do", examples[3:], [commands])
 
 

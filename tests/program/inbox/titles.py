@@ -139,8 +139,10 @@ def what_is_kept(room: Room) -> Iterator[Outcome]:
     yield Outcome("titles: they are taken", (shop.take(), shop.waiting()), (Ran(0), []))
     almanac = ["The Lamplighter’s Almanac", "A year of small lights", "Éilís Byrne (A01); Noor Haddad (A12)"]
     wanted = {
-        ONE: [entry("north", 1, *almanac, "Quayside Editions"),
-              entry("south", 1, "Almanach des Lampenanzünders", "", "Byrne, Éilís (A01)", "Küstenverlag")],
+        ONE: [
+            entry("north", 1, *almanac, "Quayside Editions"),
+            entry("south", 1, "Almanach des Lampenanzünders", "", "Byrne, Éilís (A01)", "Küstenverlag"),
+        ],
         TWO: [entry("north", 1, 'Salt, rope & "tide"', "", "Ada Winter")],
         THREE: [["north", 1]],
     }
@@ -165,8 +167,13 @@ IN_TURN: list[tuple[str, int, str, list[str], list[Entry]]] = [
     ("a newer one", 10, "north", [row(ONE, "D")], [entry("north", 10, "D"), B]),
     ("a deletion", 11, "north", [row(ONE, "", "05")], [["north", 11], B]),
     ("an older one behind it", 10, "north", [row(ONE, "D")], [["north", 11], B]),
-    ("a product in the place of a deleted one", 12, "north", [row(ONE, "", "05"), row(ONE, "E"), row(ONE, "", "05")],
-     [entry("north", 12, "E"), B]),
+    (
+        "a product in the place of a deleted one",
+        12,
+        "north",
+        [row(ONE, "", "05"), row(ONE, "E"), row(ONE, "", "05")],
+        [entry("north", 12, "E"), B],
+    ),
     ("an update of prices alone", 13, "north", [row(ONE, "", "04")], [entry("north", 12, "E"), B]),
 ]
 
@@ -189,11 +196,15 @@ def hostile_rows(room: Room) -> Iterator[Outcome]:
     shop.feed({"a.xml": sample("hostile.csv", 1) + long})
     yield Outcome("titles: hostile rows", shop.take(), Ran(0))
     script = "<img src=x onerror=alert(1)>", "</script><script>alert(2)</script>", "=cmd|' /C calc'!A0 (A01)", "{isbn}"
-    yield Outcome("titles: what is kept of them", shop.titles(), {
-        "9780000000019": [entry("north", 1, *script)],
-        "9780000000026": [entry("north", 1, "one\u202etwo", "\u05d0\u05d1\u05d2", "\u200fx (B06)", "a\nb")],
-        "9780000000040": [entry("north", 1, "ü" * 300)],
-    })
+    yield Outcome(
+        "titles: what is kept of them",
+        shop.titles(),
+        {
+            "9780000000019": [entry("north", 1, *script)],
+            "9780000000026": [entry("north", 1, "one\u202etwo", "\u05d0\u05d1\u05d2", "\u200fx (B06)", "a\nb")],
+            "9780000000040": [entry("north", 1, "ü" * 300)],
+        },
+    )
     shop.put(1, 1, "north", "a" * 131_073)
     (shop.rows / "of nobody").write_bytes(b"?")
     line = b"onixdesk-titles: 0000000001-1-north.csv: field larger than field limit (131072)\n"
@@ -400,13 +411,17 @@ def units(_room: Room) -> Iterator[Outcome]:
     """The unit reaches no network and no folder but its own two, and the places are the program's."""
     service = lines_of(UNITS / "onixdesk-titles.service")
     copies = lines_of(ROOT / "programs/desk-copy/onixdesk-copy.service")
-    sealed = copies[copies.index("PrivateNetwork=yes"):]
+    sealed = copies[copies.index("PrivateNetwork=yes") :]
     yield Outcome("titles: what is forbidden to the unit", [line for line in sealed if line not in service], [])
     rows, user = "/var/lib/onixdesk-title-rows", "onixdesk-titles"
     for path, wanted in {
-        UNITS / "onixdesk-titles.service": [
-            "ExecStart=/opt/onixdesk/bin/onixdesk-titles take", f"User={user}", f"StateDirectory={user}",
-            "StateDirectoryMode=0755", f"ReadWritePaths={rows}",
+        UNITS
+        / "onixdesk-titles.service": [
+            "ExecStart=/opt/onixdesk/bin/onixdesk-titles take",
+            f"User={user}",
+            f"StateDirectory={user}",
+            "StateDirectoryMode=0755",
+            f"ReadWritePaths={rows}",
         ],
         UNITS / "tmpfiles.conf": [f"d {rows} 2770 onixdesk-inbox {user} -"],
         ROOT / "programs/onixdesk-inbox/onixdesk-inbox@.service": [f"ReadWritePaths=-{rows}"],

@@ -48,7 +48,15 @@ NOT_OF_THESE = "no program is built of these sources; 'make build' builds it"
 BATCH = b"AskGaps,north\nAskGaps,south\n"
 
 # What wants the built program.
-WANTING = ["", "help none", "none --help", "gaps north", "--db shop.db batch", "--rules none batch", "serve --port 8080"]
+WANTING = [
+    "",
+    "help none",
+    "none --help",
+    "gaps north",
+    "--db shop.db batch",
+    "--rules none batch",
+    "serve --port 8080",
+]
 
 
 def told(*lines: str) -> bytes:
@@ -156,7 +164,9 @@ def help_without_a_program(room: Room) -> Iterator[Outcome]:
 
 
 # What makes the repository's first commit, and prints its hash.
-COMMIT = "git init -q && git add crates.txt && git -c user.name=a -c user.email=a commit -qm first && git rev-parse HEAD"
+COMMIT = (
+    "git init -q && git add crates.txt && git -c user.name=a -c user.email=a commit -qm first && git rev-parse HEAD"
+)
 
 
 def the_commit(room: Room) -> Iterator[Outcome]:
@@ -212,7 +222,9 @@ def a_built_program(room: Room) -> Iterator[Outcome]:
         yield Outcome(f"launcher: built, {words}", launch(room, *words, folder="tmp"), wanted)
     yield Outcome("launcher: it runs no toolchain then", calls(room), tried)
     room.path(SOURCE).write_text("fn main() { }\n")
-    yield Outcome("tools/build sources: of others", command(room, "tools/build", "sources"), Ran(1, b"", told(NOT_OF_THESE)))
+    yield Outcome(
+        "tools/build sources: of others", command(room, "tools/build", "sources"), Ran(1, b"", told(NOT_OF_THESE))
+    )
     yield Outcome("launcher: an old program, a batch", launch(room, "batch"), answered(CHANGED))
     yield Outcome("launcher: an old program, a question", launch(room, "gaps", "north"), wanting(CHANGED))
     shutil.rmtree(room.path("tests"))

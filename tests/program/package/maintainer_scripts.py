@@ -16,12 +16,21 @@ TOLD = ["deb-systemd-invoke", "deb-systemd-helper", "userdel", "usermod"]
 
 # What a desk, its copies and an inbox keep that has taken a file; and what is made anew from it, or of use no more.
 DATA = [
-    "onixdesk/shop.db", "onixdesk/shop.db-wal", "onixdesk-copies/2026-11-27T02-30-12Z/shop.db",
-    "onixdesk-inbox/north/done/1.csv", "onixdesk-inbox/north/numbers", "onixdesk-inbox/north/refused/cut.xml",
+    "onixdesk/shop.db",
+    "onixdesk/shop.db-wal",
+    "onixdesk-copies/2026-11-27T02-30-12Z/shop.db",
+    "onixdesk-inbox/north/done/1.csv",
+    "onixdesk-inbox/north/numbers",
+    "onixdesk-inbox/north/refused/cut.xml",
 ]
 MADE = [
-    "onixdesk-figures/started", "onixdesk-prices/prices.csv", "onixdesk-mail/read", "onixdesk-metrics/onixdesk.prom",
-    "onixdesk-titles/titles/97812/97812345.json", "onixdesk-title-rows/1-1-north", "onixdesk-fetch/north/key",
+    "onixdesk-figures/started",
+    "onixdesk-prices/prices.csv",
+    "onixdesk-mail/read",
+    "onixdesk-metrics/onixdesk.prom",
+    "onixdesk-titles/titles/97812/97812345.json",
+    "onixdesk-title-rows/1-1-north",
+    "onixdesk-fetch/north/key",
     *(f"onixdesk-inbox/north/{name}" for name in ("lock", "told", "waits", "stopped", "last", "work/messages/1.csv")),
 ]
 # An inbox that has taken nothing.
@@ -29,7 +38,9 @@ IDLE = ["lock", "told", "work/x"]
 
 
 def unit_files() -> list[Path]:
-    return sorted(path for path in (ROOT / "programs").rglob("onixdesk*") if path.suffix in (".service", ".timer", ".path"))
+    return sorted(
+        path for path in (ROOT / "programs").rglob("onixdesk*") if path.suffix in (".service", ".timer", ".path")
+    )
 
 
 def at(room: Room, name: str, *words: str) -> Ran:
@@ -41,7 +52,9 @@ def at(room: Room, name: str, *words: str) -> Ran:
         script(room, f"bin/{program}", f'echo {program} "$@" >>"{room.path("told")}"')
     room.write(name, text.encode())
     room.path("told").unlink(missing_ok=True)
-    return room.call(["sh", name, *words], environment={**os.environ, "PATH": f"{room.path('bin')}:{os.environ['PATH']}"})
+    return room.call(
+        ["sh", name, *words], environment={**os.environ, "PATH": f"{room.path('bin')}:{os.environ['PATH']}"}
+    )
 
 
 def told(room: Room) -> list[str]:
@@ -64,7 +77,8 @@ def before_an_upgrade(room: Room) -> Iterator[Outcome]:
     for folder in ("bin", "run/systemd/system"):
         room.path(folder).mkdir(parents=True)
     wanted = [
-        "deb-systemd-invoke stop onixdesk-inbox.path onixdesk-inbox.service", "deb-systemd-helper purge onixdesk-inbox.path",
+        "deb-systemd-invoke stop onixdesk-inbox.path onixdesk-inbox.service",
+        "deb-systemd-helper purge onixdesk-inbox.path",
         "deb-systemd-helper unmask onixdesk-inbox.path",
     ]
     for words, lines in [(["upgrade", "0.1.0"], wanted), (["upgrade", "0.2.0"], []), (["install"], [])]:
@@ -114,7 +128,9 @@ def a_purge(room: Room) -> Iterator[Outcome]:
     yield Outcome("postrm purge: the data stay", (came, left), (Ran(0), sorted(kept)))
     yield Outcome("postrm purge: no link is left", [name for name in links if room.path(name).exists()], [])
     yield Outcome("postrm purge: users", told(room), ["userdel onixdesk-titles", "userdel onixdesk-fetch"])
-    yield Outcome("postrm purge, once more", (at(room, "postrm", "purge").status, found(room)[-1:]), (0, sorted(kept)[-1:]))
+    yield Outcome(
+        "postrm purge, once more", (at(room, "postrm", "purge").status, found(room)[-1:]), (0, sorted(kept)[-1:])
+    )
 
 
 def a_purge_without_data(room: Room) -> Iterator[Outcome]:

@@ -61,7 +61,9 @@ def by_a_tag(room: Room) -> Iterator[Outcome]:
     commit(room, released)
     git(room, "tag", "v0.2.0")
     found = [version(room), *(commit(room, released) for _ in range(10))]
-    yield Outcome("versions: by a tag", forms([found[0], found[1], found[10]]), ["0.2.0", "0.2.0+git1.C", "0.2.0+git10.C"])
+    yield Outcome(
+        "versions: by a tag", forms([found[0], found[1], found[10]]), ["0.2.0", "0.2.0+git1.C", "0.2.0+git10.C"]
+    )
     yield Outcome("versions: the tenth is newer than the ninth", is_older(found[9], found[10]), True)
     git(room, "tag", "v0.3.0")
     git(room, "checkout", "--quiet", "HEAD~1")

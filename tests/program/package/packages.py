@@ -18,12 +18,22 @@ MAY_IMPORT: dict[str, set[str]] = {
     "programs/desk-prices/shop_files": {"command_lines"},
     "programs/desk-copy/desk_copy": {"command_lines"},
     "programs/desk-renew/desk_renew": {
-        "command_lines", "desk_batches", "desk_copy", "desk_follow", "desk_restore", "message_records",
+        "command_lines",
+        "desk_batches",
+        "desk_copy",
+        "desk_follow",
+        "desk_restore",
+        "message_records",
     },
     "programs/desk-restore/desk_restore": {"command_lines", "desk_batches", "desk_copy"},
     "programs/desk-follow/desk_follow": {"command_lines", "desk_copy", "psycopg2"},
     "programs/desk-prices/desk_prices": {
-        "command_lines", "desk_batches", "desk_copy", "desk_follow", "onixdesk_titles", "shop_files",
+        "command_lines",
+        "desk_batches",
+        "desk_copy",
+        "desk_follow",
+        "onixdesk_titles",
+        "shop_files",
     },
     "programs/onixdesk-inbox/onixdesk_inbox": {"command_lines", "message_records"},
     "programs/desk-metrics/desk_metrics": {"command_lines", "desk_copy", "onixdesk_inbox"},
@@ -34,8 +44,22 @@ MAY_IMPORT: dict[str, set[str]] = {
     "bench": {"tools"},
     # The tests of the page drive a browser.
     "tests": {
-        "bench", "command_lines", "desk_copy", "desk_follow", "desk_metrics", "desk_prices", "desk_renew", "desk_restore",
-        "message_records", "onixdesk_fetch", "onixdesk_inbox", "onixdesk_look", "onixdesk_titles", "psycopg2", "selenium", "shop_files",
+        "bench",
+        "command_lines",
+        "desk_copy",
+        "desk_follow",
+        "desk_metrics",
+        "desk_prices",
+        "desk_renew",
+        "desk_restore",
+        "message_records",
+        "onixdesk_fetch",
+        "onixdesk_inbox",
+        "onixdesk_look",
+        "onixdesk_titles",
+        "psycopg2",
+        "selenium",
+        "shop_files",
         "tools",
     },
 }
@@ -71,6 +95,8 @@ def imports(room: Room) -> Iterator[Outcome]:
 
 
 def planted(room: Room) -> Iterator[Outcome]:
-    tree = ast.parse("import os.path\nfrom tools.root import ROOT\ndef f():\n    import bench.figures, sys\n    sys.path[0] = ''\n")
+    tree = ast.parse(
+        "import os.path\nfrom tools.root import ROOT\ndef f():\n    import bench.figures, sys\n    sys.path[0] = ''\n"
+    )
     yield Outcome("packages: imports that are found", imported(tree), {"os", "tools", "bench", "sys"})
     yield Outcome("packages: sys.path that is found", names_path(tree), True)

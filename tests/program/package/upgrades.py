@@ -44,8 +44,12 @@ def upgraded(room: Room) -> Iterator[Outcome]:
     rules = room.path("etc/onixdesk/rules.toml")
     settings = room.path("etc/onixdesk/inbox")
     rules.write_bytes(ROOT.joinpath("programs/onixdesk/rules.toml").read_bytes())
-    for name, text in [("example", "SENDER=\n"), ("east", SETTINGS), ("north", "\nSENDER=\n"),
-                       ("west", f"{SETTINGS}WORDS=--leave-out-wrong\n")]:
+    for name, text in [
+        ("example", "SENDER=\n"),
+        ("east", SETTINGS),
+        ("north", "\nSENDER=\n"),
+        ("west", f"{SETTINGS}WORDS=--leave-out-wrong\n"),
+    ]:
         settings.joinpath(f"{name}.conf").write_text(text)
     for name in ("onixdesk-copy.timer", "onixdesk-inbox@north.timer"):
         room.path(f"etc/systemd/system/timers.target.wants/{name}").symlink_to("/dev/null")

@@ -44,7 +44,9 @@ def counts(room: Room) -> Iterator[Outcome]:
         log.take(line)
     found = dict(log.functions), dict(log.modules), log.kept
     yield Outcome("bench/weight: what a log has", found, ({"csv_records": 3}, {"csv_records": 37}, {"onix_terms"}))
-    yield Outcome("bench/weight: no layer but that one", [row.layer for row in rows(log) if row.functions], ["Base", "all"])
+    yield Outcome(
+        "bench/weight: no layer but that one", [row.layer for row in rows(log) if row.functions], ["Base", "all"]
+    )
     room.write("log", LOG.encode())
     came = room.call([ROOT / "bench/weight", "--log", "log"])
     yield Outcome("bench/weight --log", (came.status, came.output.decode().splitlines()), (0, table(log)))

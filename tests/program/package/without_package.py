@@ -68,7 +68,14 @@ def is_there(root: Path, name: str) -> bool:
 def enabled() -> set[str]:
     """The units that the documents say to enable."""
     found: set[str] = set()
-    for document in ("README.md", "docs/INBOX.md", "docs/METRICS.md", "docs/PRICES.md", "docs/RELIABILITY.md", "docs/SCALE.md"):
+    for document in (
+        "README.md",
+        "docs/INBOX.md",
+        "docs/METRICS.md",
+        "docs/PRICES.md",
+        "docs/RELIABILITY.md",
+        "docs/SCALE.md",
+    ):
         for line in re.findall("systemctl enable --now ([^`\n]*)", ROOT.joinpath(document).read_text(encoding="utf-8")):
             found |= set(re.sub("@[a-z]+", "@", line).split())
     return {name if "." in name else f"{name}.service" for name in found}

@@ -6,9 +6,7 @@ from tests.program.feeds.convert.case_files import FRAMES
 from tests.program.written_cases import TESTS, read_file, repeated, unescaped
 
 HEADER = "<Header>{}<MessageNumber>1</MessageNumber></Header>"
-SENDER = (
-    "<Sender><SenderIdentifier><SenderIDType>06</SenderIDType><IDValue>S</IDValue></SenderIdentifier></Sender>"
-)
+SENDER = "<Sender><SenderIdentifier><SenderIDType>06</SenderIDType><IDValue>S</IDValue></SenderIdentifier></Sender>"
 
 FIELD_BYTES = 1_024
 

@@ -36,10 +36,7 @@ def prices(count: int, qualifier: str) -> bytes:
 
 def notes_on(file: str, count: int, qualifier: str) -> list[str]:
     first = 2
-    return [
-        f"{file}:{line}:1: R1: Price left out: PriceQualifier {qualifier}"
-        for line in range(first, first + count)
-    ]
+    return [f"{file}:{line}:1: R1: Price left out: PriceQualifier {qualifier}" for line in range(first, first + count)]
 
 
 def bounded(room: Room) -> Iterator[Outcome]:
@@ -162,4 +159,6 @@ def old_elements(room: Room) -> Iterator[Outcome]:
     counts = [f"Price left out: {name} of ONIX 2.1: {1 + (name == names[0])}" for name in names]
     lines = [*counts, "1 of 1 product left without a Price", "5 notes, 1 product wrong"]
     summary = said(lines).decode().splitlines()
-    yield Outcome("elements of ONIX 2.1 in the summary", (came.status, came.errors.decode().splitlines()[5:]), (1, summary))
+    yield Outcome(
+        "elements of ONIX 2.1 in the summary", (came.status, came.errors.decode().splitlines()[5:]), (1, summary)
+    )

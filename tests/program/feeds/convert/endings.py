@@ -156,7 +156,12 @@ BEYOND = [
 
 def packed(room: Room) -> Iterator[Outcome]:
     """A FILE that is packed by its name is refused with the command that converts it."""
-    for name, command in [("a.xml.gz", "gunzip -c"), ("A.GZ", "gunzip -c"), ("a.zip", "unzip -p"), ("A.Zip", "unzip -p")]:
+    for name, command in [
+        ("a.xml.gz", "gunzip -c"),
+        ("A.GZ", "gunzip -c"),
+        ("a.zip", "unzip -p"),
+        ("A.Zip", "unzip -p"),
+    ]:
         room.write(name, b"")
         why = f"packed, to be unpacked before: {command} {name} | onixdesk convert"
         wanted = Ran(1, b"", f"onixdesk: {name}:1:1: refused: {why}\n".encode())

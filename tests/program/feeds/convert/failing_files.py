@@ -136,7 +136,9 @@ def empty_files(room: Room) -> Iterator[Outcome]:
     place = room.path("a.csv")
     wanted = Ran(3, b"", said(["a.csv: is there, with other bytes"]))
     place.symlink_to("empty")
-    yield Outcome("convert: a link to an empty file", (convert(room, "-o", ".", "a.xml"), place.is_symlink()), (wanted, True))
+    yield Outcome(
+        "convert: a link to an empty file", (convert(room, "-o", ".", "a.xml"), place.is_symlink()), (wanted, True)
+    )
     place.unlink()
     os.mkfifo(place)
     yield Outcome("convert: a pipe", (convert(room, "-o", ".", "a.xml"), place.is_fifo()), (wanted, True))

@@ -119,7 +119,9 @@ def one_product(room: Room) -> Iterator[Outcome]:
 
 def many_identifiers(room: Room) -> Iterator[Outcome]:
     """A product that is too large even without its supplies has its reference for an identifier."""
-    pair = f"<ProductIdentifier><ProductIDType>01</ProductIDType><IDValue>{'&quot;' * 1_024}</IDValue></ProductIdentifier>"
+    pair = (
+        f"<ProductIdentifier><ProductIDType>01</ProductIDType><IDValue>{'&quot;' * 1_024}</IDValue></ProductIdentifier>"
+    )
     product = PRODUCT.format("R1").replace("</Product>", f"{pair * 2_500}</Product>")
     room.write(FEED, between_others(product))
     came = convert(room, FEED)

@@ -12,6 +12,7 @@ from tests.running import Outcome
 
 LINE = re.compile(r"([0-9]+)\.xml:([0-9]+:[0-9]+): (refused: )?(.*)")
 
+
 class Noted(NamedTuple):
     """A note, in the order of lines and columns."""
 

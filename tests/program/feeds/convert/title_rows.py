@@ -91,11 +91,17 @@ CASES: list[tuple[str, str, Row]] = [
         described(title("<TitlePrefix>The</TitlePrefix><TitleWithoutPrefix>Odyssey</TitleWithoutPrefix>")),
         Row("The Odyssey"),
     ),
-    ("a title without its prefix", described(title("<TitleWithoutPrefix>Odyssey</TitleWithoutPrefix>")), Row("Odyssey")),
+    (
+        "a title without its prefix",
+        described(title("<TitleWithoutPrefix>Odyssey</TitleWithoutPrefix>")),
+        Row("Odyssey"),
+    ),
     ("a prefix alone", described(title("<TitlePrefix>The</TitlePrefix>")), Row("The")),
     (
         "a title beside its prefix",
-        described(title("<TitlePrefix>A</TitlePrefix><TitleWithoutPrefix>B</TitleWithoutPrefix><TitleText>C</TitleText>")),
+        described(
+            title("<TitlePrefix>A</TitlePrefix><TitleWithoutPrefix>B</TitleWithoutPrefix><TitleText>C</TitleText>")
+        ),
         Row("C"),
     ),
     (
@@ -149,14 +155,22 @@ CASES: list[tuple[str, str, Row]] = [
     ),
     ("a date behind those of other roles", published(date("11", "2001") + date("01", "2003-04")), Row(date="2003-04")),
     ("dates of other roles", published(date("11", "2001")), Row()),
-    ("markup that is text", text("&lt;script&gt;alert(1)&lt;/script&gt; <![CDATA[<b>]]>"), Row("<script>alert(1)</script> <b>")),
+    (
+        "markup that is text",
+        text("&lt;script&gt;alert(1)&lt;/script&gt; <![CDATA[<b>]]>"),
+        Row("<script>alert(1)</script> <b>"),
+    ),
     ("quotation marks, commas and semicolons", text('"Emma", or; =1+1'), Row('"Emma", or; =1+1')),
     ("white space", text("\n  Emma\t\r\n Woodhouse "), Row("Emma Woodhouse")),
     ("control characters", text("E&#127;m&#133;m&#159;a"), Row("Emma")),
     ("300 characters", text("é" * 300), Row("é" * 300)),
     ("301 characters", text("𝄞" * 301), Row("𝄞" * 300)),
     ("an entity", text("Caf&eacute;"), Row("Café")),
-    ("an element of another namespace", text('A</TitleText><o:Subtitle xmlns:o="x">B</o:Subtitle><TitleText>C'), Row("A")),
+    (
+        "an element of another namespace",
+        text('A</TitleText><o:Subtitle xmlns:o="x">B</o:Subtitle><TitleText>C'),
+        Row("A"),
+    ),
     ("an element elsewhere", "<TitleText>A</TitleText>" + described("<TitleText>B</TitleText>"), Row()),
 ]
 
@@ -236,7 +250,12 @@ def rows_of_products(room: Room) -> Iterator[Outcome]:
 def records_beside_titles(room: Room) -> Iterator[Outcome]:
     """The records and the lines are the same with titles and without."""
     whole = feed(*(product(elements, ISBN_13) for _, elements, _ in CASES)).encode()
-    for name, data in ("titles of all kinds", whole), ("a wrong product", WRONG), ("a refused feed", BAD), ("no XML", b"a"):
+    for name, data in (
+        ("titles of all kinds", whole),
+        ("a wrong product", WRONG),
+        ("a refused feed", BAD),
+        ("no XML", b"a"),
+    ):
         room.write(FEED, data)
         alone = room.run("convert", FEED)
         yield Outcome(f"titles: the records of {name}", asked(room, data)[0], alone)

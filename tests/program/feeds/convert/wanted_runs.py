@@ -121,11 +121,17 @@ CASES = [
         "a wrong product left out",
         {FEED: WRONG},
         ["--wrong", "few", FEED],
-        Ran(1, message_of("R2"), said([
-            f"{FEED}:2:1: no RecordReference: Product left out: no RecordReference",
-            "Product left out: no RecordReference: 1",
-            "1 note, 1 product wrong",
-        ])),
+        Ran(
+            1,
+            message_of("R2"),
+            said(
+                [
+                    f"{FEED}:2:1: no RecordReference: Product left out: no RecordReference",
+                    "Product left out: no RecordReference: 1",
+                    "1 note, 1 product wrong",
+                ]
+            ),
+        ),
     ),
     Case(
         "a file is there that has the same bytes",

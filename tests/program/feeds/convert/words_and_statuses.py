@@ -10,7 +10,18 @@ from tests.program.feeds.convert import argument_grammar, wanted_runs
 from tests.program.feeds.convert.case_files import in_short_tags
 from tests.program.feeds.convert.running import FEED
 from tests.program.feeds.convert.wanted_runs import (
-    BAD, DETAIL, FRAME, ISBN, ONE, PRICE, TWO, WRONG, Case, encoded, message_of, supplied,
+    BAD,
+    DETAIL,
+    FRAME,
+    ISBN,
+    ONE,
+    PRICE,
+    TWO,
+    WRONG,
+    Case,
+    encoded,
+    message_of,
+    supplied,
 )
 from tests.program.feeds.convert.argument_grammar import HEADER, SENDER
 from tests.program.room import Group, Ran, Room
@@ -66,7 +77,9 @@ CASES = [
         )
         for name in ["a.xml.gz", "A.GZ", "a.zip", "A.Zip"]
     ),
-    Case("a packed file by standard input", {}, [], Ran(1, b"", b"onixdesk: -:1:1: refused\n"), given=gzip.compress(ONE)),
+    Case(
+        "a packed file by standard input", {}, [], Ran(1, b"", b"onixdesk: -:1:1: refused\n"), given=gzip.compress(ONE)
+    ),
     Case("a file of nothing", {FEED: b""}, ["-o", ".", FEED], Ran(1, b"", b"onixdesk: feed.xml:1:1: refused\n")),
 ]
 

@@ -41,7 +41,9 @@ def few(wrong: int, products: int, few_go: bool, none_go: bool, room: Room) -> I
     records = FRAME.records + "".join(f"Product,R{number},03,15,{ISBN}\n" for number in range(right))
     records += "".join(f"Product,W{number},03,15,{ISBN}\n" for number in range(wrong))
     records += f"EndMessage,{products + 1}\n"
-    notes = [f"{FEED}:{right + number + 2}:1: W{number}: Product emptied: no NotificationType" for number in range(wrong)]
+    notes = [
+        f"{FEED}:{right + number + 2}:1: W{number}: Product emptied: no NotificationType" for number in range(wrong)
+    ]
     emptied = f"{wrong} of {counted(products, 'product')} emptied"
     summary = [f"Product emptied: no NotificationType: {wrong}", emptied, count_line(wrong, wrong)] if wrong else []
     written = Ran(1 if wrong else 0, records.encode(), said(notes + summary))
@@ -91,7 +93,9 @@ def others_notes(room: Room) -> Iterator[Outcome]:
     for name, products in cases.items():
         line = 2 + products.index(wrong)
         said_lines = [f"{line}:{column}: W: Price left out", f"{line + 1}:1: W: Price left out", f"{line}:1: refused"]
-        yield Outcome(f"convert: the notes before a refusal, of {name}", before_refusal(products, room), (1, b"", said_lines))
+        yield Outcome(
+            f"convert: the notes before a refusal, of {name}", before_refusal(products, room), (1, b"", said_lines)
+        )
 
 
 def before_parts(room: Room) -> Iterator[Outcome]:
@@ -107,6 +111,8 @@ def before_parts(room: Room) -> Iterator[Outcome]:
 
 
 GROUPS = [
-    *(Group(f"convert: {wrong} wrong products of {products}", partial(few, wrong, products, few_go, none_go))
-      for wrong, products, few_go, none_go in COUNTS),
+    *(
+        Group(f"convert: {wrong} wrong products of {products}", partial(few, wrong, products, few_go, none_go))
+        for wrong, products, few_go, none_go in COUNTS
+    ),
 ]

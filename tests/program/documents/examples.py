@@ -87,26 +87,23 @@ def first_batch(room: Room) -> Iterator[Outcome]:
 
 
 def own_file(room: Room) -> Iterator[Outcome]:
-    """What README.md has for a wholesaler's file, with a feed of the examples, which becomes one message or two."""
-    first, *lines = block("README.md", "alias onixdesk=")
-    yield Outcome("README.md: the unproved program", first, f"alias onixdesk=$PWD/{BUILT.relative_to(ROOT)}")
-    room.write("my.xml", example("examples/shop/onix/north-1.xml"))
-    environment = on_path(room)
-    rest = "updated=0,deleted=0,unknown=0,ignored=0"
-    applied = [f"applied,mine,{number},replaced={count},{rest}" for number, count in ((1, 2), (2, 0))]
-    for words in ("convert", "convert --parts 2"):
-        commands_of = [line.replace("convert", words) for line in lines]
-        came = [room.call(["sh", "-c", command], environment=environment) for command in commands_of]
-        yield Outcome(f"README.md: {words}, the statuses", [ran.status for ran in came], [0] * len(lines))
-        _, agreed, taken, asked = [ran.output.decode().splitlines() for ran in came]
-        parts = len(list(room.path("try").glob("*.csv")))
-        yield Outcome(f"README.md: {words}, what is taken", agreed + taken, ["agreed,mine,1", *applied[:parts]])
-        found = [line for line in asked if line.startswith(("price,", "catalogue,"))]
-        yield Outcome(f"README.md: {words}, the answers", found, ["price,9781234567897,1", "catalogue,mine,2"])
-        shutil.rmtree(room.path("try"))
+    """What README.md has for a wholesaler's file, pasted once and again, with a feed of the examples, which becomes one
+    message or two."""
     like_the_repository(room)
     room.path(str(BUILT.parent.relative_to(ROOT))).mkdir(parents=True)
     room.path(str(BUILT.relative_to(ROOT))).symlink_to(room.program)
+    room.write("my.xml", example("examples/shop/onix/north-1.xml"))
+    text = "\n".join(block("README.md", "onixdesk() {"))
+    rest = "updated=0,deleted=0,unknown=0,ignored=0"
+    applied = [f"applied,mine,{number},replaced={count},{rest}" for number, count in ((1, 2), (2, 0))]
+    for words, parts in (("convert", 1), ("convert --parts 2", 2)):
+        for turn in ("once", "again"):
+            came = room.call(["sh", "-e", "-c", text.replace("convert", words)])
+            lines = came.output.decode().splitlines()
+            found = [line for line in lines if line.startswith(("agreed,", "applied,", "price,", "catalogue,"))]
+            wanted = ["agreed,mine,1", *applied[:parts], "price,9781234567897,1", "catalogue,mine,2"]
+            yield Outcome(f"README.md: {words}, {turn}", (came.status, found), (0, wanted))
+        shutil.rmtree(room.path("try"))
     (look,) = re.findall("`(bin/onixdesk-look [^`]*my.xml)`", (ROOT / "README.md").read_text(encoding="utf-8"))
     looked = room.call(["sh", "-c", look])
     yield Outcome(f"README.md: {look}", (looked.status, b"messages needed, --parts: 1\n" in looked.output), (0, True))
@@ -134,15 +131,26 @@ def week_in_xml(room: Room) -> Iterator[Outcome]:
 TOUR = "docs/TOUR.md"
 
 
+def over_http(room: Room, page: str) -> Iterator[Outcome]:
+    """The desk is started as the page has it, at a port of its own."""
+    (command,) = block(page, "bin/onixdesk --db shop.db serve")
+    port = free_port()
+    words = ["sh", "-c", f"exec {command.replace('8080', str(port))}"]
+    with subprocess.Popen(words, cwd=room.folder, stdout=subprocess.PIPE) as desk:
+        assert desk.stdout
+        first = desk.stdout.readline().decode()
+        yield from tried(room, page, block(page, "curl "), port)
+        lines = first + desk.communicate()[0].decode()
+    shown = written(block(page, "listening 8080")).decode().replace("8080", str(port))
+    yield Outcome(f"{page}: the lines of serve", (lines, desk.returncode), (shown, 0))
+
+
 def desk_in_a_file(room: Room) -> Iterator[Outcome]:
     """A desk on two days, and then over HTTP; and a feed."""
     like_the_repository(room)
     for first in ("db shop.db batch < examples/shop/monday.csv", "db shop.db gaps north", "db shop.db agreements"):
         yield from tried(room, TOUR, block(TOUR, f"bin/onixdesk --{first}"))
-    with serving(room, ["--db", "shop.db"], 2) as desk:
-        yield from tried(room, TOUR, block(TOUR, "curl "), desk.port)
-        _, *statuses = block(TOUR, "listening 8080")
-        yield Outcome("docs/TOUR.md: the lines of serve", desk.ended(), desk.wanted(statuses))
+    yield from over_http(room, TOUR)
     room.write("sample.xml", example("examples/shop/onix/north-1.xml"))
     (of_tour,), (of_onix,) = block(TOUR, "bin/onixdesk-look "), block("docs/ONIX.md", "bin/onixdesk-look ")
     looked, sampled = (room.call(["sh", "-c", command]) for command in (of_tour, of_onix))

@@ -2,6 +2,7 @@
 where it needs root or the network, what of `make package-test` runs it, or why nothing does."""
 
 import importlib
+import inspect
 import shutil
 from collections.abc import Iterator
 
@@ -10,8 +11,9 @@ from tests.program.room import Room
 from tests.running import Outcome
 from tools.root import ROOT
 
-EXAMPLES, LAID, DEBIAN, SYSTEMD = (
+EXAMPLES, MACHINE, LAID, DEBIAN, SYSTEMD = (
     "documents.examples",
+    "documents.machine_commands",
     "package.without_package",
     "packaging/try-in-debian",
     "packaging/under-systemd",
@@ -25,7 +27,7 @@ OF_PACKAGE = f"{LAID}: without_the_package"
 TOLD: dict[str, dict[str, str]] = {
     "README.md": {
         "bin/onixdesk batch < examples/first.csv": f"{EXAMPLES}: first_batch",
-        "alias onixdesk=": f"{EXAMPLES}: own_file",
+        "onixdesk() {": f"{EXAMPLES}: own_file",
         "apt install ./onixdesk_VERSION_amd64.deb": f"{SYSTEMD}: try_service",
         "make test": "nowhere: it is the gate itself",
     },
@@ -39,9 +41,9 @@ TOLD: dict[str, dict[str, str]] = {
         "curl http://127.0.0.1:8080/series/north/gaps": f"{EXAMPLES}: page_of_http",
         "curl http://127.0.0.1:8080/series/north/catalogue": f"{EXAMPLES}: page_of_http",
         "useradd ": OF_PACKAGE,
-        "onixdesk rules /etc/onixdesk/rules.toml && systemctl": "nowhere: it starts a service again",
+        "onixdesk rules /etc/onixdesk/rules.toml && systemctl": f"{SYSTEMD}: try_prices",
         "runuser -u onixdesk -- onixdesk --batches": f"{SYSTEMD}: try_service",
-        "MAILTO=": f"{EXAMPLES}: gaps_by_night",
+        "MAILTO=": f"{MACHINE}: gaps_by_cron",
     },
     "docs/INBOX.md": {
         "runuser -u onixdesk-inbox -- /usr/share/onixdesk/bin/onixdesk-inbox --let-in": "inbox.stopped_feeds: what_somebody_decides",
@@ -75,16 +77,16 @@ TOLD: dict[str, dict[str, str]] = {
         "seq -f 'Waive,north,%.0f'": f"{EXAMPLES}: waivers_as_told",
     },
     "docs/PRICES.md": {
-        "bin/desk-prices --rules rules.toml shop.db FOLDER": "files.desk_prices: of_a_copy",
-        "desk-prices --list stock.csv": "files.desk_prices: of_a_list",
+        "bin/desk-prices --settings page/desk.json": f"{MACHINE}: of_prices",
+        "desk-prices --list stock.csv": f"{MACHINE}: of_a_list",
         'sed -i \'s/^  "price_type":/': f"{SYSTEMD}: try_prices",
         "printf '[[rule]]": f"{SYSTEMD}: try_prices",
-        "printf '9781234567897": "nowhere: it adds to a file of the machine",
+        "printf '9781234567897": f"{MACHINE}: of_a_list",
         "install -m 755 programs/desk-prices/": OF_PACKAGE,
     },
     "docs/RELIABILITY.md": {
         "ls /var/lib/onixdesk-copies": f"{SYSTEMD}: try_restore",
-        "chown -R onixdesk-inbox:": "nowhere: it needs a second machine",
+        "chown -R onixdesk-inbox:": f"{MACHINE}: moved_to_another",
         "desk-copy /var/lib/onixdesk/shop.db friday": "desk.exports: moved",
         "sed -n '/^Message,2,": "desk.exports: moved",
         "mkdir parts made": "desk.exports: moved",
@@ -122,19 +124,38 @@ TOLD: dict[str, dict[str, str]] = {
         "printf 'buyer:%s\\n'": f"{SYSTEMD}: try_site",
         "nginx -t && systemctl reload nginx": f"{SYSTEMD}: try_site",
     },
+    "crates/desk_example/README.md": {
+        "rt try < ../../examples/first.csv": "nowhere: rt ci runs it over the same batch"
+    },
     "examples/shop/README.md": {"bin/onixdesk --rules examples/shop/rules.toml batch": f"{EXAMPLES}: week"},
     "examples/shop/onix/README.md": {
         "mkdir -p week": f"{EXAMPLES}: week_in_xml",
         "cat examples/shop/onix/agreements.csv": f"{EXAMPLES}: week_in_xml",
         "bin/onixdesk --db week/shop.db batch": f"{EXAMPLES}: week_in_xml",
     },
+    "packaging/debian/onixdesk.README.Debian": {
+        "runuser -u onixdesk -- onixdesk --db": f"{SYSTEMD}: try_service",
+        "runuser -u onixdesk -- onixdesk --batches": f"{SYSTEMD}: try_service",
+        "systemctl enable --now onixdesk-copy.timer": f"{SYSTEMD}: try_copies",
+        "apt-get install postgresql": f"{SYSTEMD}: try_follower",
+        "addgroup --system onixdesk-north": f"{DEBIAN}: set_up_inbox",
+        "journalctl -u onixdesk-inbox@north": f"{SYSTEMD}: said",
+        "sed -i -e '$aTITLES=": f"{SYSTEMD}: try_titles",
+        "sed -i 's/^ADDRESS=": f"{SYSTEMD}: try_mail_unit",
+        "apt-get install prometheus-node-exporter": "nowhere: it installs a package",
+        "systemctl enable --now onixdesk-prices.timer": f"{SYSTEMD}: try_prices",
+        "apt-get install nginx": f"{SYSTEMD}: try_site",
+        "nginx -t && systemctl restart nginx": f"{SYSTEMD}: try_site",
+    },
 }
 
 # What begins a command beside the programs of this machine.
-BEGINNINGS = ("(", "[ ", "bin/", "MAILTO=", "alias ", "file=", "/usr/share/", "desk-", "onixdesk ")
+BEGINNINGS = ("(", "onixdesk() {", "[ ", "bin/", "MAILTO=", "file=", "/usr/share/", "desk-", "onixdesk ")
 
 # Words that are programs too: they begin a call that docs/ARCHITECTURE.md tells of, or a setting of another program.
 NO_COMMANDS = {"run", "main", "Match", "[Service]"}
+
+PAGES = ("*.md", "docs/*.md", "examples/**/*.md", "crates/*/README.md", "packaging/debian/*.Debian")
 
 
 def is_command(lines: list[str]) -> bool:
@@ -150,18 +171,19 @@ def has_line(lines: list[str], beginning: str) -> bool:
     return any(line.strip().startswith(beginning) for line in lines)
 
 
-def is_run(where: str) -> bool:
-    """Whether there is such a function."""
+def is_run(page: str, where: str) -> bool:
+    """Whether there is such a function, and its module, which takes commands from the page, names that."""
     place, _, name = where.partition(": ")
     if place == "nowhere":
         return True
     if "/" in place:
         return f"\n{name}() {{" in ROOT.joinpath(place).read_text(encoding="utf-8")
-    return hasattr(importlib.import_module(f"tests.program.{place}"), name)
+    module = importlib.import_module(f"tests.program.{place}")
+    return hasattr(module, name) and page in inspect.getsource(module)
 
 
 def each_command(_room: Room) -> Iterator[Outcome]:
-    pages = [page for pattern in ("*.md", "docs/*.md", "examples/**/*.md") for page in sorted(ROOT.glob(pattern))]
+    pages = [page for pattern in PAGES for page in sorted(ROOT.glob(pattern))]
     names = [page.relative_to(ROOT).as_posix() for page in pages if page.name != "DEFINITIONS.md"]
     yield Outcome("pages that are not there", sorted(TOLD.keys() - set(names)), [])
     for name in names:
@@ -174,6 +196,6 @@ def each_command(_room: Room) -> Iterator[Outcome]:
 
 
 def where_they_are_run(_room: Room) -> Iterator[Outcome]:
-    places = sorted({where for told in TOLD.values() for where in told.values()})
-    yield Outcome("what is to run commands, and is not there", [where for where in places if not is_run(where)], [])
+    places = sorted({(page, where) for page, told in TOLD.items() for where in told.values()})
+    yield Outcome("what is to run commands, and is not there", [each for each in places if not is_run(*each)], [])
     yield Outcome("commands are run", len(places) > 30, True)

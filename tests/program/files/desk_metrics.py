@@ -14,6 +14,7 @@ from pathlib import Path
 from command_lines import files
 from desk_metrics.exposition import METRICS, Samples, escaped
 from tests.program.databases import batch
+from tests.program.documents.examples import block
 from tests.program.inbox.inboxes import CONNECTIONS, MALFORMED, WORDS, Inbox
 from tests.program.messages import AGREEMENT, bare
 from tests.program.room import Ran, Room
@@ -369,9 +370,11 @@ def by_promtool(room: Room) -> Iterator[Outcome]:
     yield Outcome("promtool: every metric is written", found, set(METRICS))
     checked = room.call(["promtool", "check", "metrics"], room.path(FILE).read_bytes())
     yield Outcome("promtool: the metrics", checked, Ran(0))
+    room.path("programs").symlink_to(ROOT / "programs")
+    (command,) = block("docs/METRICS.md", "promtool check rules")
+    checked = room.call(["sh", "-c", command])
+    yield Outcome(f"promtool: {command}", (checked.status, b"SUCCESS: 2 rules found" in checked.output), (0, True))
     shutil.copy(EXAMPLES / "alerts.yml", room.path("alerts.yml"))
-    checked = room.call(["promtool", "check", "rules", "alerts.yml"])
-    yield Outcome("promtool: the rules", (checked.status, b"SUCCESS: 2 rules found" in checked.output), (0, True))
     shutil.copy(CASES / "alerts.yml", room.path("cases.yml"))
     tried = room.call(["promtool", "test", "rules", "cases.yml"])
     yield Outcome(

@@ -10,6 +10,7 @@ from typing import NamedTuple
 from urllib.parse import parse_qs, urlsplit
 
 from desk_metrics import folders
+from tests.program.documents.examples import block
 from tests.program.feeds.convert.case_files import FRAMES, SUPPLIER
 from tests.program.feeds.convert.wanted_runs import PRODUCT, supplied
 from tests.program.inbox.inbox_numbers import KILLED, KILLING
@@ -150,13 +151,18 @@ CASES = [
     Case("all of nine prices jump", "a.csv", records(*few(9)), ""),
     Case("jumps are allowed", "a.csv", records(ARTICLES, ["1000"] * 20), "", settings={"STOP_JUMPS": "no"}),
     Case("prices in EUR that are new, beside those in GBP", "a.csv", in_two_currencies("10", "100"), ""),
-    Case("another wholesaler's feed", "a.csv", records(OTHERS, SAME), "20 of 20 articles are none that north offers: "),
+    Case(
+        "another wholesaler's feed",
+        "a.csv",
+        records(OTHERS, SAME),
+        "20 of 20 articles are not among those that north offers: ",
+    ),
     Case("16 of 20 articles are new", "a.csv", records(OTHERS[:16] + ARTICLES[:4], SAME), ""),
     Case(
         "17 of 20 articles are new",
         "a.csv",
         records(OTHERS[:17] + ARTICLES[:3], SAME),
-        "17 of 20 articles are none that north offers: ",
+        "17 of 20 articles are not among those that north offers: ",
     ),
     Case("a first feed", "a.csv", records(OTHERS, SAME, 1), "", 1, None),
     Case("a feed of before", "a.csv", records(ARTICLES, ["1000"] * 20, 4), ""),
@@ -245,6 +251,14 @@ def decide(inbox: Inbox, *words: str) -> int:
     return inbox.run(*words).status
 
 
+def let_in_as_told(inbox: Inbox, name: str) -> int:
+    """Lets a file in by the command of docs/INBOX.md, which has another name and the user of the inbox before it."""
+    (command,) = block("docs/INBOX.md", "runuser -u onixdesk-inbox -- /usr/share/onixdesk/bin/onixdesk-inbox --let-in")
+    option, told, series = command.partition("bin/onixdesk-inbox ")[2].split()
+    assert (told, series) == ("sale.xml", inbox.series)
+    return decide(inbox, option, name)
+
+
 def what_somebody_decides(room: Room) -> Iterator[Outcome]:
     inbox = Inbox(room, 1)
     desk = desk_at()
@@ -257,7 +271,7 @@ def what_somebody_decides(room: Room) -> Iterator[Outcome]:
         yield Outcome("stopped: it is told once", (inbox.run(), desk.asked), (said(), asked))
         yield Outcome("stopped: the metric", folders.stopped(inbox.state), 1)
         yield Outcome("stopped: a name that is not", decide(inbox, "--let-in", "b.csv"), 2)
-        yield Outcome("stopped: let in", decide(inbox, "--let-in", "a.csv"), 0)
+        yield Outcome("stopped: let in", let_in_as_told(inbox, "a.csv"), 0)
         yield Outcome("stopped: nothing is posted before the next run", desk.posts, [])
         wanted = said("a.csv: done: number 5 applied", "b.csv: done: number 6 applied")
         yield Outcome("stopped: the next run takes it", (inbox.run(), desk.posts), (wanted, [WRONG, LATER]))

@@ -1,0 +1,89 @@
+"""Commands of the pages that name places of a shop's machine, each run as its page has it, in a room that stands for
+that machine."""
+
+from collections.abc import Iterator
+
+from tests.program.documents.examples import block, example, like_the_repository, written
+from tests.program.documents.mistakes import A, B, PARTIES, agreed, message
+from tests.program.files.machines import DESK, Machine, machine
+from tests.program.inbox.inboxes import script
+from tests.program.room import Ran, Room
+from tests.running import Outcome
+from tools.root import ROOT
+
+PRICES = "docs/PRICES.md"
+HTTP = "docs/HTTP.md"
+RELIABILITY = "docs/RELIABILITY.md"
+TILL = "/srv/till"
+
+
+def of_prices(room: Room) -> Iterator[Outcome]:
+    """The first command of the page, over a week of the examples and in the repository."""
+    like_the_repository(room)
+    room.run("--db", "shop.db", "batch", given=example("examples/shop/week.csv"))
+    room.path("FOLDER").mkdir()
+    (command,) = block(PRICES, "bin/desk-prices ")
+    # The week has no net prices, which the page asks for.
+    yield Outcome(f"{PRICES}: {command}", room.call(["sh", "-c", command]).status, 0)
+    lines = room.path("FOLDER/prices.csv").read_text(encoding="utf-8").splitlines()
+    found = [line.partition(",")[0] for line in lines]
+    yield Outcome(f"{PRICES}: the articles of its file", found, ["isbn", "9780306406157", A])
+
+
+def of_a_list(room: Room) -> Iterator[Outcome]:
+    """A list is asked of the open desk at its socket, and another one is watched."""
+    with machine(room, agreed() + message(1, (A, "10.00"))) as desk:
+        script(room, "bin/desk-prices", f'exec "{ROOT}/bin/desk-prices" --settings "{ROOT}/page/desk.json" "$@"')
+        room.path("till").mkdir()
+        room.write("stock.csv", written(["ISBN", A, B]))
+        (command,) = block(PRICES, "desk-prices --list")
+        ran = desk.run([command.replace(TILL, str(room.path("till")))])
+        yield Outcome(f"{PRICES}: {command}", ran.status, 0)
+        lines = room.path("till/prices.csv").read_text(encoding="utf-8").splitlines()
+        yield Outcome(f"{PRICES}: the file of a list", sorted(line[:13] for line in lines[1:]), sorted([A, B]))
+        room.write("etc/onixdesk/watched.csv", example("programs/desk-prices/watched.csv"))
+        (command,) = block(PRICES, "printf '9781234567897")
+        yield Outcome(f"{PRICES}: {command}", desk.run([command]), Ran(0))
+        watched = room.path("etc/onixdesk/watched.csv").read_text(encoding="utf-8").split()
+        yield Outcome(f"{PRICES}: the watched list", watched, ["ISBN", A, "9780000000002"])
+
+
+def gaps_by_cron(room: Room) -> Iterator[Outcome]:
+    """The line of cron asks the desk for three series, of which one has a gap."""
+    _, line = block(HTTP, "MAILTO=")
+    command = line.split(" ", 5)[5].replace("/opt/onixdesk/gaps.sh", str(ROOT / "programs/onixdesk/gaps.sh"))
+    parties = {name: PARTIES.format(value) for name, value in (("south", "4012345000023"), ("west", "4012345000030"))}
+    agreements = written([f"Agree,{name},{sender},1" for name, sender in parties.items()])
+    with machine(room, agreed() + agreements + message(2, (A, "10.00"), parties=parties["south"])) as desk:
+        ran = desk.run([command.replace(":8080", f":{desk.port}")])
+    report = b'{"answer":"gaps","first":1,"greatest":2,"held":1,"missing":[[1,1]],"next":1,"series":"south"}\n'
+    yield Outcome(f"{HTTP}: {line}", ran, Ran(1, report))
+
+
+def other_machine(room: Room, desk: Machine) -> None:
+    """The inbox and the copy are there, and the desk is not. Nobody is a user of this machine by the page's names."""
+    desk.run(["systemctl stop onixdesk.service"])
+    for name in ("", "-wal"):
+        room.path(f"{DESK}{name}").unlink(missing_ok=True)
+    script(room, "bin/chown", f'echo "$*" >>"{room.path("chowned")}"')
+    room.path("usr/share/onixdesk/bin").mkdir()
+    room.path("usr/share/onixdesk/bin/onixdesk-inbox").symlink_to(room.path("bin/onixdesk-inbox"))
+    own = room.path("bin/systemctl").rename(room.path("bin/own-systemctl"))
+    script(room, "bin/systemctl", f'[ "$1" != enable ] || set -- start onixdesk.service\nexec "{own}" "$@"')
+
+
+def moved_to_another(room: Room) -> Iterator[Outcome]:
+    """The desk is that of the copy, and gets what the inbox took since."""
+    with machine(room, agreed(), SENDER="any") as desk:
+        desk.take({"w1.csv": message(1, (A, "8.00"))})
+        desk.run(["desk-copy /var/lib/onixdesk/shop.db friday"])
+        desk.take({"w2.csv": message(2, (B, "9.00"))})
+        other_machine(room, desk)
+        lines = [line.strip() for line in block(RELIABILITY, "  chown -R onixdesk-inbox:")]
+        ran = desk.run(lines)
+        yield Outcome(f"{RELIABILITY}: a desk is moved", (ran.status, ran.errors if ran.status else b""), (0, b""))
+        chowned = room.path("chowned").read_text().split()[:2]
+        yield Outcome(f"{RELIABILITY}: whose the inboxes' folders are", chowned, ["-R", "onixdesk-inbox:"])
+        yield Outcome(
+            f"{RELIABILITY}: the prices there", desk.prices(A, B), {A: ["north R897 8.000"], B: ["north R880 9.000"]}
+        )

@@ -4,8 +4,8 @@ name. tools/put-up-page runs it.
 
     tools/put-up-page FOLDER
 
-The folder is made where it is not there. What an earlier page has left in it stays, since a browser may still have that
-page's index.html; its own index.html is written last. The single files are there too, for whoever reads them.
+The folder is made if it does not exist. What an earlier page has left in it stays, since a browser may still have that
+page's index.html; its own index.html is written last. The single files are beside them, for whoever reads them.
 """
 
 import hashlib

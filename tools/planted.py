@@ -8,8 +8,8 @@ tests/page/modules/run or tests/killed) and its groups that should fail. One tha
 `# Equivalent: WHY` in place of that, and is not tried. A NAME is a folder or a fault; without one all are tried. Before
 anything is planted, the groups have to pass.
 
-A line is written for each fault, and at the end `planted: N tried, M caught, K equivalent`. Status 0; 1 where a fault
-was not caught; 2 where there is no such fault, or a group fails without any.
+A line is written for each fault, and at the end `planted: N tried, M caught, K equivalent`. Status 0; 1 if a fault
+was not caught; 2 if there is no such fault, or a group fails without any.
 """
 
 import argparse

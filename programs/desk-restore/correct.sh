@@ -31,6 +31,6 @@ echo "$(grep -c '^[<>]' changes) lines differ"
 for number in $(seq "$(find parts -type f | wc -l)"); do
     onixdesk --db "corrected/${desk##*/}" batch <"new/$number.csv" >answers && continue
     grep '^refused,' answers >&2
-    complain "the new desk does not take all of it"
+    complain "the new desk does not accept all of it"
 done
 desk-restore corrected

@@ -23,10 +23,10 @@ tell = teller(PROGRAM)
 DESCRIPTION = """\
 Copies a desk whose program goes on answering: the database FILE and its log FILE-wal, as both were at one moment,
 under their names into a new FOLDER. All that the desk had answered when the copy began is in it. The copy is tried by
-SQLite, and FOLDER is there only once it is whole, sound and on the disk."""
+SQLite, and FOLDER exists only once it is whole, sound and on the disk."""
 
 STATUSES = """\
-Status 0; 1 where the copy is no sound database of a desk; 2 for a bad command line; 3 where a file cannot be read or
+Status 0; 1 if the copy is not a sound database of a desk; 2 for a bad command line; 3 if a file cannot be read or
 written, or the desk wrote all the while. Then there is no new FOLDER. docs/RELIABILITY.md says what a copy is."""
 
 
@@ -59,7 +59,7 @@ def command_line() -> argparse.ArgumentParser:
     )
     add_source(parser)
     parser.add_argument(
-        "folder", metavar="FOLDER", type=Path, help="a folder that is not there yet; with --keep one that is"
+        "folder", metavar="FOLDER", type=Path, help="a folder that does not exist yet; with --keep one that does"
     )
     return parser
 

@@ -48,7 +48,7 @@ def put(copy: Path, folder: Path) -> None:
     try:
         os.rename(copy, folder)
     except OSError as error:
-        raise Fault(f"{folder}: it is there already, and no empty folder") from error
+        raise Fault(f"{folder}: it already exists, and is not an empty folder") from error
     settle(folder.parent)
 
 

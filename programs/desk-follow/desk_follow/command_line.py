@@ -21,13 +21,13 @@ PROGRAM = "desk-follow"
 
 DESCRIPTION = """\
 Brings the tables of the schema desk in a database of PostgreSQL after those of a desk whose program goes on
-answering, in one transaction: what changed since the last time, or everything where the schema is new or is not of an
+answering, in one transaction: what changed since the last time, or everything if the schema is new or is not of an
 earlier moment of this desk. Who reads sees the desk of one moment, which desk.moment tells. The functions
 desk.prices, desk.choice, desk.calendar and desk.gaps answer as the desk did then. Nothing of it is proved."""
 
 STATUSES = """\
-Status 0; 1 where --compare finds rows that differ; 2 for a bad command line or precedence table; 3 where a file
-cannot be read, or the database does not take it. Then the schema is as it was. It needs Debian's python3-psycopg2.
+Status 0; 1 if --compare finds rows that differ; 2 for a bad command line or precedence table; 3 if a file
+cannot be read, or the database does not accept it. Then the schema is as it was. It needs Debian's python3-psycopg2.
 docs/SCALE.md has the rest."""
 
 tell = teller(PROGRAM)

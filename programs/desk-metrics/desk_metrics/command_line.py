@@ -22,13 +22,13 @@ FIGURES = Path("/var/lib/onixdesk-figures")
 
 DESCRIPTION = """\
 Writes metrics of a running desk, its series and its inboxes into FOLDER/onixdesk.prom, for the textfile collector of
-Prometheus' node exporter: whether the desk answers and in what time, at which number each series stands and since when,
+Prometheus' node exporter: whether the desk answers and in what time, at which number each series is and since when,
 and what lies in the folders of each inbox. The file is replaced whole. FOLDER/since.json keeps what the next run needs.
-The series are those whose settings are there, or those that are given."""
+The series are those that have settings, or those that are given."""
 
 STATUSES = """\
-Status 0, also where the desk does not answer, which the metrics say; 1 where the metrics of a series or an inbox are
-left out, with a line on standard error that says why; 2 for a bad command line; 3 where FOLDER cannot be written.
+Status 0, even if the desk does not answer, which the metrics say; 1 if the metrics of a series or an inbox are
+left out, with a line on standard error that says why; 2 for a bad command line; 3 if FOLDER cannot be written.
 docs/METRICS.md has the metrics."""
 
 
@@ -40,7 +40,7 @@ def command_line() -> argparse.ArgumentParser:
         metavar="URL",
         type=address,
         default=Settings.desk,
-        help="where the desk of each SERIES that is given answers, and the desk that is asked where there are no"
+        help="where the desk of each SERIES that is given answers, and the desk that is asked if there are no"
         f" series; {Settings.desk} without it",
     )
     add(
@@ -85,7 +85,7 @@ def command_line() -> argparse.ArgumentParser:
         default=20,
         help="how long an answer of the desk is waited for; 20 without it",
     )
-    add("folder", metavar="FOLDER", type=Path, help="a folder that is there")
+    add("folder", metavar="FOLDER", type=Path, help="a folder that exists")
     add("series", metavar="SERIES", type=series, nargs="*", help="the name of a series")
     return parser
 

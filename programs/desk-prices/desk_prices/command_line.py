@@ -33,10 +33,10 @@ DESCRIPTION = """\
 Writes a line for each article that a series offers into a file of FOLDER: from which wholesaler the shop buys it, at
 what price, until when, and what comes then. Each answer is the desk's own, of a copy that is taken before, so that
 nobody waits. If FILE is the socket of an open desk, that is asked about the articles of --list, in batches of at most
-50 ms. The file is there whole under its name, or not at all."""
+50 ms. The file has its name whole, or not at all."""
 
 STATUSES = """\
-Status 0; 2 for a bad command line or bad settings; 3 where a file cannot be read or written, or the desk does not
+Status 0; 2 for a bad command line or bad settings; 3 if a file cannot be read or written, or the desk does not
 answer. Then the file is as it was. docs/PRICES.md has the rest."""
 
 # How often a terminal is told how far it is.

@@ -26,8 +26,8 @@ catalogues need before the next one. What is given up is said first, and asked f
 is made of a copy while the desk answers, compared, and put in place; the old files stay beside it."""
 
 STATUSES = """\
-Status 0; 1 where nobody said yes, the desk cannot be renewed, or the new one differs; 2 for a bad command line; 3 where
-a file cannot be read or written, or a unit does not stop or start. Where no line says that the new desk is in place, the
+Status 0; 1 if nobody said yes, the desk cannot be renewed, or the new one differs; 2 for a bad command line; 3 if
+a file cannot be read or written, or a unit does not stop or start. If no line says that the new desk is in place, the
 old one is. After a kill the same command ends it. docs/RELIABILITY.md says when to renew a desk."""
 
 GIVEN_UP = """\
@@ -87,7 +87,7 @@ def renew_once(run: Renewing, options: argparse.Namespace) -> int:
             return FAILED
         run.stop_inboxes()
         before = run.replace(options.inboxes)
-        tell(f"the new desk is in place as {options.db}; what stood there is {before}")
+        tell(f"the new desk is in place as {options.db}; the old one is {before}")
     return DONE
 
 

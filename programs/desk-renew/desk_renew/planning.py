@@ -65,13 +65,13 @@ def renewal_of(source: Source, series: str, parties: list[str], first: int, afte
     try:
         messages = sum(1 for _ in contents_of(source, series)) if first < after else 0
     except TooLarge as record:
-        raise LeftAsItIs(f"{series}: no message takes its record {record}") from None
+        raise LeftAsItIs(f"{series}: no message accepts its record {record}") from None
     if after - messages < first:
         raise LeftAsItIs(f"{series}: its catalogue needs {messages} numbers before {after}, and it begins at {first}")
     renewal = Renewal(series, text_of(parties).rstrip("\n"), first, after, messages)
     for number, contents in source.ask(HELD, series):
         if len(renewal.at(number, contents).encode()) > LARGEST_BATCH:
-            raise LeftAsItIs(f"{series}: no batch takes its message {number}")
+            raise LeftAsItIs(f"{series}: no batch accepts its message {number}")
     return renewal
 
 

@@ -22,14 +22,14 @@ INBOXES = Path("/var/lib/onixdesk-inbox")
 
 DESCRIPTION = """\
 Puts COPY, a folder that desk-copy made, into the place of the desk. The copy is tried before anything else is done, by
-SQLite and by the desk itself, whose reports on gaps are written. Then what runs of onixdesk is stopped, the files that
-stood there get another name, the copy's get theirs, with the folder's owner, and the desk is started again. Each inbox
+SQLite and by the desk itself, whose reports on gaps are written. Then what runs of onixdesk is stopped, the desk's
+files get another name, the copy's get theirs, with the folder's owner, and the desk is started again. Each inbox
 takes again what that desk lacks, before it goes on. A copy that lacks a series of the desk, or has none, is refused."""
 
 STATUSES = """\
-Status 0; 1 where the copy is no sound database of a desk or lacks a series, or an inbox could not take all again and
-stays stopped; 2 for a bad command line; 3 where a file cannot be read or written, another program has the desk open, or
-a unit does not start. Where a line does not say that the copy is in place, the desk is as it was. The last line names
+Status 0; 1 if the copy is not a sound database of a desk or lacks a series, or an inbox could not take all again and
+stays stopped; 2 for a bad command line; 3 if a file cannot be read or written, another program has the desk open, or
+a unit does not start. If no line says that the copy is in place, the desk is as it was. The last line names
 what was stopped and does not run. docs/RELIABILITY.md says what comes after."""
 
 TOLD = "with --fewer-series it is put into place all the same"
@@ -51,7 +51,7 @@ def command_line() -> argparse.ArgumentParser:
     add(
         "--fewer-series",
         action="store_true",
-        help="takes a copy also if it lacks a series of the desk that stands there, or has none",
+        help="accept a copy even if it lacks a series of the present desk, or has none",
     )
     add("copy", metavar="COPY", type=Path, help="a folder with the two files of a desk, of the name of FILE")
     return parser
@@ -65,7 +65,7 @@ def compare(series: list[str], database: Path, copy: Path) -> None:
     try:
         lacking = [name for name in series_in(database) if name not in series]
     except Unsound as fault:
-        tell(f"the series of the desk that stands there are not compared: {fault}")
+        tell(f"the series of the present desk are not compared: {fault}")
         return
     if lacking:
         raise Unsound(f"{copy}: it lacks series of the desk: {', '.join(lacking)}; {TOLD}")
@@ -87,7 +87,7 @@ def put_back(options: argparse.Namespace, programs: Path, units: Units) -> None:
         if not options.fewer_series:
             compare(series, database, options.copy)
         before = exchange(new, database)
-    stood = f"what stood there is {before}" if before else "nothing stood there"
+    stood = f"the old one is {before}" if before else "there was none"
     tell(f"{options.copy} is in place as {database}; {stood}")
     print(reports, end="", flush=True)
     tell("agreements and waivers that were made since have to be made again")

@@ -26,8 +26,8 @@ new there, or changed under an old name, each file once and whole. The server is
 and keeps."""
 
 STATUSES = """\
-Status 0; 1 where the server could not be reached, or a file not be fetched, the third time in a row; 2 for a bad
-command line or bad settings; 3 where a folder cannot be used. docs/INBOX.md has the settings."""
+Status 0; 1 if the server could not be reached, or a file not be fetched, the third time in a row; 2 for a bad
+command line or bad settings; 3 if a folder cannot be used. docs/INBOX.md has the settings."""
 
 
 def command_line() -> argparse.ArgumentParser:

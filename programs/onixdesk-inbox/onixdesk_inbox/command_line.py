@@ -29,13 +29,13 @@ STATE = "/var/lib/onixdesk-inbox/{}"
 
 DESCRIPTION = """\
 Takes the files that a wholesaler has put into a folder to a running desk: what ends in .csv as it is, what ends
-in .xml, .onix, .onx, .gz or .zip through onix-to-csv, unpacked where it is packed. What the desk has applied or holds
+in .xml, .onix, .onx, .gz or .zip through onix-to-csv, unpacked if it is packed. What the desk has applied or holds
 is moved to done in the folder STATE, what it or the converter refuses to refused, with the notes and answers beside it
 in NAME.answer. Of each file a line is written to standard error."""
 
 STATUSES = """\
-Status 0, also where files wait; 1 where a file was refused, or has lain there for an hour; 2 for a bad command
-line or bad settings; 3 where a folder cannot be used, or the inbox itself fails. docs/INBOX.md has the settings."""
+Status 0, even if files wait; 1 if a file was refused, or has been there for an hour; 2 for a bad command
+line or bad settings; 3 if a folder cannot be used, or the inbox itself fails. docs/INBOX.md has the settings."""
 
 
 SINCE = {"all": ALL, "lacking": LACKING}
@@ -77,7 +77,7 @@ def command_line() -> argparse.ArgumentParser:
         help="take again what was done, and what was refused for a mistake that may be corrected, and nothing new: of"
         " that `all`, what the desk is `lacking`, or what was answered since a time as 2026-11-27T02-30-00Z of UTC",
     )
-    add("--check", action="store_true", help="only read the settings, and try their WORDS; status 2 where one is wrong")
+    add("--check", action="store_true", help="only read the settings, and try their WORDS; status 2 if one is wrong")
     decision = parser.add_mutually_exclusive_group()
     decision.add_argument(
         "--let-in",

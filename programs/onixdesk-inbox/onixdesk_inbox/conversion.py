@@ -131,7 +131,7 @@ class Converter:
         if status == REFUSED:
             raise Unconverted(in_settings(lines.last))
         if status == -signal.SIGKILL:
-            raise Refusal("its conversion was killed, as where it takes more memory than the unit allows")
+            raise Refusal("its conversion was killed, as happens if it takes more memory than the unit allows")
         if status == BAD_CALL:
             raise BadCall(f"the converter ends with status {status}: {lines.first}")
         raise Fault(f"the converter ends with status {status}: {lines.last}")

@@ -176,7 +176,7 @@ def settings_of(text: str, name: str) -> Settings:
         try:
             attribute, value = setting(line)
             if attribute in found:
-                raise ValueError(f"{line.partition('=')[0].strip()} is there twice")
+                raise ValueError(f"{line.partition('=')[0].strip()} is given twice")
         except ValueError as error:
             raise BadSettings(f"{name}:{place}: {error}") from None
         found[attribute] = value

@@ -26,13 +26,13 @@ PROGRAM = "onixdesk-look"
 LIKE = Path("/etc/onixdesk/page/desk.json")
 
 DESCRIPTION = """\
-Says whether a feed of a wholesaler fits the desk, before anything is agreed: what the converter takes of it, of how
+Says whether a feed of a wholesaler fits the desk, before anything is agreed: what the converter makes of it, of how
 many of its articles the desk would give a price today, why it gives none of the others, and what to paste into an
 agreement and the settings of an inbox. Each FILE is looked at by itself, at a desk of its own that is removed again;
 no desk of the shop is asked or changed."""
 
 STATUSES = """\
-Status 0; 1 where a FILE is refused or products of it are wrong; 2 for a bad command line; 3 where a file cannot be read
+Status 0; 1 if a FILE is refused or products of it are wrong; 2 for a bad command line; 3 if a file cannot be read
 or written. docs/ONIX.md has what to ask a wholesaler for."""
 
 

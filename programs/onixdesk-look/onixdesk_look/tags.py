@@ -37,7 +37,7 @@ class Tags:
 
     def begin(self, name: str, attributes: dict[str, str]) -> None:
         self.release = attributes.get("release", "none")
-        self.names = NAMES.get(name.rpartition(":")[2], "names that are none of ONIX")
+        self.names = NAMES.get(name.rpartition(":")[2], "names that ONIX does not have")
         self.parser.StartElementHandler = self.start
 
     def start(self, name: str, _attributes: dict[str, str]) -> None:

@@ -29,8 +29,8 @@ rows that inboxes have handed over. `rebuild`, for the user of the inboxes, has 
 feeds say that are done."""
 
 STATUSES = """\
-Status 0; 1 where rows or the titles of a feed are left out, with a line on standard error that says why; 2 for a bad
-command line or bad settings; 3 where a folder cannot be used. docs/INBOX.md says which title counts."""
+Status 0; 1 if rows or the titles of a feed are left out, with a line on standard error that says why; 2 for a bad
+command line or bad settings; 3 if a folder cannot be used. docs/INBOX.md says which title counts."""
 
 
 def command_line(programs: Path) -> argparse.ArgumentParser:

@@ -253,7 +253,7 @@ def what_changes_nothing(room: Room) -> Iterator[Outcome]:
         number = room.path("pid").read_text()
         for expression, why in [
             ("s/^Agree,south,/Agree,north,/", "no line of its text changes"),
-            ("s/^Agree,north,06,4012345000009/Agree,north,06,4012345000008/", "the new desk does not take all of it"),
+            ("s/^Agree,north,06,4012345000009/Agree,north,06,4012345000008/", "the new desk does not accept all of it"),
         ]:
             ran = desk.run([f"{CORRECT} '{expression}'"])
             line = f"correct.sh: {why}; the desk is as it was"

@@ -154,8 +154,8 @@ def of_a_desk_at_rest(room: Room) -> Iterator[Outcome]:
     room.path(log).unlink()
     copy(room, DATABASE, "without")
     yield Outcome("a desk without a log", files(room.path("without")), {DATABASE: wanted[DATABASE]})
-    line = b"desk-copy: copy: it is there already, and no empty folder\n"
-    yield Outcome("a folder that is there", copy(room, DATABASE, "copy"), Ran(3, b"", line))
+    line = b"desk-copy: copy: it already exists, and is not an empty folder\n"
+    yield Outcome("a folder that exists", copy(room, DATABASE, "copy"), Ran(3, b"", line))
     yield Outcome("nothing else is left", left(room), ["copy", "without"])
 
 

@@ -123,7 +123,7 @@ def with_what_it_has(room: Room) -> Iterator[Outcome]:
     room.write("state/north/renewed", b"north 1 2\n")
     came = renew(room, "--yes", units=UNITS)
     before, *others = of_before(room) or [""]
-    line = f"desk-renew: the new desk is in place as {room.path(DATABASE)}; what stood there is {room.path(before)}\n"
+    line = f"desk-renew: the new desk is in place as {room.path(DATABASE)}; the old one is {room.path(before)}\n"
     yield Outcome("renewed: what is said", came, Ran(0, SAID, line.encode()))
     mode = [room.path(each).stat().st_mode & 0o777 for each in (DATABASE, f"{DATABASE}-wal")]
     yield Outcome("renewed: what it has", kept(room, DATABASE), wanted)
@@ -184,7 +184,7 @@ def left_as_it_is(room: Room) -> Iterator[Outcome]:
     line = b"desk-renew: the desk is left as it is: %s\n"
     too_few = b"south: its catalogue needs 4 numbers before 8, and it begins at 5"
     too_large = b"; ".join(
-        b"%s: no message takes its record %s" % each for each in [(b"north", b'R 3,"x'), (b"south", b"S1")]
+        b"%s: no message accepts its record %s" % each for each in [(b"north", b'R 3,"x'), (b"south", b"S1")]
     )
     for most, why in [(11, too_few), (10, too_large)]:
         came = renew(room, "--yes", most=most, units=UNITS)

@@ -91,7 +91,7 @@ def in_its_place(room: Room) -> Iterator[Outcome]:
     batch(room, message_of("R2", number=2))
     lost = {each: room.path(each).read_bytes() for each in (DATABASE, f"{DATABASE}-wal")}
     came = restore(room, f"copies/{name}")
-    before = re.search(r"what stood there is \S*/(cases\.db\.[-\dTZ]+)\n", came.errors.decode())
+    before = re.search(r"the old one is \S*/(cases\.db\.[-\dTZ]+)\n", came.errors.decode())
     yield Outcome(
         "restored", (came.status, came.output), (0, b"gaps,north,first=1,next=2,greatest=1,held=0,missing=0\n")
     )
@@ -168,12 +168,12 @@ def copies_that_lack_series(room: Room) -> Iterator[Outcome]:
     yield Outcome("series that lack, as told", (came.status, agreed(room)), (0, ["north"]))
     room.path(DATABASE).write_bytes(b"no database" * 1000)
     came = restore(room, f"copies/{name}", units="")
-    line = f"the series of the desk that stands there are not compared: {DATABASE}: file is not a database\n"
+    line = f"the series of the present desk are not compared: {DATABASE}: file is not a database\n"
     yield Outcome("series of a damaged desk", (came.status, line in came.errors.decode()), (0, True))
     for path in room.folder.glob(f"{DATABASE}*"):
         path.unlink()
     came = restore(room, "--fewer-series", "none", units="")
-    line = f"{room.path('none')} is in place as {room.path(DATABASE)}; nothing stood there\n"
+    line = f"{room.path('none')} is in place as {room.path(DATABASE)}; there was none\n"
     yield Outcome("an empty folder", (came.status, line in came.errors.decode()), (0, True))
 
 

@@ -6,7 +6,7 @@ from collections.abc import Iterator
 from functools import cache
 
 from tests.program.desk import helps
-from tests.program.documents.examples import example, like_the_repository
+from tests.program.documents.examples import example, like_the_repository, on_path
 from tests.program.room import Room
 from tests.running import Outcome
 from tools.root import ROOT
@@ -102,3 +102,15 @@ def of_readme(room: Room) -> Iterator[Outcome]:
         yield Outcome(f"README.md: {command}", (ran.status, ran.errors if ran.status else b""), (0, b""))
     yield Outcome("README.md: commands that its table does not have", sorted(ELSEWHERE.keys() - set(told)), [])
     yield Outcome("README.md: commands of its table that are run", len(found) >= 8, True)
+
+
+def of_manual_page(room: Room) -> Iterator[Outcome]:
+    """The example of the manual page, over a feed and its agreement."""
+    page = ROOT.joinpath("programs/onixdesk/onixdesk.1").read_text(encoding="utf-8")
+    lines = page.partition(".Bd -literal -offset indent\n")[2].partition(".Ed")[0]
+    room.write("feed.xml", example("examples/shop/onix/north-1.xml"))
+    room.write("agreements.csv", b"Agree,north,06,4012345000009,06,5012345678900,1\n")
+    ran = room.call(["sh", "-e", "-c", lines], environment=on_path(room))
+    answers = ["agreed,north,1", "applied,north,1", "gaps,north,first=1"]
+    found = [line[: len(wanted)] for line, wanted in zip(ran.output.decode().splitlines(), answers)]
+    yield Outcome("onixdesk.1: its example", (ran.status, found), (0, answers))

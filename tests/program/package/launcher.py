@@ -137,6 +137,13 @@ def a_batch_without_a_program(room: Room) -> Iterator[Outcome]:
     room.path("status").write_text("0")
     for line in WANTING:
         yield Outcome(f"launcher: unbuilt, {line}", launch(room, *line.split()), wanting())
+    tried = room.path(f"{PROGRAM}.unproved")
+    tried.parent.mkdir(exist_ok=True)
+    tried.touch(0o755)
+    said = f"; {PROGRAM}.unproved, which 'make try' built, does it without any proof"
+    line = told(UNBUILT.format(", and this wants it") + said)
+    yield Outcome("launcher: one is built to be tried", launch(room, "gaps", "north"), Ran(3, b"", line))
+    tried.unlink()
     # The program refuses what has a byte more than a batch may have.
     came = launch(room, "batch", given=b"\n" * (LARGEST_BATCH + 9))
     wanted = answered(given=b"\n" * (LARGEST_BATCH + 1))

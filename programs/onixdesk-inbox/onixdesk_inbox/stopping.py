@@ -125,7 +125,7 @@ class Look:
         for article in contents.sample()[: MOST_QUESTIONS // len(kinds)]:
             found.look_at(article, contents.articles[article])
         if found.unknown.count < found.unknown.of or any(map(found.is_offered, articles)):
-            judge(found.unknown, settings.stop_unknown, f"articles are not among those that {self.series} offers")
+            judge(found.unknown, settings.stop_unknown, f"articles are none that {self.series} offers")
         judge(found.jumps, settings.stop_jumps, "prices change by more than a factor of two")
         judge(found.lost, settings.stop_lost, "articles lose their price of a type and currency")
 

@@ -61,6 +61,8 @@ class Converter:
             if process.returncode == BAD_CALL:
                 raise BadCall(errors.readline().strip())
             said = read_said(errors, file.name)
+            errors.seek(0)
+            *_, last = ["", *map(str.strip, errors)]
         if process.returncode not in (DONE, FAILED):
-            raise Fault(f"{file}: {said.refusal or f'the converter ends with status {process.returncode}'}")
+            raise Fault(f"{file}: {said.refusal or f'the converter ends with status {process.returncode}: {last}'}")
         return process.returncode, said, tags

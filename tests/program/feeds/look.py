@@ -261,6 +261,16 @@ def bad_words(room: Room) -> Iterator[Outcome]:
     yield Outcome("look: words of the converter", (came.status, b"WORDS=--id-type 01\n" in came.output), (0, True))
 
 
+def no_program(room: Room) -> Iterator[Outcome]:
+    """Where the converter converts nothing, what it says is told."""
+    room.write("a.xml", feed([]))
+    why = "onixdesk: the program is not built"
+    program = script(room, "unbuilt", f"echo '{why}' >&2; exit 3")
+    came = look(room, "--program", program, "a.xml")
+    line = f"onixdesk-look: a.xml: the converter ends with status 3: {why}\n"
+    yield Outcome("look: no program", came, Ran(3, b"", line.encode()))
+
+
 def leaves_nothing(room: Room) -> Iterator[Outcome]:
     """It writes nothing beside a feed, and removes what it makes."""
     room.path("feeds").mkdir()

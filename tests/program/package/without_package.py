@@ -32,8 +32,12 @@ UNITS = {".path", ".service", ".timer"}
 OF_THE_MACHINE = ("useradd ", "adduser ", "systemctl ", "systemd-tmpfiles ")
 
 
+def lines_of_blocks() -> list[str]:
+    return [line for document, first in BLOCKS for line in block(document, first)]
+
+
 def lines_that_install() -> list[str]:
-    found = [line for document, first in BLOCKS for line in block(document, first)]
+    found = lines_of_blocks()
     for document in SENTENCES:
         found += re.findall("`(install [^`]*)`", ROOT.joinpath(document).read_text(encoding="utf-8"))
     return [line for line in found if not line.startswith(OF_THE_MACHINE)]
@@ -93,6 +97,9 @@ def without_the_package(room: Room) -> Iterator[Outcome]:
     yield Outcome("without the package: what units name", missing, [])
     counts = len(names), sum(len(named_by(unit)) for unit in units)
     yield Outcome("without the package: units that are looked at", counts >= (10, 8), True)
+    made = [line.split()[-1] for line in lines_of_blocks() if line.startswith("systemd-tmpfiles --create ")]
+    laid = [path.name for path in root.joinpath("etc/tmpfiles.d").iterdir()]
+    yield Outcome("without the package: what makes folders", sorted(laid), sorted(made))
     beside = ["bin/desk-restore", "gaps.sh"]
     found = [name for name in beside if not is_there(root, f"/opt/onixdesk/{name}")]
     yield Outcome("without the package: what is run by hand", found, [])

@@ -3,7 +3,7 @@
 import { found } from "./elements.js";
 import { needsList, sumsTable } from "./order-parts.js";
 import { sumsOf } from "./order-sums.js";
-import { orderTable, otherCopies, redraw } from "./order-table.js";
+import { drawTable, laterRows, otherCopies, redraw } from "./order-table.js";
 import { kindOf } from "./price-types.js";
 import { formatter, say, sayCount } from "./wording.js";
 
@@ -106,6 +106,7 @@ export class OrderResults {
   #marks;
   #waiting = new Set();
   #timer;
+  #later;
 
   /** `acts` has `choose`, which hears what a hand chose for a book, and `save`, of a way and a series. */
   constructor(settings, reports, acts) {
@@ -142,13 +143,27 @@ export class OrderResults {
     this.#forget();
     const held = heldField();
     const rows = list.rows();
-    const before = [...found("list").querySelectorAll("tbody tr")];
-    found("list").replaceChildren(orderTable("list-heading", rows, this.#context(list), before));
+    drawTable(found("list"), "list-heading", rows, this.#context(list));
+    this.#drawLater(list);
     found("list-part").hidden = rows.length === 0;
     found("list-retail").hidden = kindOf(list.question.type) !== "retail";
     if (held !== undefined) found("list").querySelector(held)?.focus();
     this.#drawAbove(list);
     this.#marks = this.#marksOf(list);
+  }
+
+  /** Draws the rows that a long list has left for later, some at a time. */
+  #drawLater(list) {
+    clearTimeout(this.#later);
+    if (laterRows(found("list")).length === 0) return;
+    this.#later = setTimeout(() => {
+      const context = this.#context(list);
+      for (const row of laterRows(found("list"))) {
+        const book = list.books[Number(row.dataset.book)];
+        redraw(row, book, list.stateOf(book), context);
+      }
+      this.#drawLater(list);
+    }, 0);
   }
 
   #marksOf(list) {

@@ -356,6 +356,8 @@ function rowOf(book, state, context) {
 function marked(row, book, { offer }, context) {
   row.dataset.book = book.id;
   row.tabIndex = -1;
+  row.classList.toggle("with-own", row.querySelector(".own") !== null);
+  row.classList.toggle("with-title", row.querySelector(".title:not(:empty)") !== null);
   if (offer !== undefined) row.dataset.series = offer.series;
   else {
     const cells = [...row.cells];
@@ -382,8 +384,13 @@ function contentsOf(book, context) {
 
 function makeRow(book, state, context, columns = columnsOf(context)) {
   const row = marked(tableRow(columns, rowOf(book, state, context)), book, state, context);
-  made.set(row, { book, contents: contentsOf(book, context) });
+  noteSame(row, book, context);
   return row;
+}
+
+/** Notes that a row says what is known of its book by now, as where nothing better was found. */
+export function noteSame(row, book, context) {
+  made.set(row, { book, contents: contentsOf(book, context) });
 }
 
 /** How many letters the longest name of a wholesaler has, for which there is room in each row. */
@@ -401,6 +408,7 @@ function tableIn(place, heading, columns) {
   const shown = place.querySelector("table");
   if (shown !== null && heads.get(shown) === head) return shown;
   const whole = table(heading, columns, []);
+  whole.classList.toggle("titled", columns.some(({ className }) => className === CLASSES.title));
   heads.set(whole, head);
   return whole;
 }

@@ -564,7 +564,7 @@ def cut(site: Site, browser: Browser) -> Iterator[Outcome]:
     asked = len(site.requests())
     look_up(browser, lines_of(range(20)))
     count = browser.run("return window.cut")
-    yield Outcome(f"cut: {count} questions", count >= 8, True)
+    yield Outcome(f"cut: {count} questions", count >= 4, True)
     yield Outcome("cut: all are answered", browser.text("#list-status"), "20 of 20 looked up. No book needs you.")
     yield Outcome("cut: nobody is told", browser.run("return window.told"), [])
     there = [line for line in site.requests()[asked:] if "is-the-desk-there" in line]

@@ -162,14 +162,13 @@ function noteLookUp() {
   document.getElementById('look-up').addEventListener(
     'click', () => { window.pressedAt = performance.now(); }, { capture: true, once: true });
   new MutationObserver(() => {
-    if (!status.textContent.startsWith('500 of 500')) return;
-    window.lookedUpAt ??= performance.now();
-    window.drawnThen ??= [...window.drawn];
+    if (status.textContent.startsWith('500 of 500')) window.lookedUpAt ??= performance.now();
   }).observe(status, { childList: true, characterData: true, subtree: true });
 }
 
-// Marks the rows of a list, so that those that are made anew are known.
+// Marks the rows of a list, so that those that are made anew or moved are known.
 function markRows() {
+  window.drawnThen = [...window.drawn];
   for (const row of document.querySelectorAll('#list tbody tr')) row.isMarked = true;
 }
 

@@ -25,19 +25,17 @@ THERE = "/desk/series/is-the-desk-there/gaps"
 GIVEN_UP = "499"
 
 
-def timed(browser: Browser) -> Iterator[Outcome]:
-    """What five hundred lines took, and that it was no more than is needed."""
+def timed(browser: Browser, lines: list[str]) -> Iterator[Outcome]:
+    """What five hundred lines took, and that no more was asked for them than is needed, by nginx's lines."""
     seconds, paths, each = browser.call("lookUpTimes")
     print(f"page: 500 lines took {seconds:.1f} s, {len(paths)} questions of {each:.1f} ms, {load()}", flush=True)
     wanted = [f"/desk/articles/{isbn_of(number)}/{what}" for number in WHOLE for what in ("choice", "calendar")]
-    yield Outcome("a choice and an offer for each line", sorted(paths), sorted(wanted))
+    yield Outcome("a choice and an offer for each line", sorted(set(paths)), sorted(wanted))
+    lost = sum(line.endswith(THERE) for line in lines)
+    yield Outcome(f"each is asked once, but for {lost} that were lost", 0 <= len(paths) - len(wanted) <= lost, True)
     longest = max((duration for _, duration in browser.run("return window.blocks")), default=0)
     print(f"page: the longest block of 500 lines took {longest:.0f} ms", flush=True)
     yield Outcome("rows stand still while others are answered", browser.run("return window.shifts"), [])
-    come, gone = browser.run("return window.drawnThen")
-    # Each makes room for the one with the answer; those that are not seen at first are also made later than the others.
-    name = f"rows that are answered are made anew, and no other: {come} come, {gone} go"
-    yield Outcome(name, come == gone and len(WHOLE) <= come <= 2 * len(WHOLE), True)
 
 
 def statuses(lines: list[str]) -> set[str]:
@@ -60,8 +58,10 @@ def busy(browser: Browser) -> float:
 def typed(browser: Browser) -> Iterator[Outcome]:
     """How long the page is busy with a key in a long list, of which no row is drawn anew."""
     browser.wait(lambda: browser.text("#list-copies") == "")
-    drawn = browser.run("return window.drawnThen")
-    yield Outcome("no row is made anew for other copies that are not better", browser.run("return window.drawn"), drawn)
+    come, gone = browser.run("return window.drawn")
+    # Each makes room for the one with the answer; many that are not seen at first are made once more, later than others.
+    name = f"a row is made anew for its answer, and not for copies that are no better: {come} come, {gone} go"
+    yield Outcome(name, come == gone and len(WHOLE) <= come < 2 * len(WHOLE), True)
     browser.call("markRows")
     browser.one("#lines").send_keys(Keys.CONTROL, Keys.END)
     # The first one dims what was looked up.
@@ -116,7 +116,7 @@ def whole_list(site: Site, browser: Browser) -> Iterator[Outcome]:
         colleague.append(site.fetch("/desk/series/alpha/gaps")[0])
         time.sleep(0.2)
     yield Outcome("five hundred lines", browser.text("#list-status"), "500 of 500 looked up. No book needs you.")
-    yield from timed(browser)
+    yield from timed(browser, site.requests()[asked:])
     yield Outcome("a colleague is answered", set(colleague), {200})
     wanted = ordered(WHOLE)
     total = sum((sum_of(books) for books in wanted.values()), Decimal(0))

@@ -105,6 +105,8 @@ def whole_list(site: Site, browser: Browser) -> Iterator[Outcome]:
     words = "These are 1,001 lines; a list has 1000 at most. Please divide it."
     yield Outcome("one line too many", browser.wait_for_text("#lines-wrong", "1,001"), words)
     browser.call("putLines", lines_of(WHOLE))
+    # Which wholesaler lacks messages is known by now, so that no row is made anew for that.
+    browser.wait(lambda: browser.all("#missing-count .count"))
     asked = len(site.requests())
     browser.call("noteLookUp")
     end = time.monotonic() + SECONDS

@@ -3,16 +3,26 @@
 
 import { formatter } from "./wording.js";
 
+// How many decimals a currency has, which takes long to ask for.
+const decimals = new Map();
+
+function usualDecimals(currency) {
+  if (!decimals.has(currency)) {
+    const { maximumFractionDigits } = formatter(Intl.NumberFormat, { style: "currency", currency }).resolvedOptions();
+    decimals.set(currency, maximumFractionDigits);
+  }
+  return decimals.get(currency);
+}
+
 /** As many decimals as the currency has, and more where the amount needs them. */
 function decimalsOf(amount, currency) {
-  const usual = formatter(Intl.NumberFormat, { style: "currency", currency }).resolvedOptions();
   const needed = (amount.split(".")[1] ?? "").replace(/0+$/, "").length;
-  return Math.max(usual.maximumFractionDigits, needed);
+  return Math.max(usualDecimals(currency), needed);
 }
 
 function inLanguage(amount, currency, style) {
-  const decimals = decimalsOf(amount, currency);
-  const digits = { minimumFractionDigits: decimals, maximumFractionDigits: decimals };
+  const count = decimalsOf(amount, currency);
+  const digits = { minimumFractionDigits: count, maximumFractionDigits: count };
   return formatter(Intl.NumberFormat, { ...style, ...digits }).format(amount);
 }
 

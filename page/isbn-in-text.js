@@ -23,8 +23,12 @@ function plainSign(sign) {
   return /[^\S\t]/.test(sign) ? " " : sign;
 }
 
+// A text that has nothing else, as most have: it takes no time to see.
+const IS_PLAIN = /^[\t -~]*$/;
+
 /** A text with ASCII's digits, hyphens and spaces, each sign at its place. */
 export function plain(text) {
+  if (IS_PLAIN.test(text)) return text;
   return text.replace(/./gsu, plainSign);
 }
 

@@ -20,8 +20,10 @@ const watch = {
     note.hidden = false;
   },
   up() {
-    found("down").hidden = true;
-    found("down").textContent = "";
+    const note = found("down");
+    if (note.hidden) return;
+    note.hidden = true;
+    note.textContent = "";
   },
 };
 
@@ -45,6 +47,7 @@ function show(views) {
   const { view, given } = readAddress(shownHash);
   for (const [name, shown] of Object.entries(views)) {
     const isShown = name === view;
+    if (isShown) document.body.dataset.view = name;
     found(`${name}-view`).hidden = !isShown;
     if (isShown) found(`to-${name}`).setAttribute("aria-current", "page");
     else {

@@ -3,7 +3,7 @@
 import { found } from "./elements.js";
 import { needsList, sumsTable } from "./order-parts.js";
 import { sumsOf } from "./order-sums.js";
-import { orderTable, otherCopies, redraw } from "./order-table.js";
+import { drawTable, laterRows, noteSame, otherCopies, redraw } from "./order-table.js";
 import { kindOf } from "./price-types.js";
 import { formatter, say, sayCount } from "./wording.js";
 
@@ -39,8 +39,20 @@ export function showProgress(list) {
   found("list-as-of").textContent = from === undefined ? "" : say(path, { from, until });
 }
 
+// How many milliseconds what counts each question stands at least, since a page is painted anew for each change.
+const STANDS = 200;
+let shownAt = -Infinity;
+
+/** Whether it is time to say how many of all are done. */
+function isDue(done, all) {
+  if (0 < done && done < all && performance.now() - shownAt < STANDS) return false;
+  shownAt = performance.now();
+  return true;
+}
+
 /** Shows how many of the books of an order are asked for once more. */
 export function showChecking(done, all) {
+  if (!isDue(done, all)) return;
   found("list-progress").max = Math.max(all, 1);
   found("list-progress").value = done;
   found("list-count").textContent = say("order.checked", { done: counted(done), all: counted(all) });
@@ -49,6 +61,7 @@ export function showChecking(done, all) {
 
 /** Shows of how many books is known whether another number of copies is better, until it is of all. */
 export function showCopies(done, all) {
+  if (!isDue(done, all)) return;
   const words = say("order.copiesAsked", { done: counted(done), all: counted(all) });
   found("list-copies").textContent = done === all ? "" : words;
 }
@@ -106,6 +119,7 @@ export class OrderResults {
   #marks;
   #waiting = new Set();
   #timer;
+  #later;
 
   /** `acts` has `choose`, which hears what a hand chose for a book, and `save`, of a way and a series. */
   constructor(settings, reports, acts) {
@@ -142,13 +156,28 @@ export class OrderResults {
     this.#forget();
     const held = heldField();
     const rows = list.rows();
-    const before = [...found("list").querySelectorAll("tbody tr")];
-    found("list").replaceChildren(orderTable("list-heading", rows, this.#context(list), before));
+    drawTable(found("list"), "list-heading", rows, this.#context(list));
+    this.#drawLater(list);
     found("list-part").hidden = rows.length === 0;
+    found("lines").classList.toggle("looked-up", rows.length > 0);
     found("list-retail").hidden = kindOf(list.question.type) !== "retail";
     if (held !== undefined) found("list").querySelector(held)?.focus();
     this.#drawAbove(list);
     this.#marks = this.#marksOf(list);
+  }
+
+  /** Draws the rows that a long list has left for later, some at a time. */
+  #drawLater(list) {
+    clearTimeout(this.#later);
+    if (laterRows(found("list")).length === 0) return;
+    this.#later = setTimeout(() => {
+      const context = this.#context(list);
+      for (const row of laterRows(found("list"))) {
+        const book = list.books[Number(row.dataset.book)];
+        redraw(row, book, list.stateOf(book), context);
+      }
+      this.#drawLater(list);
+    }, 0);
   }
 
   #marksOf(list) {
@@ -193,7 +222,9 @@ export class OrderResults {
     const context = this.#context(list);
     const { others = [] } = book.answer;
     const isBetter = state.offer !== undefined && otherCopies(book, state.offer, context).length > 0;
-    if (others.length > 0 || isBetter) redraw(this.#rowOf(book), book, state, context);
+    const row = this.#rowOf(book);
+    if (others.length > 0 || isBetter) redraw(row, book, state, context);
+    else noteSame(row, book, context);
   }
 
   /** Draws the row of a book soon, with those of others that are answered meanwhile. */

@@ -356,6 +356,8 @@ function rowOf(book, state, context) {
 function marked(row, book, { offer }, context) {
   row.dataset.book = book.id;
   row.tabIndex = -1;
+  row.classList.toggle("with-own", row.querySelector(".own") !== null);
+  row.classList.toggle("with-title", row.querySelector(".title:not(:empty)") !== null);
   if (offer !== undefined) row.dataset.series = offer.series;
   else {
     const cells = [...row.cells];
@@ -375,13 +377,20 @@ function contentsOf(book, context) {
   const series = (book.answer?.offers ?? []).map((offer) => offer.series);
   const marks = series.map((name) => context.reports.stateOf(name));
   const isWaiting = book.answer === undefined && context.isAsking;
-  return JSON.stringify([book, context.handOf(book), marks, isWaiting, context.beforeOf(book.isbn), context.type]);
+  // A question that brings the same again changes when it was answered, which no row says.
+  const said = { ...book, answer: { ...book.answer, at: undefined } };
+  return JSON.stringify([said, context.handOf(book), marks, isWaiting, context.beforeOf(book.isbn), context.type]);
 }
 
-function makeRow(book, state, context) {
-  const row = marked(tableRow(columnsOf(context), rowOf(book, state, context)), book, state, context);
-  made.set(row, { book, contents: contentsOf(book, context) });
+function makeRow(book, state, context, columns = columnsOf(context)) {
+  const row = marked(tableRow(columns, rowOf(book, state, context)), book, state, context);
+  noteSame(row, book, context);
   return row;
+}
+
+/** Notes that a row says what is known of its book by now, as where nothing better was found. */
+export function noteSame(row, book, context) {
+  made.set(row, { book, contents: contentsOf(book, context) });
 }
 
 /** How many letters the longest name of a wholesaler has, for which there is room in each row. */
@@ -390,21 +399,68 @@ function longestName(rows, { settings }) {
   return Math.max(0, ...[...names].map((series) => wholesalerOf(settings, series).length));
 }
 
-/**
- * The table of books with their states, named by the heading with that id, with those of the rows `before` that say
- * the same still. The context has the `settings`, the `currency` and `type` asked for, `handOf` a book, the `reports`
- * on messages, `isAsking`, `isRetail`, and what hears of what a buyer does.
- */
-export function orderTable(heading, rows, context, before = []) {
-  const whole = table(heading, columnsOf(context), []);
-  whole.style.setProperty("--name-length", String(longestName(rows, context)));
-  const known = new Map(before.map((row) => [made.get(row).book, row]));
-  const isSame = (row, book) => row !== undefined && made.get(row).contents === contentsOf(book, context);
-  whole.tBodies[0].append(...rows.map(({ book, state }) => {
-    const row = known.get(book);
-    return isSame(row, book) ? row : makeRow(book, state, context);
-  }));
+// What the head of a table says, so that one which says the same need not be made anew.
+const heads = new WeakMap();
+
+/** The table that a place has, where it has one with these columns, else a new one. */
+function tableIn(place, heading, columns) {
+  const head = JSON.stringify(columns);
+  const shown = place.querySelector("table");
+  if (shown !== null && heads.get(shown) === head) return shown;
+  const whole = table(heading, columns, []);
+  whole.classList.toggle("titled", columns.some(({ className }) => className === CLASSES.title));
+  heads.set(whole, head);
   return whole;
+}
+
+/** Puts rows into the body of a table, where one that has its place stays: to move it would lay it out anew. */
+function putRows(body, rows) {
+  const kept = new Set(rows);
+  for (const row of [...body.rows]) if (!kept.has(row)) row.remove();
+  let next = body.firstElementChild;
+  for (const row of rows) {
+    if (row === next) next = next.nextElementSibling;
+    else body.insertBefore(row, next);
+  }
+}
+
+// How many rows are made at once: while a thousand are, no key is heard.
+const AT_ONCE = 100;
+const LATER = "later";
+
+/** A row that is to be made later: the one that there is, or one that says nothing yet. */
+function laterRow(book, row = element("tr", { role: "row" })) {
+  row.classList.add(LATER);
+  row.dataset.book = book.id;
+  made.set(row, { book });
+  return row;
+}
+
+/** The next rows that are to be made. */
+export function laterRows(place) {
+  return [...place.querySelectorAll(`tr.${LATER}`)].slice(0, AT_ONCE);
+}
+
+/**
+ * Draws the table of books with their states in a place, named by the heading with that id; rows that say the same still
+ * stay, and of many others the first are made now. The context has the `settings`, the `currency` and `type` asked for,
+ * `handOf` a book, the `reports` on messages, `isAsking`, `isRetail`, and what hears of what a buyer does.
+ */
+export function drawTable(place, heading, rows, context) {
+  const columns = columnsOf(context);
+  const whole = tableIn(place, heading, columns);
+  whole.style.setProperty("--name-length", String(longestName(rows, context)));
+  const [body] = whole.tBodies;
+  const known = new Map([...body.rows].map((row) => [made.get(row).book, row]));
+  const isSame = (row, book) => row !== undefined && made.get(row).contents === contentsOf(book, context);
+  let count = 0;
+  putRows(body, rows.map(({ book, state }) => {
+    const row = known.get(book);
+    if (isSame(row, book)) return row;
+    count += 1;
+    return count > AT_ONCE ? laterRow(book, row) : makeRow(book, state, context, columns);
+  }));
+  if (!place.contains(whole)) place.replaceChildren(whole);
 }
 
 /** Draws the row of a book anew, where its field keeps the focus. */

@@ -11,7 +11,7 @@ export function undirected(text) {
 }
 
 /** The beginning of a text, for a sentence that has to stay short. */
-export function shortened(text) {
+export function shortened(text, most = MOST_SIGNS) {
   const signs = [...undirected(text)];
-  return signs.length > MOST_SIGNS ? `${signs.slice(0, MOST_SIGNS - 1).join("")}…` : signs.join("");
+  return signs.length > most ? `${signs.slice(0, most - 1).join("")}…` : signs.join("");
 }

@@ -49,7 +49,7 @@ export function restInWords(count) {
 /** Offers to copy what is in no order. */
 export function offerRest({ count, rows }, copy) {
   const button = found("copy-rest");
-  button.hidden = count === 0;
+  found("rest").hidden = count === 0;
   button.textContent = say("order.copyRest");
   button.onclick = () => copy(rows.join("\n"));
 }

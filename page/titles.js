@@ -3,7 +3,7 @@
 
 import { urlBeside } from "./address.js";
 import { element } from "./elements.js";
-import { undirected } from "./said.js";
+import { shortened, undirected } from "./said.js";
 import { wholesalerOf } from "./settings.js";
 import { say, sayParts, wordsOfCode } from "./wording.js";
 
@@ -17,6 +17,9 @@ const NONE = [204, 404];
 // publisher behind them.
 const HEAD = 3;
 const LENGTH = 7;
+
+// How many letters of each part are shown, so that none pushes out of sight who said it, and what others say.
+const MOST_LETTERS = 120;
 
 const areTexts = (values) => values.every((value) => typeof value === "string");
 const isTitle = (entry) =>
@@ -102,7 +105,7 @@ function differNodes(titles, settings) {
   return differing(titles).flatMap(({ series, title }) => [
     " · ",
     element("strong", { class: "need" }, ...sayParts("titles.differs", {
-      wholesaler: wholesalerOf(settings, series), title: element("bdi", {}, undirected(title)),
+      wholesaler: wholesalerOf(settings, series), title: element("bdi", {}, shortened(title, MOST_LETTERS)),
     })),
   ]);
 }
@@ -111,7 +114,7 @@ function differNodes(titles, settings) {
 export function titleNodes(titles, settings, none = "titles.noneHere") {
   const texts = titleTexts(titles);
   if (texts.length === 0) return [element("small", {}, say(none))];
-  const nodes = texts.flatMap((text) => [" · ", element("bdi", {}, text)]).slice(1);
+  const nodes = texts.flatMap((text) => [" · ", element("bdi", {}, shortened(text, MOST_LETTERS))]).slice(1);
   const whole = { class: "clamped", title: texts.join(" · ") };
   return [element("span", whole, ...nodes), ...differNodes(titles, settings)];
 }

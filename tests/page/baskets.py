@@ -11,7 +11,7 @@ from selenium.webdriver.common.keys import Keys
 
 from tests.page import order_desk
 from tests.page.articles import noted, said
-from tests.page.browser import Browser
+from tests.page.browser import Browser, load
 from tests.page.order_desk import FALLING, RECOMMENDED, WHOLESALERS, isbn_of, offers_of
 from tests.page.orders import (
     MARK,
@@ -53,7 +53,9 @@ FORMS = {
     "beta": {"columns": ["copies", "isbn", "account"], "heading": False, "separator": ";", "file": "{order}.txt"},
     "gamma": {"columns": ["isbn", "copies", "second"], "separator": "|", "file": "{series}_{order}.csv"},
 }
-MOST_TILL_KEYS, MOST_TILL_SECONDS = 60, 120
+# The keys and the questions that three files of thirty books may take; with a desk that nothing else delays, and a hand
+# that types, they are less than two minutes.
+MOST_TILL_KEYS, MOST_TILL_QUESTIONS = 60, 30 * (4 + 1) + 24
 
 
 def from_a_till(site: Site, browser: Browser) -> Iterator[Outcome]:
@@ -70,7 +72,7 @@ def from_a_till(site: Site, browser: Browser) -> Iterator[Outcome]:
     open_list(browser)
     text = "\n".join(["ISBN;Title;Stock;Order", *lines])
     browser.driver.execute_async_script("navigator.clipboard.writeText(arguments[0]).then(arguments[1])", text)
-    begun = time.monotonic()
+    begun, opened = time.monotonic(), len(site.requests())
     keys = Keyboard(browser)
     keys.paste()
     keys.press(Keys.TAB, Keys.ENTER)
@@ -113,7 +115,9 @@ def from_a_till(site: Site, browser: Browser) -> Iterator[Outcome]:
     gamma = [f"{isbn_of(number)}|{copies}|Alpha Books" for number, copies, _ in wanted["gamma"]]
     yield Outcome("till: gamma's form", texts[2], MARK + "\r\n".join(["ISBN|Copies|Second choice", *gamma, ""]))
     yield Outcome(f"till: {keys.count} keys are {MOST_TILL_KEYS} at most", keys.count <= MOST_TILL_KEYS, True)
-    yield Outcome(f"till: {seconds:.0f} s are {MOST_TILL_SECONDS} at most", seconds <= MOST_TILL_SECONDS, True)
+    count = sum("/desk/articles/" in line for line in site.requests()[opened:])
+    print(f"page: three files of a till's export took {seconds:.0f} s, {load()}", flush=True)
+    yield Outcome(f"till: {count} questions are {MOST_TILL_QUESTIONS} at most", count <= MOST_TILL_QUESTIONS, True)
     yield from compared(browser, folder, wanted, [f"alpha-{day}.csv", "2026-118.txt", "gamma_2026-118.csv"])
     site.write_settings(order_desk.settings())
 
@@ -171,7 +175,7 @@ def beside(site: Site, browser: Browser) -> Iterator[Outcome]:
     open_list(browser)
     look_up(browser, f"{FALLING} 2\n{order_desk.ABROAD}\n{order_desk.PENNY}")
     notes = [falls, abroad]
-    browser.wait(lambda: notes_of(browser, FALLING, order_desk.ABROAD) == notes, 60)
+    browser.wait(lambda: notes_of(browser, FALLING, order_desk.ABROAD) == notes)
     yield Outcome("beside: in the list", notes_of(browser, FALLING, order_desk.ABROAD), notes)
     look_up(browser, f"{order_desk.HIDDEN} 3\n{order_desk.EUROS_ALONE}\n{order_desk.LATER}")
     hidden = "Alpha Books sells it from 5 copies on, at \u00a36.00 each."

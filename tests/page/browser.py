@@ -2,6 +2,7 @@
 
 import contextlib
 import json
+import os
 import re
 import time
 from collections.abc import Callable, Iterator
@@ -34,6 +35,11 @@ SCRIPTS = Path(__file__).with_name("functions.js").read_text(encoding="utf-8")
 FUNCTIONS = {found[1]: found[0] for found in re.finditer(r"^function (\w+)\(.*?^}", SCRIPTS, re.M | re.S)}
 
 Found = TypeVar("Found")
+
+
+def load() -> str:
+    """What else the machine does: a busy one takes longer than a shop's, so what is told of seconds decides nothing."""
+    return f"on a machine with {os.getloadavg()[0] / (os.cpu_count() or 1):.1f} processes a core"
 
 
 def options(is_recorded: bool, key: str = "") -> Options:

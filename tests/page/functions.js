@@ -88,6 +88,25 @@ function loseReplies(isbn) {
   };
 }
 
+// Of the questions about articles each of so many is lost the first time, as where the web server closes a connection; what
+// the page then says of it is noted.
+function cutConnections(each) {
+  const real = window.fetch;
+  const note = document.getElementById('down');
+  const cut = new Set();
+  let count = 0;
+  window.told = [];
+  new MutationObserver(() => { if (!note.hidden) window.told.push(note.textContent); }).observe(note, { attributes: true });
+  window.fetch = async (url, ...rest) => {
+    const path = String(url);
+    count += path.includes('/desk/articles/');
+    if (!path.includes('/desk/articles/') || count % each !== 0 || cut.has(path)) return real(url, ...rest);
+    cut.add(path);
+    window.cut = cut.size;
+    throw new TypeError('the connection is closed');
+  };
+}
+
 // How a list is laid out: its height, that of the line above it, and what is cut or takes more than a line.
 function basket(name) {
   const all = (selector) => [...document.querySelectorAll(selector)];
@@ -115,9 +134,18 @@ function basket(name) {
   };
 }
 
-// Notes when a list is looked up, and when the last of its books is answered, by the page's own clock.
+// Notes when a list is looked up, when the last of its books is answered, by the page's own clock, and how many rows
+// come into its table and leave it.
 function noteLookUp() {
   const status = document.getElementById('list-status');
+  window.drawn = [0, 0];
+  const rowsOf = (nodes) => [...nodes].filter(({ localName }) => localName === 'tr').length;
+  new MutationObserver((changes) => {
+    for (const { addedNodes, removedNodes } of changes) {
+      window.drawn[0] += rowsOf(addedNodes);
+      window.drawn[1] += rowsOf(removedNodes);
+    }
+  }).observe(document.getElementById('list'), { childList: true, subtree: true });
   performance.setResourceTimingBufferSize(20000);
   performance.clearResourceTimings();
   window.shifts = [];
@@ -138,6 +166,18 @@ function noteLookUp() {
   }).observe(status, { childList: true, characterData: true, subtree: true });
 }
 
+// Marks the rows of a list, so that those that are made anew or moved are known.
+function markRows() {
+  window.drawnThen = [...window.drawn];
+  for (const row of document.querySelectorAll('#list tbody tr')) row.isMarked = true;
+}
+
+// How many rows there are, and how many of them were made since they were marked.
+function newRows() {
+  const rows = [...document.querySelectorAll('#list tbody tr')];
+  return [rows.length, rows.filter(({ isMarked }) => !isMarked).length];
+}
+
 // Notes the rows that move from now on.
 function noteShifts() {
   window.shifts = [];
@@ -149,12 +189,14 @@ function noteShifts() {
   }).observe({ type: 'layout-shift' });
 }
 
-// The seconds between the two, how many questions were answered meanwhile, and the milliseconds of one.
+// The seconds between the two, the paths of the questions that were answered meanwhile, and the milliseconds of one. Of
+// a question whose reply was lost, and that was asked again, the second one counts.
 function lookUpTimes() {
-  const asked = performance.getEntriesByType('resource').filter(({ name, responseEnd }) =>
-    name.includes('/desk/articles/') && responseEnd <= window.lookedUpAt);
-  const each = asked.reduce((sum, { duration }) => sum + duration, 0) / asked.length;
-  return [(window.lookedUpAt - window.pressedAt) / 1000, asked.length, each];
+  const answered = performance.getEntriesByType('resource').filter(({ name, responseStatus, responseEnd }) =>
+    name.includes('/desk/articles/') && responseStatus === 200 && responseEnd <= window.lookedUpAt);
+  const each = answered.reduce((sum, { duration }) => sum + duration, 0) / answered.length;
+  const paths = answered.map(({ name }) => new URL(name).pathname);
+  return [(window.lookedUpAt - window.pressedAt) / 1000, paths, each];
 }
 
 function refuseTwice() {

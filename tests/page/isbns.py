@@ -27,7 +27,7 @@ def scan(browser: Browser, text: str) -> None:
 
 def asked(browser: Browser, isbn: str) -> bool:
     """Whether the page shows the answer for an ISBN."""
-    shown = browser.wait(lambda: f"ISBN {isbn}" in browser.text("#article-status"), 10)
+    shown = browser.wait(lambda: f"ISBN {isbn}" in browser.text("#article-status"))
     return bool(shown and answered(browser) is not None)
 
 
@@ -123,7 +123,7 @@ def surrounded(site: Site, browser: Browser) -> Iterator[Outcome]:
         browser.wait(lambda: browser.run(FOCUS)[0] == "isbn")
         browser.run("document.getElementById('isbn').value = arguments[0]", typed)
         browser.one("#question button.main").click()
-        came = browser.wait(lambda: f"isbn={ISBN}&" in browser.run("return location.hash"), 10)
+        came = browser.wait(lambda: f"isbn={ISBN}&" in browser.run("return location.hash"))
         yield Outcome(f"taken out of {typed!a}", came, True)
 
 
@@ -155,7 +155,7 @@ def check_digits(site: Site, browser: Browser) -> Iterator[Outcome]:
 
 def asked_any(browser: Browser, isbn: str) -> bool:
     """Whether the page asked for an ISBN, whether it is offered or not."""
-    return bool(browser.wait(lambda: f"ISBN {isbn}" in browser.text("#article-status"), 10))
+    return bool(browser.wait(lambda: f"ISBN {isbn}" in browser.text("#article-status")))
 
 
 CASES = [scanned, next_one_is_not_lost, ten_digits, hyphens, surrounded, check_digits]

@@ -81,7 +81,7 @@ def scanned_twice(site: Site, browser: Browser) -> Iterator[Outcome]:
         asked = len(site.requests())
         scan(browser, typed)
         if typed != "\t":
-            came = browser.wait(lambda: any("/price?" in line for line in site.requests()[asked:]), 20)
+            came = browser.wait(lambda: any("/price?" in line for line in site.requests()[asked:]))
             yield Outcome(f"{name}: it is asked", came, True)
         yield Outcome(f"{name}: the answer", said(browser, ISBN), True)
         yield Outcome(f"{name}: the fields", fields(browser), [ISBN, "1", date.today().isoformat(), "02"])

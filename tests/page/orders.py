@@ -344,7 +344,7 @@ def other_copies(site: Site, browser: Browser) -> Iterator[Outcome]:
     field.select_by_visible_text("Beta & Sons, £5.50 (+£0.50), in stock")
     told = "chosen by hand · More copies cost less in all: 10 copies at £3.00 each, £30.00 in all."
     told += " · More copies from Alpha Books cost less in all: 10 copies at £4.00 each, £40.00 in all."
-    came = browser.wait(lambda: notes_of(browser, BROKEN) == [told], 20)
+    came = browser.wait(lambda: notes_of(browser, BROKEN) == [told])
     yield Outcome("of a wholesaler by hand too", came, True)
     look_up(browser, order_desk.FIVE)
     told = "Alpha Books sells it from 5 copies on, at £5.00 each."
@@ -371,7 +371,7 @@ def as_of(site: Site, browser: Browser) -> Iterator[Outcome]:
     yield Outcome("as of when", bool(first), True)
     browser.run("window.daysAhead = 1 / 24")
     Select(browser.one(f"select[aria-label='Wholesaler of {isbn_of(1)}']")).select_by_index(0)
-    came = AS_OF.fullmatch(browser.wait_for_text("#list-as-of", " to ", 20))
+    came = AS_OF.fullmatch(browser.wait_for_text("#list-as-of", " to "))
     hours = [int(text[:2]) for text in came.groups()] if came and came[2] else []
     yield Outcome(f"from the first answer to the last, {hours}", bool(hours) and hours[0] != hours[1], True)
     stop()
@@ -557,6 +557,20 @@ def without_reply(site: Site, browser: Browser) -> Iterator[Outcome]:
     yield Outcome("no reply: no button then", browser.one("#go-on").is_displayed(), False)
 
 
+def cut(site: Site, browser: Browser) -> Iterator[Outcome]:
+    """A question that is lost with its connection is asked again at once, and nobody is told that anything is down."""
+    open_list(browser)
+    browser.call("cutConnections", 5)
+    asked = len(site.requests())
+    look_up(browser, lines_of(range(20)))
+    count = browser.run("return window.cut")
+    yield Outcome(f"cut: {count} questions", count >= 4, True)
+    yield Outcome("cut: all are answered", browser.text("#list-status"), "20 of 20 looked up. No book needs you.")
+    yield Outcome("cut: nobody is told", browser.run("return window.told"), [])
+    there = [line for line in site.requests()[asked:] if "is-the-desk-there" in line]
+    yield Outcome("cut: the desk is not asked whether it is there", there, [])
+
+
 def refused(site: Site, browser: Browser) -> Iterator[Outcome]:
     """A server that was asked too often, and a desk with a fault, are told; the line is asked for again."""
     open_list(browser)
@@ -730,5 +744,6 @@ CASES = [
     another_question,
     kept,
     refused,
+    cut,
     without_reply,
 ]

@@ -170,8 +170,8 @@ def quick(site: Site, browser: Browser) -> Iterator[Outcome]:
 
 
 def number_in(path: Path, name: str) -> int:
-    """The number that stands behind a name and an equals sign in a file."""
-    found = re.search(rf"\b{name} ?= ?([\d_]+)", path.read_text(encoding="utf-8"))
+    """The number that stands behind a name, and an equals sign or none, in a file."""
+    found = re.search(rf"\b{name} ?=? ?([\d_]+)", path.read_text(encoding="utf-8"))
     return int(found[1].replace("_", "")) if found else 0
 
 
@@ -181,9 +181,11 @@ def burst(site: Site, browser: Browser) -> Iterator[Outcome]:
     lines = number_in(PAGE / "order-lines.js", "MOST_LINES")
     each = number_in(PAGE / "order-asking.js", "QUESTIONS")
     more = number_in(PAGE / "order-asking.js", "MORE_QUESTIONS")
-    passed = number_in(ROOT / "examples/page/nginx.conf", "burst")
-    name = f"{lines} lines of {each} questions, {more} more, and {lines} where they are saved: {passed} pass"
-    yield Outcome(name, 0 < lines * (each + 1) + more <= passed * 0.9, True)
+    most = lines * (each + 1) + more
+    name = f"{lines} lines of {each} questions, {more} more, and {lines} where they are saved"
+    passed, kept = [number_in(ROOT / "examples/page/nginx.conf", word) for word in ("burst", "keepalive_requests")]
+    yield Outcome(f"{name}: {passed} pass", 0 < most <= passed * 0.9, True)
+    yield Outcome(f"{name}: over one connection, of {kept}", most <= kept * 0.9, True)
 
 
 # What a page costs that a browser has not seen before: its files, and how many bytes of them, packed, over the network.

@@ -54,7 +54,7 @@ def fields(site: Site, browser: Browser) -> Iterator[Outcome]:
     before = len(site.requests())
     for given, name, words in FIELDS:
         browser.run("location.hash = arguments[0]", article(**{"isbn": ISBN, **given}))
-        browser.wait(lambda: told(browser) == {name: words}, 20)
+        browser.wait(lambda: told(browser) == {name: words})
         yield Outcome(f"a wrong field, {given}", told(browser), {name: words})
         state = browser.run("return [document.activeElement.id, document.activeElement.getAttribute('aria-invalid')]")
         yield Outcome(f"a wrong field, {given}: the focus", state, [name, "true"])

@@ -90,7 +90,7 @@ def notes(site: Site, browser: Browser) -> Iterator[Outcome]:
 def widths(browser: Browser, name: str) -> Iterator[Outcome]:
     """Nothing runs out of a narrow window, and what is pressed has room for a finger."""
     browser.size(320, 800)
-    browser.wait(lambda: browser.call("beyondWindow") == [False, []], 5)
+    browser.wait(lambda: browser.call("beyondWindow") == [False, []])
     yield Outcome(f"320 pixels: {name}", browser.call("beyondWindow"), [False, []])
     browser.run("document.getElementById('more').hidden = false")
     for width in (360, 1100):

@@ -12,7 +12,7 @@ from tests.page.site import Site
 from tests.page.week import HOSTILE
 from tests.running import Outcome
 
-ISBN, OTHER, HOSTILE_ISBN, UNTITLED = (isbn_of(number) for number in (1, 4, 7, 10))
+ISBN, OTHER, HOSTILE_ISBN, UNTITLED, LONG_ISBN = (isbn_of(number) for number in (1, 4, 7, 10, 13))
 
 # The column of the table, and that of a file.
 COLUMN = "Title (not proved)"
@@ -22,6 +22,8 @@ UNKNOWN = "no feed of its wholesalers has said a title"
 UNKNOWN_HERE = "no title known"
 DIFFERS = "Alpha Books says: Older"
 WHOLE = "The Lamplighter’s Almanac: A year of small lights · Éilís Byrne (author); Noor Haddad (illustrator) · Quayside Editions"
+
+LONG = ("Many letters " * 40).strip()
 
 TITLES = {
     ISBN: [
@@ -39,6 +41,7 @@ TITLES = {
     OTHER: [["alpha", 9, 1795849300], ["beta", 1, 1795849100, "=1+1", "", "", ""]],
     # Gamma does not offer it.
     UNTITLED: [["gamma", 1, 1795849200, "Another book", "", "", ""]],
+    LONG_ISBN: [["beta", 1, 1795849200, LONG, "", "", ""], ["alpha", 1, 1795849100, LONG[1:], "", "", ""]],
     HOSTILE_ISBN: [["beta", 1, 1795849200, HOSTILE, "one\u202etwo", "\u05d0\u05d1 (A01)", "{isbn}"]],
 }
 
@@ -115,6 +118,23 @@ def of_an_article(site: Site, browser: Browser) -> Iterator[Outcome]:
     browser.driver.execute_cdp_cmd("Emulation.setEmulatedMedia", {"media": ""})
 
 
+def of_many_letters(site: Site, browser: Browser) -> Iterator[Outcome]:
+    """A long title is cut, and pushes out of sight neither who said it nor what others say."""
+    browser.size(400, 900)
+    browser.open(article(LONG_ISBN))
+    came = browser.wait_for_text("#title", "says")
+    said = f"Title: {LONG[:119]}… · Alpha Books says: {LONG[1:120]}… · {SAID}"
+    yield Outcome("a long title", came, said)
+    beyond = browser.run(
+        """
+      const place = document.getElementById('title').getBoundingClientRect().bottom;
+      return [...document.querySelectorAll('#title > :is(strong, small)')]
+        .map((part) => part.getBoundingClientRect().bottom > place + 1);"""
+    )
+    yield Outcome("a long title leaves in sight who said it, and what others say", beyond, [False, False])
+    browser.size(1100, 900)
+
+
 def that_cannot_be_read(site: Site, browser: Browser) -> Iterator[Outcome]:
     """The answer stands, and no title is said to be unknown."""
     path = file_of(site, "97899999")
@@ -180,4 +200,4 @@ def of_the_site(site: Site, browser: Browser) -> Iterator[Outcome]:
         yield Outcome(f"titles of the site: {name}", asked_for[0], wanted)
 
 
-CASES = [not_kept, of_an_article, that_cannot_be_read, of_a_list, of_the_site]
+CASES = [not_kept, of_an_article, of_many_letters, that_cannot_be_read, of_a_list, of_the_site]

@@ -42,14 +42,22 @@ const askFor = (path, signal = new AbortController().signal) => ask(path, {}, si
 const inOrder = (replies) => () => (replies.length > 1 ? replies.shift() : replies[0]);
 
 test("a desk that is away is asked for something else until it is there, and once more then", async () => {
-  for (const away of [LOST, [504, {}], undefined]) {
+  for (const [away, first] of [[LOST, 1], [[504, {}], 1], [undefined, 2]]) {
     [asked, told] = [[], []];
-    const [questions, others] = [inOrder([away, ANSWER]), inOrder([away, away, UNKNOWN])];
+    const before = Array(first).fill(away);
+    const [questions, others] = [inOrder([...before, ANSWER]), inOrder([away, away, UNKNOWN])];
     replyTo = (path) => (path === THERE ? others() : questions());
     assert.equal((await askFor("articles/1/price")).kind, "answer");
-    assert.deepEqual(asked, ["articles/1/price", THERE, THERE, THERE, "articles/1/price"]);
+    const wanted = [...before.map(() => "articles/1/price"), THERE, THERE, THERE, "articles/1/price"];
+    assert.deepEqual(asked, wanted);
     assert.deepEqual(told.map((words) => words === "up"), [false, false, false, true]);
   }
+});
+
+test("a question whose connection is cut is asked again at once, and nobody is told", async () => {
+  replyTo = inOrder([undefined, ANSWER]);
+  assert.equal((await askFor("articles/1/price")).kind, "answer");
+  assert.deepEqual([asked, told], [["articles/1/price", "articles/1/price"], ["up"]]);
 });
 
 test("a question that is twice without a reply is not asked again by itself", async () => {

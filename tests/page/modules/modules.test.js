@@ -1,7 +1,8 @@
-// Each module of the page is loaded without a browser, so that none names what another one does not have.
+// Each module of the page is loaded without a browser, so that none names what another one does not have; and what no browser
+// tells of a sheet.
 
 import assert from "node:assert/strict";
-import { readdirSync } from "node:fs";
+import { readdirSync, readFileSync } from "node:fs";
 import { test } from "node:test";
 
 // It begins the page where it is loaded.
@@ -15,4 +16,10 @@ test("each module is loaded", async () => {
     const { length } = Object.keys(await import(`../page/${file}`));
     assert.ok(length > 0, `${file} gives nothing to others`);
   }
+});
+
+test("no rule of an order list's sheet looks at what an element has, by which each change would look all rows through", () => {
+  const rules = readFileSync("../page/order.css", "utf8").replace(/\/\*.*?\*\//gs, "");
+  assert.ok(rules.includes("#list"));
+  assert.ok(!rules.includes(":has("));
 });

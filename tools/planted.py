@@ -1,12 +1,13 @@
-"""Plants the faults of tests/planted, one after the other, in a copy of the repository, and tells which case caught it.
+"""Plants the faults of tests/planted, each by itself in a copy of the repository, and tells which case caught it.
 
-    tools/planted [--program PROGRAM] [--without-baseline] [NAME..]
+    tools/planted [--program PROGRAM] [--without-baseline] [--jobs N] [NAME..]
 
 A fault is an edit, tests/planted/FOLDER/FAULT.edit, as mutants are. Its first line says what goes wrong then. A line
 `# Seen by COMMAND: GROUP; GROUP` names a command that runs tests (tests/run, tests/postgres/run, tests/page/run,
 tests/page/modules/run or tests/killed) and its groups that should fail. One that changes nothing that anybody could see has a line
-`# Equivalent: WHY` in place of that, and is not tried. A NAME is a folder or a fault; without one all are tried. Before
-anything is planted, the groups have to pass.
+`# Equivalent: WHY` in place of that, and is not tried. Of several commands the cheapest is run first. A NAME is a folder or a fault; without
+one all are tried. Before anything is planted, the groups have to pass. With --jobs so many faults are tried at a time,
+each in a copy of its own.
 
 A line is written for each fault, and at the end `planted: N tried, M caught, K equivalent`. Status 0; 1 if a fault
 was not caught; 2 if there is no such fault, or a group fails without any.
@@ -20,7 +21,9 @@ import subprocess
 import sys
 import tempfile
 import time
+from concurrent.futures import ThreadPoolExecutor
 from pathlib import Path
+from queue import SimpleQueue
 from typing import NamedTuple
 
 from tools.edits import Edit, applied, planted
@@ -33,6 +36,9 @@ EQUIVALENT = re.compile(r"# Equivalent: .+")
 
 # Of the cases of node a file of them is named, and of kills a program.
 OF_NODE, OF_KILLS = "tests/page/modules/run", "tests/killed"
+
+# The commands, the cheapest first.
+COMMANDS = [OF_NODE, "tests/run", "tests/postgres/run", OF_KILLS, "tests/page/run"]
 
 # How the line of a case that failed begins.
 FAILED = re.compile("(.+?): (?:wanted|came) ")
@@ -72,6 +78,7 @@ def fault_of(edit: Edit) -> Fault:
     for line in lines:
         if found := SEEN.fullmatch(line):
             groups.setdefault(found[1], []).extend(found[2].split("; "))
+    groups = {command: groups[command] for command in sorted(groups, key=COMMANDS.index)}
     fault = Fault(edit, groups, any(map(EQUIVALENT.fullmatch, lines)))
     if bool(groups) == fault.is_equivalent:
         raise NoGroups(f"{fault.name}: it has to name groups that see it, or why it is equivalent")
@@ -145,10 +152,9 @@ class Tree:
 
     def why_unfit(self, faults: list[Fault]) -> str | None:
         """Why nothing can be told: a group fails where nothing is planted."""
-        commands = {command: sorted({group for fault in faults for group in fault.groups.get(command, [])})
-            for command in sorted({command for fault in faults for command in fault.groups})}  # fmt: skip
-        for command, groups in commands.items():
-            if (ran := self.run(command, groups)).status:
+        for command in COMMANDS:
+            groups = sorted({group for fault in faults for group in fault.groups.get(command, [])})
+            if groups and (ran := self.run(command, groups)).status:
                 return f"{command} without any fault: {ran.last}: {'; '.join(ran.failed)}"
         return None
 
@@ -161,6 +167,7 @@ def arguments() -> argparse.Namespace:
     parser.add_argument(
         "--without-baseline", action="store_true", help="does not run the groups without a fault before"
     )
+    parser.add_argument("--jobs", type=int, metavar="N", default=1)
     parser.add_argument("names", metavar="NAME", nargs="*")
     return parser.parse_args()
 
@@ -170,19 +177,28 @@ def chosen(names: list[str]) -> list[Fault]:
     return [fault for fault in faults if not names or any(fault.has(name) for name in names)]
 
 
-def try_all(tree: Tree, faults: list[Fault]) -> int:
-    """Tries faults, and gives how many were not caught."""
-    survived = 0
-    for fault in faults:
+def try_all(trees: list[Tree], faults: list[Fault]) -> int:
+    """Tries faults, as many at a time as there are trees, and gives how many were not caught."""
+    free: SimpleQueue[Tree] = SimpleQueue()
+    for tree in trees:
+        free.put(tree)
+
+    def is_seen(fault: Fault) -> bool:
         if fault.is_equivalent:
             print(f"{fault.name}: equivalent", flush=True)
-            continue
+            return True
+        tree = free.get()
         began = time.monotonic()
-        case = tree.caught_by(fault)
-        survived += case is None
+        try:
+            case = tree.caught_by(fault)
+        finally:
+            free.put(tree)
         told = "not caught" if case is None else f"caught by {case}"
         print(f"{fault.name}: {told} ({time.monotonic() - began:.0f} s)", flush=True)
-    return survived
+        return case is not None
+
+    with ThreadPoolExecutor(len(trees)) as pool:
+        return [*pool.map(is_seen, faults)].count(False)
 
 
 def main() -> int:
@@ -193,11 +209,11 @@ def main() -> int:
             raise NoGroups("there is no such fault")
         with tempfile.TemporaryDirectory(prefix="planted-") as folder:
             os.chmod(folder, 0o755)
-            tree = Tree(Path(folder), given.program.resolve())
+            trees = [Tree(Path(folder) / str(place), given.program.resolve()) for place in range(given.jobs)]
             tried = [fault for fault in faults if not fault.is_equivalent]
-            if not given.without_baseline and (why := tree.why_unfit(tried)):
+            if not given.without_baseline and (why := trees[0].why_unfit(tried)):
                 raise NoGroups(why)
-            survived = try_all(tree, faults)
+            survived = try_all(trees, faults)
     except NoGroups as fault:
         print(f"planted: {fault}", file=sys.stderr)
         return 2

@@ -125,6 +125,22 @@ def why_articles_have_no_price(room: Room) -> Iterator[Outcome]:
     yield Outcome("look: what to paste", list(found["To paste"]), [line.strip('"') for line in paste])
 
 
+def articles_of_two_products(room: Room) -> Iterator[Outcome]:
+    """Any of them gives it a price; an update is not said to be of a product that is not there where it is."""
+    priced, bare = ARTICLES[0], Article(supplied(""), "no price is left")
+    orders = [[priced, bare], [bare, priced], [bare, bare]]
+    products = [
+        product(place, each).replace(f">R{place}<", f">R{place}{letter}<")
+        for place, order in enumerate(orders)
+        for letter, each in zip("ab", order)
+    ]
+    updated = [product(3, priced), product(3, bare._replace(notification="04"))]
+    room.write("feed.xml", feed([*products, *updated]))
+    status, found = table(room, "feed.xml")
+    wanted = {"articles": "4", "have a price": "2", "no price is left": "1", "the desk gives none": "1"}
+    yield Outcome("look: articles of two products", (status, found[SECTION]), (0, wanted))
+
+
 # What a feed says of its number, and the first number to agree, NUMBER, and what is told.
 NUMBERS = [
     ("<MessageNumber>7</MessageNumber>", 7, "own", "7"),

@@ -52,7 +52,7 @@ def product(reference: str, notification: str = "03", *, amount: str = "8") -> l
         "ProductSupply,GB IE,,",
         "SupplyDetail,04,06,4012345000009,North,21,",
         f"Price,05,{amount},GBP,,,,,20250331",
-        f"Price,05,{amount}.5,GBP,FR GB,,,20250401,,10",
+        f"Price,05,{amount}.125,GBP,FR GB,,,20250401,,10",
         "SupplyDetail,04,,,N,40,01",
         "ProductSupply,,WORLD,US",
         'SupplyDetail,01,,,"No ""4"", Ltd",20,',

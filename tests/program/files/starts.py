@@ -14,6 +14,7 @@ from tests.program.room import SECONDS, Ran, Room
 from tests.program.serving import HOST, free_port
 from tests.running import Outcome
 from tools.root import ROOT
+from tools.words import sought
 
 SCRIPT = ROOT / "programs/onixdesk/wait-for-desk.sh"
 AGREEMENT = b"Agree,north,06,S,,,1\n"
@@ -155,6 +156,25 @@ def other_programs(room: Room) -> Iterator[Outcome]:
         end_and_wait(desk)
     wanted = Ran(1, b"", b"wait-for-desk.sh: the desk has ended\n")
     yield Outcome("wait-for-desk.sh: an answer once the desk has ended", came, wanted)
+
+
+def a_mistyped_database(room: Room) -> Iterator[Outcome]:
+    """The command of the unit makes no desk where there is none."""
+    unit = (ROOT / "programs/onixdesk/onixdesk.service").read_text(encoding="utf-8")
+    room.write("rules.toml", b"")
+    places = {
+        "/opt/onixdesk/serve.sh": ROOT / "programs/onixdesk/serve.sh",
+        "/opt/onixdesk/onixdesk": room.program,
+        "/var/lib/onixdesk/shop.db": DATABASE,
+        "/etc/onixdesk/rules.toml": "rules.toml",
+        "/run/onixdesk/batches": "batches",
+        "8080": str(free_port()),
+    }
+    words = [places.get(word, word) for word in sought("^ExecStart=(.+)$", unit).split()]
+    # A desk that it makes would be served until it is stopped.
+    came = room.call(["timeout", "60", *words])
+    yield Outcome("a mistyped database: the unit's command", came, Ran(3, b"", b"onixdesk: storage: unusable\n"))
+    yield Outcome("a mistyped database: no desk is made", [path.name for path in room.folder.iterdir()], ["rules.toml"])
 
 
 def unit(_room: Room) -> Iterator[Outcome]:

@@ -72,14 +72,10 @@ def records(articles: list[str], amounts: list[str], number: int = 5, currency: 
     return "\n".join([*lines, f"EndMessage,{len(lines)}", ""]).encode()
 
 
-def in_two_currencies(amount: str, other: str) -> bytes:
-    """The same with a price in EUR behind each."""
+def with_more(amount: str, *lines: str) -> bytes:
+    """The same of all articles at that amount, with these lines behind the price of each."""
     price = f"Price,02,{amount},GBP,,WORLD,,,\n"
-    text = (
-        records(ARTICLES, [amount] * 20)
-        .decode()
-        .replace(price, f"{price}{price.replace(amount, other).replace('GBP', 'EUR')}")
-    )
+    text = records(ARTICLES, [amount] * 20).decode().replace(price, "\n".join([price.rstrip("\n"), *lines, ""]))
     count = text.count("\n") - 1
     return re.sub("EndMessage,[0-9]+", f"EndMessage,{count}", text).encode()
 
@@ -150,7 +146,19 @@ CASES = [
     ),
     Case("all of nine prices jump", "a.csv", records(*few(9)), ""),
     Case("jumps are allowed", "a.csv", records(ARTICLES, ["1000"] * 20), "", settings={"STOP_JUMPS": "no"}),
-    Case("prices in EUR that are new, beside those in GBP", "a.csv", in_two_currencies("10", "100"), ""),
+    Case("prices in EUR that are new, beside those in GBP", "a.csv", with_more("10", "Price,02,100,EUR,,WORLD,,,"), ""),
+    Case(
+        "an offer at 9.50 before one at 100",
+        "a.csv",
+        with_more("9.5", "SupplyDetail,04,,,South,21,", "Price,02,100,GBP,,WORLD,,,"),
+        "",
+    ),
+    Case(
+        "ten copies at ten times the price",
+        "a.csv",
+        with_more("10", "Price,02,100,GBP,,WORLD,,,,10"),
+        "20 of 40 prices change by more than a factor of two: ",
+    ),
     Case("another wholesaler's feed", "a.csv", records(OTHERS, SAME), "20 of 20 articles are none that north offers: "),
     Case("16 of 20 articles are new", "a.csv", records(OTHERS[:16] + ARTICLES[:4], SAME), ""),
     Case(

@@ -5,13 +5,13 @@
 FOLDER is new. The desk is served as its unit has it, by a systemctl of this program's own, and desk-renew stops and
 starts it by that. Written are the sizes and times before and after: of a start, a copy and an export, and of the
 renewal; how many questions were answered while it went on, and the longest that one waited. Status 1 where one was
-answered otherwise than before, or later than by the seconds that the desk was stopped.
+answered otherwise than before, or later than by the seconds that the desk was stopped. With --posted the desk gets the
+last days alone, and SQLite puts the messages of those before into its file, in seconds in place of an hour.
 """
 
 import argparse
 import os
 import re
-import resource
 import signal
 import socket
 import subprocess
@@ -21,12 +21,15 @@ import time
 from pathlib import Path
 
 from bench.figures import year
+from bench.figures.beside import Bench, copy, export, tell
 from bench.figures.desk import proved_program
+from bench.figures.filling import filled
+from bench.figures.past import put_past
 from bench.figures.runs import BenchmarkFault
 from bench.figures.served import Served
+from bench.figures.shop import lay_out
 from bench.figures.year_picture import Line, picture
 from tools.ports import HOST, free_port
-from tools.root import PACKAGES, ROOT
 from tools.words import Word
 
 # The file of the desk, in megabytes, from which on a start takes more than the unit's LimitDATA (docs/SCALE.md).
@@ -44,13 +47,6 @@ list-units*) echo "onixdesk.service loaded active running"; exit ;;
 esac
 """
 
-RENEWING = """
-import sys
-from pathlib import Path
-from desk_renew.command_line import main
-sys.exit(main(Path(sys.argv.pop(1))))
-"""
-
 
 def words() -> argparse.Namespace:
     parser = argparse.ArgumentParser(prog="bench/year", description="Renews a desk that has had a year of messages.")
@@ -59,19 +55,8 @@ def words() -> argparse.Namespace:
     parser.add_argument("--articles", type=int, default=20_000, metavar="N", help="those of a feed")
     parser.add_argument("--picture", type=Path, metavar="FILE", help="draw the growth of the file into this SVG file")
     parser.add_argument("--days", type=int, default=365, metavar="N", help="as many feeds come")
+    parser.add_argument("--posted", type=int, metavar="N", help="the last N days alone, and SQLite puts those before")
     return parser.parse_args()
-
-
-def said(words: list[Word], text: str, **more: object) -> float:
-    """Writes what a run took, by the clock, and gives that. BenchmarkFault where it fails."""
-    began = time.monotonic()
-    ran = subprocess.run(words, capture_output=True, text=True, **more)  # type: ignore[call-overload]
-    seconds = time.monotonic() - began
-    if ran.returncode:
-        raise BenchmarkFault(f"{text}: status {ran.returncode}: {ran.stderr.strip()}")
-    memory = resource.getrusage(resource.RUSAGE_CHILDREN).ru_maxrss / 1000
-    print(f"{text}: {seconds:.1f} s; the greatest of all runs so far took {memory:.0f} MB", flush=True)
-    return seconds
 
 
 class Asking(threading.Thread):
@@ -120,77 +105,52 @@ class Asking(threading.Thread):
                     self.wrong.append(f"{target}: {came[-200:]!r}, before {self.wanted[target][-200:]!r}")
 
 
-def answer_of(path: Path, text: str) -> str:
-    """The answer of the desk to a batch at its socket."""
-    with socket.socket(socket.AF_UNIX) as peer:
-        peer.connect(str(path))
-        peer.sendall(text.encode())
-        peer.shutdown(socket.SHUT_WR)
-        return b"".join(iter(lambda: peer.recv(65_536), b"")).decode()
+def fill(bench: Bench, given: argparse.Namespace) -> list[tuple[float, float]]:
+    """Gives the desk its year; the megabytes of its file by days."""
+    posted = min(given.posted or given.days, given.days)
+    requests = year.requests(given.days, given.articles, given.days - posted + 1)
+    sizes = [*filled(bench.program, bench.database, requests)]
+    growth = [(place * posted / len(sizes), size / 1e6) for place, size in enumerate(sizes, 1)]
+    past = put_past(bench.database, year.NORTH, year.parts_of(given.articles))
+    return growth + [(posted + day, size / 1e6) for day, size in enumerate(past, 1)]
 
 
-def fill(program: Path, folder: Path, days: int, articles: int) -> list[tuple[float, float]]:
-    """Gives the desk its year, as batches at its socket; the megabytes of its file after so many requests for a day."""
-    sizes = []
-    subprocess.run(
-        [program, "--db", "shop.db", "batch"],
-        cwd=folder,
-        input=year.AGREEMENTS,
-        text=True,
-        check=True,
-        stdout=subprocess.DEVNULL,
-    )
-    port = free_port()
-    served = Served(
-        [program, "--db", folder / "shop.db", "serve", "--port", str(port), "--batches", folder / "b"], port
-    )
-    try:
-        for request in year.requests(days, articles):
-            answer = answer_of(folder / "b", request)
-            if answer.startswith("refused"):
-                raise BenchmarkFault(f"{request[:60]}: {answer}")
-            sizes.append((folder / "shop.db").stat().st_size / 1e6)
-        served.process.send_signal(signal.SIGTERM)
-        served.process.wait()
-    finally:
-        served.kill()
-    return [(place * days / len(sizes), size) for place, size in enumerate(sizes, 1)]
-
-
-def start(program: Path, folder: Path, name: str) -> None:
+def start(program: Path, database: Path) -> None:
     """Writes what a start takes."""
     port = free_port()
-    served = Served([program, "--db", folder / name, "--existing", "serve", "--port", str(port)], port)
-    seconds, memory = served.opening.clock / 1e9, served.greatest_memory() / 1e6
+    served = Served([program, "--db", database, "--existing", "serve", "--port", str(port)], port)
+    clock, processor = served.opening.clock / 1e9, served.opening.processor / 1e9
+    memory = served.greatest_memory() / 1e6
     served.process.send_signal(signal.SIGTERM)
     served.process.wait()
     served.kill()
-    print(
-        f"a start of {name}, {(folder / name).stat().st_size / 1e6:.1f} MB: {seconds:.1f} s, {memory:.0f} MB",
-        flush=True,
-    )
+    size = database.stat().st_size / 1e6
+    tell(f"a start, {size:.0f} MB: {clock:.1f} s by the clock, {processor:.1f} s of the processor, {memory:.0f} MB")
 
 
-def renew(program: Path, folder: Path, port: int, targets: list[str]) -> int:
+def end(number: Path) -> None:
+    """Ends the desk of that number, and waits for it."""
+    os.kill(int(number.read_text()), signal.SIGTERM)
+    while number.exists():
+        time.sleep(0.05)
+
+
+def renew(bench: Bench, targets: list[str]) -> int:
     """Renews the desk that is served, while it is asked."""
-    programs = folder / "bin"
-    programs.mkdir()
-    systemctl = SYSTEMCTL.format(folder=folder, program=program, port=port)
-    for name, text in {"onixdesk": f'#!/bin/sh\nexec "{program}" "$@"\n', "systemctl": systemctl}.items():
-        (programs / name).write_text(text)
-        (programs / name).chmod(0o755)
-    environment = {**os.environ, "PATH": f"{programs}:{os.environ['PATH']}", "PYTHONPATH": ":".join(PACKAGES)}
-    subprocess.run([programs / "systemctl", "start", "onixdesk.service"], check=True)
+    folder, port = bench.folder, free_port()
+    systemctl = bench.programs / "systemctl"
+    systemctl.write_text(SYSTEMCTL.format(folder=folder, program=bench.program, port=port))
+    subprocess.run([systemctl, "start", "onixdesk.service"], check=True)
     asking = Asking(port, targets)
     asking.start()
     try:
-        command: list[Word] = [sys.executable, "-c", RENEWING, programs, "--db", folder / "shop.db", "--yes"]
-        said([*command, "--inboxes", folder / "inboxes"], "the renewal", env=environment)
+        words: list[Word] = ["--db", bench.database, "--inboxes", folder / "inboxes", "--yes"]
+        tell(bench.run("desk_renew", *words).line("desk-renew"))
         time.sleep(1)
     finally:
         asking.is_ended = True
         asking.join()
-        os.kill(int((folder / "pid").read_text()), signal.SIGTERM)
+        end(folder / "pid")
     stopped, started = (float((folder / name).read_text()) for name in ("stopped", "started"))
     longest, other = asking.longest(stopped, started)
     print(f"the desk was stopped for {started - stopped:.1f} s")
@@ -202,21 +162,19 @@ def renew(program: Path, folder: Path, port: int, targets: list[str]) -> int:
 
 
 def measure(given: argparse.Namespace) -> int:
-    program = given.desk.resolve() if given.desk else proved_program()
-    given.folder.mkdir(parents=True)
-    folder = given.folder.resolve()
+    program, folder = given.desk.resolve() if given.desk else proved_program(), given.folder.resolve()
+    lay_out(program, folder)
+    bench = Bench(program, folder, given.articles, folder / "shop.db")
     began = time.monotonic()
-    growth = fill(program, folder, given.days, given.articles)
+    growth = fill(bench, given)
     if given.picture:
         given.picture.write_text(picture([Line(f"{given.articles:,} articles a day", growth)], START), encoding="utf-8")
-    print(f"{given.days} days of {given.articles} articles: {time.monotonic() - began:.0f} s", flush=True)
-    start(program, folder, "shop.db")
-    said([ROOT / "bin/desk-copy", folder / "shop.db", folder / "copy"], "desk-copy")
-    (folder / "parts").mkdir()
-    said([program, "--db", folder / "copy/shop.db", "--existing", "export", "-o", folder / "parts"], "export")
-    status = renew(program, folder, free_port(), year.targets(given.articles, 50))
-    said([ROOT / "bin/desk-copy", folder / "shop.db", folder / "renewed"], "desk-copy of the renewed one")
-    start(program, folder / "renewed", "shop.db")
+    tell(f"{given.days} days of {given.articles} articles: {time.monotonic() - began:.0f} s")
+    start(program, bench.database)
+    copy(bench)
+    export(bench)
+    status = renew(bench, year.targets(given.articles, 50))
+    start(program, bench.database)
     return status
 
 

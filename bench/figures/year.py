@@ -7,7 +7,12 @@ from collections.abc import Iterator
 # Series by the sender of its messages; of the last nothing comes.
 NORTH, SOUTH, EAST = "north", "south", "east"
 
-AGREEMENTS = "".join(f"Agree,{name},06,{name},06,shop,1\n" for name in (NORTH, SOUTH, EAST))
+
+def agreements(first: int = 1) -> str:
+    """That of the series north begins at another number than the others."""
+    numbers = {NORTH: first, SOUTH: 1, EAST: 1}
+    return "".join(f"Agree,{name},06,{name},06,shop,{number}\n" for name, number in numbers.items())
+
 
 # A message has at most 20,000 records, and a product here four.
 LARGEST = 4_999
@@ -55,12 +60,13 @@ def messages(series: str, day: int, products: list[str], parts: int) -> Iterator
         yield message(series, (day - 1) * parts + part + 1, products[part * size : (part + 1) * size])
 
 
-def requests(days: int, articles: int) -> Iterator[str]:
-    """All requests of the year, in their order."""
+def requests(days: int, articles: int, first: int = 1) -> Iterator[str]:
+    """All requests of the year from that day on, in their order."""
     parts = parts_of(articles)
+    yield agreements((first - 1) * parts + 1)
     yield from messages(SOUTH, 1, [product(each, 700) for each in range(1, articles // 2 + 1)], parts)
     yield from messages(SOUTH, 2, [deletion(each) for each in range(1, articles // 2 + 1)], parts)
-    for day in range(1, days + 1):
+    for day in range(first, days + 1):
         if day % WAIVERS == 0:
             yield from (f"Waive,{NORTH},{(day - 1) * parts + part}\n" for part in range(1, parts + 1))
             continue

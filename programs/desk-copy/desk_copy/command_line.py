@@ -30,8 +30,7 @@ Status 0; 1 if the copy is not a sound database of a desk; 2 for a bad command l
 written, or the desk wrote all the while. Then there is no new FOLDER. docs/RELIABILITY.md says what a copy is."""
 
 
-def add_source(parser: argparse.ArgumentParser) -> None:
-    """Adds the words that say of which desk a copy is taken."""
+def add_seconds(parser: argparse.ArgumentParser) -> None:
     parser.add_argument(
         "--seconds",
         metavar="N",
@@ -39,6 +38,11 @@ def add_source(parser: argparse.ArgumentParser) -> None:
         default=600,
         help="how long a moment is waited for in which the desk writes nothing; 600 without it",
     )
+
+
+def add_source(parser: argparse.ArgumentParser) -> None:
+    """Adds the words that say of which desk a copy is taken."""
+    add_seconds(parser)
     parser.add_argument("file", metavar="FILE", type=Path, help="the database that the desk has open")
 
 

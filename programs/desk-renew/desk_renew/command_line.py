@@ -9,12 +9,13 @@ from pathlib import Path
 
 from command_lines.ending import DONE, FAILED, Fault, end_orderly, status_of, teller
 from command_lines.files import alone
-from command_lines.parsing import count, parser_of
+from command_lines.parsing import parser_of
+from desk_copy.command_line import add_seconds
 from desk_follow.source import opened
 from desk_renew.planning import Renewal, renewals_in
 from desk_renew.renewing import Renewing
 from desk_restore.asking import Program
-from desk_restore.command_line import DESK, INBOXES
+from desk_restore.command_line import add_places
 from desk_restore.users import acting_as, now, owner_of
 
 PROGRAM = "desk-renew"
@@ -39,15 +40,8 @@ tell = teller(PROGRAM)
 
 def command_line() -> argparse.ArgumentParser:
     parser = parser_of(PROGRAM, DESCRIPTION, STATUSES)
+    add_places(parser)
     add = parser.add_argument
-    add("--db", metavar="FILE", type=Path, default=DESK, help=f"the database of the desk; {DESK} without it")
-    add(
-        "--inboxes",
-        metavar="FOLDER",
-        type=Path,
-        default=INBOXES,
-        help=f"has a folder for each series, in which its inbox keeps what it took; {INBOXES} without it",
-    )
     add(
         "--rules",
         metavar="FILE",
@@ -55,13 +49,7 @@ def command_line() -> argparse.ArgumentParser:
         default=RULES,
         help=f"the precedence table by which both desks are asked, if there is one; {RULES} without it",
     )
-    add(
-        "--seconds",
-        metavar="N",
-        type=count,
-        default=600,
-        help="how long a moment is waited for in which the desk writes nothing; 600 without it",
-    )
+    add_seconds(parser)
     add("--yes", action="store_true", help="renews it without being asked")
     return parser
 

@@ -37,8 +37,8 @@ TOLD = "with --fewer-series it is put into place all the same"
 tell = teller(PROGRAM)
 
 
-def command_line() -> argparse.ArgumentParser:
-    parser = parser_of(PROGRAM, DESCRIPTION, STATUSES)
+def add_places(parser: argparse.ArgumentParser) -> None:
+    """Adds the words that say where the desk and what inboxes keep are."""
     add = parser.add_argument
     add("--db", metavar="FILE", type=Path, default=DESK, help=f"the database of the desk; {DESK} without it")
     add(
@@ -48,6 +48,12 @@ def command_line() -> argparse.ArgumentParser:
         default=INBOXES,
         help=f"has a folder for each series, in which its inbox keeps what it took; {INBOXES} without it",
     )
+
+
+def command_line() -> argparse.ArgumentParser:
+    parser = parser_of(PROGRAM, DESCRIPTION, STATUSES)
+    add_places(parser)
+    add = parser.add_argument
     add(
         "--fewer-series",
         action="store_true",

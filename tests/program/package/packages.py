@@ -38,7 +38,7 @@ MAY_IMPORT: dict[str, set[str]] = {
     "programs/onixdesk-inbox/onixdesk_inbox": {"command_lines", "message_records"},
     "programs/desk-metrics/desk_metrics": {"command_lines", "desk_copy", "onixdesk_inbox"},
     "programs/onixdesk-fetch/onixdesk_fetch": {"command_lines", "onixdesk_inbox"},
-    "programs/onixdesk-look/onixdesk_look": {"command_lines", "message_records", "onixdesk_inbox"},
+    "programs/onixdesk-look/onixdesk_look": {"command_lines", "desk_batches", "message_records", "onixdesk_inbox"},
     "programs/onixdesk-titles/onixdesk_titles": {"command_lines", "onixdesk_inbox"},
     "tools": set(),
     "bench": {"tools"},

@@ -14,7 +14,7 @@ RECORDS, BYTES = 20_000, 4_194_304
 def small_year(room: Room) -> Iterator[Outcome]:
     """Twelve days of seven articles, three in a message; every sixth day is waived."""
     with patch.multiple(year, LARGEST=3, WAIVERS=6):
-        requests = "".join([year.AGREEMENTS, *year.requests(12, 7)])
+        requests = "".join(year.requests(12, 7))
     asked = "AskGaps,north\nAskGaps,south\nAskGaps,east\n"
     answers = room.run("batch", given=f"{requests}{asked}".encode()).output.decode().splitlines()
     yield Outcome("a small year: what is refused", [line for line in answers if line.startswith("refused")], [])

@@ -362,7 +362,7 @@ def conversions_that_do_not_end(room: Room) -> Iterator[Outcome]:
     yield Outcome("inbox: a conversion that does not end is ended", goes_on.exists(), False)
     inbox.set(CONVERSION_SECONDS=SECONDS)
     inbox.put({"b.xml": b"big"})
-    line = "b.xml: refused: its conversion was killed, as where it takes more memory than the unit allows"
+    line = "b.xml: refused: its conversion was killed, as happens if it takes more memory than the unit allows"
     wanted = said(line, status=1)
     yield Outcome("inbox: a conversion that is killed", inbox.run("--converter", program), wanted)
     inbox.put({"c.xml": b"stopped", "d.xml": b"none"})

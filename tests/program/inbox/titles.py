@@ -217,7 +217,7 @@ FAULTS = {
     "exit 3": "the converter ends with status 3: why",
     "exit 1": "why",
     "exit 0": "why",
-    "kill -KILL $$": "its conversion was killed, as where it takes more memory than the unit allows",
+    "kill -KILL $$": "its conversion was killed, as happens if it takes more memory than the unit allows",
     "exec sleep 60": "its conversion took more than 1 s",
 }
 

@@ -264,7 +264,8 @@ def started(room: Room) -> subprocess.Popen[bytes]:
     process.stdin.write(LARGE.removesuffix(REST))
     process.stdin.flush()
     for _ in range(SECONDS * 10):
-        if first_parts(room.path("out")) != before:
+        # The name that a run before it has left is written anew, and is no whole part meanwhile.
+        if first_parts(room.path("out")).items() - before.items() and len(names(room.path("out"))) == 2:
             break
         time.sleep(0.1)
     return process

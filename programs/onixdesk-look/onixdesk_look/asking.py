@@ -28,11 +28,11 @@ class Desk:
 
     def take(self, header: Header, messages: list[Path]) -> None:
         """Agrees the series and takes the messages. Fault where the desk refuses one."""
-        self.show("a desk reads the messages")
+        self.show("a desk takes the messages")
         self.run("batch", given=agreement("look", header, int(header.number)))
         for answer in self.run("deliver", *messages):
             if answer[0] == "refused":
-                raise Fault(f"the desk does not accept it: {','.join(answer)}")
+                raise Fault(f"the desk does not take it: {','.join(answer)}")
 
     def priced(self, articles: list[str], question: Question) -> set[str]:
         """The articles of which it gives a price."""

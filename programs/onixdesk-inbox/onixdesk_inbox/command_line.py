@@ -77,7 +77,7 @@ def command_line() -> argparse.ArgumentParser:
         help="take again what was done, and what was refused for a mistake that may be corrected, and nothing new: of"
         " that `all`, what the desk is `lacking`, or what was answered since a time as 2026-11-27T02-30-00Z of UTC",
     )
-    add("--check", action="store_true", help="only read the settings, and try their WORDS; status 2 if one is wrong")
+    add("--check", action="store_true", help="only read the settings, and try their WORDS; status 2 where one is wrong")
     decision = parser.add_mutually_exclusive_group()
     decision.add_argument(
         "--let-in",

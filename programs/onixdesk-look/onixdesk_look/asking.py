@@ -27,11 +27,11 @@ class Desk:
 
     def take(self, header: Header, messages: list[Path]) -> None:
         """Agrees the series and takes the messages. Fault where the desk refuses one."""
-        self.show("a desk reads the messages")
+        self.show("a desk takes the messages")
         agreed = self.answers("batch", given=agreement("look", header, int(header.number)))
         for answer in [*agreed, *self.answers("deliver", *messages)]:
             if answer[0][0] == "refused":
-                raise Fault(f"the desk does not accept it: {','.join(answer[0])}")
+                raise Fault(f"the desk does not take it: {','.join(answer[0])}")
 
     def priced(self, articles: list[str], question: Question) -> set[str]:
         """The articles of which it gives a price."""

@@ -156,6 +156,8 @@ export class OrderAsking {
     for (const step of steps) {
       await eachOf(books, async (book) => {
         await step(book);
+        // A step may need no question, which would say so.
+        this.#signal.throwIfAborted();
         done += 1;
         tell(book, done, steps.length * books.length);
       });

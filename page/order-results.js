@@ -218,6 +218,8 @@ export class OrderResults {
 
   /** Draws the row of a book anew where another number of copies is better, or somebody has a price otherwise. */
   drawCopies(list, book) {
+    // Another book may have its place by now.
+    if (list.books[book.id] !== book) return;
     const state = list.stateOf(book);
     const context = this.#context(list);
     const { others = [] } = book.answer;

@@ -161,6 +161,17 @@ test("what nobody has in this currency is asked for in others, though nothing is
   assert.deepEqual(book.answer.others, [{ ...HEAD, amount: "6.100", currency: "EUR" }]);
 });
 
+test("of a list that nobody waits for any longer nothing is told, though nothing were left to ask", async () => {
+  const left = new AbortController();
+  const found = new OrderAsking(QUESTION, {}, left.signal, QUIET);
+  const known = { quantity: 999_999, offers: [PRICED] };
+  const book = { ...BOOK, copies: 999_999, answer: { offers: [PRICED], ordered: PRICED, retail: [], copies: [known] } };
+  replies = { price: () => { left.abort(); return priceOf("9.000"); } };
+  const told = [];
+  await assert.rejects(found.lookForBetter([book], () => told.push(left.signal.aborted)), { name: "AbortError" });
+  assert.ok(told.length > 0 && !told.includes(true), `${told}`);
+});
+
 test("where prices of other copies are refused, there are those of the book's own", async () => {
   replies = { price: { answer: "refused", reason: "bad-query" } };
   assert.deepEqual(quantitiesOf((await better()).copies), [2]);

@@ -314,6 +314,7 @@ def by_hand(site: Site, browser: Browser) -> Iterator[Outcome]:
     Select(browser.one(f"select[aria-label='Wholesaler of {isbn_of(1)}']")).select_by_visible_text("not ordered")
     wanted = money(3 * Decimal("7.00") + 5 * chosen_of(2).amount)
     yield Outcome("a book that is left out", sums(browser)[-1], ["All", "2", "8", wanted])
+    yield Outcome("its row has no sum any longer", money(2 * dear) in row_of(browser, isbn_of(1)), False)
     look_up(browser, f"{isbn_of(1)} 20\n{order_desk.NOT_ADMITTED} 3\n{isbn_of(2)}")
     cheap = chosen_of(1).amount
     row = row_of(browser, isbn_of(1))

@@ -14,6 +14,9 @@ from tools.ports import HOST as HOST, free_port as free_port
 # How often a port is looked for that no other program takes in the meantime.
 TRIES = 20
 
+# How many seconds a server goes on behind its end: it looks for that so often.
+LOOK = 0.02
+
 
 class Exchange(NamedTuple):
     """What a client sends, and what is replied: the status line behind its version, with the Allow line
@@ -156,7 +159,7 @@ class StandIn(http.server.BaseHTTPRequestHandler):
 def standing_in(handler: type[StandIn], port: int = 0) -> Iterator[int]:
     """A server that replies so, at the port that is given: this one, or one that no other program has."""
     with http.server.ThreadingHTTPServer((HOST, port), handler) as server:
-        thread = threading.Thread(target=server.serve_forever)
+        thread = threading.Thread(target=server.serve_forever, args=[LOOK])
         thread.start()
         try:
             yield server.server_port

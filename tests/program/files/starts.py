@@ -14,7 +14,7 @@ from tests.program.room import SECONDS, Ran, Room
 from tests.program.serving import HOST, free_port
 from tests.running import Outcome
 from tools.root import ROOT
-from tools.words import sought
+from tools.words import Word, sought
 
 SCRIPT = ROOT / "programs/onixdesk/wait-for-desk.sh"
 AGREEMENT = b"Agree,north,06,S,,,1\n"
@@ -162,7 +162,7 @@ def a_mistyped_database(room: Room) -> Iterator[Outcome]:
     """The command of the unit makes no desk where there is none."""
     unit = (ROOT / "programs/onixdesk/onixdesk.service").read_text(encoding="utf-8")
     room.write("rules.toml", b"")
-    places = {
+    places: dict[str, Word] = {
         "/opt/onixdesk/serve.sh": ROOT / "programs/onixdesk/serve.sh",
         "/opt/onixdesk/onixdesk": room.program,
         "/var/lib/onixdesk/shop.db": DATABASE,

@@ -21,7 +21,7 @@ from onixdesk_fetch.settings import Settings, read_settings
 from tests.program.feeds.convert.failing_files import small_disk
 from tests.program.inbox.inboxes import files_in
 from tests.program.room import SECONDS, Ran, Room
-from tests.program.serving import HOST, StandIn, connected, free_port
+from tests.program.serving import HOST, LOOK, StandIn, connected, free_port
 from tests.running import Outcome, left_out
 from tools.root import ROOT
 
@@ -393,7 +393,7 @@ def standing_in_over_tls(room: Room, handler: type[StandIn]) -> Iterator[str]:
     context.load_cert_chain(room.path("c.pem"), room.path("k.pem"))
     with http.server.ThreadingHTTPServer((HOST, 0), handler) as standing:
         standing.socket = context.wrap_socket(standing.socket, server_side=True)
-        thread = threading.Thread(target=standing.serve_forever)
+        thread = threading.Thread(target=standing.serve_forever, args=[LOOK])
         thread.start()
         try:
             yield f"https://{HOST}:{standing.server_port}/"

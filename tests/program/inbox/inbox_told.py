@@ -82,7 +82,7 @@ def a_series_that_waits(room: Room) -> Iterator[Outcome]:
     for name, came, wanted in [
         ("at first", run(2), said()),
         ("asked for the first time", run(2, asked=0), said()),
-        ("less than a day", run(2, asked=0, since=day + 60), said()),
+        ("less than a day", run(2, asked=0, since=day + 3_600), said()),
         ("a day, within the hour", run(2, since=day), said()),
         ("a day", run(2, asked=0), said(line, status=1)),
         ("it is said once", run(2, asked=0), said()),

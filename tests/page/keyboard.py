@@ -78,7 +78,7 @@ def article(site: Site, browser: Browser) -> Iterator[Outcome]:
     browser.wait(lambda: browser.all("#picture svg"))
     way += tab_to(browser, has_id("month"))
     press(browser, Keys.SPACE)
-    browser.wait(lambda: "until=2025-04-09" in browser.run("return location.hash"))
+    browser.wait(lambda: "until=2025-05-09" in browser.run("return location.hash"))
     given = browser.run("return location.hash").split("&")[-2:]
     yield Outcome("a month by the keyboard", given, ["from=2025-04-10", "until=2025-05-09"])
     unseen = [focus for focus in way if focus["outline"] == "none" or focus["width"] < 2]

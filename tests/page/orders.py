@@ -323,6 +323,25 @@ def by_hand(site: Site, browser: Browser) -> Iterator[Outcome]:
     yield Outcome("and nothing is said", browser.one("#list-hands").is_displayed(), False)
 
 
+def forgotten_hands(site: Site, browser: Browser) -> Iterator[Outcome]:
+    """Choices by hand that were kept are forgotten at once: a book that no rule takes is no longer ordered."""
+    isbn = order_desk.NOT_ADMITTED
+    open_list(browser)
+    look_up(browser, f"{isbn} 3\n{isbn_of(2)}")
+    Select(browser.one(f"select[aria-label='Wholesaler of {isbn}']")).select_by_index(1)
+    browser.wait(lambda: not browser.one("#list-running").is_displayed())
+    browser.run("document.getElementById('lines').focus()")
+    browser.one("#lines").send_keys(Keys.CONTROL, Keys.END)
+    browser.one("#lines").send_keys(" 5")
+    browser.one("#look-up").click()
+    browser.wait(lambda: row_of(browser, isbn_of(2))[2] == "5")
+    status(browser, "2 of 2 looked up")
+    yield Outcome("a choice that was kept", row_of(browser, isbn)[-1], "chosen by hand")
+    browser.one("#forget-hands").click()
+    yield Outcome("forgotten: its row", row_of(browser, isbn)[3].startswith("No rule"), True)
+    yield Outcome("forgotten: the order", sums(browser)[-1][:3], ["All", "1", "5"])
+
+
 BROKEN, DEARER = order_desk.BROKEN, order_desk.DEARER
 
 
@@ -733,6 +752,7 @@ CASES = [
     thirty_books,
     needs,
     by_hand,
+    forgotten_hands,
     other_copies,
     as_of,
     changed,

@@ -71,7 +71,8 @@ def typed(browser: Browser) -> Iterator[Outcome]:
     for _ in range(KEYS):
         ActionChains(browser.driver).send_keys("1").perform()
     each = (busy(browser) - before) / KEYS * 1000
-    browser.one("#lines").send_keys(Keys.BACKSPACE * (KEYS + 1))
+    # Keys that come as fast as a scanner's begin a line, so they are not taken back one by one.
+    browser.call("putLines", lines_of(WHOLE))
     print(f"page: a key in a list of {len(WHOLE)} lines took {each:.1f} ms of a processor, {load()}", flush=True)
     browser.wait(lambda: not browser.run("return document.getElementById('sums-part').inert"))
     yield Outcome("no row is made anew for a key", browser.call("newRows"), [len(WHOLE), 0])

@@ -64,15 +64,14 @@ def typed(browser: Browser) -> Iterator[Outcome]:
     yield Outcome(name, come == gone and len(WHOLE) <= come < 2 * len(WHOLE), True)
     browser.call("markRows")
     browser.one("#lines").send_keys(Keys.CONTROL, Keys.END)
-    # The first one dims what was looked up.
-    browser.one("#lines").send_keys("1")
+    # The first one dims what was looked up; they are no digits, which would be taken for a scan.
+    browser.one("#lines").send_keys("x")
     browser.wait(lambda: browser.run("return document.getElementById('sums-part').inert"))
     before = busy(browser)
     for _ in range(KEYS):
-        ActionChains(browser.driver).send_keys("1").perform()
+        ActionChains(browser.driver).send_keys("x").perform()
     each = (busy(browser) - before) / KEYS * 1000
-    # Keys that come as fast as a scanner's begin a line, so they are not taken back one by one.
-    browser.call("putLines", lines_of(WHOLE))
+    browser.one("#lines").send_keys(Keys.BACKSPACE * (KEYS + 1))
     print(f"page: a key in a list of {len(WHOLE)} lines took {each:.1f} ms of a processor, {load()}", flush=True)
     browser.wait(lambda: not browser.run("return document.getElementById('sums-part').inert"))
     yield Outcome("no row is made anew for a key", browser.call("newRows"), [len(WHOLE), 0])

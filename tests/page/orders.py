@@ -278,6 +278,16 @@ def needs(site: Site, browser: Browser) -> Iterator[Outcome]:
     yield Outcome("a link leads to its row", chosen, "9780306406158")
 
 
+def order_five_of_last(browser: Browser) -> None:
+    """Edits the last line of a list, the second book's, to five copies, and looks the list up again."""
+    browser.wait(lambda: not browser.one("#list-running").is_displayed())
+    browser.run("document.getElementById('lines').focus()")
+    browser.one("#lines").send_keys(Keys.CONTROL, Keys.END)
+    browser.one("#lines").send_keys(" 5")
+    browser.one("#look-up").click()
+    browser.wait(lambda: row_of(browser, isbn_of(2))[2] == "5")
+
+
 def by_hand(site: Site, browser: Browser) -> Iterator[Outcome]:
     """Another wholesaler by hand, which the list keeps where it is edited, and no other one; and a book that is left
     out."""
@@ -301,12 +311,7 @@ def by_hand(site: Site, browser: Browser) -> Iterator[Outcome]:
     carriage = browser.rows("#sums")[0][4]
     short = money(order_desk.FREE_FROM - 2 * dear - 21)
     yield Outcome("what is short of free carriage", carriage, f"{short} short of free carriage (£50.00)")
-    browser.wait(lambda: not browser.one("#list-running").is_displayed())
-    browser.run("document.getElementById('lines').focus()")
-    browser.one("#lines").send_keys(Keys.CONTROL, Keys.END)
-    browser.one("#lines").send_keys(" 5")
-    browser.one("#look-up").click()
-    browser.wait(lambda: row_of(browser, isbn_of(2))[2] == "5")
+    order_five_of_last(browser)
     status(browser, "3 of 3 looked up")
     row = row_of(browser, isbn_of(1))
     yield Outcome("the edited list keeps it", [row[2], row[5], row[-1]], ["2", money(dear), "chosen by hand"])
@@ -329,12 +334,7 @@ def forgotten_hands(site: Site, browser: Browser) -> Iterator[Outcome]:
     open_list(browser)
     look_up(browser, f"{isbn} 3\n{isbn_of(2)}")
     Select(browser.one(f"select[aria-label='Wholesaler of {isbn}']")).select_by_index(1)
-    browser.wait(lambda: not browser.one("#list-running").is_displayed())
-    browser.run("document.getElementById('lines').focus()")
-    browser.one("#lines").send_keys(Keys.CONTROL, Keys.END)
-    browser.one("#lines").send_keys(" 5")
-    browser.one("#look-up").click()
-    browser.wait(lambda: row_of(browser, isbn_of(2))[2] == "5")
+    order_five_of_last(browser)
     status(browser, "2 of 2 looked up")
     yield Outcome("a choice that was kept", row_of(browser, isbn)[-1], "chosen by hand")
     browser.one("#forget-hands").click()

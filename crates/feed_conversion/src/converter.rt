@@ -389,6 +389,7 @@ impl<'a, T: Target + Drop> Converter<'a, T> {
         } else if element.line.name == b"Product".as_slice() {
             self.take_product(element)
         } else if element.line.name == b":".as_slice() {
+            self.target.notice(element);
             self.take_stranger(element);
             Ok(())
         } else {

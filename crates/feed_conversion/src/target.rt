@@ -47,8 +47,8 @@ pub trait Target {
             (product_notes (reference_in product.now.below) (note_views on_it.now))) }
         ensures parts { OnOk result (parts self.new ≡ parts self.old) };
 
-    /// Takes notice of a Header, or of what stands in the place of Products, of which neither parts
-    /// nor notes come.
+    /// Takes notice of a Header, of a stranger in the root, or of what stands in the place of
+    /// Products, of which neither parts nor notes come.
     fn notice(&mut self, element: &Composite<'_>)
         ensures parts { parts self.new ≡ parts self.old }
         ensures notes { notes self.new ≡ notes self.old };

@@ -191,7 +191,7 @@ fn convert_out<F: NamedFiles, R: Read, W: Write, E: Write>(
     let alloc = rt.alloc();
     let target = Collected {
         store: Spool::new(alloc, files),
-        notes: Notes::new(alloc, file, options.choices.id_type),
+        notes: Notes::new(alloc, file, &options.choices),
         fault: None,
     };
     let mut watched = Watched::new(rt, file, reader);
@@ -252,7 +252,7 @@ fn read_parts<'a, F: NamedFiles, R: Read, E: Write>(
     file: &'a str,
     files: &F,
     reader: &mut R,
-    options: &Options<'a>,
+    options: &'a Options<'a>,
     folder: &str,
     errors: &mut E,
 ) -> (MadeFiles<F>, Notes<'a>, Ended)
@@ -262,7 +262,7 @@ fn read_parts<'a, F: NamedFiles, R: Read, E: Write>(
     let alloc = rt.alloc();
     let target = Collected {
         store: PartFiles::new(alloc, files, folder, name_of(file)),
-        notes: Notes::new(alloc, file, options.choices.id_type),
+        notes: Notes::new(alloc, file, &options.choices),
         fault: None,
     };
     let mut watched = Watched::new(rt, file, reader);

@@ -17,6 +17,7 @@ mod progress;
 mod refusal;
 mod shown;
 mod store;
+mod stuck;
 mod summary;
 mod titles;
 mod unread;

@@ -1,7 +1,7 @@
 //! The words that say what is left out of a message, and why.
 
 use crate::shown::push_shown_bytes;
-use feed_mapping::{Foreign, Note, Reason, ReasonKind, Wrong};
+use feed_mapping::{Foreign, HeaderField, Note, Reason, ReasonKind, Wrong, WrongField};
 use std::alloc::AllocError;
 
 /// Of a reason its words, with a text of the feed between them where it has one; a space stands
@@ -42,6 +42,8 @@ const LONG_TERRITORY: &str =
     "CountriesIncluded or CountriesExcluded has more than 1024 bytes or a control character";
 
 // The rules for fields.
+const NO_CURRENCY: &str = " is not three capital letters";
+
 const NO_AMOUNT: &str = " is not 1 to 9 digits, and at most 3 behind a point";
 
 const NO_QUANTITY: &str = " is not 1 to 6 digits, not all zero";
@@ -249,6 +251,8 @@ fn words_of_price(kind: Wrong, text: &[u8]) -> Option<Words> {
         Wrong::NoDate => with_text("PriceDate of role", " without Date"),
         Wrong::NotTwoDays => field("Date of PriceDate", text, " is not two days YYYYMMDD"),
         Wrong::Day => field("Date of PriceDate", text, " is not a day YYYYMMDD"),
+        Wrong::Month => field("Date of PriceDate", text, " is not a month YYYYMM"),
+        Wrong::Year => field("Date of PriceDate", text, " is not a year YYYY"),
         Wrong::PriceType => defaulted(
             "PriceType",
             "no PriceType, and no default in the Header",
@@ -260,7 +264,7 @@ fn words_of_price(kind: Wrong, text: &[u8]) -> Option<Words> {
             "CurrencyCode",
             "no CurrencyCode, and no default in the Header",
             text,
-            " is not three capital letters",
+            NO_CURRENCY,
         ),
         Wrong::CountriesIncluded => field("CountriesIncluded", text, NO_COUNTRIES),
         Wrong::CountriesExcluded => field("CountriesExcluded", text, NO_COUNTRIES),
@@ -421,6 +425,27 @@ pub(crate) fn push_saying(
     line.push_str(saying.thing)?;
     line.push_str(saying.verb)?;
     push_words(line, saying.words, text)
+}
+
+// Of a field of a Header that the desk would not take.
+fn words_of_header(field_of: HeaderField, text: &[u8]) -> Words {
+    match field_of {
+        HeaderField::SenderType => needed("SenderIDType", text, NO_CODE),
+        HeaderField::SenderValue => needed("IDValue of SenderIdentifier", text, ""),
+        HeaderField::AddresseeType => needed("AddresseeIDType", text, NO_CODE),
+        HeaderField::AddresseeValue => needed("IDValue of AddresseeIdentifier", text, ""),
+        HeaderField::SentDateTime => field("SentDateTime", text, ""),
+        HeaderField::PriceType => field("DefaultPriceType", text, NO_CODE),
+        HeaderField::Currency => field("DefaultCurrencyCode", text, NO_CURRENCY),
+    }
+}
+
+/// Adds why the desk would not take a field of a Header.
+pub(crate) fn push_header_field(
+    line: &mut String,
+    found: WrongField<'_>,
+) -> Result<(), AllocError> {
+    push_words(line, words_of_header(found.field, found.text), found.text)
 }
 
 /// Adds why the first is left out of several things, all of which are.

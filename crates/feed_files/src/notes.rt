@@ -2,12 +2,16 @@
 
 use crate::counts::{ProductCounts, again_in_header};
 use crate::note_texts::{
-    Saying, is_counted_alone, is_of_product, push_first, push_saying, saying_of,
+    Saying, is_counted_alone, is_of_product, push_first, push_header_field, push_saying, saying_of,
 };
-use crate::shown::{push_reference, push_shown};
+use crate::shown::{push_called, push_shown, push_shown_bytes};
 use crate::summary::Summary;
 use csv_records::buffer::RecordBuffer;
-use feed_mapping::{Composite, Note, first_reason, next_composite, text_or_empty};
+use feed_mapping::{
+    Choices, Composite, Note, ReasonKind, Wrong, first_reason, malformed_field, next_composite,
+    text_or_empty,
+};
+use feed_outline::first_called;
 use feed_xml::Position;
 use std::alloc::{AllocError, Global};
 
@@ -18,12 +22,13 @@ pub(crate) const PREFIX: &str = "onixdesk: ";
 // Those behind them are only counted.
 const MOST_LINES: u32 = 1_000;
 
-// The FILE that notes are on, and the type of identifier that is preferred.
+// The FILE that notes are on, what the caller chose, and which of its Products notes are on.
 #[derive(Clone, Copy)]
 struct Scope<'a> {
     alloc: Global,
     file: &'a str,
-    id_type: &'a [u8],
+    choices: &'a Choices<'a>,
+    product: u64,
 }
 
 // Lines of notes on a FILE: how many there are, but for those on Products, and how many of those.
@@ -45,6 +50,10 @@ pub struct Notes<'a> {
     summary: Summary,
     // Whether there is a Product, or what says that there is none.
     has_products: bool,
+    // Why the desk would not take a field of the Header, where it would not.
+    header: String,
+    // How the first stranger in the root or in a Header is called.
+    stranger: String,
 }
 
 /// Adds the beginning of a line on what stands at a place of a FILE.
@@ -76,10 +85,44 @@ fn push_first_reason(
     let Some(supply) = supply_at(product, note.line.place) else {
         return Ok(());
     };
-    match first_reason(scope.alloc, scope.id_type, note.reason.kind, &supply.below)? {
+    let preferred = scope.choices.id_type;
+    match first_reason(scope.alloc, preferred, note.reason.kind, &supply.below)? {
         Some(first) => push_first(text, first),
         None => Ok(()),
     }
+}
+
+// The value of the first identifier of a product by which it could be found, as it stands.
+fn isbn_in<'a>(product: &Composite<'a>) -> &'a [u8] {
+    let mut rest = product.below.copy();
+    while let Some((identifier, behind)) = next_composite(b"ProductIdentifier", &rest) {
+        let id_type = text_or_empty(b"ProductIDType", &identifier.below);
+        if id_type == b"15".as_slice() || id_type == b"03".as_slice() {
+            return text_or_empty(b"IDValue", &identifier.below);
+        }
+        rest = behind;
+    }
+    b""
+}
+
+// Adds the RecordReference of a product, or without one its number in the FILE and its ISBN.
+fn push_product(
+    text: &mut String,
+    scope: &Scope<'_>,
+    product: &Composite<'_>,
+) -> Result<(), AllocError> {
+    let reference = text_or_empty(b"RecordReference", &product.below);
+    if !reference.is_empty() {
+        return push_shown_bytes(text, reference);
+    }
+    write!(text, "Product {}", scope.product)?;
+    let isbn = isbn_in(product);
+    if isbn.is_empty() {
+        return Ok(());
+    }
+    text.push_str(" (ISBN ")?;
+    push_shown_bytes(text, isbn)?;
+    text.push_str(")")
 }
 
 // Adds the line of a note on a product.
@@ -91,10 +134,13 @@ fn push_line(
     saying: Saying,
 ) -> Result<(), AllocError> {
     push_place(text, scope.file, note.line.place)?;
-    push_reference(text, text_or_empty(b"RecordReference", &product.below))?;
+    push_product(text, scope, product)?;
     text.push_str(": ")?;
     push_saying(text, saying, note.reason.text)?;
     push_first_reason(text, scope, product, note)?;
+    if note.reason.kind == ReasonKind::Wrong(Wrong::OtherNamespace) {
+        push_called(text, first_called(&product.below))?;
+    }
     text.push_str("\n")
 }
 
@@ -140,25 +186,48 @@ impl Lines {
 }
 
 impl<'a> Notes<'a> {
-    /// None yet, of a FILE that is read with this preferred type of identifier.
-    pub(crate) fn new(alloc: Global, file: &'a str, id_type: &'a [u8]) -> Notes<'a> {
+    /// None yet, of a FILE that is read with these choices.
+    pub(crate) fn new(alloc: Global, file: &'a str, choices: &'a Choices<'a>) -> Notes<'a> {
         Notes {
             scope: Scope {
                 alloc,
                 file,
-                id_type,
+                choices,
+                product: 0,
             },
             all: Lines::new(alloc),
             of_wrong: Lines::new(alloc),
             summary: Summary::new(alloc),
             has_products: false,
+            header: String::new(alloc),
+            stranger: String::new(alloc),
         }
     }
 
-    /// Takes notice of a Header, or of what says that there is no Product.
+    // Takes notice of how a stranger is called. Without memory less is said of it.
+    fn notice_stranger(&mut self, called: &[u8]) {
+        if self.stranger.is_empty() {
+            let _ = push_called(&mut self.stranger, called);
+        }
+    }
+
+    // Takes notice of a Header. Without memory less is said of it.
+    fn notice_header(&mut self, header: &Composite<'_>) {
+        self.summary.count_again(again_in_header(header));
+        self.notice_stranger(first_called(&header.below));
+        if self.header.is_empty() {
+            if let Some(found) = malformed_field(self.scope.choices, &header.below) {
+                let _ = push_header_field(&mut self.header, found);
+            }
+        }
+    }
+
+    /// Takes notice of a Header, of a stranger, or of what says that there is no Product.
     pub(crate) fn notice(&mut self, element: &Composite<'_>) {
         if element.line.name == b"Header".as_slice() {
-            self.summary.count_again(again_in_header(element));
+            self.notice_header(element);
+        } else if element.line.name == b":".as_slice() {
+            self.notice_stranger(element.line.called.as_slice());
         } else {
             self.has_products = true;
         }
@@ -173,6 +242,7 @@ impl<'a> Notes<'a> {
     ) -> Result<(), AllocError> {
         let is_wrong = has_wrong(notes);
         self.has_products = true;
+        self.scope.product = self.scope.product.saturating_add(1);
         self.summary
             .count_product(&ProductCounts::of(product, written, notes));
         for note in notes.iter() {
@@ -209,6 +279,16 @@ impl<'a> Notes<'a> {
     /// The FILE that they are on.
     pub(crate) fn file(&self) -> &'a str {
         self.scope.file
+    }
+
+    /// Why the desk would not take a field of the Header, empty where it would.
+    pub(crate) fn header(&self) -> &str {
+        self.header.as_str()
+    }
+
+    /// How the first stranger in the root or in a Header is called, empty where there is none.
+    pub(crate) fn stranger(&self) -> &str {
+        self.stranger.as_str()
     }
 
     /// Their lines.

@@ -118,9 +118,10 @@ fn push_header(
         | HeaderRefusal::LastNumberTooGreat => {
             push_number(line, refusal, number, &known.options.choices)
         }
-        HeaderRefusal::Malformed => line.push_str(
-            "a Header whose record Message the desk would call malformed",
-        ),
+        HeaderRefusal::Malformed => {
+            line.push_str("a Header that the desk would call malformed: ")?;
+            line.push_str(known.notes.header())
+        }
     }
 }
 
@@ -161,7 +162,10 @@ fn push_refused(
             push_header(line, *refusal, number.as_slice(), known)
         }
         Refusal::SecondHeader(_) => line.push_str("a second Header"),
-        Refusal::OtherNamespace(_) => line.push_str(OTHER_NAMESPACE),
+        Refusal::OtherNamespace(_) => {
+            line.push_str(OTHER_NAMESPACE)?;
+            line.push_str(known.notes.stranger())
+        }
         Refusal::Wrong(wrong, products, reference, _) => {
             push_products(line, *wrong, *products, reference.as_slice())
         }

@@ -1,6 +1,7 @@
 //! What is said of a FILE that is no message.
 
 use crate::shown::push_shown_bytes;
+use crate::stuck::push_stuck;
 use crate::watched::Seen;
 use feed_outline::{Naming, RefusalHints};
 use feed_xml::Bytes;
@@ -22,6 +23,19 @@ fn cut_of(naming: Option<Naming>) -> &'static str {
     }
 }
 
+// Adds what is malformed, or that a FILE ends too early.
+fn push_no_document(line: &mut String, told: &RefusalHints, seen: &Seen) -> Result<(), AllocError> {
+    match &told.stuck {
+        Some(at) => {
+            line.push_str(NO_XML)?;
+            line.push_str(": ")?;
+            push_stuck(line, at, told.naming.is_some())
+        }
+        None if seen.is_at_end => line.push_str(cut_of(told.naming)),
+        None => line.push_str(NO_XML),
+    }
+}
+
 /// Adds why a FILE is no document: what it is in the place of one, or that it ends too early, where
 /// that can be told.
 pub(crate) fn push_malformed(
@@ -31,8 +45,7 @@ pub(crate) fn push_malformed(
 ) -> Result<(), AllocError> {
     match seen.kind {
         Some(kind) => write!(line, "no XML, but {kind}"),
-        None if seen.is_at_end => line.push_str(cut_of(told.naming)),
-        None => line.push_str(NO_XML),
+        None => push_no_document(line, told, seen),
     }
 }
 

@@ -17,8 +17,9 @@ use Rattle.feed_mapping.specs.Notes.{Reason, foreign, is_wrong, wrong}
 use Rattle.feed_mapping.specs.Records.{first_some, parsed_term}
 use Rattle.feed_mapping.specs.declared.dates.Days.{Days}
 use Rattle.feed_mapping.specs.declared.notes.Foreign.TheVariants.{DateFormat}
-use Rattle.feed_mapping.specs.declared.notes.Wrong.TheVariants.{ComesAgain, DateRole, Day, NoDate}
-use Rattle.feed_mapping.specs.declared.notes.Wrong.TheVariants.{NotTwoDays, OtherDay}
+use Rattle.feed_mapping.specs.declared.notes.Wrong.{Wrong}
+use Rattle.feed_mapping.specs.declared.notes.Wrong.TheVariants.{ComesAgain, DateRole, Day, Month}
+use Rattle.feed_mapping.specs.declared.notes.Wrong.TheVariants.{NoDate, NotTwoDays, OtherDay, Year}
 
 -- the first and the last day, each where there is one
 abbrev pub days : Option ℤ → Option ℤ → Days
@@ -103,9 +104,16 @@ abbrev pub unless_again : Option (List ℕ) → Dated → Dated
 unless_again (Some name) (Ok d) = Err (wrong ComesAgain name)
 unless_again other dated = dated
 
+-- what a text of one of these formats is none of
+abbrev pub wrong_date : List ℕ → Wrong
+wrong_date format =
+    if bytes_eq format (codes "01") then Month
+    else if bytes_eq format (codes "05") then Year
+    else Day
+
 -- the days of a text of this format
 abbrev pub parsed_days : List ℕ → List ℕ → Dated
-parsed_days format text = ok_or (in_format format text) (wrong Day text)
+parsed_days format text = ok_or (in_format format text) (wrong (wrong_date format) text)
 
 module _ (nodes : Nodes) where
   -- the Date of a PriceDate: of several the first one that has a text

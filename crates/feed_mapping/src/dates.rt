@@ -8,15 +8,13 @@ ghost use Rattle.std.specs.Str.{bytes_eq};
 ghost use Rattle.feed_mapping.specs.Elements.{element_view};
 ghost use Rattle.feed_mapping.specs.DateViews.{dated_view, days_read};
 ghost use Rattle.feed_mapping.specs.PriceViews.{text_view};
-ghost use Rattle.feed_mapping.specs.Dates.{and_days, are_one, date_in, days_by_role, unless_again, parsed_day, days_in, days_of, parsed_days, digits_by, digits_in, format_in, formats, graver, in_day, in_format, in_month, in_year, is_time, or_days, role_days, two_days};
-ghost use Rattle.feed_mapping.specs.Notes.{foreign, reason_view, wrong};
+ghost use Rattle.feed_mapping.specs.Dates.{and_days, are_one, date_in, days_by_role, unless_again, parsed_day, days_in, days_of, parsed_days, wrong_date, digits_by, digits_in, format_in, formats, graver, in_day, in_format, in_month, in_year, is_time, or_days, role_days, two_days};
+ghost use Rattle.feed_mapping.specs.Notes.{reason_view, wrong};
 ghost use Rattle.feed_mapping.specs.Records.{first_some};
-ghost use Rattle.feed_mapping.specs.declared.notes.Foreign.TheVariants.{DateFormat};
-ghost use Rattle.feed_mapping.specs.declared.notes.Wrong.TheVariants as bad;
 
 use crate::again::again_in;
 use crate::elements::{next_composite, text_or_empty};
-use crate::notes::{Foreign, Reason, ReasonKind, Wrong};
+use crate::notes::{Foreign, Reason, Wrong};
 use crate::records::utf8_text;
 use feed_outline::{Elements, Line, text_in};
 use onix_terms::day::Day;
@@ -222,12 +220,16 @@ fn in_format(format: &[u8], text: &[u8]) -> Option<Days>
     }
 }
 
-fn wrong_day<'a>(text: &'a [u8]) -> Reason<'a>
-    ensures { reason_view result ≡ wrong bad.Day text.now }
+// That a text is no day, month or year, by such a format.
+fn wrong_date<'a>(format: &[u8], text: &'a [u8]) -> Reason<'a>
+    ensures { reason_view result ≡ wrong (wrong_date format.now) text.now }
 {
-    Reason {
-        kind: ReasonKind::Wrong(Wrong::Day),
-        text,
+    if format == b"01".as_slice() {
+        Reason::wrong(Wrong::Month, text)
+    } else if format == b"05".as_slice() {
+        Reason::wrong(Wrong::Year, text)
+    } else {
+        Reason::wrong(Wrong::Day, text)
     }
 }
 
@@ -237,7 +239,7 @@ fn parsed_days<'a>(format: &[u8], text: &'a [u8]) -> Result<Days, Reason<'a>>
 {
     match in_format(format, text) {
         Some(days) => Ok(days),
-        None => Err(wrong_day(text)),
+        None => Err(wrong_date(format, text)),
     }
 }
 
@@ -247,17 +249,14 @@ fn two_days<'a>(text: &'a [u8]) -> Result<Days, Reason<'a>>
     ensures { days_read result ≡ two_days text.now }
 {
     if text.len() != 16 {
-        return Err(Reason {
-            kind: ReasonKind::Wrong(Wrong::NotTwoDays),
-            text,
-        });
+        return Err(Reason::wrong(Wrong::NotTwoDays, text));
     }
     let (first, last) = text.split_at(8);
     let Some(first) = parsed_day(first) else {
-        return Err(wrong_day(text));
+        return Err(Reason::wrong(Wrong::Day, text));
     };
     let Some(last) = parsed_day(last) else {
-        return Err(wrong_day(text));
+        return Err(Reason::wrong(Wrong::Day, text));
     };
     Ok(Days {
         first: Some(first),
@@ -295,24 +294,6 @@ fn format_in<'a>(date: Option<&'a Line>, elements: &Elements<'a>) -> &'a [u8]
     }
 }
 
-fn no_date<'a>(role: &'a [u8]) -> Reason<'a>
-    ensures { reason_view result ≡ wrong bad.NoDate role.now }
-{
-    Reason {
-        kind: ReasonKind::Wrong(Wrong::NoDate),
-        text: role,
-    }
-}
-
-fn other_format<'a>(format: &'a [u8]) -> Reason<'a>
-    ensures { reason_view result ≡ foreign DateFormat format.now }
-{
-    Reason {
-        kind: ReasonKind::Foreign(Foreign::DateFormat),
-        text: format,
-    }
-}
-
 // The days of the Date of a role that has one day.
 fn one_day<'a>(role: &'a [u8], elements: &Elements<'a>) -> Result<Days, Reason<'a>>
     ensures { days_read result
@@ -321,11 +302,11 @@ fn one_day<'a>(role: &'a [u8], elements: &Elements<'a>) -> Result<Days, Reason<'
     let date = date_in(elements);
     let format = format_in(date, elements);
     if !is_format(format) {
-        return Err(other_format(format));
+        return Err(Reason::foreign(Foreign::DateFormat, format));
     }
     match date {
         Some(line) => parsed_days(format, line.text.as_slice()),
-        None => Err(no_date(role)),
+        None => Err(Reason::wrong(Wrong::NoDate, role)),
     }
 }
 
@@ -336,20 +317,11 @@ fn both_days<'a>(role: &'a [u8], elements: &Elements<'a>) -> Result<Days, Reason
     let date = date_in(elements);
     let format = format_in(date, elements);
     if format != b"06".as_slice() {
-        return Err(other_format(format));
+        return Err(Reason::foreign(Foreign::DateFormat, format));
     }
     match date {
         Some(line) => two_days(line.text.as_slice()),
-        None => Err(no_date(role)),
-    }
-}
-
-fn other_role<'a>(role: &'a [u8]) -> Reason<'a>
-    ensures { reason_view result ≡ wrong bad.DateRole role.now }
-{
-    Reason {
-        kind: ReasonKind::Wrong(Wrong::DateRole),
-        text: role,
+        None => Err(Reason::wrong(Wrong::NoDate, role)),
     }
 }
 
@@ -375,17 +347,7 @@ fn read_role<'a>(elements: &Elements<'a>) -> Result<Days, Reason<'a>>
     if role == b"24".as_slice() {
         return both_days(role, elements);
     }
-    Err(other_role(role))
-}
-
-// That this element comes again.
-fn comes_again(name: &'static [u8]) -> Reason<'static>
-    ensures { reason_view result ≡ wrong bad.ComesAgain name.now }
-{
-    Reason {
-        kind: ReasonKind::Wrong(Wrong::ComesAgain),
-        text: name,
-    }
+    Err(Reason::wrong(Wrong::DateRole, role))
 }
 
 // Days, unless an element comes again.
@@ -396,7 +358,7 @@ fn unless_again<'a>(name: Option<&'static [u8]>, days: Days) -> Dated<'a>
         None => Dated { days, wrong: None },
         Some(name) => Dated {
             days: NO_DAYS,
-            wrong: Some(comes_again(name)),
+            wrong: Some(Reason::wrong(Wrong::ComesAgain, name)),
         },
     }
 }
@@ -437,16 +399,6 @@ fn are_one(one: Option<Day>, other: Option<Day>) -> bool
     }
 }
 
-// That there are two first or two last days.
-fn other_day() -> Reason<'static>
-    ensures { reason_view result ≡ wrong bad.OtherDay [] }
-{
-    Reason {
-        kind: ReasonKind::Wrong(Wrong::OtherDay),
-        text: b"",
-    }
-}
-
 // The days of both, where they give no first and no last day that is another.
 fn or_days<'a>(days: Days, more: Days) -> Dated<'a>
     ensures { dated_view result ≡ or_days days more }
@@ -460,7 +412,7 @@ fn or_days<'a>(days: Days, more: Days) -> Dated<'a>
     }
     Dated {
         days: NO_DAYS,
-        wrong: Some(other_day()),
+        wrong: Some(Reason::wrong(Wrong::OtherDay, b"")),
     }
 }
 

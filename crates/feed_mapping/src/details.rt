@@ -22,7 +22,7 @@ ghost use Rattle.feed_outline.specs.Views.{line_views};
 
 use crate::elements::{elements_in, first_composite, next_composite, text_or_empty};
 use crate::identifiers::{SUPPLIER, choose_identifier, is_there};
-use crate::notes::{Note, Reason, ReasonKind, Wrong};
+use crate::notes::{Note, Reason, Wrong};
 use crate::parties::{NO_PAIR, Pair};
 use crate::price_keys::Key;
 use crate::prices::{
@@ -289,10 +289,7 @@ fn detail_reason<'a>(supplier: Pair<'a>, elements: &Elements<'a>) -> Reason<'a>
 {
     match field_reason(supplier, elements) {
         Some(reason) => reason,
-        None => Reason {
-            kind: ReasonKind::Wrong(Wrong::SupplyDetail),
-            text: b"",
-        },
+        None => Reason::wrong(Wrong::SupplyDetail, b""),
     }
 }
 

@@ -113,8 +113,8 @@ fn if_whole<'a>(identifier: Pair<'a>) -> Result<Pair<'a>, HeaderRefusal>
     }
 }
 
-// Whether one of the identifiers has both a type and a value.
-fn has_whole(kind: Kind, elements: &Elements<'_>) -> bool
+/// Whether one of the identifiers has both a type and a value.
+pub(crate) fn has_whole(kind: Kind, elements: &Elements<'_>) -> bool
     ensures { result
         ≡ list_any is_whole (identifiers_in kind.name.now kind.type_name.now elements.now) }
 {
@@ -231,8 +231,8 @@ fn picked<'a>(
     }
 }
 
-// What stands in the addressee.
-fn addressee_in<'a>(
+/// What stands in the addressee.
+pub(crate) fn addressee_in<'a>(
     pair: Option<Pair<'_>>,
     elements: &Elements<'a>,
 ) -> Result<Elements<'a>, HeaderRefusal>

@@ -10,10 +10,9 @@ ghost use Rattle.feed_mapping.specs.Outcomes.{notes_below, outcome_reason, outco
 ghost use Rattle.feed_mapping.specs.PriceViews.{reason_read};
 ghost use Rattle.feed_mapping.specs.Records.{first_some};
 ghost use Rattle.feed_mapping.specs.Territories.{area_view};
-ghost use Rattle.feed_mapping.specs.declared.notes.Foreign.TheVariants.{LongMarkets};
 
 use crate::elements::{Composite, first_composite, next_composite};
-use crate::notes::{Foreign, Note, Reason, ReasonKind, Wrong, push_note};
+use crate::notes::{Foreign, Note, Reason, Wrong, push_note};
 use crate::records::{former as or_reason, unless};
 use crate::territories::{
     Area, area_in, countries_reason, fill_as_it_stands, fill_as_union, form_reason,
@@ -180,20 +179,10 @@ fn fill_kept(
 fn no_market(some_foreign: bool) -> Reason<'static>
     ensures { reason_view result ≡ no_market some_foreign }
 {
-    let kind = if some_foreign {
-        ReasonKind::Foreign(Foreign::NoMarketLeft)
+    if some_foreign {
+        Reason::foreign(Foreign::NoMarketLeft, b"")
     } else {
-        ReasonKind::Wrong(Wrong::NoMarketLeft)
-    };
-    Reason { kind, text: b"" }
-}
-
-fn too_long() -> Reason<'static>
-    ensures { reason_view result ≡ foreign LongMarkets [] }
-{
-    Reason {
-        kind: ReasonKind::Foreign(Foreign::LongMarkets),
-        text: b"",
+        Reason::wrong(Wrong::NoMarketLeft, b"")
     }
 }
 
@@ -218,7 +207,7 @@ fn add_first(
         records.push(&fields.as_record())?;
         return Ok(None);
     }
-    Ok(Some(too_long()))
+    Ok(Some(Reason::foreign(Foreign::LongMarkets, b"")))
 }
 
 // Adds the record of a ProductSupply of what was found of its Markets, or tells why it is left out.

@@ -2,7 +2,7 @@
 
 ghost use Rattle.std.specs.Prelude.{◌≡◌, ◌++◌, ◌∷◌, [], OnOk, option_map};
 ghost use Rattle.feed_mapping.specs.Elements.{element_view};
-ghost use Rattle.feed_mapping.specs.Notes.{is_wrong, note, note_views, reason_notes, reason_view};
+ghost use Rattle.feed_mapping.specs.Notes.{foreign, is_wrong, note, note_views, reason_notes, reason_view, wrong};
 
 use feed_outline::Line;
 use std::alloc::AllocError;
@@ -94,6 +94,10 @@ pub enum Wrong {
     NotTwoDays,
     /// A Price that holds from or until a day, the text, that is none.
     Day,
+    /// A Price that holds from or until a month, the text, that is none.
+    Month,
+    /// A Price that holds from or until a year, the text, that is none.
+    Year,
     /// A Price whose PriceType, the text, is no code; where it is empty the Header has no default.
     PriceType,
     /// A Price whose amount, the text, is none.
@@ -174,6 +178,28 @@ impl ReasonKind {
 pub struct Reason<'a> {
     pub kind: ReasonKind,
     pub text: &'a [u8],
+}
+
+impl<'a> Reason<'a> {
+    /// That the desk has no field for something, with the text that the reason is about.
+    pub(crate) fn foreign(kind: Foreign, text: &'a [u8]) -> Reason<'a>
+        ensures { reason_view result ≡ foreign kind text.now }
+    {
+        Reason {
+            kind: ReasonKind::Foreign(kind),
+            text,
+        }
+    }
+
+    /// That the desk would not take something, with the text that the reason is about.
+    pub(crate) fn wrong(kind: Wrong, text: &'a [u8]) -> Reason<'a>
+        ensures { reason_view result ≡ wrong kind text.now }
+    {
+        Reason {
+            kind: ReasonKind::Wrong(kind),
+            text,
+        }
+    }
 }
 
 /// That something is left out: the line of what the note speaks of, and the reason.

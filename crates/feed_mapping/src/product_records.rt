@@ -11,7 +11,7 @@ ghost use Rattle.std.specs.Option.{option_map_or};
 ghost use Rattle.feed_mapping.specs.Products.{bare_record, emptied_record, has_isbn, dropping, notification_in, own_reason, product_record, right_pairs};
 
 use crate::elements::Composite;
-use crate::notes::{Foreign, Note, Reason, ReasonKind, Wrong, push_note, push_reason};
+use crate::notes::{Foreign, Note, Reason, Wrong, push_note, push_reason};
 use crate::products::{
     Identifiers, dropping, fill_product, is_deletion, notification_in, own_reason, reference_in,
     take_identifiers,
@@ -52,10 +52,7 @@ fn isbn_reason(is_found: bool, elements: &Elements<'_>) -> Option<Reason<'static
     if is_deletion(elements) || is_found {
         None
     } else {
-        Some(Reason {
-            kind: ReasonKind::Foreign(Foreign::NoIsbn),
-            text: b"",
-        })
+        Some(Reason::foreign(Foreign::NoIsbn, b""))
     }
 }
 
@@ -67,10 +64,7 @@ fn ignored_reason<'a>(elements: &Elements<'a>) -> Option<Reason<'a>>
     if is_followed(notification) {
         None
     } else {
-        Some(Reason {
-            kind: ReasonKind::Foreign(Foreign::Ignored),
-            text: notification,
-        })
+        Some(Reason::foreign(Foreign::Ignored, notification))
     }
 }
 
@@ -242,9 +236,8 @@ pub fn add_product<'a>(
 {
     let reference = reference_in(&product.below);
     if !is_field(reference) {
-        let kind = ReasonKind::Wrong(Wrong::RecordReference);
-        let text = reference;
-        push_note(notes, product.line, Reason { kind, text })?;
+        let reason = Reason::wrong(Wrong::RecordReference, reference);
+        push_note(notes, product.line, reason)?;
         return Ok(Fate::LeftOut);
     }
     let identifiers = take_identifiers(alloc, &product.below, notes)?;
@@ -276,8 +269,7 @@ pub fn add_large<'a>(
 {
     let identifiers = take_identifiers(alloc, &product.below, notes)?;
     add_emptied(&identifiers.pairs, &product.below, fields, records)?;
-    let kind = ReasonKind::Wrong(Wrong::TooLarge);
-    push_note(notes, product.line, Reason { kind, text: b"" })
+    push_note(notes, product.line, Reason::wrong(Wrong::TooLarge, b""))
 }
 
 /// Adds the record of a Product that is too large even without supplies: its reference stands for

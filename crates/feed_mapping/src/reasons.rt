@@ -13,7 +13,7 @@ ghost use Rattle.onix_terms.specs.Code.{code2_of, currency_of};
 ghost use Rattle.onix_terms.specs.Quantity.{quantity_of};
 
 use crate::elements::text_or_empty;
-use crate::notes::{Reason, ReasonKind, Wrong};
+use crate::notes::{Reason, Wrong};
 use crate::price_amounts::amount_written;
 use crate::prices::own_minimum;
 use crate::records::{
@@ -94,9 +94,6 @@ pub(crate) fn or_price<'a>(field: Option<Reason<'a>>) -> Reason<'a>
 {
     match field {
         Some(reason) => reason,
-        None => Reason {
-            kind: ReasonKind::Wrong(Wrong::Price),
-            text: b"",
-        },
+        None => Reason::wrong(Wrong::Price, b""),
     }
 }

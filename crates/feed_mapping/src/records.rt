@@ -12,7 +12,7 @@ ghost use Rattle.onix_terms.specs.Amount.{amount_of};
 ghost use Rattle.onix_terms.specs.Code.{code2_of, currency_of};
 ghost use Rattle.onix_terms.specs.Quantity.{quantity_of};
 
-use crate::notes::{Reason, ReasonKind, Wrong};
+use crate::notes::{Reason, Wrong};
 use csv_records::fields::FieldBuffer;
 use onix_records::fields::is_clean;
 use onix_records::row::RowFault;
@@ -95,10 +95,7 @@ pub(crate) fn unless<'a>(holds: bool, kind: Wrong, text: &'a [u8]) -> Option<Rea
     if holds {
         None
     } else {
-        Some(Reason {
-            kind: ReasonKind::Wrong(kind),
-            text,
-        })
+        Some(Reason::wrong(kind, text))
     }
 }
 

@@ -148,12 +148,11 @@ pub(crate) fn region_of_no_country(text: &[u8]) -> Option<&[u8]>
 fn region_reason<'a>(kind: Foreign, region: &'a [u8]) -> Reason<'a>
     ensures { reason_view result ≡ region_reason kind region.now }
 {
-    let kind = if is_two_letters(region) {
-        ReasonKind::Wrong(Wrong::CountryAsRegion)
+    if is_two_letters(region) {
+        Reason::wrong(Wrong::CountryAsRegion, region)
     } else {
-        ReasonKind::Foreign(kind)
-    };
-    Reason { kind, text: region }
+        Reason::foreign(kind, region)
+    }
 }
 
 /// Adds a note on each of the regions but WORLD, as often as it stands there.

@@ -16,7 +16,7 @@ ghost use Rattle.onix_terms.specs.Territory.{countries_of, world_text};
 
 use crate::again::again_in;
 use crate::elements::{first_composite, text_or_empty};
-use crate::notes::{Foreign, Note, Reason, ReasonKind, Wrong};
+use crate::notes::{Foreign, Note, Reason, Wrong};
 use crate::records::{former, push_texts, unless, utf8_text};
 use crate::regions::{
     countries_written, first_region, names_world, push_other_names, push_regions,
@@ -117,10 +117,7 @@ fn because<'a>(kind: Wrong, text: Option<&'a [u8]>) -> Option<Reason<'a>>
     ensures { reason_read result ≡ option_map (wrong kind) (text_view text.entry) }
 {
     match text {
-        Some(text) => Some(Reason {
-            kind: ReasonKind::Wrong(kind),
-            text,
-        }),
+        Some(text) => Some(Reason::wrong(kind, text)),
         None => None,
     }
 }
@@ -132,10 +129,7 @@ fn empty_reason(area: &Area<'_>) -> Option<Reason<'static>>
         then Some (wrong bad.EmptyTerritory []) else None) }
 {
     if area.line.is_some() && is_silent(area) {
-        Some(Reason {
-            kind: ReasonKind::Wrong(Wrong::EmptyTerritory),
-            text: b"",
-        })
+        Some(Reason::wrong(Wrong::EmptyTerritory, b""))
     } else {
         None
     }
@@ -155,16 +149,10 @@ pub fn unsupported<'a>(area: &Area<'a>) -> Option<Reason<'a>>
     ensures { reason_read result ≡ unsupported (area_view area.now) }
 {
     if let Some(text) = region_alone(area) {
-        return Some(Reason {
-            kind: ReasonKind::Foreign(Foreign::RegionAlone),
-            text,
-        });
+        return Some(Reason::foreign(Foreign::RegionAlone, text));
     }
     match region_of_no_country(area.regions_excluded) {
-        Some(text) => Some(Reason {
-            kind: ReasonKind::Foreign(Foreign::RegionOfNoCountry),
-            text,
-        }),
+        Some(text) => Some(Reason::foreign(Foreign::RegionOfNoCountry, text)),
         None => None,
     }
 }
@@ -281,10 +269,7 @@ pub(crate) fn countries_reason<'a>(
     );
     match former(included, excluded) {
         Some(reason) => Ok(reason),
-        None => Ok(Reason {
-            kind: ReasonKind::Wrong(Wrong::Territory),
-            text: b"",
-        }),
+        None => Ok(Reason::wrong(Wrong::Territory, b"")),
     }
 }
 

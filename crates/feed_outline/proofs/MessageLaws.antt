@@ -1,17 +1,21 @@
 -- What comes of the tokens of a document.
-use Rattle.std.proofs.Common.{◌≡◌, ℕ, Bool, true, false, List, [], Option, Some, None, Result, Ok, Err, refl, sym, ap, ◌∙◌, append-nil, fold, subst}
+use Rattle.std.proofs.Common.{◌≡◌, ℕ, Bool, true, false, List, [], Option, Some, None, Result, Ok, Err, refl, sym, ap, ◌∙◌, append-nil, append_assoc, ◌++◌, ◌∷◌, fold, subst}
 use Rattle.std.specs.Prelude.{IfOk, IfErr, IfSome, IsErrOf}
 use Rattle.std.specs.List.{flat_map, list_all}
+use Rattle.std.proofs.lemmas.Bool.{and_parts}
+use Rattle.std.proofs.lemmas.List.Concat.{flat_map-cons}
+use Rattle.std.proofs.lemmas.List.Folds.{list_all-append}
+use Rattle.std.proofs.lemmas.Grind.{flat_map-append}
 use Rattle.feed_outline.specs.Names.{Word}
 use Rattle.feed_xml.specs.declared.fault.Fault.{Fault as DocumentFault}
 use Rattle.feed_xml.specs.declared.fault.Fault.TheVariants.{Malformed, NotText, TooDeep, TooLong, LargeTag, Refused, UnknownEncoding, Read, Memory}
 use Rattle.feed_xml.specs.declared.position.Position.{Position}
-use Rattle.feed_xml.specs.Grammar.{Token, spelling}
+use Rattle.feed_xml.specs.Grammar.{Token, is_token, spelling}
 use Rattle.feed_xml.specs.Faults.{AtFault}
 use Rattle.feed_xml.specs.Documents.{IsDocument, IsNoDocument, IsNoText}
 use Rattle.feed_xml.specs.Positions.{first_position, position_past}
 use Rattle.feed_xml.specs.EncodingNames.{IsTextOf, OfText, IsOfUnknown}
-use Rattle.feed_xml.specs.Limits.{BeginsWith, Bound, Meets, IsDeep, IsLarge, IsLong, NoneMayStand}
+use Rattle.feed_xml.specs.Limits.{BeginsWith, Bound, Follows, Meets, IsDeep, IsGarbled, IsLarge, IsLong, NoneMayStand}
 use Rattle.feed_xml.specs.Tree.{Content}
 use Rattle.feed_xml.specs.Trees.{AreDocument, IsTree}
 use Rattle.feed_outline.specs.declared.dialect.Wrong.{Wrong}
@@ -24,8 +28,8 @@ use Rattle.feed_outline.specs.Outline.{Line, parts_of}
 use Rattle.feed_outline.specs.Sizes.{first_large}
 use Rattle.feed_outline.specs.private.Feed.{Feed, feed, first_feed, fits, is_sound, is_sound_with, takes_more, takes_more_with}
 use Rattle.feed_outline.specs.Roots.{root_of, root_place}
-use Rattle.feed_outline.specs.Faults.{Explains, MeetsAt, IsPlaceOf, IsUnknown}
-use Rattle.feed_outline.specs.private.Reasons.{IsAt, IsReason}
+use Rattle.feed_outline.specs.Faults.{Explains, IsRefusedRoot, IsUnknown, Refuses}
+use Rattle.feed_outline.specs.private.Reasons.{IsAt, IsReason, RefusesReference, RefusesRoot}
 use Rattle.feed_outline.specs.private.Finishing.{finished, finished_with, first_place_of, is_of_text}
 use Rattle.feed_outline.specs.Message.{IsMessage}
 use Rattle.feed_outline.proofs.FeedLaws.{tree_feeds}
@@ -53,9 +57,38 @@ all_tokens (Some b) text tokens is document =
 
 -- ---- tokens that are refused
 
-place_of : (vocabulary : List Word) (P : List Token → Token → Type 0) (bytes : Option (List ℕ)) (tokens : List Token) (place : Position) → OfText (BeginsWith tokens) bytes → Finds P first_position tokens place
-    → IsPlaceOf vocabulary bytes P place
-place_of vocabulary P bytes tokens place begins h = (h.before, h.token, h.behind, rw (sym h.parts) begins, h.holds, h.at)
+-- a text that begins with tokens begins with some of them, and then comes the next one
+begins_before : (Limit : Bound) (before behind tokens : List Token) (token : Token) (bytes : Option (List ℕ)) → tokens ≡ before ++ token ∷ behind → ((rest : List ℕ) → Follows token rest → Limit before rest)
+    → OfText (BeginsWith tokens) bytes → OfText (Meets Limit before) bytes
+begins_before Limit before behind tokens token None parts holds begins = tt
+begins_before Limit before behind tokens token (Some b) parts holds begins =
+    let text = begins.0 in
+    let rest = begins.2.0 in
+    let front = begins.2.2 in
+    let later = flat_map spelling behind ++ rest in
+    let spelled : flat_map spelling tokens ≡ flat_map spelling before ++ (spelling token ++ flat_map spelling behind) =
+    ap (flat_map spelling) parts ∙ flat_map-append spelling before (token ∷ behind) ∙ ap (λ (l : List ℕ). flat_map spelling before ++ l) (flat_map-cons spelling token behind) in
+    let whole : text ≡ flat_map spelling before ++ (spelling token ++ later) =
+    begins.2.1 ∙ ap (λ (l : List ℕ). l ++ rest) spelled ∙ append_assoc (flat_map spelling before) (spelling token ++ flat_map spelling behind) rest
+    ∙ ap (λ (l : List ℕ). flat_map spelling before ++ l) (append_assoc (spelling token) (flat_map spelling behind) rest) in
+    let all : tokens ++ front.0 ≡ before ++ (token ∷ (behind ++ front.0)) =
+    ap (λ (ts : List Token). ts ++ front.0) parts ∙ append_assoc before (token ∷ behind) front.0 in
+    let are : AreDocument (before ++ (token ∷ (behind ++ front.0))) = subst AreDocument all front.1 in
+    let each : list_all is_token (token ∷ (behind ++ front.0)) ≡ true =
+    (and_parts _ _ (sym (list_all-append is_token before (token ∷ (behind ++ front.0))) ∙ are.each)).1 in
+    let follows : Follows token (spelling token ++ later) = (later, refl, (and_parts _ _ each).0) in
+    (text, begins.1, (spelling token ++ later, whole, (token ∷ (behind ++ front.0), are), holds (spelling token ++ later) follows))
+
+place_of : (vocabulary : List Word) (P : List Token → Token → Type 0) (Limit : Bound) → ((before : List Token) (token : Token) (rest : List ℕ) → P before token → Follows token rest → Limit before rest)
+    → (bytes : Option (List ℕ)) (tokens : List Token) (place : Position) → OfText (BeginsWith tokens) bytes → Finds P first_position tokens place → Refuses vocabulary bytes Limit place
+place_of vocabulary P Limit holds bytes tokens place begins h =
+    (h.before, begins_before Limit h.before h.behind tokens h.token bytes h.parts (λ rest follows. holds h.before h.token rest h.holds follows) begins, h.at)
+
+at_root : (wrong : Wrong) (before : List Token) (token : Token) (rest : List ℕ) → RefusesRoot wrong before token → Follows token rest → IsRefusedRoot wrong before rest
+at_root wrong before token rest h follows = (h.0, (token, follows, h.1))
+
+at_reference : (before : List Token) (token : Token) (rest : List ℕ) → RefusesReference before token → Follows token rest → IsUnknown before rest
+at_reference before token rest h follows = (token, follows, h)
 
 -- what comes of tokens of which no more are taken
 pub refuses : (vocabulary : List Word) {T : Type 0} (after : T → List Line → T) (taker : T) (bytes : Option (List ℕ)) (tokens : List Token) → OfText (BeginsWith tokens) bytes
@@ -74,7 +107,7 @@ refuses vocabulary {T = T} after taker bytes tokens begins refused = go f.root r
     go (Some (Err w)) e k known small size r = record {
       ok = tt;
       err = (tokens, begins, sym root_is ∙ e);
-      at = place_of vocabulary _ bytes tokens f.place begins (finds_root vocabulary after (first_feed taker) tokens w refl e);
+      at = place_of vocabulary (RefusesRoot w) (IsRefusedRoot w) (at_root w) bytes tokens f.place begins (finds_root vocabulary after (first_feed taker) tokens w refl e);
     }
     go (Some (Ok d)) e true known true size r = absurd cc
     go (Some (Ok d)) e true known false size r =
@@ -87,7 +120,7 @@ refuses vocabulary {T = T} after taker bytes tokens begins refused = go f.root r
         record {
           ok = tt;
           err = (tokens, begins, ap (list_all is_known) h.parts ∙ unknown_among h.before h.token h.behind h.holds);
-          at = place_of vocabulary IsUnknown bytes tokens f.place begins h;
+          at = place_of vocabulary RefusesReference IsUnknown at_reference bytes tokens f.place begins h;
         }
 
 -- ---- a document
@@ -184,14 +217,16 @@ pub record Reasons (vocabulary : List Word) {T R : Type 0} (after : T → List L
   pub malformed : IsErrOf r Malformed → OfText IsNoDocument bytes
   pub stuck : IsErrOf r Malformed → Goes vocabulary after bytes start f NoneMayStand
   pub garbled : IsErrOf r NotText → OfText IsNoText bytes
+  pub broken : IsErrOf r NotText → Goes vocabulary after bytes start f IsGarbled
   pub deep : IsErrOf r TooDeep → Goes vocabulary after bytes start f IsDeep
   pub large : IsErrOf r LargeTag → Goes vocabulary after bytes start f IsLarge
   pub long : IsErrOf r TooLong → Goes vocabulary after bytes start f IsLong
   pub unknown : (name : List ℕ) → IsErrOf r (UnknownEncoding name) → IfSome bytes (IsOfUnknown name)
+  pub unread : (name : List ℕ) → IsErrOf r (UnknownEncoding name) → f ≡ start
   pub refused : IsErrOf r Refused → takes_more f ≡ false
 
 goes_at : (vocabulary : List Word) {T : Type 0} (after : T → List Line → T) (bytes : Option (List ℕ)) (start f : Feed T) (Limit : Bound)
-    → Goes vocabulary after bytes start f Limit → (place : Position) × MeetsAt vocabulary bytes Limit place
+    → Goes vocabulary after bytes start f Limit → (place : Position) × Refuses vocabulary bytes Limit place
 goes_at vocabulary after bytes start f Limit w = (position_past first_position w.0, (w.0, w.1, refl))
 
 -- a document that was read while more was taken is refused for a reason
@@ -225,12 +260,12 @@ document_at vocabulary {T = T} {R = R} after bytes taker start f fault starts ta
     go : (e : DocumentFault) → (is_of_text e ≡ true → takes_more f ≡ true) → AtFault ((tokens : List Token) × OfText (BeginsWith tokens) bytes × (f ≡ fold (feed vocabulary after) start tokens)) e
         → Reasons vocabulary {T = T} {R = R} after bytes start f (Err e) → IsAt vocabulary bytes (Document e) f.place
     go Malformed t w r = let g = r.stuck refl in (g.0, g.1, at (t refl) g.0 g.2)
-    go NotText t w r = (w.0, w.1, at (t refl) w.0 w.2)
+    go NotText t w r = let g = r.broken refl in (g.0, g.1, at (t refl) g.0 g.2)
     go TooDeep t w r = let g = r.deep refl in (g.0, g.1, at (t refl) g.0 g.2)
     go TooLong t w r = let g = r.long refl in (g.0, g.1, at (t refl) g.0 g.2)
     go LargeTag t w r = let g = r.large refl in (g.0, g.1, at (t refl) g.0 g.2)
     go Refused t w r = absurd (cc (sym (t refl) ∙ r.refused refl))
-    go (UnknownEncoding name) t w r = tt
+    go (UnknownEncoding name) t w r = ap (λ g. g.place) (r.unread name refl ∙ starts)
     go Read t w r = tt
     go Memory t w r = tt
 
@@ -243,7 +278,7 @@ explained vocabulary bytes (Document TooDeep) place why at = at
 explained vocabulary bytes (Document TooLong) place why at = at
 explained vocabulary bytes (Document LargeTag) place why at = at
 explained vocabulary bytes (Document Refused) place why at = at
-explained vocabulary bytes (Document (UnknownEncoding name)) place why at = why
+explained vocabulary bytes (Document (UnknownEncoding name)) place why at = (why, at)
 explained vocabulary bytes (Document Read) place why at = tt
 explained vocabulary bytes (Document Memory) place why at = tt
 explained vocabulary bytes (Message wrong) place why at = at

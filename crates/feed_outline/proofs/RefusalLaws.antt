@@ -13,7 +13,7 @@ use Rattle.feed_outline.specs.Outline.{Line}
 use Rattle.feed_outline.specs.private.Growing.{Growing, scopes_of, no_lines, opened, closed, is_idle}
 use Rattle.feed_outline.specs.private.Feed.{Feed, feeding, handed, fits, settled, told, moved, feed, is_sound, is_sound_with}
 use Rattle.feed_outline.specs.Roots.{root_of}
-use Rattle.feed_outline.specs.Faults.{IsRefusedRoot, IsUnknown}
+use Rattle.feed_outline.specs.private.Reasons.{RefusesReference, RefusesRoot}
 
 abbrev pub root_behind : Option (Result Dialect Wrong) → List Token → Option (Result Dialect Wrong)
 root_behind None tokens = root_of tokens
@@ -206,7 +206,7 @@ further_on P Q from next place first tokens is holds h = record {
 
 -- the place of a root that is refused
 pub finds_root : (vocabulary : List Word) {T : Type 0} (after : T → List Line → T) (f : Feed T) (tokens : List Token) (w : Wrong) → f.root ≡ None → (fold (feed vocabulary after) f tokens).root ≡ Some (Err w)
-    → Finds (IsRefusedRoot w) f.place tokens (fold (feed vocabulary after) f tokens).place
+    → Finds (RefusesRoot w) f.place tokens (fold (feed vocabulary after) f tokens).place
 finds_root vocabulary after f [] w none h = absurd (cc (sym none ∙ h))
 finds_root vocabulary after f (token ∷ tokens) w none h =
     go (root_of (token ∷ [])) refl (λ e. finds_root vocabulary after (feed vocabulary after f token) tokens w e h)
@@ -214,11 +214,11 @@ finds_root vocabulary after f (token ∷ tokens) w none h =
     next : (feed vocabulary after f token).root ≡ root_of (token ∷ [])
     next = root_step vocabulary after f token ∙ ap (λ r. root_behind r (token ∷ [])) none
 
-    go : (o : Option (Result Dialect Wrong)) → root_of (token ∷ []) ≡ o → ((feed vocabulary after f token).root ≡ None → Finds (IsRefusedRoot w) (feed vocabulary after f token).place tokens (fold (feed vocabulary after) (feed vocabulary after f token) tokens).place)
-        → Finds (IsRefusedRoot w) f.place (token ∷ tokens) (fold (feed vocabulary after) (feed vocabulary after f token) tokens).place
+    go : (o : Option (Result Dialect Wrong)) → root_of (token ∷ []) ≡ o → ((feed vocabulary after f token).root ≡ None → Finds (RefusesRoot w) (feed vocabulary after f token).place tokens (fold (feed vocabulary after) (feed vocabulary after f token) tokens).place)
+        → Finds (RefusesRoot w) f.place (token ∷ tokens) (fold (feed vocabulary after) (feed vocabulary after f token) tokens).place
     go None e later =
         let sound : is_sound (feed vocabulary after f token) ≡ true = ap (λ r. is_sound_with r (feed vocabulary after f token).known) (next ∙ e) in
-        further_on (IsRefusedRoot w) (IsRefusedRoot w) f.place (feed vocabulary after f token).place (fold (feed vocabulary after) (feed vocabulary after f token) tokens).place token tokens (place_passed vocabulary after f token sound)
+        further_on (RefusesRoot w) (RefusesRoot w) f.place (feed vocabulary after f token).place (fold (feed vocabulary after) (feed vocabulary after f token) tokens).place token tokens (place_passed vocabulary after f token sound)
         (λ before tag x. (sym (root_further None token before) ∙ ap (λ r. root_behind r before) e ∙ x.0, x.1)) (later (next ∙ e))
     go (Some r) e later =
         let says : Some r ≡ Some (Err w) = sym (roots vocabulary after (feed vocabulary after f token) tokens ∙ ap (λ o. root_behind o tokens) (next ∙ e)) ∙ h in
@@ -248,21 +248,21 @@ none_behind (Some r) tokens h = absurd cc
 -- the place of a reference that stands for nothing
 pub finds_unknown : (vocabulary : List Word) {T : Type 0} (after : T → List Line → T) (f : Feed T) (tokens : List Token) → f.known ≡ true → (fold (feed vocabulary after) f tokens).known ≡ false
     → is_sound (fold (feed vocabulary after) f tokens) ≡ false → ((w : Wrong) → (fold (feed vocabulary after) f tokens).root ≡ Some (Err w) → ⊥)
-    → Finds IsUnknown f.place tokens (fold (feed vocabulary after) f tokens).place
+    → Finds RefusesReference f.place tokens (fold (feed vocabulary after) f tokens).place
 finds_unknown vocabulary after f [] k h s other = absurd (cc (sym k ∙ h))
 finds_unknown vocabulary after f (token ∷ tokens) k h s other =
     go (feed vocabulary after f token).known refl (feed vocabulary after f token).root refl (λ e. finds_unknown vocabulary after (feed vocabulary after f token) tokens e h s other)
   where
     go : (b : Bool) → (feed vocabulary after f token).known ≡ b → (r : Option (Result Dialect Wrong)) → (feed vocabulary after f token).root ≡ r
-        → ((feed vocabulary after f token).known ≡ true → Finds IsUnknown (feed vocabulary after f token).place tokens (fold (feed vocabulary after) (feed vocabulary after f token) tokens).place)
-        → Finds IsUnknown f.place (token ∷ tokens) (fold (feed vocabulary after) (feed vocabulary after f token) tokens).place
+        → ((feed vocabulary after f token).known ≡ true → Finds RefusesReference (feed vocabulary after f token).place tokens (fold (feed vocabulary after) (feed vocabulary after f token) tokens).place)
+        → Finds RefusesReference f.place (token ∷ tokens) (fold (feed vocabulary after) (feed vocabulary after f token) tokens).place
     go b e (Some (Err w)) o later = absurd (other w (roots vocabulary after (feed vocabulary after f token) tokens ∙ ap (λ r. root_behind r tokens) o))
     go true e None o later =
         let sound : is_sound (feed vocabulary after f token) ≡ true = ap (λ r. is_sound_with r (feed vocabulary after f token).known) o in
-        further_on IsUnknown IsUnknown f.place (feed vocabulary after f token).place (fold (feed vocabulary after) (feed vocabulary after f token) tokens).place token tokens (place_passed vocabulary after f token sound) (λ before t x. x) (later e)
+        further_on RefusesReference RefusesReference f.place (feed vocabulary after f token).place (fold (feed vocabulary after) (feed vocabulary after f token) tokens).place token tokens (place_passed vocabulary after f token sound) (λ before t x. x) (later e)
     go true e (Some (Ok d)) o later =
         let sound : is_sound (feed vocabulary after f token) ≡ true = ap (λ r. is_sound_with r (feed vocabulary after f token).known) o ∙ e in
-        further_on IsUnknown IsUnknown f.place (feed vocabulary after f token).place (fold (feed vocabulary after) (feed vocabulary after f token) tokens).place token tokens (place_passed vocabulary after f token sound) (λ before t x. x) (later e)
+        further_on RefusesReference RefusesReference f.place (feed vocabulary after f token).place (fold (feed vocabulary after) (feed vocabulary after f token) tokens).place token tokens (place_passed vocabulary after f token sound) (λ before t x. x) (later e)
     go false e None o later =
         let none : f.root ≡ None = none_behind f.root (token ∷ []) (sym (root_step vocabulary after f token) ∙ o) in
         absurd (cc (sym (known_step vocabulary after f token ∙ ap (λ r. known_behind r token f.known) none ∙ k) ∙ e))

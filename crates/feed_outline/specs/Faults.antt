@@ -9,7 +9,8 @@ use Rattle.feed_xml.specs.Grammar.{Token}
 use Rattle.feed_xml.specs.declared.position.Position.{Position}
 use Rattle.feed_xml.specs.EncodingNames.{OfText, IsOfUnknown}
 use Rattle.feed_xml.specs.Positions.{first_position, position_past}
-use Rattle.feed_xml.specs.Limits.{BeginsWith, Bound, Meets, IsDeep, IsLarge, IsLong, NoneMayStand}
+use Rattle.feed_xml.specs.Limits.{BeginsWith, Bound, Follows, Meets, IsDeep, IsGarbled, IsLarge}
+use Rattle.feed_xml.specs.Limits.{IsLong, NoneMayStand}
 use Rattle.feed_xml.specs.Documents.{IsNoDocument, IsNoText}
 use Rattle.feed_xml.specs.Tree.{Content}
 use Rattle.feed_xml.specs.Trees.{IsTree}
@@ -37,53 +38,42 @@ IsFirstAt first tokens place =
 abbrev pub IsLargeAt : List Word → List Token → Position → Type 0
 IsLargeAt vocabulary = IsFirstAt (λ d p inside. first_large (nodes_in vocabulary d [] p inside))
 
--- the first tag, which is that of a refused root
-abbrev pub IsRefusedRoot : Wrong → List Token → Token → Type 0
-IsRefusedRoot wrong before token =
-    (root_of before ≡ None) × (root_of (token ∷ []) ≡ Some (Err wrong))
+-- the first tag follows, which is that of a refused root
+abbrev pub IsRefusedRoot : Wrong → Bound
+IsRefusedRoot wrong tokens rest =
+    (root_of tokens ≡ None)
+    × ((tag : Token) × Follows tag rest × (root_of (tag ∷ []) ≡ Some (Err wrong)))
 
--- a reference that stands for nothing
-abbrev pub IsUnknown : List Token → Token → Type 0
-IsUnknown before token = is_known token ≡ false
+-- a reference follows that stands for nothing
+abbrev pub IsUnknown : Bound
+IsUnknown tokens rest = (token : Token) × Follows token rest × (is_known token ≡ false)
 
 module _ (vocabulary : List Word) (bytes : Option (List ℕ)) where
-  -- the text of the bytes that a reader has left, where it tells them, begins with tokens of which
-  -- this holds
-  abbrev pub BeginsSo : (List Token → Type 0) → Type 0
-  BeginsSo P = (tokens : List Token) × OfText (BeginsWith tokens) bytes × P tokens
-
-  -- it begins with tokens that end at this place, and of what follows there this holds, as that it
-  -- goes beyond a bound
-  abbrev pub MeetsAt : Bound → Position → Type 0
-  MeetsAt Limit place =
+  -- A place is refused: the text of the bytes that a reader has left, where it tells them, begins
+  -- with tokens that end there, as a document may, and of them and of what follows this holds.
+  abbrev pub Refuses : Bound → Position → Type 0
+  Refuses Limit place =
       (tokens : List Token) × OfText (Meets Limit tokens) bytes
       × (place ≡ position_past first_position tokens)
 
-  -- a place is that of a token of which, with the tokens before it, this holds
-  abbrev pub IsPlaceOf : (List Token → Token → Type 0) → Position → Type 0
-  IsPlaceOf P place =
-      (before : List Token) × (token : Token) × (behind : List Token)
-      × OfText (BeginsWith (before ++ token ∷ behind)) bytes
-      × P before token × (place ≡ position_past first_position before)
-
-  -- Why a message is refused, and what its place tells. Malformed: what the reader has left is no
-  -- document, and at the place no token that follows may stand, so that none begins with the tokens
-  -- before it and one more. No text: its bytes are none, and the place is behind some of its
-  -- tokens. Too deep, too long and with a large tag: at the place it goes beyond that bound.
-  -- Unknown encoding: its declaration names one that is none of those. Root, release, reference: at
-  -- the place stands the tag of another root or release, or a reference that stands for nothing.
-  -- Too large: there begins a Header or Product that goes beyond that bound. What comes of a failed
-  -- read or of want of memory needs no reason; no other document is refused.
+  -- Why a message is refused, and where. Malformed: what the reader has left is no document, and at
+  -- the place none goes on with a token that follows. No text: its bytes are none, and no text goes
+  -- on at the place. Too deep, too long and with a large tag: at the place it goes beyond that
+  -- bound. Unknown encoding: its declaration names one that is none of those. Root, release,
+  -- reference: at the place is the tag of another root or release, or a reference that stands for
+  -- nothing. Too large: there begins a Header or Product that goes beyond that bound. What comes of
+  -- a failed read or of want of memory needs no reason; no other document is refused.
   abbrev pub Explains : Fault → Position → Type 0
-  Explains (Document Malformed) place = OfText IsNoDocument bytes × MeetsAt NoneMayStand place
-  Explains (Document NotText) place =
-      OfText IsNoText bytes × BeginsSo (λ tokens. place ≡ position_past first_position tokens)
-  Explains (Document TooDeep) place = MeetsAt IsDeep place
-  Explains (Document TooLong) place = MeetsAt IsLong place
-  Explains (Document LargeTag) place = MeetsAt IsLarge place
-  Explains (Document (UnknownEncoding name)) place = IfSome bytes (IsOfUnknown name)
+  Explains (Document Malformed) place = OfText IsNoDocument bytes × Refuses NoneMayStand place
+  Explains (Document NotText) place = OfText IsNoText bytes × Refuses IsGarbled place
+  Explains (Document TooDeep) place = Refuses IsDeep place
+  Explains (Document TooLong) place = Refuses IsLong place
+  Explains (Document LargeTag) place = Refuses IsLarge place
+  Explains (Document (UnknownEncoding name)) place =
+      IfSome bytes (IsOfUnknown name) × (place ≡ first_position)
   Explains (Document Refused) place = ⊥
   Explains (Document other) place = Unit {0}
-  Explains (Message wrong) place = IsPlaceOf (IsRefusedRoot wrong) place
-  Explains Reference place = IsPlaceOf IsUnknown place
-  Explains TooLarge place = BeginsSo (λ tokens. IsLargeAt vocabulary tokens place)
+  Explains (Message wrong) place = Refuses (IsRefusedRoot wrong) place
+  Explains Reference place = Refuses IsUnknown place
+  Explains TooLarge place =
+      (tokens : List Token) × OfText (BeginsWith tokens) bytes × IsLargeAt vocabulary tokens place

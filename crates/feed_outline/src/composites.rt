@@ -116,6 +116,19 @@ pub fn text_in<'a>(name: &[u8], elements: &Elements<'a>) -> Option<&'a [u8]>
     None
 }
 
+/// How the first stranger is called that is one of the elements or in them, where one is. Nothing is
+/// proved of it.
+pub fn first_called<'a>(elements: &Elements<'a>) -> &'a [u8] {
+    let mut rest = elements.lines;
+    while let [line, tail @ ..] = rest {
+        if !line.called.is_empty() {
+            return line.called.as_slice();
+        }
+        rest = tail;
+    }
+    b""
+}
+
 /// Whether one of the elements, or of those in them, is a stranger: it is called as one that counts
 /// where it stands, and does not count.
 pub fn has_stranger(elements: &Elements<'_>) -> bool

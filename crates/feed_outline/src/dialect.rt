@@ -94,6 +94,14 @@ fn called(vocabulary: &Vocabulary, around: &Grower, name: &[u8]) -> Option<&'sta
     }
 }
 
+// How many bytes of a name or an address are kept.
+const KEPT: usize = 200;
+
+// The beginning of a name or an address.
+fn beginning(text: &[u8]) -> &[u8] {
+    text.get(..KEPT).unwrap_or(text)
+}
+
 impl Dialect {
     /// How a message is written whose root has this tag.
     pub(crate) fn of_root(
@@ -162,6 +170,25 @@ impl Dialect {
             Some(reference) => Some(reference),
             None => called(vocabulary, around, name),
         }
+    }
+
+    /// How a stranger of this name is called: that name, the address of its namespace and that of the
+    /// root's, on lines of their own. Nothing is proved of it.
+    pub(crate) fn called(
+        &self,
+        alloc: Global,
+        around: &Grower,
+        name: &[u8],
+        bindings: &[Binding],
+    ) -> Result<Vec<u8>, AllocError> {
+        let (prefix, _) = split_name(name);
+        let mut called = Vec::new(alloc);
+        called.extend_from_slice(beginning(name))?;
+        called.push(b'\n')?;
+        called.extend_from_slice(beginning(self.address_of(around, prefix, bindings)))?;
+        called.push(b'\n')?;
+        called.extend_from_slice(beginning(self.address.as_slice()))?;
+        Ok(called)
     }
 
     // The reference name of an element that counts.

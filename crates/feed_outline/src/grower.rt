@@ -215,6 +215,7 @@ impl Grower {
         place: Position,
         format: Option<Vec<u8>>,
         bindings: Vec<Binding>,
+        called: Vec<u8>,
     ) -> Result<(), AllocError>
         ensures { OnOk result (self.new ≡ opened self.old.passed
             (option_map (λ n. n.now) name.entry)
@@ -229,7 +230,7 @@ impl Grower {
                 self.passed = 1;
                 Ok(())
             }
-            Some(name) => self.begin(name, place, format, bindings),
+            Some(name) => self.begin(name, place, format, bindings, called),
         }
     }
 
@@ -240,6 +241,7 @@ impl Grower {
         place: Position,
         format: Option<Vec<u8>>,
         bindings: Vec<Binding>,
+        called: Vec<u8>,
     ) -> Result<(), AllocError>
         requires { self.old.passed ≡ 0 }
         ensures { OnOk result (self.new ≡ opened 0 (Some name.now)
@@ -254,6 +256,7 @@ impl Grower {
             place,
             format,
             text: Vec::new(self.alloc),
+            called,
         };
         self.opens.push(Open {
             at,

@@ -15,7 +15,7 @@ pub mod outlines;
 pub mod refusal_hints;
 mod spaces;
 
-pub use composites::{Elements, Node, has_stranger, text_in};
+pub use composites::{Elements, Node, first_called, has_stranger, text_in};
 pub use dialect::{Dialect, Wrong};
 pub use laws::outlines_tell;
 pub use line::Line;
@@ -23,4 +23,4 @@ pub use message_reading::{Fault, Stopped, read_message};
 pub use names::{Naming, Vocabulary, Word};
 pub use outliner::{Outliner, Taker};
 pub use outlines::{is_outline, outlined};
-pub use refusal_hints::RefusalHints;
+pub use refusal_hints::{RefusalHints, StuckAt};

@@ -34,8 +34,8 @@ pub enum Fault {
 /// Why no message was read, where, and what took the Header and Products until then. The place is
 /// that of the tag of a root that is refused, of a reference that stands for nothing, of the tag of
 /// a Header or Product that is too large, else behind the last token that was taken, and of a
-/// malformed document there no other may follow. It tells nothing where the encoding is none that is
-/// known, a read failed or memory ran out.
+/// malformed document there no other may follow; of an encoding that is none of those known it is the
+/// first. It tells nothing where a read failed or memory ran out.
 #[derive(Debug, Drop)]
 pub struct Stopped<T> {
     pub fault: Fault,

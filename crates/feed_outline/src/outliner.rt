@@ -15,7 +15,7 @@ use crate::message_reading::{Fault, Stopped};
 use crate::names::{Naming, Vocabulary};
 use crate::namespaces::bindings_of;
 use crate::refusal_hints::RefusalHints;
-use feed_xml::{Attributes, Bytes, Piece, Position, Sink, Token, push_reference};
+use feed_xml::{Attributes, Bytes, Piece, Position, Sink, Stuck, Token, push_reference};
 use std::alloc::{AllocError, Global};
 use std::marker::Model;
 
@@ -102,7 +102,7 @@ impl<T: Taker + Drop> Outliner<T> {
             child: Grower::new(alloc),
             known: true,
             place: Position::first(),
-            told: RefusalHints::new(),
+            told: RefusalHints::new(alloc),
         }
     }
 
@@ -209,6 +209,7 @@ impl<T: Taker + Drop> Outliner<T> {
         if self.child.is_idle() && self.child.fits() {
             self.hand_on()?;
             self.child.clear();
+            self.told.end_child();
         }
         Ok(())
     }
@@ -230,9 +231,15 @@ impl<T: Taker + Drop> Outliner<T> {
                     return self.child.pass();
                 }
                 let bindings = bindings_of(self.alloc, attributes)?;
-                let name = dialect.counted(&T::vocabulary(), &self.child, name, &bindings);
+                let counted = dialect.counted(&T::vocabulary(), &self.child, name, &bindings);
+                let called = if self.told.is_first_stranger(counted) {
+                    dialect.called(self.alloc, &self.child, name, &bindings)?
+                } else {
+                    Vec::new(self.alloc)
+                };
                 let format = format_of(self.alloc, attributes)?;
-                self.child.open(name, self.place, format, bindings)
+                self.child
+                    .open(counted, self.place, format, bindings, called)
             }
         }
     }
@@ -291,9 +298,15 @@ impl<T: Taker + Drop> Outliner<T> {
             ≡ told T.vocabulary T.after self.old (token_view token.entry)) }
     {
         match token {
-            Token::Start(name, attributes, _) => self.begin(name, &attributes),
+            Token::Start(name, attributes, _) => {
+                self.told.open(self.place)?;
+                self.begin(name, &attributes)
+            }
             Token::Empty(name, attributes, _) => self.empty(name, &attributes),
-            Token::End(_, _) => self.end(),
+            Token::End(_, _) => {
+                self.told.close();
+                self.end()
+            }
             Token::Reference(body) => self.refer(body),
             Token::CData(body) => self.speak(body, true),
             Token::Comment(_) => self.speak(b"", true),
@@ -368,5 +381,9 @@ impl<T: Taker + Drop> Sink for Outliner<T> {
                 self.move_on(spelled)
             }
         }
+    }
+
+    fn stuck(&mut self, at: &Stuck<'_>) {
+        self.told.take_stuck(self.alloc, at);
     }
 }

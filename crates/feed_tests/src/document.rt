@@ -5,7 +5,7 @@ ghost use Rattle.feed_xml.specs.View.{piece_view, token_view};
 ghost use Rattle.feed_tests.specs.Document.{after, shown, first_shown, id_shown, reference_shown};
 
 use crate::shown::Shown;
-use feed_xml::{Attributes, Fault, Piece, Sink, Token, push_reference, read_document};
+use feed_xml::{Attributes, Fault, Piece, Sink, Stuck, Token, push_reference, read_document};
 use std::alloc::AllocError;
 use std::io;
 
@@ -125,4 +125,6 @@ impl Sink for Shown {
         self.take_piece(piece)?;
         Ok(true)
     }
+
+    fn stuck(&mut self, _: &Stuck<'_>) {}
 }

@@ -2,6 +2,7 @@ pub mod Runs
 pub mod StepLaws
 pub mod CharacterLaws
 pub mod TextLaws
+pub mod PassedLaws
 pub mod PartLaws
 pub mod AttributeLaws
 pub mod AttributeRuns
@@ -22,6 +23,7 @@ pub mod EntityLaws
 pub mod AsciiLaws
 pub mod EncodingLaws
 pub mod ReadingLaws
+pub mod GarbledLaws
 pub mod HeadLaws
 pub mod ValueLaws
 pub mod OneTreeLaws

@@ -1,6 +1,7 @@
 -- Where the reading of a document stands.
-use Rattle.std.proofs.Common.{append-nil, ◌≡◌, ℕ, ◌+◌, ◌-◌, true, false, List, [], ◌++◌, length, take, drop, Option, Some, None, Result, Ok, Err, refl, sym, ap, subst, ◌∙◌, append_assoc, take-append-drop, take-add, take_at, drop_at}
+use Rattle.std.proofs.Common.{append-nil, ◌≡◌, ◌≤◌, ℕ, ◌+◌, ◌-◌, arith, true, false, List, [], ◌++◌, length, take, drop, Option, Some, None, Result, Ok, Err, refl, sym, ap, subst, ◌∙◌, append_assoc, take-append-drop, take-add, take_at, drop_at}
 use Rattle.std.specs.Prelude.{IfSome, IfErr, option_and_then}
+use Rattle.std.proofs.lemmas.List.{length-take}
 use Rattle.std.specs.Io.KnownBytes.{Consumes, IsAtEnd, prepend_known}
 use Rattle.std.proofs.KnownBytes.{Consumes-trans, prepend_known-nil}
 use Rattle.feed_xml.specs.declared.fault.Fault.{Fault}
@@ -25,7 +26,8 @@ use Rattle.feed_xml.proofs.TextLaws.{follow-append}
 -- all that was read is a text up to here; or it is none, by the bytes behind it
 abbrev pub Reaches : Option Part → List ℕ → List ℕ → Type 0
 Reaches (Some part) text bad = (bad ≡ []) × (follow Whole text ≡ Some part)
-Reaches None text bad = follow Whole (text ++ bad) ≡ None
+Reaches None text bad =
+    (worst more : List ℕ) × (bad ≡ worst ++ more) × (length worst ≤ 4) × (follow Whole (text ++ worst) ≡ None)
 
 -- The text so far is what was told without what is left: these tokens, to a place, and then the window. Behind it stand the bytes that are none of a text.
 pub record State (told left : Option (List ℕ)) (window : List ℕ) (tokens : List Token) (place : Place) (part : Option Part) : Type 0 where
@@ -59,7 +61,7 @@ put_back (Some x) None text bad c = absurd c
 put_back (Some x) (Some y) text bad c = c ∙ sym (append_assoc text bad y)
 
 -- without bytes that are none of a text
-nothing_bad : (a b : Option (List ℕ)) (text bad : List ℕ) → bad ≡ [] → Consumes a (prepend_known bad b) text → Consumes a b text
+pub nothing_bad : (a b : Option (List ℕ)) (text bad : List ℕ) → bad ≡ [] → Consumes a (prepend_known bad b) text → Consumes a b text
 nothing_bad a b text bad none c = subst (λ (o : Option (List ℕ)). Consumes a o text) (ap (λ (l : List ℕ). prepend_known l b) none ∙ prepend_known-nil b) c
 
 -- more was read
@@ -76,13 +78,17 @@ reads_on told left later before window tokens place part piece (Some q) s c g = 
 }
 reads_on told left later before window tokens place part piece None s c g =
     let all = Consumes-trans told left later s.text piece (nothing_bad told left s.text s.bad s.at_part.0 s.read) c in
-    let parts : s.text ++ piece ≡ (s.text ++ g.0) ++ g.1 = ap (λ (l : List ℕ). s.text ++ l) g.2 ∙ sym (append_assoc s.text g.0 g.1) in
+    let bad = g.1 ++ g.2 in
+    let parts : s.text ++ piece ≡ (s.text ++ g.0) ++ bad = ap (λ (l : List ℕ). s.text ++ l) g.3 ∙ sym (append_assoc s.text g.0 bad) in
+    let far = g.0 ++ g.1 in
+    let none : follow Whole ((s.text ++ g.0) ++ g.1) ≡ None =
+    ap (follow Whole) (append_assoc s.text g.0 g.1) ∙ follow-append Whole s.text far ∙ ap (option_and_then (λ (p : Part). follow p far)) s.at_part.1 ∙ g.6 in
     record {
       text = s.text ++ g.0;
-      bad = g.1;
-      read = set_apart told later (s.text ++ g.0) g.1 (subst (Consumes told later) parts all);
-      advances = subst (λ (l : List ℕ). Advances (s.text ++ g.0) tokens l first_place place) (sym g.3) (advance_longer s.text before g.0 tokens first_place place s.advances);
-      at_part = ap (follow Whole) (sym parts) ∙ follow-append Whole s.text piece ∙ ap (option_and_then (λ (p : Part). follow p piece)) s.at_part.1 ∙ g.4;
+      bad = bad;
+      read = set_apart told later (s.text ++ g.0) bad (subst (Consumes told later) parts all);
+      advances = subst (λ (l : List ℕ). Advances (s.text ++ g.0) tokens l first_place place) (sym g.4) (advance_longer s.text before g.0 tokens first_place place s.advances);
+      at_part = (g.1, g.2, refl, g.5, none);
     }
 
 -- tokens were handed on
@@ -110,7 +116,12 @@ goes_beyond Limit told left window shown tokens q part lasts others s is m =
 pub is_garbled : (told left : Option (List ℕ)) (window : List ℕ) (tokens : List Token) (q : Place) (part : Option Part) → part ≡ None → State told left window tokens q part
     → IfSome told IsNoText
 is_garbled told left window tokens q (Some p) is s = absurd cc
-is_garbled told left window tokens q None is s = known_garbled told left (s.text ++ s.bad) (put_back told left s.text s.bad s.read) s.at_part
+is_garbled told left window tokens q None is s =
+    let r = s.at_part in
+    let none : follow Whole (s.text ++ s.bad) ≡ None =
+    ap (λ (l : List ℕ). follow Whole (s.text ++ l)) r.2 ∙ ap (follow Whole) (sym (append_assoc s.text r.0 r.1)) ∙ follow-append Whole (s.text ++ r.0) r.1
+    ∙ ap (option_and_then (λ (p : Part). follow p r.1)) r.4 in
+    known_garbled told left (s.text ++ s.bad) (put_back told left s.text s.bad s.read) none
 
 pub is_cut : (told left : Option (List ℕ)) (window : List ℕ) (tokens : List Token) (q : Place) (part : Part) → State told left window tokens q (Some part) → IsAtEnd left → HasNoToken window
     → is_whole window q part ≡ false → IfSome told IsNeverComplete
@@ -185,16 +196,26 @@ kept old piece window new start part next is from g =
     let d : drop start window ≡ piece = ap (drop start) is ∙ drop_at old piece start (sym from) in
     subst (λ (l : List ℕ). Grows old new part l next) d (subst (λ (l : List ℕ). Grows l new part (drop start window) next) t g)
 
+length-take-most : (n : ℕ) (l : List ℕ) → length (take n l) ≤ n
+length-take-most n l = omega (arith, length-take n l)
+
 -- a piece that is none of a text, of which so many bytes are kept
-pub cut : (items shown new : List ℕ) (start whole : ℕ) (part : Part) → shown ≡ items → follow part (take (length shown - start) (drop start shown)) ≡ None
+pub cut : (items shown new : List ℕ) (start whole : ℕ) (part : Part) → shown ≡ items → follow part (take (whole + 4) (take (length shown - start) (drop start shown))) ≡ None
     → new ≡ take (start + whole) items → Grows (take start items) new part (drop start items) None
-cut items shown new start whole part is none kept_so = (
-  take whole (drop start items),
-  drop whole (drop start items),
-  sym (take-append-drop whole (drop start items)),
-  kept_so ∙ take-add start whole items,
-  ap (follow part) (ap (drop start) (sym is) ∙ sym (rest_is shown start)) ∙ none,
-)
+cut items shown new start whole part is none kept_so =
+    let piece = drop start items in
+    let behind = drop whole piece in
+    let same : take (length shown - start) (drop start shown) ≡ piece = rest_is shown start ∙ ap (drop start) is in
+    let parts : piece ≡ take whole piece ++ (take 4 behind ++ drop 4 behind) =
+    sym (take-append-drop whole piece) ∙ ap (λ (l : List ℕ). take whole piece ++ l) (sym (take-append-drop 4 behind)) in (
+      take whole piece,
+      take 4 behind,
+      drop 4 behind,
+      parts,
+      kept_so ∙ take-add start whole items,
+      length-take-most 4 behind,
+      ap (follow part) (sym (take-add whole 4 piece) ∙ ap (take (whole + 4)) (sym same)) ∙ none,
+    )
 
 -- ---- a turn
 
@@ -222,7 +243,7 @@ ends_cut told left later before window shown tokens place was part piece next la
     is_cut told later window tokens place last (subst (λ (o : Option Part). State told later window tokens place o) found t) end_here (subst HasNoToken (sym kept_window) none)
     (ap (λ (l : List ℕ). is_whole l place last) (sym same) ∙ not_whole)
 
-last_state : (told left later : Option (List ℕ)) (before window : List ℕ) (tokens : List Token) (place : Place) (was : Option Part) (part : Part) (piece : List ℕ) (next : Option Part) (last : Part)
+pub last_state : (told left later : Option (List ℕ)) (before window : List ℕ) (tokens : List Token) (place : Place) (was : Option Part) (part : Part) (piece : List ℕ) (next : Option Part) (last : Part)
     → State told left before tokens place was → was ≡ Some part → Consumes left later piece → Grows before window part piece next → next ≡ Some last → IsEnding piece → State told later before tokens place (Some last)
 last_state told left later before window tokens place was part piece next last s is c g found ending_is =
     let t = reads_on_at told left later before window tokens place was part piece next s is c g in

@@ -5,3 +5,4 @@ pub mod Places
 pub mod Windows
 pub mod Bounds
 pub mod References
+pub mod Passed

@@ -5,7 +5,7 @@ ghost use Rattle.std.specs.Io.KnownBytes.{Consumes, IsAtEnd};
 ghost use Rattle.feed_xml.specs.Grammar.{Token, raw};
 ghost use Rattle.feed_xml.specs.Pieces.{Begins, HasNoToken};
 ghost use Rattle.feed_xml.specs.View.{piece_view};
-ghost use Rattle.feed_xml.specs.Limits.{BeginsWith, Meets, IsDeep, IsLarge, IsLong, NoneMayStand};
+ghost use Rattle.feed_xml.specs.Limits.{BeginsWith, Meets, IsDeep, IsGarbled, IsLarge, IsLong, NoneMayStand};
 ghost use Rattle.feed_xml.specs.private.Places.{Completes, IsComplete, IsNeverComplete, first_place, steps};
 ghost use Rattle.feed_xml.specs.Documents.{IsDocument, IsNoDocument, IsNoText};
 ghost use Rattle.feed_xml.specs.private.Windows.{Advances, BeginsAt, Grows, IsEnding, IsTold, is_whole};
@@ -13,7 +13,7 @@ ghost use Rattle.feed_xml.specs.EncodingNames.{IsOfUnknown, IsTextOf, OfText, de
 ghost use Rattle.feed_xml.specs.private.Decoders.{decoded_rest, ending, held_behind, text_from, text_left};
 ghost use Rattle.feed_xml.specs.Faults.{AtFault, IsOfEnd, IsOfPlace, IsOfReading};
 ghost use Rattle.feed_xml.specs.Texts.{IsSmall, is_start};
-ghost use Rattle.feed_xml.specs.private.Bounds.{MeetsFrom, IsDeepAt, IsLargeAt, IsLongAt, NoneStandsAt, NoneWillStand};
+ghost use Rattle.feed_xml.specs.private.Bounds.{IsGarbledBehind, MeetsFrom, IsDeepAt, IsLargeAt, IsLongAt, NoneStandsAt, NoneWillStand};
 
 use crate::bytes::Bytes;
 use crate::classes::is_filled;
@@ -22,7 +22,7 @@ use crate::encodings::{Encoding, Held, push_decoded, push_ending};
 use crate::fault::Fault;
 use crate::pieces::{Piece, read_piece};
 use crate::place::Place;
-use crate::sink::Sink;
+use crate::sink::{Sink, Stuck};
 use crate::stop::Stop;
 use crate::texts::{Part, follow, is_start};
 use std::alloc::Global;
@@ -91,6 +91,17 @@ fn first(bytes: &[u8], count: usize) -> &[u8]
     &bytes[..count]
 }
 
+// Tells a sink what is malformed.
+fn tell_stuck<S: Sink>(rest: &[u8], is_token: bool, place: &Place, sink: &mut S)
+    ensures { sink.new ≡ sink.old }
+{
+    sink.stuck(&Stuck {
+        rest,
+        is_token,
+        open: place.open(),
+    });
+}
+
 // Hands on each token that is whole, and counts their bytes.
 fn drain<S: Sink>(window: &[u8], place: &mut Place, sink: &mut S) -> Result<usize, Fault>
     ensures within { IfOk result (λ n. n ≤ length window.now) }
@@ -120,7 +131,13 @@ fn drain<S: Sink>(window: &[u8], place: &mut Place, sink: &mut S) -> Result<usiz
     'reading: loop {
         match read_piece(rest) {
             Ok((piece, next)) => {
-                let (taken, behind) = take_some(place, piece, rest, next)?;
+                let (taken, behind) = match take_some(place, piece, rest, next) {
+                    Ok(found) => found,
+                    Err(fault) => {
+                        tell_stuck(rest, true, place, sink);
+                        return Err(fault);
+                    }
+                };
                 match sink.take(taken, &rest[..rest.len() - behind.len()]) {
                     Ok(true) => rest = behind,
                     Ok(false) => return Err(Fault::Refused),
@@ -128,7 +145,10 @@ fn drain<S: Sink>(window: &[u8], place: &mut Place, sink: &mut S) -> Result<usiz
                 }
             }
             Err(Stop::More) => return Ok(window.len() - rest.len()),
-            Err(Stop::Never) => return Err(Fault::Malformed),
+            Err(Stop::Never) => {
+                tell_stuck(rest, false, place, sink);
+                return Err(Fault::Malformed);
+            }
         }
     }
 }
@@ -161,6 +181,9 @@ fn read_encoded<R: Read, S: Sink>(
         (MeetsFrom NoneStandsAt first_place tokens) × (sink.new ≡ fold S.after sink.old tokens) }
     ensures garbled { IsErrOf result Fault.NotText
         → IfSome (text_left encoding head.now (R.remaining reader.old)) IsNoText }
+    ensures broken { IsErrOf result Fault.NotText → (tokens : List Token)
+        × IfSome (text_left encoding head.now (R.remaining reader.old)) (IsGarbledBehind tokens)
+        × (sink.new ≡ fold S.after sink.old tokens) }
     ensures deep { IsErrOf result Fault.TooDeep → (tokens : List Token)
         × IfSome (text_left encoding head.now (R.remaining reader.old))
         (MeetsFrom IsDeepAt first_place tokens) × (sink.new ≡ fold S.after sink.old tokens) }
@@ -222,6 +245,9 @@ pub fn read_document<R: Read, S: Sink>(
         × (sink.new ≡ fold S.after sink.old tokens) }
     ensures garbled { IsErrOf result Fault.NotText
         → OfText IsNoText (R.remaining reader.old) }
+    ensures broken { IsErrOf result Fault.NotText → (tokens : List Token)
+        × OfText (Meets IsGarbled tokens) (R.remaining reader.old)
+        × (sink.new ≡ fold S.after sink.old tokens) }
     ensures deep { IsErrOf result Fault.TooDeep → (tokens : List Token)
         × OfText (Meets IsDeep tokens) (R.remaining reader.old)
         × (sink.new ≡ fold S.after sink.old tokens) }
@@ -233,6 +259,8 @@ pub fn read_document<R: Read, S: Sink>(
         × (sink.new ≡ fold S.after sink.old tokens) }
     ensures unknown { (name : List ℕ) → IsErrOf result (Fault.UnknownEncoding name)
         → IfSome (R.remaining reader.old) (IsOfUnknown name) }
+    ensures unread { (name : List ℕ) → IsErrOf result (Fault.UnknownEncoding name)
+        → sink.new ≡ sink.old }
     ensures refused { IsErrOf result Fault.Refused → S.goes_on sink.new ≡ false }
     ensures stopped { IfErr result (AtFault ((tokens : List Token)
         × OfText (BeginsWith tokens) (R.remaining reader.old)

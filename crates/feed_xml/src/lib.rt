@@ -36,6 +36,6 @@ pub use laws::{one_document, one_tree, tokens_are_read, utf16_is_read};
 pub use pieces::Piece;
 pub use position::Position;
 pub use references::push_reference;
-pub use sink::Sink;
+pub use sink::{Sink, Stuck};
 pub use tags::Token;
 pub use values::push_normalized;

@@ -1,6 +1,6 @@
 //! Elements in one another.
 
-ghost use Rattle.std.specs.Prelude.{◌≡◌, ◌≤◌, ◌<◌, Some, None, OnOk, OnErr, IfErr, IsErrOf, map, length};
+ghost use Rattle.std.specs.Prelude.{◌≡◌, ◌≤◌, ◌<◌, true, false, Some, None, OnOk, OnErr, IfErr, IsErrOf, map, length};
 ghost use Rattle.std.specs.List.{list_all};
 ghost use Rattle.feed_xml.specs.Grammar.{is_space, raw};
 ghost use Rattle.feed_xml.specs.private.Bounds.{IsStart};
@@ -22,6 +22,15 @@ pub(crate) const MOST_OPEN: usize = 1000;
 pub(crate) struct Nesting {
     names: Names,
     begun: bool,
+}
+
+// What is no document unless this holds.
+fn only_if(holds: bool) -> Result<(), Fault>
+    ensures ok { OnOk result (holds ≡ true) }
+    ensures malformed { OnErr result (holds ≡ false) }
+    ensures fault { IfErr result (λ fault. fault ≡ Fault.Malformed) }
+{
+    if holds { Ok(()) } else { Err(Fault::Malformed) }
 }
 
 impl Nesting {
@@ -47,6 +56,11 @@ impl Nesting {
         ensures { result ≡ is_nothing self.now.names }
     {
         self.names.is_nothing()
+    }
+
+    /// The name of the innermost element that is open.
+    pub(crate) fn open(&self) -> Option<&[u8]> {
+        self.names.last()
     }
 
     /// Goes on by a stretch of text.
@@ -78,15 +92,25 @@ impl Nesting {
         ensures large { ¬ (IsErrOf result Fault.LargeTag) }
         ensures fault { IfErr result IsOfPlace }
     {
-        if self.begun && self.names.is_nothing() {
-            return Err(Fault::Malformed);
-        }
+        only_if(!self.is_closed())?;
         if self.names.len() >= MOST_OPEN {
             return Err(Fault::TooDeep);
         }
         let Ok(()) = self.names.push(name) else {
             return Err(Fault::Memory);
         };
+        self.begun = true;
+        Ok(())
+    }
+
+    // Goes on by an empty element.
+    fn take_empty(&mut self) -> Result<(), Fault>
+        ensures open { OnOk result (is_closed self.old ≡ false) }
+        ensures begun { OnOk result (self.new ≡ record self.old { begun = true }) }
+        ensures malformed { OnErr result (is_closed self.old ≡ true) }
+        ensures fault { IfErr result (λ fault. fault ≡ Fault.Malformed) }
+    {
+        only_if(!self.is_closed())?;
         self.begun = true;
         Ok(())
     }
@@ -102,52 +126,12 @@ impl Nesting {
         ensures fault { IfErr result IsOfPlace }
     {
         match token {
-            Token::Comment(_) => Ok(()),
-            Token::Instruction(_) => Ok(()),
-            Token::Doctype(_) => {
-                if self.begun {
-                    Err(Fault::Malformed)
-                } else {
-                    Ok(())
-                }
-            }
-            Token::Declaration(_) => {
-                if self.begun {
-                    Err(Fault::Malformed)
-                } else {
-                    Ok(())
-                }
-            }
-            Token::Reference(_) => {
-                if self.names.is_nothing() {
-                    Err(Fault::Malformed)
-                } else {
-                    Ok(())
-                }
-            }
-            Token::CData(_) => {
-                if self.names.is_nothing() {
-                    Err(Fault::Malformed)
-                } else {
-                    Ok(())
-                }
-            }
+            Token::Comment(_) | Token::Instruction(_) => Ok(()),
+            Token::Doctype(_) | Token::Declaration(_) => only_if(!self.begun),
+            Token::Reference(_) | Token::CData(_) => only_if(!self.names.is_nothing()),
             Token::Start(name, _, _) => self.take_start(name),
-            Token::Empty(_, _, _) => {
-                if self.begun && self.names.is_nothing() {
-                    Err(Fault::Malformed)
-                } else {
-                    self.begun = true;
-                    Ok(())
-                }
-            }
-            Token::End(name, _) => {
-                if self.names.close(name) {
-                    Ok(())
-                } else {
-                    Err(Fault::Malformed)
-                }
-            }
+            Token::Empty(_, _, _) => self.take_empty(),
+            Token::End(name, _) => only_if(self.names.close(name)),
         }
     }
 }

@@ -1,7 +1,7 @@
 //! A DOCTYPE is passed over.
 
-ghost use Rattle.std.specs.Prelude.{◌≡◌};
-ghost use Rattle.feed_xml.specs.Skims.{next_skim, ends_skim};
+ghost use Rattle.std.specs.Prelude.{◌≡◌, ◌∷◌, []};
+ghost use Rattle.feed_xml.specs.Skims.{next_skim, ends_skim, on};
 ghost use Rattle.feed_xml.specs.Steps.{Gives, skim};
 
 use crate::stop::Stop;
@@ -23,86 +23,95 @@ pub(crate) enum Skim {
     InstructionMark,
 }
 
+// What a byte leads to: to one if it is the wanted byte, else to another.
+fn on(b: u8, wanted: u8, found: Skim, other: Skim) -> Skim
+    ensures { result ≡ on ((wanted, found) ∷ []) other b }
+{
+    if b == wanted { found } else { other }
+}
+
+fn next_outside(b: u8) -> Skim
+    ensures { result ≡ next_skim Skim.Outside b }
+{
+    if b == b'"' {
+        Skim::Quoted(b'"')
+    } else if b == b'\'' {
+        Skim::Quoted(b'\'')
+    } else if b == b'[' {
+        Skim::Inside
+    } else {
+        Skim::Outside
+    }
+}
+
+fn next_inside(b: u8) -> Skim
+    ensures { result ≡ next_skim Skim.Inside b }
+{
+    if b == b'"' {
+        Skim::InsideQuoted(b'"')
+    } else if b == b'\'' {
+        Skim::InsideQuoted(b'\'')
+    } else if b == b'<' {
+        Skim::Opened
+    } else if b == b']' {
+        Skim::Outside
+    } else {
+        Skim::Inside
+    }
+}
+
+fn next_opened(b: u8) -> Skim
+    ensures { result ≡ next_skim Skim.Opened b }
+{
+    if b == b'!' {
+        Skim::Exclaimed
+    } else if b == b'?' {
+        Skim::Instruction
+    } else {
+        Skim::Inside
+    }
+}
+
+fn next_dashes(b: u8) -> Skim
+    ensures { result ≡ next_skim Skim.CommentDashes b }
+{
+    if b == b'>' {
+        Skim::Inside
+    } else if b == b'-' {
+        Skim::CommentDashes
+    } else {
+        Skim::Comment
+    }
+}
+
+fn next_mark(b: u8) -> Skim
+    ensures { result ≡ next_skim Skim.InstructionMark b }
+{
+    if b == b'>' {
+        Skim::Inside
+    } else if b == b'?' {
+        Skim::InstructionMark
+    } else {
+        Skim::Instruction
+    }
+}
+
 fn next_skim(s: Skim, b: u8) -> Skim
     ensures { result ≡ next_skim s b }
 {
     match s {
-        Skim::Outside => {
-            if b == 34 {
-                Skim::Quoted(34)
-            } else if b == 39 {
-                Skim::Quoted(39)
-            } else if b == 91 {
-                Skim::Inside
-            } else {
-                Skim::Outside
-            }
-        }
-        Skim::Quoted(q) => { if b == q { Skim::Outside } else { s } }
-        Skim::Inside => {
-            if b == 34 {
-                Skim::InsideQuoted(34)
-            } else if b == 39 {
-                Skim::InsideQuoted(39)
-            } else if b == 60 {
-                Skim::Opened
-            } else if b == 93 {
-                Skim::Outside
-            } else {
-                Skim::Inside
-            }
-        }
-        Skim::InsideQuoted(q) => { if b == q { Skim::Inside } else { s } }
-        Skim::Opened => {
-            if b == 33 {
-                Skim::Exclaimed
-            } else if b == 63 {
-                Skim::Instruction
-            } else {
-                Skim::Inside
-            }
-        }
-        Skim::Exclaimed => { if b == 45 { Skim::Dashed } else { Skim::Inside } }
-        Skim::Dashed => { if b == 45 { Skim::Comment } else { Skim::Inside } }
-        Skim::Comment => {
-            if b == 45 {
-                Skim::CommentDash
-            } else {
-                Skim::Comment
-            }
-        }
-        Skim::CommentDash => {
-            if b == 45 {
-                Skim::CommentDashes
-            } else {
-                Skim::Comment
-            }
-        }
-        Skim::CommentDashes => {
-            if b == 62 {
-                Skim::Inside
-            } else if b == 45 {
-                Skim::CommentDashes
-            } else {
-                Skim::Comment
-            }
-        }
-        Skim::Instruction => {
-            if b == 63 {
-                Skim::InstructionMark
-            } else {
-                Skim::Instruction
-            }
-        }
-        Skim::InstructionMark => {
-            if b == 62 {
-                Skim::Inside
-            } else if b == 63 {
-                Skim::InstructionMark
-            } else {
-                Skim::Instruction
-            }
-        }
+        Skim::Outside => next_outside(b),
+        Skim::Quoted(quote) => on(b, quote, Skim::Outside, s),
+        Skim::Inside => next_inside(b),
+        Skim::InsideQuoted(quote) => on(b, quote, Skim::Inside, s),
+        Skim::Opened => next_opened(b),
+        Skim::Exclaimed => on(b, b'-', Skim::Dashed, Skim::Inside),
+        Skim::Dashed => on(b, b'-', Skim::Comment, Skim::Inside),
+        Skim::Comment => on(b, b'-', Skim::CommentDash, Skim::Comment),
+        Skim::CommentDash => on(b, b'-', Skim::CommentDashes, Skim::Comment),
+        Skim::CommentDashes => next_dashes(b),
+        Skim::Instruction => on(b, b'?', Skim::InstructionMark, Skim::Instruction),
+        Skim::InstructionMark => next_mark(b),
     }
 }
 
@@ -110,7 +119,7 @@ fn ends_skim(s: Skim, b: u8) -> bool
     ensures { result ≡ ends_skim s b }
 {
     match s {
-        Skim::Outside => b == 62,
+        Skim::Outside => b == b'>',
         _ => false,
     }
 }

@@ -1,7 +1,8 @@
 //! The characters of a text, byte by byte.
 
-ghost use Rattle.std.specs.Prelude.{◌≡◌, ◌<◌, ◌≤◌, ℕ, Some, None, IfOk, IfErr, IfSome, length};
+ghost use Rattle.std.specs.Prelude.{◌≡◌, ◌<◌, ◌≤◌, ℕ, ◌+◌, Some, None, false, IfOk, IfErr, IfSome, length, take, if◌then◌else◌};
 ghost use Rattle.feed_xml.specs.Texts.{next_part, follow, is_start, IsSmall};
+ghost use Rattle.feed_xml.specs.private.Passed.{Passes};
 
 use crate::characters::is_char;
 
@@ -70,7 +71,7 @@ fn next_part(part: Part, b: u8) -> Option<Part>
 // This place where a character begins at it, else the other one.
 #[inline(always)]
 fn last_start(part: Part, at: usize, other: usize) -> usize
-    ensures { (most : ℕ) → at ≤ most → other ≤ most → result ≤ most }
+    ensures { result ≡ (if is_start part then at else other) }
 {
     if is_start(part) { at } else { other }
 }
@@ -78,7 +79,7 @@ fn last_start(part: Part, at: usize, other: usize) -> usize
 // The bytes behind the characters of one byte at the front.
 #[inline(always)]
 fn behind_ascii(bytes: &[u8]) -> &[u8]
-    ensures same { follow Part.Whole result.now ≡ follow Part.Whole bytes.now }
+    ensures passed { Passes Part.Whole Part.Whole bytes.now result.now }
     ensures shorter { length result.now ≤ length bytes.now }
 {
     let mut rest = bytes;
@@ -94,7 +95,8 @@ fn behind_ascii(bytes: &[u8]) -> &[u8]
 // The same, where a character begins there.
 #[inline(always)]
 fn skip_ascii(part: Part, bytes: &[u8]) -> &[u8]
-    ensures same { follow part result.now ≡ follow part bytes.now }
+    ensures passed { Passes part part bytes.now result.now }
+    ensures same { is_start part ≡ false → result.now ≡ bytes.now }
     ensures shorter { length result.now ≤ length bytes.now }
 {
     match part {
@@ -103,13 +105,13 @@ fn skip_ascii(part: Part, bytes: &[u8]) -> &[u8]
     }
 }
 
-/// The part behind these bytes, where they are of a text; else how many stand before the character
-/// that is none.
+/// The part behind these bytes, where they are of a text; else how many come before the character
+/// that is none, which ends within four bytes.
 pub(crate) fn follow(part: Part, bytes: &[u8]) -> Result<Part, usize>
     requires { IsSmall part }
     ensures gives { IfOk result (λ next. follow part bytes.now ≡ Some next) }
     ensures small { IfOk result IsSmall }
-    ensures none { IfErr result (λ _. follow part bytes.now ≡ None) }
+    ensures none { IfErr result (λ whole. follow part (take (whole + 4) bytes.now) ≡ None) }
     ensures within { IfErr result (λ whole. whole ≤ length bytes.now) }
 {
     let mut part = part;

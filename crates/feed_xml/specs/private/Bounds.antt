@@ -4,9 +4,9 @@ use Rattle.feed_xml.specs.declared.place.Place.{Place}
 use Rattle.feed_xml.specs.Distinct.{is_large}
 use Rattle.feed_xml.specs.private.Windows.{Advances}
 use Rattle.feed_xml.specs.Grammar.{Token, start}
-use Rattle.feed_xml.specs.Limits.{Follows}
+use Rattle.feed_xml.specs.Limits.{Follows, IsGarbled}
 use Rattle.feed_xml.specs.Pieces.{HasNoToken}
-use Rattle.feed_xml.specs.private.Places.{steps}
+use Rattle.feed_xml.specs.private.Places.{first_place, steps}
 
 -- what may be said of a place and of what follows there
 abbrev pub PlaceBound : Type 1
@@ -45,3 +45,7 @@ abbrev pub IsLongAt : Place → List ℕ → Type 0
 IsLongAt p rest =
     (front : List ℕ) × (more : List ℕ) × (rest ≡ front ++ more) × (4194304 < length front)
     × HasNoToken front
+
+-- the text is none behind these tokens
+abbrev pub IsGarbledBehind : List Token → List ℕ → Type 0
+IsGarbledBehind tokens = MeetsFrom (λ place rest. IsGarbled tokens rest) first_place tokens

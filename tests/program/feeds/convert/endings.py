@@ -80,8 +80,8 @@ ENDS = [
             ("<Product><Record", CUT),
             ("<Product>R", CUT),
             ("<!-- ", CUT),
-            ("</Other>", NO_XML),
-            (f"{FRAME.behind}</Other>", NO_XML),
+            ("</Other>", f"{NO_XML}: </Other> does not close <ONIXMessage>, which begins at 1:1"),
+            (f"{FRAME.behind}</Other>", f"{NO_XML}: an end tag behind the root"),
         ]
     ),
 ]

@@ -46,10 +46,14 @@ def of_part(place: str, data: bytes) -> str:
     return f"{before.count(chr(10)) + 1}:{len(before) - before.rfind(chr(10))}"
 
 
+# How an element is called that does not count in its place, which differs in short tags; tests/refusals has it.
+CALLED = re.compile("(?<= counts there): .*")
+
+
 def noted(line: str) -> Noted:
     found = PLACE.fullmatch(line)
     assert found
-    return Noted(int(found[1]), int(found[2]), found[4].removeprefix(": "))
+    return Noted(int(found[1]), int(found[2]), CALLED.sub("", found[4].removeprefix(": ")))
 
 
 def refusal(wanted: Converted) -> tuple[str, str] | None:

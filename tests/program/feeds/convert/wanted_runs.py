@@ -126,7 +126,7 @@ CASES = [
             message_of("R2"),
             said(
                 [
-                    f"{FEED}:2:1: no RecordReference: Product left out: no RecordReference",
+                    f"{FEED}:2:1: Product 1 (ISBN {ISBN}): Product left out: no RecordReference",
                     "Product left out: no RecordReference: 1",
                     "1 note, 1 product wrong",
                 ]

@@ -10,7 +10,7 @@ returns-then-is_filled-clause-records c notes =
     cc (written, c.in_ok-push.ensures.ok, c.as_record.ensures)
 
 pub returns-clause-reason : goal.returns-clause-reason
-returns-clause-reason c notes = let long = long-reason _ _ _ notes c.if-is_filled.false c.in_ok-is_filled.ensures in cc (long, c.too_long.ensures)
+returns-clause-reason c notes = let long = long-reason _ _ _ notes c.if-is_filled.false c.in_ok-is_filled.ensures in cc (long, c.foreign.ensures)
 
 pub returns-clause-records : goal.returns-clause-records
 returns-clause-records c notes = long-records _ _ _ notes c.if-is_filled.false c.in_ok-is_filled.ensures c.args.records.now

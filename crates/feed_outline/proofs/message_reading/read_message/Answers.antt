@@ -50,10 +50,12 @@ returns-else-is_of_text-clause-refused g c =
       malformed = said.malformed;
       stuck = said.stuck;
       garbled = said.garbled;
+      broken = said.broken;
       deep = said.deep;
       large = said.large;
       long = said.long;
       unknown = said.unknown;
+      unread = said.unread;
       refused = said.refused;
     } in
     rw (c.stop.ensures, c.place-place.ensures)

@@ -4,10 +4,11 @@ use Rattle.feed_xml.specs.private.Windows.{BeginsAt, IsTold}
 use Rattle.feed_xml.specs.EncodingNames.{encoding_at, IsTextOf, OfText}
 use Rattle.feed_xml.specs.private.Decoders.{text_left}
 use Rattle.feed_xml.specs.Grammar.{Token}
-use Rattle.feed_xml.specs.private.Bounds.{MeetsFrom, IsDeepAt, IsLargeAt, IsLongAt, NoneStandsAt}
+use Rattle.feed_xml.specs.private.Bounds.{IsGarbledBehind, MeetsFrom, IsDeepAt, IsLargeAt, IsLongAt, NoneStandsAt}
 use Rattle.feed_xml.specs.private.Places.{IsNeverComplete, first_place}
 use Rattle.feed_xml.specs.Documents.{IsNoDocument, IsNoText}
 use Rattle.feed_xml.proofs.DocumentLaws.{ok_then}
+use Rattle.feed_xml.proofs.GarbledLaws.{broken_text}
 use Rattle.feed_xml.proofs.MeetLaws.{of_all, stuck_text, deep_text, large_text, long_text, begins_text}
 use Rattle.feed_xml.proofs.TreeLaws.{document_of, never_document}
 use Rattle.feed_xml.specs.Limits.{BeginsWith}
@@ -61,6 +62,11 @@ returns-clause-malformed g c =
 
 pub returns-clause-garbled : goal.returns-clause-garbled
 returns-clause-garbled g c = λ is. of_all_bytes g (goal.at.returns-clause-garbled g c).After-read_encoded IsNoText (c.read_encoded.ensures.garbled is)
+
+pub returns-clause-broken : goal.returns-clause-broken
+returns-clause-broken g c =
+    let s = (goal.at.returns-clause-broken g c).After-read_encoded in
+    λ is. let w = c.read_encoded.ensures.broken is in (w.0, broken_text w.0 (before g s) (of_all_bytes g s (IsGarbledBehind w.0) w.1), w.2)
 
 pub returns-clause-stuck : goal.returns-clause-stuck
 returns-clause-stuck g c =

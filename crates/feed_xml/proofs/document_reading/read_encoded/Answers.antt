@@ -12,6 +12,7 @@ use Rattle.feed_xml.specs.private.Places.{first_place}
 use Rattle.feed_xml.specs.private.Bounds.{IsDeepAt, IsLargeAt, NoneWillStand}
 use Rattle.feed_xml.proofs.DocumentLaws.{other_err, a_none, ok_then, err_then}
 use Rattle.feed_xml.proofs.EncodingLaws.{begun}
+use Rattle.feed_xml.proofs.GarbledLaws.{ends_broken, is_broken}
 use Rattle.feed_xml.proofs.LimitLaws.{deep_lasts, large_lasts, long_window, stuck_lasts, stuck_now}
 use Rattle.feed_xml.proofs.ReadingLaws.{State, at_first, reads_on, small_part, hands_on, none_follows, goes_beyond, is_garbled, begins_so, begins_further, at_same_fault, at_err, too_long, reads_on_at, ends_whole, ends_cut, ends_half, ends_stuck}
 use Rattle.feed_xml.proofs.document_reading.read_encoded.Given.{Over}
@@ -115,6 +116,11 @@ returns-in_default-clause-garbled g c =
     let s = (goal.at.returns-in_default-clause-garbled g c).In_ok-drop_front in
     λ _. is_garbled (told g s) (left g s) (window g s) (tokens g s) c.drain.new.place c.loop.part c.in_default.is (state g s)
 
+pub returns-in_default-clause-broken : goal.returns-in_default-clause-broken
+returns-in_default-clause-broken g c =
+    let s = (goal.at.returns-in_default-clause-broken g c).In_ok-drop_front in
+    λ _. (tokens g s, is_broken (told g s) (left g s) (window g s) (tokens g s) c.drain.new.place c.loop.part c.in_default.is (state g s) (none_left g s), sunk g s)
+
 pub returns-in_default-clause-stopped : goal.returns-in_default-clause-stopped
 returns-in_default-clause-stopped g c =
     let s = (goal.at.returns-in_default-clause-stopped g c).In_ok-drop_front in
@@ -166,6 +172,18 @@ returns-in-Some-next-clause-garbled g c =
     let r = c.in_ok-more.ensures.read in
     λ is. ends_half (told g s) (left g s) later (window g s) c.refill.new.window.items (tokens g s) c.drain.new.place c.loop.part c.in-Some.at r.0 c.in_ok-more.next c.in-Some-next.last (state g s) c.in-Some.is r.2 r.1 c.in-Some-next.is (c.in_ok-more.ensures.end c.if-not-more.true) (r.3 c.if-not-more.true)
     (c.end_of.ensures.garbled is)
+
+pub returns-in-Some-next-clause-broken : goal.returns-in-Some-next-clause-broken
+returns-in-Some-next-clause-broken g c =
+    let s = (goal.at.returns-in-Some-next-clause-broken g c).In_ok-drop_front in
+    let later = decoded_rest c.args.encoding c.refill.new.held (g.R.Read.remaining c.refill.new.reader) in
+    let r = c.in_ok-more.ensures.read in
+    λ is. (
+      tokens g s,
+      ends_broken (told g s) (left g s) later (window g s) c.refill.new.window.items (tokens g s) c.drain.new.place c.loop.part c.in-Some.at r.0 c.in_ok-more.next c.in-Some-next.last (state g s) c.in-Some.is r.2 r.1 c.in-Some-next.is (c.in_ok-more.ensures.end c.if-not-more.true) (r.3 c.if-not-more.true)
+          (c.end_of.ensures.garbled is) (none_left g s),
+      sunk g s,
+    )
 
 pub returns-in-Some-next-clause-stopped : goal.returns-in-Some-next-clause-stopped
 returns-in-Some-next-clause-stopped g c =

@@ -248,7 +248,7 @@ fn unpacking(file: &str) -> &'static str {
 pub(crate) fn push_packed(line: &mut String, file: &str) -> Result<(), AllocError> {
     push_start(line, file, Position::first())?;
     let command = unpacking(file);
-    write!(line, "packed, to be unpacked before: {command} ")?;
+    write!(line, "the file is compressed; unpack it first: {command} ")?;
     push_shown(line, file)?;
     line.push_str(" | onixdesk convert\n")
 }

@@ -7,7 +7,7 @@ use feed_outline::{Naming, RefusalHints};
 use feed_xml::Bytes;
 use std::alloc::AllocError;
 
-const NO_XML: &str = "no well-formed XML";
+const NO_XML: &str = "the XML is not well-formed";
 
 const OLD: &str = "; this looks like ONIX 2.1, ask its sender for 3.0 or 3.1";
 

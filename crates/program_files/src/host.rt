@@ -52,7 +52,7 @@ fn temporary(rt: &HostRuntime) -> Result<File, FileFault> {
 
 // That a file is there which is not the one that is to have its name.
 fn taken(rt: &HostRuntime, name: &str) -> FileFault {
-    FileFault::new(rt.alloc(), name, "is there, with other bytes")
+    FileFault::new(rt.alloc(), name, "already exists, with different content")
 }
 
 // A fault where the file that has a name has other bytes.

@@ -117,7 +117,7 @@ fn codes_cause(table: &Table) -> &'static str {
     match value.as_array() {
         Some(items) if items.is_empty() => "has no code in codes",
         Some(items) if !items.iter().all(|item| is_code(item)) => {
-            "has a code that is no text of two digits"
+            "has an entry in codes that is not two digits in quotation marks"
         }
         Some(_) => "is past number 1000",
         None => "has codes that are no array",

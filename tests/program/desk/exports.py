@@ -195,7 +195,7 @@ def names_of_parts(room: Room) -> Iterator[Outcome]:
             room.path(folder).mkdir()
             room.write(f"{folder}/{name}", other)
             number = room.path(f"{folder}/{name}").stat().st_ino
-            errors = b"" if status == 0 else f"onixdesk: {folder}/{name}: is there, with other bytes\n".encode()
+            errors = b"" if status == 0 else f"onixdesk: {folder}/{name}: already exists, with different content\n".encode()
             yield Outcome(f"parts: {folder}", into(room, folder), Ran(status, b"", errors))
             wanted = {name: other} if status else {"1.csv": first, "2.csv": second}
             yield Outcome(f"parts: {folder}: its files", held(room, folder), wanted)
@@ -221,7 +221,7 @@ def folders(room: Room) -> Iterator[Outcome]:
         yield Outcome(f"a folder: {folder}: its files", held(room, "out"), {"1.csv": EXPORT})
     room.write("empty/1.csv", b"AskGaps,north\n")
     came = room.call([room.program, "--db", f"../{DATABASE}", "export", "-o", "."], UNREADABLE, folder="empty")
-    yield Outcome("a folder: .", came, Ran(3, b"", b"onixdesk: 1.csv: is there, with other bytes\n"))
+    yield Outcome("a folder: .", came, Ran(3, b"", b"onixdesk: 1.csv: already exists, with different content\n"))
     yield Outcome("a folder: the rows behind it", all_rows(room), rows)
     wanted = Ran(2, b"", b"onixdesk: agreements, export and gaps without a NAME need --db\n")
     yield Outcome("a folder: no desk", room.run("export", "-o", "out", given=UNREADABLE), wanted)

@@ -23,7 +23,7 @@ from tests.program.written_cases import TESTS, read_file, repeated, unescaped
 from tests.running import Outcome
 
 CUT = "the file ends before </ONIXMessage>"
-NO_XML = "no well-formed XML"
+NO_XML = "the XML is not well-formed"
 
 # Longer than what is kept of the beginning of a feed, and than what is read of it at once.
 LONG = f"<!--{' ' * 70_000}-->"
@@ -163,7 +163,7 @@ def packed(room: Room) -> Iterator[Outcome]:
         ("A.Zip", "unzip -p"),
     ]:
         room.write(name, b"")
-        why = f"packed, to be unpacked before: {command} {name} | onixdesk convert"
+        why = f"the file is compressed; unpack it first: {command} {name} | onixdesk convert"
         wanted = Ran(1, b"", f"onixdesk: {name}:1:1: refused: {why}\n".encode())
         yield Outcome(f"convert: packed, {name}", room.run("convert", name), wanted)
 

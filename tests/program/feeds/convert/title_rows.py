@@ -291,7 +291,7 @@ def faults_of_titles(room: Room) -> Iterator[Outcome]:
     room.write(FEED, ONE)
     room.write(TITLES, b"other")
     records = message_of("R1")
-    places = {TITLES: "is there, with other bytes", "none/titles.csv": "No such file or directory"}
+    places = {TITLES: "already exists, with different content", "none/titles.csv": "No such file or directory"}
     for place, why in places.items():
         came = room.run("convert", "--titles", place, FEED)
         said = came.errors.count(b"\n"), why.encode() in came.errors

@@ -6,7 +6,7 @@ _onixdesk_command() {
     for ((at = 1; at < cword; at++)); do
         case ${words[at]} in
             --db | --rules | --batches) ((at++)) ;;
-            agreements | batch | convert | deliver | export | gaps | migrate | rules | serve | help) echo "${words[at]}"; return ;;
+            agreements | batch | check | convert | deliver | export | gaps | migrate | rules | serve | help) echo "${words[at]}"; return ;;
         esac
     done
 }
@@ -14,7 +14,7 @@ _onixdesk_command() {
 _onixdesk() {
     local cur prev words cword
     _init_completion || return
-    local command=$(_onixdesk_command) all="agreements batch convert deliver export gaps migrate rules serve help"
+    local command=$(_onixdesk_command) all="agreements batch check convert deliver export gaps migrate rules serve help"
     case $command:$prev in
         :--db | :--rules | :--batches | serve:--batches) _filedir; return ;;
         serve:--port | serve:--requests) return ;;
@@ -31,6 +31,6 @@ _onixdesk() {
         :-*) COMPREPLY=($(compgen -W "--db --existing --rules --batches --help --version" -- "$cur")) ;;
         :*) COMPREPLY=($(compgen -W "$all" -- "$cur")) ;;
         *:-*) COMPREPLY=($(compgen -W "--help" -- "$cur")) ;;
-        convert:* | deliver:* | rules:*) _filedir ;;
+        check:* | convert:* | deliver:* | rules:*) _filedir ;;
     esac
 } && complete -F _onixdesk onixdesk

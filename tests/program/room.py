@@ -2,6 +2,7 @@
 
 import contextlib
 import os
+import re
 import subprocess
 import tempfile
 from collections.abc import Callable, Iterator, Mapping, Sequence
@@ -24,6 +25,25 @@ class Ran(NamedTuple):
     status: int
     output: bytes = b""
     errors: bytes = b""
+
+
+# A line on a malformed request; and the line of a fault, behind which another one says why.
+MALFORMED = re.compile(
+    rb"onixdesk: (?!rules: )(?:[^\n]*: )?line [0-9]+: |onixdesk: [0-9]+ more are malformed\n|onixdesk: without --db "
+)
+FAULT = re.compile(
+    rb"onixdesk: (?:storage|file): |onixdesk: port [0-9]+\n|onixdesk: socket\n|onixdesk: rules: (?!line )"
+)
+
+
+def without_reasons(errors: bytes) -> bytes:
+    """What a run wrote, without the lines that only say why: those of malformed.py and reasons.py."""
+    kept: list[bytes] = []
+    for line in errors.splitlines(keepends=True):
+        is_second = bool(kept) and FAULT.match(kept[-1]) and line.startswith(b"onixdesk: ")
+        if not is_second and not MALFORMED.match(line):
+            kept.append(line)
+    return b"".join(kept)
 
 
 class Room:
@@ -65,11 +85,18 @@ class Room:
         return Ran(done.returncode, done.stdout or b"", done.stderr)
 
     def run(self, *words: Word | bytes, given: bytes | None = b"", is_full: bool = False) -> Ran:
-        """Runs the program on these words and this input; `is_full` gives it an output that takes nothing."""
+        """Runs the program on these words and this input; `is_full` gives it an output that takes nothing. The lines
+        that only say why are left out."""
         if not is_full:
-            return self.call([self.program, *words], given)
-        with open("/dev/full", "wb") as full:
-            return self.call([self.program, *words], given, full.fileno())
+            ran = self.call([self.program, *words], given)
+        else:
+            with open("/dev/full", "wb") as full:
+                ran = self.call([self.program, *words], given, full.fileno())
+        return ran._replace(errors=without_reasons(ran.errors))
+
+    def told(self, *words: Word | bytes, given: bytes | None = b"") -> Ran:
+        """The same with the lines that say why."""
+        return self.call([self.program, *words], given)
 
     def start(self, *words: Word, stdin: int = subprocess.DEVNULL) -> subprocess.Popen[bytes]:
         """Starts the program, to be asked while it runs. SIGINT ends it also where a shell that runs the tests in the

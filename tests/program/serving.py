@@ -119,7 +119,7 @@ def started(room: Room, words: list[str], connections: int | None, more: Sequenc
         if line := process.stdout.readline():
             return Serving(process, port, line)
         output, errors = process.communicate(timeout=SECONDS)
-        if errors != b"onixdesk: port %d\n" % port:
+        if not errors.startswith(b"onixdesk: port %d\n" % port):
             break
     raise RuntimeError(f"serve does not listen: {errors!r}")
 

@@ -23,7 +23,16 @@ LAYERS = {
     ),
     "Ways in": (
         "batches, HTTP, export",
-        ["desk_texts", "desk_batch", "desk_example", "desk_export", "http_requests", "desk_http", "desk_tests"],
+        [
+            "desk_texts",
+            "desk_reasons",
+            "desk_batch",
+            "desk_example",
+            "desk_export",
+            "http_requests",
+            "desk_http",
+            "desk_tests",
+        ],
     ),
     "Feeds": (
         "from XML to messages",
@@ -47,7 +56,7 @@ LAYERS = {
     ),
     "Base": (
         "what a message says, files by name",
-        ["csv_records", "program_files", "onix_terms", "onix_records", "onix_message"],
+        ["csv_records", "program_files", "onix_terms", "shown_texts", "onix_records", "onix_message"],
     ),
 }
 

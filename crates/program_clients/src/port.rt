@@ -24,6 +24,19 @@ pub struct Port<'a> {
 /// has none.
 pub type Bound<'a> = Option<Result<Port<'a>, Fault>>;
 
+/// Why a port of 127.0.0.1 cannot be listened at, where the system says it again.
+pub fn why_unbound(rt: &HostRuntime, number: u16) -> Option<&'static str> {
+    let address = SocketAddr::V4(SocketAddrV4::new(Ipv4Addr::LOCALHOST, number));
+    match TcpListener::bind(rt, address) {
+        Ok(_) => None,
+        Err(error) => match error.kind() {
+            ErrorKind::AddrInUse => Some("in use: another program listens at it"),
+            ErrorKind::PermissionDenied => Some("permission denied"),
+            _ => None,
+        },
+    }
+}
+
 /// A client was gone before its connection was accepted.
 pub fn is_lost(error: &io::Error) -> bool {
     matches!(

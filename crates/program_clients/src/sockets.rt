@@ -44,6 +44,34 @@ pub fn listen(rt: &HostRuntime, path: &str) -> Result<UnixListener, Fault> {
     }
 }
 
+/// Why nothing can be listened at a socket of the file system, as it is found now.
+pub fn why_unheard(rt: &HostRuntime, path: &str) -> &'static str {
+    match symlink_metadata(rt, path) {
+        Ok(found) if found.file_type().is_socket() => {
+            "another program listens at it, or this user may not use it"
+        }
+        Ok(_) => "a file that is not a socket",
+        Err(error) if error.kind() == ErrorKind::NotFound => {
+            "its folder is missing, this user may make no file there, or the name is too long"
+        }
+        Err(_) => "its folder is not to be used by this user",
+    }
+}
+
+/// Why a desk that is open does not answer at a socket, as it is found now.
+pub fn why_unanswered(rt: &HostRuntime, path: &str) -> &'static str {
+    match symlink_metadata(rt, path) {
+        Ok(found) if found.file_type().is_socket() => {
+            "no desk listens at it, this user may not use it, or the desk has met a fault"
+        }
+        Ok(_) => "a file that is not a socket",
+        Err(error) if error.kind() == ErrorKind::NotFound => {
+            "no such socket; onixdesk serve --batches makes it"
+        }
+        Err(_) => "its folder is not to be used by this user",
+    }
+}
+
 // Sends a text, and that it is all, so that the desk begins to answer.
 fn send_whole(stream: &mut UnixStream, text: &[u8]) -> Result<(), Fault> {
     let Ok(()) = write_whole(stream, text) else {

@@ -1,5 +1,6 @@
 -- The deliveries of files.
-use Rattle.std.specs.Prelude.{◌≡◌, ◌≢◌, ◌<◌, ◌⊎◌, ◌∷◌, ℕ, Bool, List, [], Option, Some, Result, Ok, Err, ⊤, codes, slice_get}
+use Rattle.std.specs.Prelude.{◌≡◌, ◌≢◌, ◌<◌, ◌⊎◌, ◌∷◌, ℕ, Bool, List, [], Option, Some, Result, Ok, Err, ⊤, Vec, codes, slice_get}
+use Rattle.std.specs.declared.alloc.Global.{Global}
 use Rattle.csv_records.specs.RecordTexts.{records_of}
 use Rattle.csv_records.specs.Streams.{IsTold}
 use Rattle.csv_records.specs.declared.reading.RecordFault.TheVariants as record_fault
@@ -23,6 +24,11 @@ ReadFits text (Ok r) = HasRecords text × (r ≡ delivery_of text)
 ReadFits text (Err (fault.Records f)) = RecordsFit text f
 ReadFits text (Err fault.Unreadable) = ⊤
 ReadFits text (Err (fault.Request f)) = ⊥
+
+-- how the reading of a text that is told so can end: with its bytes, or with a fault of the same
+abbrev pub IsRead : List ℕ → Result (Vec ℕ Global) DeliveryFault → Type 0
+IsRead text (Ok bytes) = bytes.items ≡ text
+IsRead text (Err f) = ReadFits text (Err f)
 
 -- a file could not be opened: that, or out of memory
 abbrev pub IsUnasked : DeliveryFault → Type 0

@@ -1,24 +1,84 @@
-//! The command `batch`: standard input to standard output.
+//! The command `batch`: standard input to standard output. A batch that comes to a socket is answered
+//! in the same way.
 
-ghost use Rattle.std.specs.Prelude.{◌≤◌};
+ghost use Rattle.std.specs.Prelude.{◌≤◌, ℕ, List};
 ghost use Rattle.std.specs.Io.KnownBytes.{Appends};
+ghost use Rattle.csv_records.specs.Streams.{IsTold};
 ghost use Rattle.series_rules.specs.Steps.{Asked};
+ghost use Rattle.desk_batch.specs.Batch.{RunsBatch};
 ghost use Rattle.program_commands.specs.TaskEnds.{BatchEnds};
 
 use crate::faults::fault_of_batch;
-use desk_batch::run_batch;
+use crate::malformed::{MOST_LINES, tell_refusals};
+use desk_batch::{BatchFault, read_text, run_text};
+use desk_reasons::explaining::{Room, report_untold};
 use price_rules::precedence::Precedence;
 use program_lines::fault::report;
 use series_rules::desk::Desk;
 use std::alloc::Global;
 use std::io::{Read, Write};
 
+// Answers the batch of a text, and says behind the answers why requests were refused.
+fn answer_text<D: Desk, W: Write, E: Write>(
+    alloc: Global,
+    desk: &mut D,
+    precedence: &Precedence,
+    text: &[u8],
+    writer: &mut W,
+    room: &mut Room,
+    hint: &str,
+    errors: &mut E,
+) -> Result<u64, BatchFault>
+    ensures { RunsBatch (Asked D.seen precedence.now desk.old desk.new)
+        (Appends (W.contents writer.old) (W.contents writer.new)) text.now result }
+{
+    let outcome = run_text(alloc, desk, precedence, text, writer);
+    tell_refusals(alloc, text, &outcome, room, hint, errors);
+    outcome
+}
+
+/// Answers the batch of an input, and gives the number of refusals. Behind the answers a line on
+/// `errors` says of each request that is malformed why, as far as there is room, and a hint is written
+/// behind other refusals.
+pub(crate) fn answer_batch<D: Desk, R: Read, W: Write, E: Write>(
+    alloc: Global,
+    desk: &mut D,
+    precedence: &Precedence,
+    reader: &mut R,
+    writer: &mut W,
+    room: &mut Room,
+    hint: &str,
+    errors: &mut E,
+) -> Result<u64, BatchFault>
+    // There is a text, that of the reader where it tells its bytes, whose batch was run.
+    ensures { (text : List ℕ) × IsTold (R.remaining reader.old) text
+        × RunsBatch (Asked D.seen precedence.now desk.old desk.new)
+        (Appends (W.contents writer.old) (W.contents writer.new)) text result }
+{
+    match read_text(alloc, reader) {
+        Ok(text) => answer_text(
+            alloc,
+            desk,
+            precedence,
+            text.as_slice(),
+            writer,
+            room,
+            hint,
+            errors,
+        ),
+        Err(fault) => Err(fault),
+    }
+}
+
 /// Runs a batch over a desk, whatever requests it has seen, under a precedence table. Gives 0, or
-/// 1 where an answer was a refusal, or 3 after a fault, which is reported.
+/// 1 where an answer was a refusal, or 3 after a fault, which is reported. Behind the answers a line
+/// on `errors` says of each request that was malformed why, and behind other refusals the hint is
+/// written.
 pub fn run<D: Desk, R: Read, W: Write, E: Write>(
     alloc: Global,
     desk: &mut D,
     precedence: &Precedence,
+    hint: &str,
     input: &mut R,
     output: &mut W,
     errors: &mut E,
@@ -27,9 +87,15 @@ pub fn run<D: Desk, R: Read, W: Write, E: Write>(
     ensures end { BatchEnds (Asked D.seen precedence.now desk.old desk.new)
         (Appends (W.contents output.old) (W.contents output.new)) (R.remaining input.old) result }
 {
-    match run_batch(alloc, desk, precedence, input, output) {
+    let mut room = Room::new(MOST_LINES);
+    match answer_batch(
+        alloc, desk, precedence, input, output, &mut room, hint, errors,
+    ) {
         Ok(0) => 0,
-        Ok(_) => 1,
+        Ok(_) => {
+            report_untold(&room, errors);
+            1
+        }
         Err(fault) => report(&fault_of_batch(fault), errors),
     }
 }

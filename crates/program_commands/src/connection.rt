@@ -7,8 +7,10 @@ ghost use Rattle.program_lines.specs.Printing.{WritesWhole};
 ghost use Rattle.program_clients.specs.declared.clients.Protocol.{Protocol};
 ghost use Rattle.program_commands.specs.Serving.{ServesConnection, batch, ending_line, exchange};
 
-use desk_batch::{BatchFault, run_batch};
+use crate::batch::answer_batch;
+use desk_batch::BatchFault;
 use desk_http::{HttpFault, Routes, serve_routed};
+use desk_reasons::explaining::Room;
 use price_rules::precedence::Precedence;
 use program_clients::clients::Protocol;
 use program_lines::fault::Fault;
@@ -73,27 +75,30 @@ fn serve_exchange<D: Desk, R: Read, W: Write, O: Write>(
 }
 
 // Serves one connection as a batch, the text to the end of what the client sends, and writes its
-// line.
-fn serve_batch<D: Desk, R: Read, W: Write, O: Write>(
+// line; a line on `errors` says of each malformed request why, as far as there is room.
+fn serve_batch<D: Desk, R: Read, W: Write, O: Write, E: Write>(
     alloc: Global,
     desk: &mut D,
     precedence: &Precedence,
     reader: &mut R,
     writer: &mut W,
     output: &mut O,
+    room: &mut Room,
+    errors: &mut E,
 ) -> Result<(), Fault>
     ensures { ServesConnection (Asked D.seen precedence.now desk.old desk.new) Protocol.Batch
         (R.remaining reader.old)
         (Appends (W.contents writer.old) (W.contents writer.new))
         (Appends (O.contents output.old) (O.contents output.new)) result }
 {
-    let outcome = run_batch(alloc, desk, precedence, reader, writer);
+    let outcome = answer_batch(alloc, desk, precedence, reader, writer, room, "", errors);
     print_batch_line(&outcome, output)
 }
 
 /// Serves one connection by the protocol of its client, and writes its line. The routes are those
-/// of all exchanges.
-pub fn serve_connection<D: Desk, R: Read, W: Write, O: Write>(
+/// of all exchanges. Of a batch a line on `errors` says of each malformed request why, as far as
+/// there is room.
+pub fn serve_connection<D: Desk, R: Read, W: Write, O: Write, E: Write>(
     alloc: Global,
     routes: &Routes,
     desk: &mut D,
@@ -102,6 +107,8 @@ pub fn serve_connection<D: Desk, R: Read, W: Write, O: Write>(
     reader: &mut R,
     writer: &mut W,
     output: &mut O,
+    room: &mut Room,
+    errors: &mut E,
 ) -> Result<(), Fault>
     ensures { ServesConnection (Asked D.seen precedence.now desk.old desk.new) protocol
         (R.remaining reader.old)
@@ -112,6 +119,10 @@ pub fn serve_connection<D: Desk, R: Read, W: Write, O: Write>(
         Protocol::Exchange => {
             serve_exchange(alloc, routes, desk, precedence, reader, writer, output)
         }
-        Protocol::Batch => serve_batch(alloc, desk, precedence, reader, writer, output),
+        Protocol::Batch => {
+            serve_batch(
+                alloc, desk, precedence, reader, writer, output, room, errors,
+            )
+        }
     }
 }

@@ -4,16 +4,19 @@ ghost use Rattle.std.specs.Prelude.{◌≡◌, ◌≢◌, ◌≤◌, ℕ, List, 
 ghost use Rattle.std.specs.Io.KnownBytes.{Appends};
 ghost use Rattle.csv_records.specs.Streams.{IsTold};
 ghost use Rattle.series_rules.specs.Steps.{Asked};
-ghost use Rattle.program_commands.specs.Deliveries.{Delivers, IsUnasked, ReadFits};
+ghost use Rattle.program_commands.specs.Deliveries.{Delivers, IsRead, IsUnasked, ReadFits};
 ghost use Rattle.program_commands.specs.TaskEnds.{DeliverEnds};
 
 use crate::faults::fault_of_request;
+use crate::malformed::{MOST_LINES, tell_delivery, tell_end};
+use crate::unread::report_unread;
 use csv_records::reading::{LIMIT, RecordFault, read_records};
 use csv_records::streams::{InputFault, read_input};
 use desk_batch::{RequestFault, run_request};
+use desk_reasons::explaining::Room;
 use price_rules::precedence::Precedence;
 use program_files::{FileFault, NamedFiles, STANDARD_INPUT};
-use program_lines::fault::{Fault, report, report_file};
+use program_lines::fault::{Fault, report};
 use series_rules::desk::Desk;
 use series_rules::requests::Request;
 use std::alloc::Global;
@@ -40,38 +43,77 @@ fn delivery_of(alloc: Global, bytes: &[u8]) -> Result<Request, DeliveryFault>
     }
 }
 
-// Reads a delivery, of which the bytes are not kept.
-fn delivery_from_reader<R: Read>(alloc: Global, reader: &mut R) -> Result<Request, DeliveryFault>
-    ensures { (text : List ℕ) × IsTold (R.remaining reader.old) text × ReadFits text result }
+// Reads the text of a delivery.
+fn text_from_reader<R: Read>(alloc: Global, reader: &mut R) -> Result<Vec<u8>, DeliveryFault>
+    ensures { (text : List ℕ) × IsTold (R.remaining reader.old) text × IsRead text result }
 {
     match read_input(alloc, reader, LIMIT) {
-        Ok(bytes) => delivery_of(alloc, bytes.as_slice()),
+        Ok(bytes) => Ok(bytes),
         Err(InputFault::Read) => Err(DeliveryFault::Unreadable),
         Err(InputFault::TooLarge) => Err(DeliveryFault::Records(RecordFault::TooLarge)),
         Err(InputFault::Memory) => Err(DeliveryFault::Records(RecordFault::Memory)),
     }
 }
 
-/// Delivers the message that a reader has, to its end or to one byte past 4,194,304, writes the
-/// answer, and says whether that is a refusal.
-pub fn deliver_one<D: Desk, R: Read, W: Write>(
+// Delivers the message of a text of this name, writes the answer, and says whether that is a
+// refusal. Where the text is no message, a line on `errors` says why, as far as there is room.
+fn deliver_text<D: Desk, W: Write, E: Write>(
     alloc: Global,
     desk: &mut D,
     precedence: &Precedence,
+    name: &str,
+    text: &[u8],
+    writer: &mut W,
+    room: &mut Room,
+    errors: &mut E,
+) -> Result<bool, DeliveryFault>
+    ensures { Delivers (Asked D.seen precedence.now desk.old desk.new)
+        (Appends (W.contents writer.old) (W.contents writer.new)) text.now result }
+{
+    let request = delivery_of(alloc, text)?;
+    let outcome = run_request(alloc, desk, precedence, &request, writer);
+    drop(request);
+    match outcome {
+        Ok(is_refused) => {
+            if is_refused {
+                tell_delivery(alloc, room, name, text, errors);
+            }
+            Ok(is_refused)
+        }
+        Err(fault) => Err(DeliveryFault::Request(fault)),
+    }
+}
+
+/// Delivers the message that a reader of this name has, to its end or to one byte past 4,194,304,
+/// writes the answer, and says whether that is a refusal. Where it is no message, a line on
+/// `errors` says why, as far as there is room.
+pub fn deliver_one<D: Desk, R: Read, W: Write, E: Write>(
+    alloc: Global,
+    desk: &mut D,
+    precedence: &Precedence,
+    name: &str,
     reader: &mut R,
     writer: &mut W,
+    room: &mut Room,
+    errors: &mut E,
 ) -> Result<bool, DeliveryFault>
     // There is a text, that of the reader where it tells its bytes, that was delivered.
     ensures { (text : List ℕ) × IsTold (R.remaining reader.old) text
         × Delivers (Asked D.seen precedence.now desk.old desk.new)
         (Appends (W.contents writer.old) (W.contents writer.new)) text result }
 {
-    let request = delivery_from_reader(alloc, reader)?;
-    let outcome = run_request(alloc, desk, precedence, &request, writer);
-    drop(request);
-    match outcome {
-        Ok(is_refused) => Ok(is_refused),
-        Err(fault) => Err(DeliveryFault::Request(fault)),
+    match text_from_reader(alloc, reader) {
+        Ok(text) => deliver_text(
+            alloc,
+            desk,
+            precedence,
+            name,
+            text.as_slice(),
+            writer,
+            room,
+            errors,
+        ),
+        Err(fault) => Err(fault),
     }
 }
 
@@ -86,26 +128,30 @@ fn open_fault(fault: FileFault) -> DeliveryFault
 }
 
 // Delivers the message in the file of this name.
-fn deliver_file<D: Desk, F: NamedFiles, W: Write>(
+fn deliver_file<D: Desk, F: NamedFiles, W: Write, E: Write>(
     alloc: Global,
     desk: &mut D,
     precedence: &Precedence,
     files: &F,
     name: &str,
     writer: &mut W,
+    room: &mut Room,
+    errors: &mut E,
 ) -> Result<bool, DeliveryFault>
     ensures { (text : List ℕ) × IsTold (F.holds files.now name.now) text
         × Delivers (Asked D.seen precedence.now desk.old desk.new)
         (Appends (W.contents writer.old) (W.contents writer.new)) text result }
 {
     match files.open(name) {
-        Ok(mut file) => deliver_one(alloc, desk, precedence, &mut file, writer),
+        Ok(mut file) => deliver_one(
+            alloc, desk, precedence, name, &mut file, writer, room, errors,
+        ),
         Err(fault) => Err(open_fault(fault)),
     }
 }
 
 // Delivers the message that is named: `-` is standard input, each other name a file's.
-fn deliver_named<D: Desk, F: NamedFiles, R: Read, W: Write>(
+fn deliver_named<D: Desk, F: NamedFiles, R: Read, W: Write, E: Write>(
     alloc: Global,
     desk: &mut D,
     precedence: &Precedence,
@@ -113,6 +159,8 @@ fn deliver_named<D: Desk, F: NamedFiles, R: Read, W: Write>(
     name: &str,
     input: &mut R,
     writer: &mut W,
+    room: &mut Room,
+    errors: &mut E,
 ) -> Result<bool, DeliveryFault>
     ensures run { (text : List ℕ)
         × (name.now ≡ codes "-" → IsTold (R.remaining input.old) text)
@@ -122,19 +170,25 @@ fn deliver_named<D: Desk, F: NamedFiles, R: Read, W: Write>(
     ensures untouched { name.now ≢ codes "-" → input.new ≡ input.old }
 {
     if name == STANDARD_INPUT {
-        deliver_one(alloc, desk, precedence, input, writer)
+        deliver_one(alloc, desk, precedence, name, input, writer, room, errors)
     } else {
-        deliver_file(alloc, desk, precedence, files, name, writer)
+        deliver_file(alloc, desk, precedence, files, name, writer, room, errors)
     }
 }
 
 // Reports why the message of the file of this name has no answer, and gives the status.
-fn report_delivery<E: Write>(fault: DeliveryFault, name: &str, errors: &mut E) -> u8
+fn report_delivery<F: NamedFiles, E: Write>(
+    alloc: Global,
+    fault: DeliveryFault,
+    files: &F,
+    name: &str,
+    errors: &mut E,
+) -> u8
     ensures { result ≡ 3 }
 {
     match fault {
         DeliveryFault::Unreadable => {
-            report_file(name, errors);
+            report_unread(alloc, files, name, errors);
             3
         }
         DeliveryFault::Records(fault) => report(&Fault::from(fault), errors),
@@ -150,14 +204,16 @@ fn refusal_status(has_refusal: bool) -> u8
 }
 
 /// Delivers the message of each file in turn, where `-` is standard input, and writes each answer
-/// before the next file is opened. Gives 0, or 1 where an answer was a refusal, or 3 after a fault,
-/// which is reported and ends the command.
+/// before the next file is opened; where one is no message, a line on `errors` says why, 100 at most,
+/// and behind other refusals the hint is written. Gives 0, or 1 where an answer was a refusal, or 3
+/// after a fault, which is reported and ends the command.
 pub fn run<D: Desk, F: NamedFiles, R: Read, W: Write, E: Write>(
     alloc: Global,
     desk: &mut D,
     precedence: &Precedence,
     files: &F,
     names: &[&str],
+    hint: &str,
     input: &mut R,
     output: &mut W,
     errors: &mut E,
@@ -167,12 +223,20 @@ pub fn run<D: Desk, F: NamedFiles, R: Read, W: Write, E: Write>(
         (Appends (W.contents output.old) (W.contents output.new)) (F.holds files.now)
         (R.remaining input.old) (map (λ name. name.now) names.now) result }
 {
+    let mut room = Room::new(MOST_LINES);
+    let mut refused = 0u64;
     let mut has_refusal = false;
     for name in names {
-        match deliver_named(alloc, desk, precedence, files, name, input, output) {
-            Ok(is_refused) => has_refusal |= is_refused,
-            Err(fault) => return report_delivery(fault, name, errors),
+        match deliver_named(
+            alloc, desk, precedence, files, name, input, output, &mut room, errors,
+        ) {
+            Ok(is_refused) => {
+                refused = refused.saturating_add(u64::from(is_refused));
+                has_refusal |= is_refused;
+            }
+            Err(fault) => return report_delivery(alloc, fault, files, name, errors),
         }
     }
+    tell_end(&room, refused, hint, errors);
     refusal_status(has_refusal)
 }

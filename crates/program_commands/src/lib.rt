@@ -1,15 +1,20 @@
 //! The commands of the program that are put to a desk, each over any desk: `batch`, `deliver`,
 //! `gaps` and `serve`, each connection of which is served in `connection`; `task` gives them one,
 //! and `faults` has what can go wrong with their requests. `sending` sends a batch to a desk that is
-//! open. `known_clients` shows that there are clients of whom it is known what they send.
+//! open. `checked_texts` reads texts and asks no desk, and `malformed` says behind the answers why
+//! requests were refused so, and `unread` why a file is not read. `known_clients` shows that there
+//! are clients of whom it is known what they send.
 #![tactic(auto)]
 
 pub mod batch;
+pub mod checked_texts;
 pub mod connection;
 pub mod deliver;
 mod faults;
 pub mod gaps;
 pub mod known_clients;
+mod malformed;
 pub mod sending;
 pub mod serve;
 pub mod task;
+mod unread;

@@ -12,12 +12,14 @@ ghost use Rattle.desk_texts.specs.Requests.{HasRecords, requests_of};
 ghost use Rattle.program_clients.specs.Sent.{IsSent};
 ghost use Rattle.program_commands.specs.Sending.{SendEnds, SendFits, TakesAnswers, WritesCame, answer_names, report_names, unanswered};
 
+use crate::malformed::tell_batch;
 use csv::StringRecord;
 use csv_records::reading::{LIMIT, RecordReader};
 use csv_records::streams::{InputFault, WriteFault, read_input, write_whole};
 use desk_texts::request_rows::requests_in;
 use program_clients::open_desks::OpenDesks;
-use program_lines::fault::{Fault, report};
+use program_clients::sockets::why_unanswered;
+use program_lines::fault::{Fault, report, report_why};
 use std::alloc::{AllocError, Global};
 use std::io::{Read, Write};
 use std::rt::HostRuntime;
@@ -196,9 +198,21 @@ fn read_text<R: Read>(alloc: Global, input: &mut R) -> Result<Vec<u8>, Fault>
     }
 }
 
+// Reports why a batch has not all of its answers; of the socket a second line says why.
+fn report_unsent<E: Write>(rt: &HostRuntime, fault: &Fault, socket: &str, errors: &mut E) -> u8
+    ensures { result ≡ 3 }
+{
+    let status = report(fault, errors);
+    if let Fault::Socket = fault {
+        report_why(socket, why_unanswered(rt, socket), errors);
+    }
+    status
+}
+
 /// Sends the batch of the input to the desk that listens at a socket, and writes the answers as
-/// they come. Gives 0, or 1 where an answer is a refusal, or 3 after a fault of the input, the
-/// output or the socket, which is reported; a missing answer is a fault of the socket.
+/// they come; behind them a line on `errors` says of each request that was malformed why. Gives 0,
+/// or 1 where an answer is a refusal, or 3 after a fault of the input, the output or the socket,
+/// which is reported; a missing answer is a fault of the socket.
 pub fn run<K: OpenDesks, R: Read, W: Write, E: Write>(
     rt: &HostRuntime,
     desks: &mut K,
@@ -218,7 +232,10 @@ pub fn run<K: OpenDesks, R: Read, W: Write, E: Write>(
     };
     match send_batch(rt, desks, socket, text.as_slice(), output) {
         Ok(false) => 0,
-        Ok(true) => 1,
-        Err(fault) => report(&fault, errors),
+        Ok(true) => {
+            tell_batch(rt.alloc(), text.as_slice(), errors);
+            1
+        }
+        Err(fault) => report_unsent(rt, &fault, socket, errors),
     }
 }

@@ -10,25 +10,30 @@ ghost use Rattle.program_commands.specs.Serving.{listening_line};
 ghost use Rattle.program_commands.specs.TaskEnds.{ConnectionsServed, ServeEnds};
 
 use crate::connection::{print_line, serve_connection};
+use crate::malformed::{MOST_LINES, renew};
 use desk_http::{HttpFault, Routes};
+use desk_reasons::explaining::{Room, report_untold};
 use price_rules::precedence::Precedence;
 use program_clients::clients::Clients;
 use program_clients::doors::Doors;
-use program_clients::port::{Bound, Port};
-use program_lines::fault::{Fault, report};
+use program_clients::port::{Bound, Port, why_unbound};
+use program_clients::sockets::why_unheard;
+use program_lines::fault::{Fault, report, report_why};
 use program_lines::printing::print_number;
 use series_rules::desk::Desk;
 use std::io::Write;
 
 // Waits for a client, serves its connection, and writes the line of that. Of a client that was gone
 // before nothing was read, and nothing was asked of the desk.
-fn serve_next<D: Desk, C: Clients, O: Write>(
+fn serve_next<D: Desk, C: Clients, O: Write, E: Write>(
     rt: &HostRuntime,
     routes: &Routes,
     desk: &mut D,
     precedence: &Precedence,
     clients: &mut C,
     output: &mut O,
+    room: &mut Room,
+    errors: &mut E,
 ) -> Result<(), Fault>
     ensures { ServesNext (Asked D.seen precedence.now desk.old desk.new) C.speaks
         C.takes_batches (C.coming clients.old) (C.coming clients.new)
@@ -46,6 +51,8 @@ fn serve_next<D: Desk, C: Clients, O: Write>(
                 &mut reader,
                 &mut writer,
                 output,
+                room,
+                errors,
             );
             clients.close(reader, writer);
             ended
@@ -56,7 +63,9 @@ fn serve_next<D: Desk, C: Clients, O: Write>(
 }
 
 /// Serves so many clients, one after the other, and writes the line of each connection at once.
-/// Gives 0, or 3 where no more clients can be had or a line cannot be written, which is reported.
+/// Gives 0, or 3 where no more clients can be had or a line cannot be written, which is reported. Of
+/// the malformed requests of batches a line on `errors` says why, of 100 an hour, and then how many
+/// more there are.
 pub fn serve_clients<D: Desk, C: Clients, O: Write, E: Write>(
     rt: &HostRuntime,
     routes: &Routes,
@@ -77,12 +86,18 @@ pub fn serve_clients<D: Desk, C: Clients, O: Write, E: Write>(
         C.takes_batches (C.coming clients.old) (C.replied clients.old) (C.replied clients.new)
         requests result }
 {
+    let mut room = Room::new(MOST_LINES);
+    let mut since = None;
     'serving: for _served in 0..requests {
-        match serve_next(rt, routes, desk, precedence, clients, output) {
+        since = renew(rt, since, &mut room, errors);
+        match serve_next(
+            rt, routes, desk, precedence, clients, output, &mut room, errors,
+        ) {
             Ok(()) => {}
             Err(fault) => return report(&fault, errors),
         }
     }
+    report_untold(&room, errors);
     0
 }
 
@@ -119,6 +134,32 @@ fn serve_at<D: Desk, C: Clients, O: Write, E: Write>(
     }
 }
 
+// Reports that the port or the socket cannot be listened at, and in a second line why.
+fn report_unopened<E: Write>(
+    rt: &HostRuntime,
+    fault: &Fault,
+    batches: Option<&str>,
+    errors: &mut E,
+) -> u8
+    ensures { result ≡ 3 }
+{
+    let status = report(fault, errors);
+    match fault {
+        Fault::Port(number) => {
+            if let Some(why) = why_unbound(rt, *number) {
+                let _ = write!(errors, "onixdesk: port {number}: {why}\n");
+            }
+        }
+        Fault::Socket => {
+            if let Some(socket) = batches {
+                report_why(socket, why_unheard(rt, socket), errors);
+            }
+        }
+        _ => {}
+    }
+    status
+}
+
 // What cannot be listened at is reported, and nothing is served.
 fn serve_opened<D: Desk, C: Clients + Drop, O: Write, E: Write>(
     rt: &HostRuntime,
@@ -126,6 +167,7 @@ fn serve_opened<D: Desk, C: Clients + Drop, O: Write, E: Write>(
     desk: &mut D,
     precedence: &Precedence,
     opened: Result<C, Fault>,
+    batches: Option<&str>,
     number: u16,
     requests: u64,
     output: &mut O,
@@ -148,7 +190,7 @@ fn serve_opened<D: Desk, C: Clients + Drop, O: Write, E: Write>(
             output,
             errors,
         ),
-        Err(fault) => report(&fault, errors),
+        Err(fault) => report_unopened(rt, &fault, batches, errors),
     }
 }
 
@@ -180,12 +222,12 @@ fn listen<D: Desk, O: Write, E: Write>(
 {
     match batches {
         None => serve_opened(
-            rt, routes, desk, precedence, port, number, requests, output, errors,
+            rt, routes, desk, precedence, port, batches, number, requests, output, errors,
         ),
         Some(socket) => {
             let opened = Doors::open(rt, port, socket);
             serve_opened(
-                rt, routes, desk, precedence, opened, number, requests, output, errors,
+                rt, routes, desk, precedence, opened, batches, number, requests, output, errors,
             )
         }
     }

@@ -23,7 +23,8 @@ pub fn port_of<'a>(rt: &'a HostRuntime, task: &Task<'_>) -> Bound<'a> {
     }
 }
 
-/// Runs a command over a desk, and gives its status.
+/// Runs a command over a desk, and gives its status. Behind refusals of messages the hint is written
+/// on `errors`, where there is one.
 pub fn run_task<D: Desk, F: NamedFiles, R: Read, W: Write, E: Write>(
     rt: &HostRuntime,
     desk: &mut D,
@@ -31,6 +32,7 @@ pub fn run_task<D: Desk, F: NamedFiles, R: Read, W: Write, E: Write>(
     bound: Bound<'_>,
     task: &Task<'_>,
     files: &F,
+    hint: &str,
     input: &mut R,
     output: &mut W,
     errors: &mut E,
@@ -41,7 +43,7 @@ pub fn run_task<D: Desk, F: NamedFiles, R: Read, W: Write, E: Write>(
         task.now (F.holds files.now) (R.remaining input.old) result }
 {
     match task {
-        Task::Batch => batch::run(rt.alloc(), desk, precedence, input, output, errors),
+        Task::Batch => batch::run(rt.alloc(), desk, precedence, hint, input, output, errors),
         Task::Deliver(names) => {
             deliver::run(
                 rt.alloc(),
@@ -49,6 +51,7 @@ pub fn run_task<D: Desk, F: NamedFiles, R: Read, W: Write, E: Write>(
                 precedence,
                 files,
                 names.as_slice(),
+                hint,
                 input,
                 output,
                 errors,

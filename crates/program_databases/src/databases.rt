@@ -4,10 +4,12 @@ ghost use Rattle.std.specs.Prelude.{◌≡◌, IfErr, IfOk, IsTrue};
 ghost use Rattle.program_databases.specs.Databases.{AreSettled};
 ghost use Rattle.program_databases.specs.Unopened.{HasNoFiles};
 
+use crate::causes::cause_of;
 use crate::database::look_at;
 use crate::unopened::Unopened;
 use desk_store::{Creation, OpenOptions};
 use onix_records::StoreFault;
+use program_desks::kept_desks::{Cause, OpenFault};
 use sqlite::Files;
 use sqlite_disk::Disk;
 use std::fs::{Metadata, canonicalize, metadata};
@@ -35,7 +37,7 @@ pub trait Databases {
         self,
         rt: &HostRuntime,
         name: &str,
-    ) -> Result<Files<Self::File>, (StoreFault, Self::NotOpened)>
+    ) -> Result<Files<Self::File>, (OpenFault, Self::NotOpened)>
         ensures log { IfOk result (λ files. IsTrue (Self.File.is_usable files.log)) }
         ensures db { IfOk result (λ files. IsTrue (Self.File.is_usable files.db)) }
         ensures settled { IfOk result (AreSettled Self.File.Disk (held self name.now)) };
@@ -69,7 +71,7 @@ pub fn open_database<O: Databases, E: Write>(
     creation: Creation,
     databases: O,
     errors: &mut E,
-) -> Result<(Files<O::File>, OpenOptions), (StoreFault, Unopened<O, O::NotOpened, O::File>)>
+) -> Result<(Files<O::File>, OpenOptions), (OpenFault, Unopened<O, O::NotOpened, O::File>)>
     ensures log { IfOk result (λ opened. IsTrue (O.File.is_usable opened.0.log)) }
     ensures db { IfOk result (λ opened. IsTrue (O.File.is_usable opened.0.db)) }
     ensures settled { IfOk result (λ opened.
@@ -80,11 +82,18 @@ pub fn open_database<O: Databases, E: Write>(
     let found = metadata(rt, name);
     let log = log_of(rt, name);
     if let Err(fault) = look_at(rt, name, creation, &found, &log, errors) {
-        return Err((fault, Unopened::Untouched(databases)));
+        let cause = cause_of(rt, name);
+        return Err((
+            OpenFault::Store(fault, cause),
+            Unopened::Untouched(databases),
+        ));
     }
     let options = match random_options(rt, creation) {
         Ok(options) => options,
-        Err(fault) => return Err((fault, Unopened::Untouched(databases))),
+        Err(fault) => {
+            let fault = OpenFault::Store(fault, Cause::Unknown);
+            return Err((fault, Unopened::Untouched(databases)));
+        }
     };
     match databases.open(rt, name) {
         Ok(files) => Ok((files, options)),

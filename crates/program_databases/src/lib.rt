@@ -1,8 +1,9 @@
 //! The desks in SQLite files that are opened by their names: `database` looks at a file, and
-//! `databases` opens it, by its path (`paths`); `stored_desks` is the desks in them, and `unopened`
-//! what is left where none was opened.
+//! `databases` opens it, by its path (`paths`); `stored_desks` is the desks in them, `unopened` what
+//! is left where none was opened, and `causes` what the files show of why.
 #![tactic(auto)]
 
+mod causes;
 pub mod database;
 pub mod databases;
 pub mod paths;

@@ -1,7 +1,9 @@
 //! The database files at paths of the file system.
 
+use crate::causes::cause_of_kind;
 use crate::databases::Databases;
 use onix_records::StoreFault;
+use program_desks::kept_desks::{Cause, OpenFault};
 use sqlite::{FileFrom, Files, Start};
 use sqlite_std_file::OpenError;
 use std::io::ErrorKind;
@@ -14,11 +16,15 @@ pub struct Paths<S: Start> {
 }
 
 // Why files could not be opened: for want of memory, or they cannot be used.
-fn fault_of(error: &OpenError) -> StoreFault {
+fn fault_of(error: &OpenError) -> OpenFault {
     match error {
-        OpenError::OutOfMemory => StoreFault::Memory,
-        OpenError::Io(error) if error.kind() == ErrorKind::OutOfMemory => StoreFault::Memory,
-        _ => StoreFault::Unusable,
+        OpenError::OutOfMemory => OpenFault::Store(StoreFault::Memory, Cause::Unknown),
+        OpenError::Io(error) if error.kind() == ErrorKind::OutOfMemory => {
+            OpenFault::Store(StoreFault::Memory, Cause::Unknown)
+        }
+        OpenError::Io(error) => OpenFault::Store(StoreFault::Unusable, cause_of_kind(error.kind())),
+        OpenError::Busy => OpenFault::Store(StoreFault::Unusable, Cause::Busy),
+        OpenError::HotJournal => OpenFault::Store(StoreFault::Unusable, Cause::Unknown),
     }
 }
 
@@ -32,10 +38,10 @@ impl<S: Start> Databases for Paths<S> {
 
     type NotOpened = ();
 
-    fn open(self, rt: &HostRuntime, name: &str) -> Result<Files<FileFrom<S>>, (StoreFault, ())> {
+    fn open(self, rt: &HostRuntime, name: &str) -> Result<Files<FileFrom<S>>, (OpenFault, ())> {
         // SQLite keeps no file of such a name.
         if name == ":memory:" || name.starts_with("file:") {
-            return Err((StoreFault::Unusable, ()));
+            return Err((OpenFault::Store(StoreFault::Unusable, Cause::BadName), ()));
         }
         match sqlite_std_file::open(rt, name, self.start) {
             Ok(files) => Ok(files),

@@ -44,11 +44,11 @@ impl<O: Databases> KeepsDesks<DeskStore<FileStore<O::File>>> for StoredDesks<O> 
         let creation = creation_of(creation);
         let (files, options) = match open_database(rt, name, creation, self.databases, errors) {
             Ok(opened) => opened,
-            Err((fault, none)) => return Err((OpenFault::Store(fault), none)),
+            Err((fault, none)) => return Err((fault, none)),
         };
         match DeskStore::open_files_with(rt.alloc(), files, options) {
             Ok(desk) => Ok(desk),
-            Err((fault, left)) => Err((fault_of(fault), Unopened::Left(left))),
+            Err((fault, left)) => Err((fault_of(rt, name, fault), Unopened::Left(left))),
         }
     }
 
@@ -71,11 +71,11 @@ impl<O: Databases> KeepsDesks<DeskStore<FileStore<O::File>>> for StoredDesks<O> 
         let creation = creation_of(creation);
         let (files, options) = match open_database(rt, name, creation, self.databases, errors) {
             Ok(opened) => opened,
-            Err((fault, none)) => return Err((OpenFault::Store(fault), none)),
+            Err((fault, none)) => return Err((fault, none)),
         };
         match migrate_files_with(rt.alloc(), files, options) {
             Ok((answer, files)) => Ok((migration_of(answer), files)),
-            Err((fault, left)) => Err((fault_of(fault), Unopened::Left(left))),
+            Err((fault, left)) => Err((fault_of(rt, name, fault), Unopened::Left(left))),
         }
     }
 

@@ -3,10 +3,12 @@
 ghost use Rattle.std.specs.Prelude.{◌≡◌};
 ghost use Rattle.program_databases.specs.Migrated.{answer_as};
 
+use crate::causes::cause_of_refusal;
 use desk_store::{MigrateAnswer, OpenFault};
 use program_desks::kept_desks::{self, Migration};
 use sqlite::Leftover;
 use sqlite_disk::Disk;
+use std::rt::HostRuntime;
 
 /// What is left of two files, the database and its log, of which no desk was opened, or which were
 /// not brought to the present version. A function over any `Databases` can make neither of the
@@ -21,10 +23,13 @@ pub enum Unopened<O, U, D: Disk> {
     Left(Leftover<D>),
 }
 
-/// The fault of opening a desk, or of bringing one to version 2.
-pub(crate) fn fault_of(fault: OpenFault) -> kept_desks::OpenFault {
+/// The fault of opening the desk in the files of a name, or of bringing one to version 2.
+pub(crate) fn fault_of(rt: &HostRuntime, name: &str, fault: OpenFault) -> kept_desks::OpenFault {
     match fault {
-        OpenFault::Store(fault) => kept_desks::OpenFault::Store(fault),
+        OpenFault::Store(fault) => {
+            let cause = cause_of_refusal(rt, name, &fault);
+            kept_desks::OpenFault::Store(fault, cause)
+        }
         OpenFault::OtherVersion { found } => kept_desks::OpenFault::OtherVersion(found),
     }
 }

@@ -5,11 +5,41 @@ use series_rules::listing::ListedDesk;
 use std::io::Write;
 use std::rt::HostRuntime;
 
+/// What the files of a name, or the system, show of why no desk is opened in them.
+#[derive(Clone, Copy)]
+pub enum Cause {
+    /// Nothing, or nothing more than the fault itself.
+    Unknown,
+    /// There is no such file, or no folder for it.
+    Missing,
+    /// The file has no byte.
+    Empty,
+    /// It is a folder.
+    Folder,
+    /// A folder of its path is a file.
+    InFile,
+    /// It is neither a file nor a folder.
+    Special,
+    /// No file can have that name.
+    BadName,
+    /// The user may not open it.
+    Denied,
+    /// The disk has no space left.
+    Full,
+    /// Another program has it open.
+    Busy,
+    /// It does not begin as a database does.
+    NoDatabase,
+    /// It is a database, but not a desk's, or one that is damaged.
+    NoDesk,
+}
+
 /// Why the desk in the files of a name is not opened, or not brought to the present version.
 #[derive(Drop)]
 pub enum OpenFault {
-    /// The store refused, the files are no desk's, or they have to be there and are missing.
-    Store(StoreFault),
+    /// The store refused, the files are no desk's, or they have to be there and are missing; and
+    /// why, as far as the files or the system say it.
+    Store(StoreFault, Cause),
     /// They hold a desk of this version, which is another one.
     OtherVersion(u32),
 }

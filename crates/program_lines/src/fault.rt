@@ -66,6 +66,11 @@ pub fn report<E: Write>(fault: &Fault, errors: &mut E) -> u8
     3
 }
 
+/// Writes a second line behind that of a fault, which says why. As with `report`, it may be lost.
+pub fn report_why<E: Write>(name: &str, why: &str, errors: &mut E) {
+    let _ = write!(errors, "onixdesk: {name}: {why}\n");
+}
+
 /// Writes the line of a file that cannot be read. As with `report`, it may be lost.
 pub fn report_file<E: Write>(name: &str, errors: &mut E) {
     let _ = write!(errors, "onixdesk: file: {name}\n");

@@ -56,6 +56,19 @@ fn print_count<W: Write, E: Write>(count: usize, output: &mut W, errors: &mut E)
     }
 }
 
+/// Writes in which line of the file of this name the text stops being a precedence table, and why,
+/// where it is read again and is none.
+pub fn tell_cause<F: NamedFiles, E: Write>(alloc: Global, files: &F, name: &str, errors: &mut E) {
+    let Ok(text) = read_text(alloc, files, name) else {
+        return;
+    };
+    match table_of(alloc, text.as_slice()) {
+        Ok(_) | Err(RulesFault::Unreadable) => {}
+        Err(RulesFault::Table(PrecedenceFault::Memory)) => {}
+        Err(RulesFault::Table(fault)) => write_cause(alloc, text.as_slice(), &fault, errors),
+    }
+}
+
 /// Reads the precedence table in the file of this name, and writes how many rules it has. Gives 0;
 /// or 2 where it is none or cannot be read, or 3 where memory ran out or the line cannot be
 /// written, which is reported, with the line of the file and the cause.

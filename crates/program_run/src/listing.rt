@@ -181,6 +181,9 @@ pub fn list_file<D: ListedDesk, K: KeepsDesks<D>, F: NamedFiles, W: Write, E: Wr
             let status = run(rt.alloc(), &mut desk, listing, files, output, errors);
             close_desk(status, desk, errors)
         }
-        Err((fault, left)) => (report_unopened(fault, errors), FilesLeft::Unopened(left)),
+        Err((fault, left)) => (
+            report_unopened(db.name, fault, errors),
+            FilesLeft::Unopened(left),
+        ),
     }
 }

@@ -53,6 +53,9 @@ pub(crate) fn run<D: ListedDesk, K: KeepsDesks<D>, W: Write, E: Write>(
 {
     match databases.migrate(rt, db.name, creation_of(db), errors) {
         Ok((did, files)) => (write_line(did, output, errors), FilesLeft::Closed(files)),
-        Err((fault, left)) => (report_unopened(fault, errors), FilesLeft::Unopened(left)),
+        Err((fault, left)) => (
+            report_unopened(db.name, fault, errors),
+            FilesLeft::Unopened(left),
+        ),
     }
 }

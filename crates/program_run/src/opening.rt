@@ -1,10 +1,11 @@
-//! The desk in files, opened for a command.
+//! The desk in files, opened for a command; and why one is not opened.
 
 ghost use Rattle.std.specs.Prelude.{◌≡◌};
 ghost use Rattle.program_run.specs.OverFiles.{creation_by};
 
-use program_desks::kept_desks::{Creation, OpenFault};
-use program_lines::fault::{Fault, report};
+use onix_records::StoreFault;
+use program_desks::kept_desks::{Cause, Creation, OpenFault};
+use program_lines::fault::{Fault, report, report_why};
 use program_words::invocation::Database;
 use std::io::Write;
 
@@ -19,13 +20,65 @@ pub(crate) fn creation_of(db: &Database<'_>) -> Creation
     }
 }
 
-/// Reports why the desk in the files of a name is not opened, or not brought to the present
-/// version.
-pub(crate) fn report_unopened<E: Write>(fault: OpenFault, errors: &mut E) -> u8
+// A cause in words.
+fn text_of(cause: Cause) -> &'static str {
+    match cause {
+        Cause::Unknown => "docs/RELIABILITY.md, Faults, says how to tell why",
+        Cause::Missing => "no such file or folder",
+        Cause::Empty => "an empty file, which has no desk",
+        Cause::Folder => "a folder",
+        Cause::InFile => "a folder of its path is a file",
+        Cause::Special => "not a file",
+        Cause::BadName => "not the name of a file to SQLite",
+        Cause::Denied => "permission denied",
+        Cause::Full => "no space left on the disk",
+        Cause::Busy => "another program has it open",
+        Cause::NoDatabase => "not a database",
+        Cause::NoDesk => {
+            "a database of another program, or a damaged one; docs/RELIABILITY.md, Faults"
+        }
+    }
+}
+
+// Why the store refused; none where the line of the fault says so itself.
+fn why_refused(fault: &StoreFault, cause: Cause) -> Option<&'static str> {
+    match fault {
+        StoreFault::Unusable => Some(text_of(cause)),
+        StoreFault::Disk => Some(
+            "the disk is full or failed, or a page of the file is damaged; docs/RELIABILITY.md, Faults",
+        ),
+        StoreFault::Memory | StoreFault::Size => None,
+    }
+}
+
+// Why the desk in the files of a name is not opened; none where the line of the fault says so.
+fn why_unopened(fault: &OpenFault) -> Option<&'static str> {
+    match fault {
+        OpenFault::Store(fault, cause) => why_refused(fault, *cause),
+        OpenFault::OtherVersion(1) => {
+            Some("copy the file, and then write onixdesk --db FILE migrate")
+        }
+        OpenFault::OtherVersion(_) => Some("use the program that made it"),
+    }
+}
+
+// The line of a desk that is not opened.
+fn fault_of(fault: OpenFault) -> Fault {
+    match fault {
+        OpenFault::Store(fault, _) => Fault::from(fault),
+        OpenFault::OtherVersion(found) => Fault::StorageOtherVersion(found),
+    }
+}
+
+/// Reports that the desk in the files of a name is not opened, or not brought to the present
+/// version, and in a second line why.
+pub(crate) fn report_unopened<E: Write>(name: &str, fault: OpenFault, errors: &mut E) -> u8
     ensures { result ≡ 3 }
 {
-    match fault {
-        OpenFault::Store(fault) => report(&Fault::from(fault), errors),
-        OpenFault::OtherVersion(found) => report(&Fault::StorageOtherVersion(found), errors),
+    let why = why_unopened(&fault);
+    let status = report(&fault_of(fault), errors);
+    if let Some(why) = why {
+        report_why(name, why, errors);
     }
+    status
 }

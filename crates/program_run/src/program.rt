@@ -12,8 +12,8 @@ use crate::{converting, help, listing, migrating};
 use desk_memory::MemoryDesk;
 use price_rules::precedence::Precedence;
 use program_clients::open_desks::OpenDesks;
-use program_commands::sending;
 use program_commands::task::{port_of, run_task};
+use program_commands::{checked_texts, sending};
 use program_desks::files_left::FilesLeft;
 use program_desks::kept_desks::KeepsDesks;
 use program_files::NamedFiles;
@@ -26,6 +26,10 @@ use series_rules::listing::ListedDesk;
 use std::alloc::Global;
 use std::io::{Read, Write};
 use std::rt::HostRuntime;
+
+// What is said behind refusals of a desk in memory.
+const NO_FILE: &str =
+    "without --db a desk has only the agreements of its batch; write --db FILE before the command";
 
 // Runs a command over a new desk in memory.
 fn run_in_memory<F: NamedFiles, R: Read, W: Write, E: Write>(
@@ -45,7 +49,7 @@ fn run_in_memory<F: NamedFiles, R: Read, W: Write, E: Write>(
     let mut desk = MemoryDesk::new(rt.alloc());
     let bound = port_of(rt, task);
     let status = run_task(
-        rt, &mut desk, precedence, bound, task, files, input, output, errors,
+        rt, &mut desk, precedence, bound, task, files, NO_FILE, input, output, errors,
     );
     desk.is_always_sound();
     status
@@ -76,11 +80,14 @@ fn run_in_file<D: ListedDesk, K: KeepsDesks<D>, F: NamedFiles, R: Read, W: Write
     match databases.open(rt, db.name, creation_of(db), errors) {
         Ok(mut desk) => {
             let status = run_task(
-                rt, &mut desk, precedence, bound, task, files, input, output, errors,
+                rt, &mut desk, precedence, bound, task, files, "", input, output, errors,
             );
             close_desk(status, desk, errors)
         }
-        Err((fault, left)) => (report_unopened(fault, errors), FilesLeft::Unopened(left)),
+        Err((fault, left)) => (
+            report_unopened(db.name, fault, errors),
+            FilesLeft::Unopened(left),
+        ),
     }
 }
 
@@ -132,6 +139,10 @@ fn run_action<
         }
         Action::CheckRules { file } => {
             let status = checking::run(rt.alloc(), files, file, output, errors);
+            (status, FilesLeft::Untouched(databases))
+        }
+        Action::CheckTexts { files: names } => {
+            let status = checked_texts::run(rt.alloc(), files, names.as_slice(), input, errors);
             (status, FilesLeft::Untouched(databases))
         }
     }
@@ -188,6 +199,7 @@ pub fn run_invocation<
         Err(fault) => {
             let name = invocation.rules.unwrap_or("");
             let status = report_rules(&fault, name, errors);
+            checking::tell_cause(rt.alloc(), files, name, errors);
             return (status, FilesLeft::Untouched(databases));
         }
     };

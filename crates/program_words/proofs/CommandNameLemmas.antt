@@ -8,7 +8,7 @@ use Rattle.program_words.specs.Asked.{IsAction, IsListing, IsTask, Reads, ReadsW
 use Rattle.program_words.specs.CommandLine.{command_of, convert_command, export_command, free_operand, needed, onixdesk, serve_command, some_operands}
 use Rattle.program_words.specs.CommandNames.{NamesAreOfCommands, action_name, listing_name, task_name}
 use Rattle.program_words.specs.declared.invocation.Action.{Action}
-use Rattle.program_words.specs.declared.invocation.Action.TheVariants.{CheckRules, Convert, InMemory, InFile, Listed, Migrate, Send}
+use Rattle.program_words.specs.declared.invocation.Action.TheVariants.{CheckRules, CheckTexts, Convert, InMemory, InFile, Listed, Migrate, Send}
 use Rattle.program_words.specs.declared.invocation.Invocation.{Invocation}
 use Rattle.program_words.specs.declared.invocation.Listing.{Listing}
 use Rattle.program_words.specs.declared.invocation.Listing.TheVariants as listing
@@ -36,6 +36,7 @@ action_named top name own (Migrate db) is = sym is.0
 action_named top name own (Send socket) is = sym is.0
 action_named top name own (Convert conversion) is = sym is.0
 action_named top name own (CheckRules file) is = sym is.0
+action_named top name own (CheckTexts files) is = sym is.0
 
 abbrev first : Option (Text × List Text) → Option Text
 first = option_map (λ p. p.0)
@@ -86,6 +87,10 @@ agreements = (refl, λ more. refl)
 batch : IsMet (codes "batch")
 unfolding clap_on_literals
 batch = (refl, λ more. refl)
+
+check : IsMet (codes "check")
+unfolding clap_on_literals
+check = (refl, λ more. refl)
 
 convert : IsMet (codes "convert")
 unfolding clap_on_literals
@@ -140,17 +145,21 @@ from_deliver = command_of "deliver" (needed (some_operands (codes "file") 1) ∷
 abbrev from_convert : List Shape
 from_convert = convert_command ∷ from_deliver
 
+abbrev from_check : List Shape
+from_check = command_of "check" (needed (some_operands (codes "file") 1) ∷ []) ∷ from_convert
+
 abbrev from_batch : List Shape
-from_batch = command_of "batch" [] ∷ from_convert
+from_batch = command_of "batch" [] ∷ from_check
 
 pub names_are_of_commands : NamesAreOfCommands
 names_are_of_commands =
     more _ from_batch (named (codes "agreements") agreements)
-    (more _ from_convert (named (codes "batch") batch)
+    (more _ from_check (named (codes "batch") batch)
+    (more _ from_convert (named (codes "check") check)
     (more _ from_deliver (named (codes "convert") convert)
     (more _ from_export (named (codes "deliver") deliver)
     (more _ from_gaps (named (codes "export") export)
     (more _ from_migrate (named (codes "gaps") gaps)
     (more _ from_rules (named (codes "migrate") migrate)
     (more _ (serve_command ∷ []) (named (codes "rules") rules_met)
-    (more _ [] (named (codes "serve") serve) (All-nil IsNamed)))))))))
+    (more _ [] (named (codes "serve") serve) (All-nil IsNamed))))))))))

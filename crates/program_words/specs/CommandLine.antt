@@ -94,12 +94,13 @@ program_options =
     ∷ tied (text_option (codes "batches"))
     ∷ []
 
--- agreements, batch, convert, deliver FILE.., export [-o FOLDER], gaps [NAME], migrate, rules FILE,
--- serve
+-- agreements, batch, check FILE.., convert, deliver FILE.., export [-o FOLDER], gaps [NAME],
+-- migrate, rules FILE, serve
 abbrev pub program_commands : List Shape
 program_commands =
     command_of "agreements" []
     ∷ command_of "batch" []
+    ∷ command_of "check" (needed (some_operands (codes "file") 1) ∷ [])
     ∷ convert_command
     ∷ command_of "deliver" (needed (some_operands (codes "file") 1) ∷ [])
     ∷ export_command

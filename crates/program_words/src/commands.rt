@@ -110,7 +110,7 @@ fn agreements<'a>(alloc: Global) -> Command<'a>
         alloc,
         "agreements",
         "Write the agreements of all series",
-        "Writes the agreements of all series, in the order of the bytes of their names, each as the record Agree that a batch takes. The database file is named before the command: onixdesk --db FILE agreements. The desk is not changed. A missing or empty file, or one that has no desk, is a fault, and no desk is made.",
+        "Writes the agreements of all series, in the order of the bytes of their names, each as the record Agree that a batch takes. The database file is named before the command: onixdesk --db FILE agreements. The desk is not changed. A missing or empty file, or one that has no desk, is a fault, and no desk is made.\n\nExample: onixdesk --db shop.db agreements",
     )
 }
 
@@ -121,7 +121,7 @@ fn batch<'a>(alloc: Global) -> Command<'a>
         alloc,
         "batch",
         "Read requests from standard input, write their answers to standard output",
-        "Reads agreements, messages, waivers and questions as CSV records from standard input, up to 4,194,304 bytes of UTF-8, and writes the answer to each, in order, to standard output. A database file and a precedence table are named before the command: onixdesk --db FILE --rules FILE batch. Without a database file the desk ends with the batch. With --batches SOCKET before the command the batch goes to the desk that is open there, whose answers are written; then status 3 also means that the socket failed or that an answer did not come.",
+        "Reads agreements, messages, waivers and questions as CSV records from standard input, up to 4,194,304 bytes of UTF-8, and writes the answer to each, in order, to standard output. A database file and a precedence table are named before the command: onixdesk --db FILE --rules FILE batch. Without a database file the desk ends with the batch. With --batches SOCKET before the command the batch goes to the desk that is open there, whose answers are written; then status 3 also means that the socket failed or that an answer did not come. Behind the answers a line on standard error says of each request that was malformed what is wrong.\n\nExample: onixdesk --db shop.db batch < monday.csv",
     )
 }
 
@@ -144,9 +144,33 @@ fn deliver<'a>(alloc: Global) -> Result<Command<'a>, AllocError>
         alloc,
         "deliver",
         "Deliver the message of each file, write the answer to each",
-        "Delivers the message that each file holds, from its record Message to its record EndMessage, in the order of the files, and writes the answer to each to standard output; the file - is standard input. A file that cannot be read, or a fault, ends the command with status 3; the answers before it remain valid. The agreements are those of the database file: onixdesk --db FILE deliver FILE. Without one there are none, and a whole message with a number is answered refused,unknown-series.",
+        "Delivers the message that each file holds, from its record Message to its record EndMessage, in the order of the files, and writes the answer to each to standard output; the file - is standard input. A file that cannot be read, or a fault, ends the command with status 3; the answers before it remain valid. The agreements are those of the database file: onixdesk --db FILE deliver FILE. Without one there are none, and a whole message with a number is answered refused,unknown-series. A line on standard error says of each file that is malformed what is wrong.\n\nExample: onixdesk --db shop.db deliver monday.csv",
     );
     with_word(Ok(deliver), Ok(messages(alloc)))
+}
+
+fn texts<'a>(alloc: Global) -> Arg<'a>
+    ensures { IsWord (needed (some_operands (codes "file") 1)) result }
+{
+    files(
+        alloc,
+        1,
+        "Requests or a message as CSV records, up to 4,194,304 bytes of UTF-8; - is standard input",
+    )
+    .required(true)
+}
+
+fn check<'a>(alloc: Global) -> Result<Command<'a>, AllocError>
+    ensures { IfOk result
+        (IsCommand (command_of "check" (needed (some_operands (codes "file") 1) ∷ []))) }
+{
+    let check = bare_command(
+        alloc,
+        "check",
+        "Say what is wrong with each request that is malformed, and ask no desk",
+        "Reads each FILE as batch reads its input, and asks no desk. For each request or message that a desk would answer refused,malformed,ROW, a line on standard error says in which line of the FILE it is wrong, in which field, and why; 100 lines at most, and then how many more there are. The status is 0 if nothing is malformed, 1 if something is, and 3 if a FILE cannot be read.\n\nExample: onixdesk check monday.csv",
+    );
+    with_word(Ok(check), Ok(texts(alloc)))
 }
 
 // The option `-o FOLDER`.
@@ -172,7 +196,7 @@ fn export<'a>(alloc: Global) -> Result<Command<'a>, AllocError>
         alloc,
         "export",
         "Write the desk as a batch that makes it again",
-        "Writes the desk as the batch that makes it again: for each series, in the order of the bytes of their names, its agreement, and then for each number in order the message or the waiver that is recorded at it. A new desk that is given these requests answers every further request as this one does. The database file is named before the command: onixdesk --db FILE export. The desk is not changed. A missing or empty file, or one that has no desk, is a fault, and no desk is made. A message of more than 4,194,304 bytes is a fault, since no batch takes it. A batch has no more bytes than that; with -o a larger desk is cut between requests into files that are batches, and a new desk is given them in the order of their numbers. An existing file is never overwritten: it is a fault unless it has the same bytes.",
+        "Writes the desk as the batch that makes it again: for each series, in the order of the bytes of their names, its agreement, and then for each number in order the message or the waiver that is recorded at it. A new desk that is given these requests answers every further request as this one does. The database file is named before the command: onixdesk --db FILE export. The desk is not changed. A missing or empty file, or one that has no desk, is a fault, and no desk is made. A message of more than 4,194,304 bytes is a fault, since no batch takes it. A batch has no more bytes than that; with -o a larger desk is cut between requests into files that are batches, and a new desk is given them in the order of their numbers. An existing file is never overwritten: it is a fault unless it has the same bytes.\n\nExample: onixdesk --db shop.db export > shop.csv",
     );
     with_word(Ok(export), Ok(export_folder(alloc)))
 }
@@ -195,7 +219,7 @@ fn gaps<'a>(alloc: Global) -> Result<Command<'a>, AllocError>
         alloc,
         "gaps",
         "Write which message numbers of a series, or of all, are missing",
-        "Writes the first and the next number of a series, the greatest that has come, how many are held, and the ranges of numbers that are missing. A series that is not agreed, and a name that cannot be one, are answered refused,unknown-series with status 1. Without a NAME this is written of each series of the database file, in the order of the bytes of their names: onixdesk --db FILE gaps. Then a missing or empty file, or one that has no desk, is a fault, and no desk is made.",
+        "Writes the first and the next number of a series, the greatest that has come, how many are held, and the ranges of numbers that are missing. A series that is not agreed, and a name that cannot be one, are answered refused,unknown-series with status 1. Without a NAME this is written of each series of the database file, in the order of the bytes of their names: onixdesk --db FILE gaps. Then a missing or empty file, or one that has no desk, is a fault, and no desk is made.\n\nExample: onixdesk --db shop.db gaps north",
     );
     with_word(Ok(gaps), Ok(series(alloc)))
 }
@@ -245,7 +269,7 @@ fn serve<'a>(alloc: Global) -> Result<Command<'a>, AllocError>
         alloc,
         "serve",
         "Answer requests over HTTP on a port of this machine",
-        "Listens at a port of 127.0.0.1, which only programs on this machine reach, writes the line 'listening N', and serves connections one after the other, one request each. For each connection a line is written: the status of the reply, or 'fault' if none was sent whole. With --batches it listens at a socket of the file system too, which the program's user and group alone may use; each connection there is one batch, the text to the end of what the client sends, and its line is 'batch N', with the number of refusals, or 'fault'. A client may let the desk wait 10 seconds while it sends and 10 seconds while it takes what is sent to it; over that the connection is a fault, and serving goes on. The desk is that of the database file, with the shop's rules: onixdesk --db FILE --rules FILE serve; without one it begins without agreements and ends with the program. A port or a socket that cannot be listened at ends the program with status 3. TLS and access control are left to a proxy before it.",
+        "Listens at a port of 127.0.0.1, which only programs on this machine reach, writes the line 'listening N', and serves connections one after the other, one request each. For each connection a line is written: the status of the reply, or 'fault' if none was sent whole.\n\nWith --batches it listens at a socket of the file system too, which the program's user and group alone may use; each connection there is one batch, the text to the end of what the client sends, and its line is 'batch N', with the number of refusals, or 'fault'.\n\nA client may let the desk wait 10 seconds while it sends and 10 seconds while it takes what is sent to it; over that the connection is a fault, and serving goes on.\n\nThe desk is that of the database file, with the shop's rules: onixdesk --db FILE --rules FILE serve; without one it begins without agreements and ends with the program.\n\nA port or a socket that cannot be listened at ends the program with status 3. TLS and access control are left to a proxy before it.\n\nExample: onixdesk --db shop.db --rules rules.toml serve --port 8080",
     );
     let serve = with_word(Ok(serve), Ok(port(alloc)));
     let serve = with_word(serve, Ok(socket(alloc)));
@@ -259,7 +283,7 @@ fn migrate<'a>(alloc: Global) -> Command<'a>
         alloc,
         "migrate",
         "Bring a database file of an earlier version to the one that this program keeps",
-        "Brings the desk in the database file from version 1, which knows no minimum quantities, to version 2, in one transaction, and writes 'migrated'; an empty or missing file becomes a desk without agreements. A file of version 2 stays as it is, and 'schema 2' is written. Any other version is a fault, and the file stays. The file is named before the command: onixdesk --db FILE migrate. Copy the file first.",
+        "Brings the desk in the database file from version 1, which knows no minimum quantities, to version 2, in one transaction, and writes 'migrated'; an empty or missing file becomes a desk without agreements. A file of version 2 stays as it is, and 'schema 2' is written. Any other version is a fault, and the file stays. The file is named before the command: onixdesk --db FILE migrate. Copy the file first.\n\nExample: onixdesk --db shop.db migrate",
     )
 }
 
@@ -277,7 +301,7 @@ fn rules_check<'a>(alloc: Global) -> Result<Command<'a>, AllocError>
         alloc,
         "rules",
         "Read a precedence table, and write how many rules it has",
-        "Reads the precedence table of a TOML file, as a desk does that is started with --rules FILE, and writes 'rules N', with the number of its rules. If the file is not a precedence table, or cannot be read, the status is 2, and a line on standard error says in which line of the file, and why. Try a changed file so before the desk is started again.",
+        "Reads the precedence table of a TOML file, as a desk does that is started with --rules FILE, and writes 'rules N', with the number of its rules. If the file is not a precedence table, or cannot be read, the status is 2, and a line on standard error says in which line of the file, and why. Try a changed file so before the desk is started again.\n\nExample: onixdesk rules rules.toml",
     );
     with_word(Ok(rules), Ok(table(alloc)))
 }
@@ -399,7 +423,7 @@ fn convert<'a>(alloc: Global) -> Result<Command<'a>, AllocError>
         alloc,
         "convert",
         "Convert ONIX messages in XML to the CSV records that the desk reads",
-        "Converts ONIX for Books messages in XML, release 3.0 or 3.1, to the CSV records that the desk reads. Notes on standard error tell what is left out. A FILE that is refused gives no output, and the others are done. Without -o the records of one FILE go to standard output. With it each message becomes NAME.csv, or NAME.part-01.csv and so on, NAME being the FILE without its extension; an existing file is never overwritten: it is a fault unless it has the same bytes. A packed FILE is refused: unpack it before, gunzip -c FILE | onixdesk convert.",
+        "Converts ONIX for Books messages in XML, release 3.0 or 3.1, to the CSV records that the desk reads. Notes on standard error tell what is left out. A FILE that is refused gives no output, and the others are done. Without -o the records of one FILE go to standard output. With it each message becomes NAME.csv, or NAME.part-01.csv and so on, NAME being the FILE without its extension; an existing file is never overwritten: it is a fault unless it has the same bytes. A packed FILE is refused: unpack it before, gunzip -c FILE | onixdesk convert.\n\nExample: onixdesk convert -o records feed.xml",
     );
     let convert = with_word(Ok(convert), Ok(parts(alloc)));
     let convert = with_word(convert, number(alloc));
@@ -473,7 +497,7 @@ fn named<'a>(alloc: Global) -> Command<'a>
             "The intake of a bookshop's buying desk: numbered ONIX messages in, proved answers out",
         )
         .after_help(
-            "Exit status: 0; 1 if an answer of batch, deliver or gaps was a refusal, or a FILE of convert was refused or a wrong product left out; 2 for a bad command line or rules file; 3 for a fault of storage, a file, input, output, the port or the socket, or when out of memory. While serve runs, a request that cannot be answered ends only its connection.",
+            "Exit status: 0; 1 if an answer of batch, deliver or gaps was a refusal, check found something malformed, or a FILE of convert was refused or a wrong product left out; 2 for a bad command line or rules file; 3 for a fault of storage, a file, input, output, the port or the socket, or when out of memory. While serve runs, a request that cannot be answered ends only its connection.",
         )
         .subcommand_required(true)
 }
@@ -494,6 +518,7 @@ pub fn program<'a>(alloc: Global) -> Result<Command<'a>, AllocError>
 {
     let program = with_command(with_options(alloc), Ok(agreements(alloc)));
     let program = with_command(program, Ok(batch(alloc)));
+    let program = with_command(program, check(alloc));
     let program = with_command(program, convert(alloc));
     let program = with_command(program, deliver(alloc));
     let program = with_command(program, export(alloc));

@@ -9,6 +9,7 @@ ghost use Rattle.program_words.specs.Words.{number_in, text_in, words_in};
 use crate::arguments::{has_flag, text_in, texts_in};
 use crate::commands::program;
 use crate::convert_words::{Conversion, conversion_of};
+use crate::hints::hint;
 use clap::error::ErrorKind;
 use clap::{ArgMatches, Error};
 use std::alloc::{AllocError, Global};
@@ -80,6 +81,10 @@ pub enum Action<'a> {
     CheckRules {
         file: &'a str,
     },
+    /// `check FILE..`: each FILE is read as a text of requests, and no desk is opened.
+    CheckTexts {
+        files: Vec<&'a str>,
+    },
 }
 
 /// What the program is asked to do, under the precedence table of a file or under no rules.
@@ -107,21 +112,23 @@ pub enum Reading<'a> {
     Memory,
 }
 
-// What clap could not read as an invocation.
-fn error_reading<'a>(alloc: Global, error: &Error) -> Reading<'a>
+// What clap could not read as an invocation, and, where a word is out of its place, what to write.
+fn error_reading<'a>(alloc: Global, words: &[&str], error: &Error) -> Reading<'a>
     ensures { (top : List Row) (command : Option (Text × List Row))
         → ReadsWords top command result }
 {
     if error.kind() == ErrorKind::OutOfMemory {
         return Reading::Memory;
     }
-    let Ok(text) = error.to_string(alloc) else {
+    let Ok(mut text) = error.to_string(alloc) else {
         return Reading::Memory;
     };
-    if error.use_stderr() {
-        Reading::Wrong(text)
-    } else {
-        Reading::Help(text)
+    if !error.use_stderr() {
+        return Reading::Help(text);
+    }
+    match text.push_str(hint(words)) {
+        Ok(()) => Reading::Wrong(text),
+        Err(_) => Reading::Memory,
     }
 }
 
@@ -341,6 +348,23 @@ fn rules_reading<'a>(alloc: Global, words: &ArgMatches<'a>) -> Reading<'a>
     }
 }
 
+// What `check` asks for.
+fn check_reading<'a>(alloc: Global, words: &ArgMatches<'a>) -> Reading<'a>
+    ensures { (top : List Row) → text_in top (codes "batches") ≡ None
+        → ReadsAs top (codes "check") (words_in words.now) result }
+{
+    let Some(files) = texts_in(words, "file") else {
+        return Reading::Wrong(String::new(alloc));
+    };
+    match Vec::from_slice(alloc, files) {
+        Ok(files) => Reading::Run(Invocation {
+            rules: None,
+            action: Action::CheckTexts { files },
+        }),
+        Err(_) => Reading::Memory,
+    }
+}
+
 // What the command of that name asks for, behind the options that were found.
 fn command_reading<'a>(
     alloc: Global,
@@ -354,6 +378,7 @@ fn command_reading<'a>(
         return send_reading(socket, name);
     }
     match name {
+        "check" => check_reading(alloc, words),
         "convert" => convert_reading(alloc, words),
         "migrate" => migrate_reading(matches),
         "rules" => rules_reading(alloc, words),
@@ -381,6 +406,6 @@ pub fn read<'a>(alloc: Global, words: &'a [&'a str]) -> Reading<'a>
     };
     match program.try_get_matches_from(words) {
         Ok(matches) => matched_reading(alloc, &matches),
-        Err(error) => error_reading(alloc, &error),
+        Err(error) => error_reading(alloc, words, &error),
     }
 }

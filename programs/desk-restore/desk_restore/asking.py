@@ -36,7 +36,7 @@ def gaps_of(database: Path, series: list[str], owner: Owner, programs: Path) -> 
     except OSError as error:
         raise Fault(f"{programs / 'onixdesk'}: {error.strerror}") from None
     if ran.returncode:
-        raise Unsound(f"the desk does not take the copy: {ran.stderr.strip() or ran.stdout.strip()}")
+        raise Unsound(f"the desk does not take the copy: {'; '.join((ran.stderr or ran.stdout).strip().splitlines())}")
     return ran.stdout
 
 

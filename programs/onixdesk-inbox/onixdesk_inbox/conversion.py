@@ -112,6 +112,11 @@ class Converter:
     # The lock of the state is also held by a converter whose inbox was killed.
     lock: int
 
+    @property
+    def desk_program(self) -> Path:
+        """The program whose other name the converter is, beside it."""
+        return self.program.with_name("onixdesk")
+
     def convert(self, name: str, source: Path, number: int | None, messages: Path, answer: Path) -> Said:
         """Puts the messages of the copy of a file of that name into a folder, what is said of them into the answer, and
         gives that."""

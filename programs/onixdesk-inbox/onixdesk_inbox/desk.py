@@ -24,7 +24,7 @@ LONGEST_REPLY = 16 << 20
 # answered once all that waited for it is applied: half a second for each 5,000 articles.
 SECONDS = 3600
 
-OTHER_CONTENTS = "other-contents"
+MALFORMED, OTHER_CONTENTS = "malformed", "other-contents"
 
 # What an inbox refuses by its setting SENDER.
 OTHER_SENDER = "other-sender"
@@ -34,7 +34,7 @@ CORRECTABLE = frozenset({"unknown-series", "before-first", "waived", OTHER_CONTE
 
 # What a refusal of the desk says to whoever reads the journal.
 REASONS = {
-    "malformed": "row {row} of its records is malformed",
+    MALFORMED: "row {row} of its records is malformed",
     "not-utf8": "its records are no UTF-8",
     "too-large": f"it has more than {LONGEST_MESSAGE} bytes of records",
     "unnumbered": "it has no MessageNumber",

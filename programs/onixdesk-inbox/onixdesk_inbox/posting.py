@@ -4,7 +4,8 @@ import csv
 from dataclasses import dataclass, field
 from pathlib import Path
 
-from onixdesk_inbox.desk import CORRECTABLE, OTHER_CONTENTS, Accepted, Desk, accepted
+from onixdesk_inbox.checking import PROGRAM, why_malformed
+from onixdesk_inbox.desk import CORRECTABLE, MALFORMED, OTHER_CONTENTS, Accepted, Desk, accepted
 from onixdesk_inbox.renewed import Had
 from onixdesk_inbox.verdicts import Refusal, Taken
 
@@ -51,9 +52,12 @@ def had_of(message: Path, had: dict[int, Had]) -> Had | None:
     return had.get(int(number)) if had and number.isascii() and number.isdigit() else None
 
 
-def post(desk: Desk, messages: list[Path], answer: Path, is_number_new: bool, had: dict[int, Had]) -> Posted:
-    """Posts all of them but what is had, and puts the replies into the answer. Quicker, where the first has a number
-    that the desk has just said to be free, and it is another's by now."""
+def post(
+    desk: Desk, messages: list[Path], answer: Path, is_number_new: bool, had: dict[int, Had], program: Path
+) -> Posted:
+    """Posts all of them but what is had, and puts the replies into the answer, and behind that to a malformed message
+    what the program says of it. Quicker, where the first has a number that the desk has just said to be free, and it is
+    another's by now."""
     posted = Posted()
     with answer.open("a", encoding="utf-8", errors="backslashreplace") as lines:
         for message in messages:
@@ -68,7 +72,10 @@ def post(desk: Desk, messages: list[Path], answer: Path, is_number_new: bool, ha
             except Refusal as refusal:
                 if is_number_new and message == messages[0] and refusal.reason == OTHER_CONTENTS:
                     raise Quicker from None
-                posted.refusals.append(str(refusal))
+                why = why_malformed(program, message) if refusal.reason == MALFORMED else ""
+                if why:
+                    lines.write(f"{PROGRAM}{why}\n")
+                posted.refusals.append(f"{refusal}: {why}" if why else str(refusal))
                 posted.reasons.append(refusal.reason)
     return posted
 

@@ -134,7 +134,9 @@ class Taker:
         if number is not None:
             self.numbers.give(copied.digest, number)
         is_new = number is not None and not came_before
-        posted = post(self.desk, messages, self.state.work.answer, is_new, self.before(copied).had)
+        posted = post(
+            self.desk, messages, self.state.work.answer, is_new, self.before(copied).had, self.converter.desk_program
+        )
         if not posted.stand:
             self.numbers.give_back(copied.digest)
         elif contents:

@@ -30,6 +30,36 @@ def lines(room: Room) -> Iterator[Outcome]:
     yield Outcome("command line: the folder then", list(room.folder.iterdir()), [])
 
 
+# What to write, behind clap's words, where a word is out of its place; and lines of which nothing is known.
+BEFORE = "write the options --db, --existing, --rules and --batches before the command, as in: onixdesk --db FILE batch"
+INPUT = "batch reads standard input: write onixdesk batch < FILE, or onixdesk deliver FILE for a message"
+NO_FILE = "write the database file before the command, as in: onixdesk --db FILE agreements"
+HINTS = {
+    BEFORE: [
+        "batch --db shop.db",
+        "serve --port 8080 --db=shop.db",
+        "deliver --rules rules.toml a.csv",
+        "batch --batches socket",
+        "gaps north --existing",
+        "--db shop.db batch --rules=rules.toml",
+    ],
+    INPUT: ["batch first.csv", "--db shop.db batch first.csv", "--db=shop.db --existing batch first.csv"],
+    NO_FILE: ["agreements shop.db", "migrate shop.db"],
+    "": ["", "frobnicate", "--db", "deliver", "serve --port http", "--unknown batch", "gaps north south"],
+}
+
+
+def hints(room: Room) -> Iterator[Outcome]:
+    """Behind clap's words, which end in a line of their own, a line says what to write."""
+    for hint, lines in HINTS.items():
+        for words in lines:
+            came = room.run(*words.split())
+            last = came.errors.decode().splitlines()[-1]
+            wanted = f"onixdesk: {hint}" if hint else ""
+            found = last if last.startswith("onixdesk: ") else ""
+            yield Outcome(f"command line: a hint, {words}", (came.status, found), (2, wanted))
+
+
 def version(room: Room) -> Iterator[Outcome]:
     """The program's name stands before its version."""
     came = room.run("--version")

@@ -50,7 +50,7 @@ def said_on_terminal(room: Room) -> list[str]:
 def on_a_terminal(room: Room) -> Iterator[Outcome]:
     for size, told in FILES:
         make_file(room, size)
-        yield Outcome(f"a file of {size} bytes on a terminal", said_on_terminal(room), [*told, UNUSABLE])
+        yield Outcome(f"a file of {size} bytes on a terminal", said_on_terminal(room)[:-1], [*told, UNUSABLE])
 
 
 def elsewhere(room: Room) -> Iterator[Outcome]:

@@ -14,7 +14,7 @@ from typing import NamedTuple
 from tests.program.desk.commands import APPLIED, FIRST
 from tests.program.databases import DATABASE, batch, gaps
 from tests.program.messages import AGREED, AGREEMENT, applied, bare
-from tests.program.room import SECONDS, UNREADABLE, Ran, Room
+from tests.program.room import SECONDS, UNREADABLE, Ran, Room, without_reasons
 from tests.program.serving import Exchange, Serving, connected, free_port, receive, send, serving
 from tests.running import Outcome
 from tools.words import Word
@@ -247,7 +247,7 @@ def killed_amid_a_batch(room: Room) -> Iterator[Outcome]:
         rest, errors = client.communicate(timeout=SECONDS)
     # The last may be cut.
     lines = [line for line in (come + rest).splitlines(keepends=True) if line.endswith(b"\n")]
-    yield Outcome("a kill: the client", (client.returncode, errors), (3, b"onixdesk: socket\n"))
+    yield Outcome("a kill: the client", (client.returncode, without_reasons(errors)), (3, b"onixdesk: socket\n"))
     wanted = [applied(number) for number in range(1, len(lines) + 1)]
     yield Outcome("a kill: what was answered", lines, wanted)
     yield Outcome("a kill: before the end", len(lines) < MANY, True)

@@ -76,6 +76,22 @@ def each_kind_of_file(room: Room) -> Iterator[Outcome]:
         yield Outcome("inbox: the lines of the desk", desk.ended(), lines)
 
 
+def a_malformed_message(room: Room) -> Iterator[Outcome]:
+    """What the program says of its mistake is in the answer as in the journal."""
+    batch(room, AGREEMENT)
+    script(room, "onixdesk", f'exec "{room.program}" "$@"')
+    wrong = b"Message,1,06,S,,,1,1,20250301,,\nProduct,R1,3,15,9781234567897\nEndMessage,2\n"
+    with serving(room, WORDS, 1) as desk:
+        inbox = Inbox(room, desk.port)
+        inbox.put({"a.csv": wrong})
+        why = "line 2: Product: NotificationType 3 is not two digits; a spreadsheet may have taken the 0 at its front"
+        line = f"a.csv: refused: row 2 of its records is malformed: {why}"
+        yield Outcome("inbox: a malformed message", inbox.run(), said(line, status=1))
+        reply = '422 {"answer":"refused","reason":"malformed","row":2}'
+        wanted = taken("refused", "a.csv", wrong, reply, f"onixdesk: {why}")
+        yield Outcome("inbox: the answer to a malformed message", inbox.kept(), wanted)
+
+
 def what_the_converter_takes(room: Room) -> Iterator[Outcome]:
     """It gets each feed under an ending that it knows, and none of its name, and one that is packed as its standard
     input; what it refuses is told by its last line, and kept with the name that the feed came in by."""

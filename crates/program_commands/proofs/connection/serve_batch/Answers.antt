@@ -4,11 +4,11 @@ use Rattle.program_commands.proofs.connection.serve_batch.Goals as goal
 
 pub returns : goal.returns
 returns g c =
-    let ran = c.run_batch-outcome.ensures.ran in
-    let one = batch_steps _ _ ran.0 c.run_batch-outcome.result ran.2 in
+    let ran = c.answer_batch-outcome.ensures in
+    let one = batch_steps _ _ ran.0 c.answer_batch-outcome.result ran.2 in
     record {
       steps = one.0;
-      ending = batch ran.0 c.run_batch-outcome.result;
+      ending = batch ran.0 c.answer_batch-outcome.result;
       is_by = tt;
       were_asked = one.1;
       ends = (ran.1, one.2);

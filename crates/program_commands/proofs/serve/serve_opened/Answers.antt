@@ -10,5 +10,5 @@ pub returns-in-Err-clause-end : goal.returns-in-Err-clause-end
 returns-in-Err-clause-end g c =
     let asked = Asked g.D.Desk.seen c.args.precedence.now c.args.desk.now c.args.desk.now in
     let written = Appends (g.O.Write.contents c.args.output.now) (g.O.Write.contents c.args.output.now) in
-    unserved_ends asked written g.C.Clients.takes_batches c.args.number c.args.requests c.report.result refl c.report.ensures
+    unserved_ends asked written g.C.Clients.takes_batches c.args.number c.args.requests c.report_unopened.result refl c.report_unopened.ensures
     ([], listening_line c.args.number, refl, Appends-nil (g.O.Write.contents c.args.output.now))

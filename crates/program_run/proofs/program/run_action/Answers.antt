@@ -1,4 +1,5 @@
 use Rattle.std.proofs.Common.{refl}
+use Rattle.std.proofs.KnownBytes.{Appends-nil}
 use Rattle.program_run.proofs.program.run_action.Goals as goal
 
 pub returns-in-InMemory-clause-end : goal.returns-in-InMemory-clause-end
@@ -21,3 +22,6 @@ returns-in-Convert-clause-end g c = rw c.in-Convert.is (refl, tt, c.run-status-i
 
 pub returns-in-CheckRules-clause-end : goal.returns-in-CheckRules-clause-end
 returns-in-CheckRules-clause-end g c = rw c.in-CheckRules.is ((refl, refl), tt, c.run-status-in-CheckRules.ensures.end)
+
+pub returns-in-CheckTexts-clause-end : goal.returns-in-CheckTexts-clause-end
+returns-in-CheckTexts-clause-end g c = rw c.in-CheckTexts.is ((refl, refl), (tt, Appends-nil (g.W.Write.contents c.args.output.now)))

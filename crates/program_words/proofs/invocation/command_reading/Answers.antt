@@ -6,6 +6,11 @@ use Rattle.program_words.proofs.invocation.command_reading.Goals as goal
 pub returns-in-Some : goal.returns-in-Some
 returns-in-Some c = c.send_reading.ensures (words_in c.args.matches.now) (words_in c.args.words.now) (sym c.in-Some.ensures)
 
+pub returns-in-check : goal.returns-in-check
+returns-in-check c =
+    subst (λ name. ReadsAs (words_in c.args.matches.now) name (words_in c.args.words.now) c.check_reading.result) (sym c.in-check.is)
+    (c.check_reading.ensures (words_in c.args.matches.now) (sym c.in_default.ensures))
+
 pub returns-in-convert : goal.returns-in-convert
 returns-in-convert c =
     subst (λ name. ReadsAs (words_in c.args.matches.now) name (words_in c.args.words.now) c.convert_reading.result) (sym c.in-convert.is)

@@ -1,0 +1,17 @@
+//! Why a text that a desk is given has no request, in words.
+//!
+//! `explaining` goes over the pieces of a batch, or the one message of a file, and writes a line
+//! for each that is malformed; `judging` finds its row by the readers that the desk has, `rows` has
+//! the fields of each record by their names, `fields` what each has to be, `causes` the words, and
+//! `lines` the line of the text on which each record begins.
+//!
+//! What is written decides no answer. It is proved to be safe and to end, and is tested in its
+//! words.
+#![tactic(auto)]
+
+mod causes;
+pub mod explaining;
+mod fields;
+mod judging;
+mod lines;
+mod rows;

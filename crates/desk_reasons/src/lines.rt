@@ -1,0 +1,97 @@
+//! The lines of a text on which its records begin.
+
+// Where the reading of a record stands, as RFC 4180 has it.
+#[derive(Clone, Copy, PartialEq, Eq)]
+enum Place {
+    // Before a record, or on an empty line.
+    Between,
+    // At the beginning of a field.
+    FieldStart,
+    // In a field without quotation marks, or behind the mark that closes one.
+    Plain,
+    // Between quotation marks.
+    Quoted,
+    // Behind a quotation mark between quotation marks, which closes the field or is doubled.
+    MaybeClosed,
+}
+
+// Where the reading stands behind a byte that ends no record.
+fn next_place(place: Place, byte: u8) -> Place {
+    match place {
+        Place::Quoted => {
+            if byte == b'"' {
+                Place::MaybeClosed
+            } else {
+                Place::Quoted
+            }
+        }
+        Place::Between | Place::FieldStart => {
+            if byte == b'"' {
+                Place::Quoted
+            } else if byte == b',' {
+                Place::FieldStart
+            } else {
+                Place::Plain
+            }
+        }
+        Place::MaybeClosed => {
+            if byte == b'"' {
+                Place::Quoted
+            } else if byte == b',' {
+                Place::FieldStart
+            } else {
+                Place::Plain
+            }
+        }
+        Place::Plain => {
+            if byte == b',' {
+                Place::FieldStart
+            } else {
+                Place::Plain
+            }
+        }
+    }
+}
+
+/// The line on which each record of a text begins, counted from 1, one after the other.
+#[derive(Drop)]
+pub(crate) struct RecordLines<'a> {
+    text: &'a [u8],
+    line: u64,
+    at: usize,
+}
+
+impl<'a> RecordLines<'a> {
+    /// Those of this text. A byte order mark at its front is on the first line.
+    pub(crate) fn new(text: &'a [u8]) -> RecordLines<'a> {
+        RecordLines {
+            text,
+            line: 1,
+            at: 0,
+        }
+    }
+
+    /// The line of the next record, or the last line where there is none.
+    pub(crate) fn next_line(&mut self) -> u64 {
+        let rest = self.text.get(self.at..).unwrap_or(&[]);
+        let mut place = Place::Between;
+        let mut begun = self.line;
+        for byte in rest {
+            self.at = self.at.saturating_add(1);
+            let ends_line = *byte == b'\n';
+            let ends_record = ends_line || *byte == b'\r';
+            if ends_line {
+                self.line = self.line.saturating_add(1);
+            }
+            if ends_record && place != Place::Quoted {
+                if place != Place::Between {
+                    return begun;
+                }
+                begun = self.line;
+            } else {
+                place = next_place(place, *byte);
+            }
+        }
+        begun
+    }
+}

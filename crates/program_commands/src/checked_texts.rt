@@ -1,0 +1,106 @@
+//! The command `check`: texts of requests are read, and no desk is asked.
+
+ghost use Rattle.std.specs.Prelude.{◌≤◌};
+
+use crate::malformed::MOST_LINES;
+use crate::unread::report_unread;
+use csv_records::reading::{LIMIT, RecordFault};
+use csv_records::streams::{InputFault, read_input};
+use desk_reasons::explaining::{Room, explain_batch, report_untold};
+use program_files::{FileFault, NamedFiles, STANDARD_INPUT};
+use program_lines::fault::{Fault, report};
+use std::alloc::Global;
+use std::io::{Read, Write};
+
+// Why a text was not read.
+#[derive(Drop)]
+enum UnreadFault {
+    Unreadable,
+    Records(RecordFault),
+}
+
+// Writes a line for each request of the text of a reader that is malformed, and gives their number.
+fn check_reader<R: Read, E: Write>(
+    alloc: Global,
+    room: &mut Room,
+    name: &str,
+    reader: &mut R,
+    errors: &mut E,
+) -> Result<u64, UnreadFault> {
+    let bytes = match read_input(alloc, reader, LIMIT) {
+        Ok(bytes) => bytes,
+        Err(InputFault::Read) => return Err(UnreadFault::Unreadable),
+        Err(InputFault::TooLarge) => return Err(UnreadFault::Records(RecordFault::TooLarge)),
+        Err(InputFault::Memory) => return Err(UnreadFault::Records(RecordFault::Memory)),
+    };
+    match explain_batch(alloc, room, name, bytes.as_slice(), errors) {
+        Ok(count) => Ok(count),
+        Err(fault) => Err(UnreadFault::Records(fault)),
+    }
+}
+
+// The same of the text that is named: `-` is standard input, each other name a file's.
+fn check_named<F: NamedFiles, R: Read, E: Write>(
+    alloc: Global,
+    room: &mut Room,
+    files: &F,
+    name: &str,
+    input: &mut R,
+    errors: &mut E,
+) -> Result<u64, UnreadFault> {
+    if name == STANDARD_INPUT {
+        return check_reader(alloc, room, name, input, errors);
+    }
+    match files.open(name) {
+        Ok(mut file) => check_reader(alloc, room, name, &mut file, errors),
+        Err(FileFault::Memory) => Err(UnreadFault::Records(RecordFault::Memory)),
+        Err(FileFault::File { .. }) => Err(UnreadFault::Unreadable),
+    }
+}
+
+// Reports why the text of this name was not read.
+fn report_text<F: NamedFiles, E: Write>(
+    alloc: Global,
+    fault: UnreadFault,
+    files: &F,
+    name: &str,
+    errors: &mut E,
+) -> u8
+    ensures { result ≡ 3 }
+{
+    match fault {
+        UnreadFault::Unreadable => {
+            report_unread(alloc, files, name, errors);
+            3
+        }
+        UnreadFault::Records(fault) => report(&Fault::from(fault), errors),
+    }
+}
+
+/// Reads the text of each file in turn, where `-` is standard input, and writes a line on `errors`
+/// for each request that is malformed, 100 at most, and then how many more there are. Gives 0, or 1
+/// where one is malformed, or 3 after a fault, which is reported and ends the command.
+pub fn run<F: NamedFiles, R: Read, E: Write>(
+    alloc: Global,
+    files: &F,
+    names: &[&str],
+    input: &mut R,
+    errors: &mut E,
+) -> u8
+    ensures { result ≤ 3 }
+{
+    let mut room = Room::new(MOST_LINES);
+    let mut status = 0u8;
+    for name in names {
+        match check_named(alloc, &mut room, files, name, input, errors) {
+            Ok(0) => {}
+            Ok(_) => status = 1,
+            Err(fault) => {
+                report_untold(&room, errors);
+                return report_text(alloc, fault, files, name, errors);
+            }
+        }
+    }
+    report_untold(&room, errors);
+    status
+}

@@ -1,0 +1,96 @@
+//! Lines that say why requests were refused, behind their answers: what is malformed in them, and a
+//! hint.
+
+use desk_batch::BatchFault;
+use desk_reasons::explaining::{Room, explain_batch, explain_delivery, report_untold};
+use std::alloc::Global;
+use std::io::Write;
+use std::rt::HostRuntime;
+use std::time::{Duration, Instant};
+
+/// The most lines on requests that are malformed, of a run, or of an hour where it serves.
+pub(crate) const MOST_LINES: u32 = 100;
+
+// How many seconds an hour has.
+const HOUR_SECONDS: u64 = 3600;
+
+// Writes a hint as a line, where there is one.
+fn tell_hint<E: Write>(hint: &str, errors: &mut E) {
+    if !hint.is_empty() {
+        let _ = write!(errors, "onixdesk: {hint}\n");
+    }
+}
+
+/// Writes a line for each request of a batch that is malformed, as far as there is room, if so many
+/// requests of it were refused; and the hint where others were. Where memory runs out, the lines that
+/// are left are lost.
+pub(crate) fn tell_refusals<E: Write>(
+    alloc: Global,
+    text: &[u8],
+    outcome: &Result<u64, BatchFault>,
+    room: &mut Room,
+    hint: &str,
+    errors: &mut E,
+) {
+    let refused = match outcome {
+        Ok(refused) => *refused,
+        Err(_) => 0,
+    };
+    if refused == 0 {
+        return;
+    }
+    match explain_batch(alloc, room, "", text, errors) {
+        Ok(malformed) if malformed < refused => tell_hint(hint, errors),
+        _ => {}
+    }
+}
+
+/// Writes a line for each request of a batch that is malformed, 100 at most, and then how many more
+/// there are.
+pub(crate) fn tell_batch<E: Write>(alloc: Global, text: &[u8], errors: &mut E) {
+    let mut room = Room::new(MOST_LINES);
+    let _ = explain_batch(alloc, &mut room, "", text, errors);
+    report_untold(&room, errors);
+}
+
+/// Writes a line where the text of a file is no message, as far as there is room. Where memory runs
+/// out, it is lost.
+pub(crate) fn tell_delivery<E: Write>(
+    alloc: Global,
+    room: &mut Room,
+    name: &str,
+    text: &[u8],
+    errors: &mut E,
+) {
+    let _ = explain_delivery(alloc, room, name, text, errors);
+}
+
+/// Writes behind the answers how many lines were left out; and the hint, if so many texts were
+/// refused and others than those that are no message were among them.
+pub(crate) fn tell_end<E: Write>(room: &Room, refused: u64, hint: &str, errors: &mut E) {
+    report_untold(room, errors);
+    if room.malformed() < refused {
+        tell_hint(hint, errors);
+    }
+}
+
+/// Since when there is room, which is made anew once an hour has passed: then how many lines were left
+/// out is written. None where the clock does not say.
+pub(crate) fn renew<E: Write>(
+    rt: &HostRuntime,
+    since: Option<Instant>,
+    room: &mut Room,
+    errors: &mut E,
+) -> Option<Instant> {
+    let Some(begun) = since else {
+        return Instant::now(rt).ok();
+    };
+    match begun.elapsed(rt) {
+        Ok(passed) if passed >= Duration::from_secs(HOUR_SECONDS) => {
+            report_untold(room, errors);
+            *room = Room::new(MOST_LINES);
+            Instant::now(rt).ok()
+        }
+        _ => since,
+    }
+}

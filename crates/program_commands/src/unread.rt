@@ -1,0 +1,36 @@
+//! Why a file is not read.
+
+use program_files::{FileFault, NamedFiles, STANDARD_INPUT};
+use program_lines::fault::{report_file, report_why};
+use std::alloc::Global;
+use std::io::{Read, Write};
+
+// What the system says of a file where it is opened again, and its first byte is read.
+fn fault_of<F: NamedFiles>(alloc: Global, files: &F, name: &str) -> Option<FileFault> {
+    let mut first = [0u8; 1];
+    match files.open(name) {
+        Ok(mut file) => match file.read(&mut first) {
+            Ok(_) => None,
+            Err(error) => Some(FileFault::of(alloc, name, &error)),
+        },
+        Err(fault) => Some(fault),
+    }
+}
+
+/// Writes the line of a file that cannot be read, and in a second what the system says of it. Of
+/// standard input it says nothing more.
+pub(crate) fn report_unread<F: NamedFiles, E: Write>(
+    alloc: Global,
+    files: &F,
+    name: &str,
+    errors: &mut E,
+) {
+    report_file(name, errors);
+    if name == STANDARD_INPUT {
+        return;
+    }
+    let fault = fault_of(alloc, files, name);
+    if let Some(FileFault::File { why, .. }) = &fault {
+        report_why(name, why.as_str(), errors);
+    }
+}

@@ -1,0 +1,59 @@
+//! What the files of a name, or the system, show of why no desk is opened in them.
+
+use onix_records::StoreFault;
+use program_desks::kept_desks::Cause;
+use std::fs::{File, Metadata, metadata};
+use std::io::{ErrorKind, Read};
+use std::rt::HostRuntime;
+
+/// What an error of the system says.
+pub(crate) fn cause_of_kind(kind: ErrorKind) -> Cause {
+    match kind {
+        ErrorKind::NotFound => Cause::Missing,
+        ErrorKind::PermissionDenied => Cause::Denied,
+        ErrorKind::IsADirectory => Cause::Folder,
+        ErrorKind::NotADirectory => Cause::InFile,
+        ErrorKind::StorageFull => Cause::Full,
+        _ => Cause::Unknown,
+    }
+}
+
+// Whether the file of a name begins as a database does. One that cannot be read does not.
+fn is_database(rt: &HostRuntime, name: &str) -> bool {
+    let Ok(mut file) = File::open(rt, name) else {
+        return false;
+    };
+    let mut head = [0u8; 16];
+    file.read(&mut head).is_ok() && head.starts_with(b"SQLite format 3\0")
+}
+
+// What a file shows that was found.
+fn cause_of_file(rt: &HostRuntime, name: &str, found: &Metadata) -> Cause {
+    if found.is_dir() {
+        Cause::Folder
+    } else if !found.is_file() {
+        Cause::Special
+    } else if found.len() == 0 {
+        Cause::Empty
+    } else if is_database(rt, name) {
+        Cause::NoDesk
+    } else {
+        Cause::NoDatabase
+    }
+}
+
+/// What the file of a name shows of why it is no desk's, as it is found now.
+pub(crate) fn cause_of(rt: &HostRuntime, name: &str) -> Cause {
+    match metadata(rt, name) {
+        Ok(found) => cause_of_file(rt, name, &found),
+        Err(error) => cause_of_kind(error.kind()),
+    }
+}
+
+/// The same where the store has refused the file with this fault.
+pub(crate) fn cause_of_refusal(rt: &HostRuntime, name: &str, fault: &StoreFault) -> Cause {
+    match fault {
+        StoreFault::Unusable => cause_of(rt, name),
+        _ => Cause::Unknown,
+    }
+}

@@ -1,0 +1,78 @@
+"""Why requests are malformed, as `check` says it of a file, and `batch` and `deliver` behind their answers.
+
+The mistakes stand in tests/refusals/requests.txt: the name of a case is what its line says.
+"""
+
+from collections.abc import Iterator
+
+from tests.program.room import Ran, Room
+from tests.program.written_cases import TESTS, read_file
+from tests.running import Outcome
+
+MISTAKES = read_file(TESTS / "refusals/requests.txt")
+
+# A batch without a mistake.
+RIGHT = b"Agree,north,06,4012345000009,06,5012345678900,1\nAskGaps,north\n"
+
+# How many lines a run writes of requests that are malformed.
+MOST = 100
+
+
+def line(why: str, name: str = "") -> bytes:
+    """The line that says why, of a file of that name."""
+    return f"onixdesk: {name}{why}\n".encode()
+
+
+def checked(room: Room) -> Iterator[Outcome]:
+    """`check` says of each mistake which field of which line is wrong, and why."""
+    for case in MISTAKES:
+        room.write("requests.csv", case.text.encode())
+        wanted = Ran(1, b"", line(case.name, "requests.csv: "))
+        yield Outcome(f"checked: {case.name}", room.told("check", "requests.csv"), wanted)
+
+
+def answered(room: Room) -> Iterator[Outcome]:
+    """`batch` says it behind its answers, which are those of before."""
+    for case in MISTAKES:
+        came = room.told("batch", given=case.text.encode())
+        said = came.status, b"refused,malformed," in came.output, came.errors
+        yield Outcome(f"answered: {case.name}", said, (1, True, line(case.name)))
+
+
+def right_texts(room: Room) -> Iterator[Outcome]:
+    """Of what is right nothing is said, of several files each by its name, and of standard input by `-`."""
+    room.write("right.csv", RIGHT)
+    room.write("wrong.csv", RIGHT + b"AskGaps\n")
+    room.write("empty.csv", b"")
+    wrong = "line 3: AskGaps: 0 fields behind its name, not 1"
+    yield Outcome("checked: what is right", room.told("check", "right.csv"), Ran(0))
+    yield Outcome("checked: nothing", room.told("check", "empty.csv"), Ran(0))
+    yield Outcome("checked: standard input", room.told("check", "-", given=RIGHT), Ran(0))
+    several = room.told("check", "wrong.csv", "right.csv", "-", given=b"Ask,1\n")
+    last = "line 1: Ask: no request has this name; a text of requests has no heading"
+    yield Outcome("checked: several", several, Ran(1, b"", line(wrong, "wrong.csv: ") + line(last, "-: ")))
+
+
+def unread_texts(room: Room) -> Iterator[Outcome]:
+    """What cannot be read ends the run with 3, behind the lines of what was read."""
+    room.write("latin.csv", b"AskGaps,\xe9\n")
+    none = room.told("check", "none.csv")
+    yield Outcome("checked: no file", (none.status, none.errors.splitlines()[0]), (3, b"onixdesk: file: none.csv"))
+    wanted = Ran(3, b"", b"onixdesk: input: not UTF-8\n")
+    yield Outcome("checked: not UTF-8", room.told("check", "latin.csv"), wanted)
+    yield Outcome("checked: no name", room.told("check").status, 2)
+
+
+def many_mistakes(room: Room) -> Iterator[Outcome]:
+    """Of more than 100 the others are counted."""
+    given = b"AskGaps\n" * (MOST + 7)
+    lines = [line(f"line {row}: AskGaps: 0 fields behind its name, not 1") for row in range(1, MOST + 1)]
+    wanted = b"".join(lines) + b"onixdesk: 7 more are malformed\n"
+    yield Outcome("answered: 107 mistakes", room.told("batch", given=given).errors, wanted)
+    room.write("many.csv", given)
+    named = wanted.replace(b"onixdesk: line", b"onixdesk: many.csv: line")
+    yield Outcome("checked: 107 mistakes", room.told("check", "many.csv").errors, named)
+    room.write("cut.csv", b"Message,1,06,S,,,1,1,20250301,,\n")
+    said = line("line 1: EndMessage: the message ends without it", "cut.csv: ") * MOST
+    wanted = Ran(1, b"refused,malformed,2\n" * (MOST + 7), said + b"onixdesk: 7 more are malformed\n")
+    yield Outcome("delivered: 107 mistakes", room.told("deliver", *["cut.csv"] * (MOST + 7)), wanted)

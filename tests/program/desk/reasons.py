@@ -1,0 +1,136 @@
+"""The second line of a fault, which says why: of the storage, of a file, of the port, of a socket, of a rules file."""
+
+import socket
+from collections.abc import Iterator
+
+from tests.program.databases import DATABASE, META, batch, execute
+from tests.program.messages import AGREEMENT
+from tests.program.room import Ran, Room
+from tests.program.serving import HOST, serving
+from tests.running import Outcome
+
+OTHERS = "a database of another program, or a damaged one; docs/RELIABILITY.md, Faults"
+NO_FILE = "no such file or folder"
+
+
+def fault(line: str, *why: str, status: int = 3) -> Ran:
+    return Ran(status, b"", "".join(f"onixdesk: {each}\n" for each in (line, *why)).encode())
+
+
+def storage(room: Room) -> Iterator[Outcome]:
+    """By what the system says of the files of a desk, and how they begin."""
+    batch(room, AGREEMENT)
+    whole = room.path(DATABASE).read_bytes()
+    room.write("text.db", b"no database" * 1000)
+    room.write("empty.db", b"")
+    room.write("one.db", b"S")
+    room.write("file", b"")
+    room.path("folder").mkdir()
+    execute(room, "CREATE TABLE customers (name TEXT)", "other.db")
+    room.write("cut.db", whole[: len(whole) // 2])
+    cases = [
+        ("missing.db", ["--existing", "batch"], NO_FILE),
+        ("missing.db", ["agreements"], NO_FILE),
+        ("none/shop.db", ["batch"], NO_FILE),
+        ("file/shop.db", ["batch"], "a folder of its path is a file"),
+        ("folder", ["batch"], "a folder"),
+        ("folder", ["migrate"], "a folder"),
+        ("empty.db", ["export"], "an empty file, which has no desk"),
+        ("text.db", ["batch"], "not a database"),
+        ("one.db", ["batch"], "not a database"),
+        ("other.db", ["--existing", "batch"], OTHERS),
+        ("other.db", ["gaps"], OTHERS),
+        (":memory:", ["batch"], "not the name of a file to SQLite"),
+        ("file:shop.db", ["batch"], "not the name of a file to SQLite"),
+    ]
+    for name, words, why in cases:
+        came = room.told("--db", name, *words)
+        yield Outcome(f"why: {name}: {' '.join(words)}", came, fault("storage: unusable", f"{name}: {why}"))
+    why = "cut.db: the disk is full or failed, or a page of the file is damaged; docs/RELIABILITY.md, Faults"
+    yield Outcome("why: cut.db", room.told("--db", "cut.db", "batch"), fault("storage: disk", why))
+    with serving(room, ["--db", DATABASE], None):
+        why = f"{DATABASE}: another program has it open"
+        yield Outcome("why: open elsewhere", room.told("--db", DATABASE, "batch"), fault("storage: unusable", why))
+
+
+def versions(room: Room) -> Iterator[Outcome]:
+    """What to do with a desk of another version."""
+    for version, why in (
+        (1, "copy the file, and then write onixdesk --db FILE migrate"),
+        (7, "use the program that made it"),
+    ):
+        name = f"{version}.db"
+        execute(room, f"{META} INSERT INTO meta VALUES ('version', {version});", name)
+        came = room.told("--db", name, "batch")
+        yield Outcome(f"why: version {version}", came, fault(f"storage: other version {version}", f"{name}: {why}"))
+
+
+def files(room: Room) -> Iterator[Outcome]:
+    """A file of `deliver` and of `check`."""
+    room.path("folder").mkdir()
+    for name, why in (("none.csv", "No such file or directory"), ("folder", "Is a directory")):
+        for command in ("deliver", "check"):
+            came = room.told(command, name)
+            yield Outcome(f"why: {command} {name}", came, fault(f"file: {name}", f"{name}: {why}"))
+
+
+def ports_and_sockets(room: Room) -> Iterator[Outcome]:
+    """A port that another program has, and files in place of a socket."""
+    with socket.socket() as other:
+        other.bind((HOST, 0))
+        other.listen()
+        port = other.getsockname()[1]
+        came = room.told("serve", "--port", str(port))
+        yield Outcome("why: a port", came, fault(f"port {port}", f"port {port}: in use: another program listens at it"))
+    room.write("file", b"")
+    with socket.socket() as free:
+        free.bind((HOST, 0))
+        port = free.getsockname()[1]
+    came = room.told("serve", "--port", str(port), "--batches", "file")
+    yield Outcome("why: a socket to serve at", came, fault("socket", "file: a file that is not a socket"))
+    for name, why in (
+        ("file", "a file that is not a socket"),
+        ("none", "no such socket; onixdesk serve --batches makes it"),
+    ):
+        came = room.told("--batches", name, "batch")
+        yield Outcome(f"why: a batch to {name}", came, fault("socket", f"{name}: {why}"))
+
+
+def of_a_socket(room: Room) -> Iterator[Outcome]:
+    """Of a batch at a socket both who sends it and the desk say what is malformed."""
+    line = b"onixdesk: line 1: AskGaps: 0 fields behind its name, not 1\n"
+    with serving(room, ["--db", DATABASE], 1, ["--batches", "desk.socket"]) as desk:
+        came = room.told("--batches", "desk.socket", "batch", given=b"AskGaps\n")
+        yield Outcome("why: a batch to a socket", came, Ran(1, b"refused,malformed,1\n", line))
+        ended = desk.ended()
+        yield Outcome("why: the line of the desk", (ended.status, ended.errors), (0, line))
+
+
+NO_DATABASE = (
+    b"onixdesk: without --db a desk has only the agreements of its batch; write --db FILE before the command\n"
+)
+
+
+def no_database(room: Room) -> Iterator[Outcome]:
+    """Behind refusals of a desk in memory, but for what is malformed, a line says that there was no --db."""
+    message = b"Message,1,06,4012345000009,06,5012345678900,1,1,20250301,,\nEndMessage,1\n"
+    room.write("message.csv", message)
+    unknown = b"refused,unknown-series\n"
+    came = room.told("batch", given=b"AskGaps,north\n" + message)
+    yield Outcome("why: a batch without --db", came, Ran(1, unknown * 2, NO_DATABASE))
+    came = room.told("deliver", "message.csv", "message.csv")
+    yield Outcome("why: messages without --db", came, Ran(1, unknown * 2, NO_DATABASE))
+    came = room.told("batch", given=AGREEMENT + message)
+    yield Outcome("why: a batch with its agreement", (came.status, came.errors), (0, b""))
+    batch(room, AGREEMENT)
+    came = room.told("--db", DATABASE, "batch", given=b"AskGaps,west\n")
+    yield Outcome("why: with --db", came, Ran(1, unknown))
+
+
+def rules(room: Room) -> Iterator[Outcome]:
+    """At a start as much is said of a rules file as the command `rules` says."""
+    room.write("rules.toml", b'[[rule]]\nserie = "*"\n')
+    why = room.told("rules", "rules.toml").errors.decode().removeprefix("onixdesk: ").removesuffix("\n")
+    came = room.told("--rules", "rules.toml", "batch")
+    yield Outcome("why: a rules file", came, fault("rules: bad rule 1", why, status=2))
+    yield Outcome("why: a rules file has its line", why.startswith("rules: line "), True)

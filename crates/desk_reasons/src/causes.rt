@@ -48,8 +48,8 @@ fn push_value(text: &mut String, name: &str, value: &str) -> Result<(), AllocErr
     push_shown(text, value, SHOWN)
 }
 
-// Adds that a field breaks its rule.
-fn push_broken(text: &mut String, field: Field, value: &str) -> Result<(), AllocError> {
+/// Adds that a field breaks its rule.
+pub(crate) fn push_broken(text: &mut String, field: Field, value: &str) -> Result<(), AllocError> {
     if value.is_empty() {
         text.push_str(field.name)?;
         text.push_str(" is empty; it has to be ")?;

@@ -32,8 +32,8 @@ impl Room {
         self.malformed
     }
 
-    // Counts a malformed request, and says whether there is room for its line.
-    fn take(&mut self) -> bool {
+    /// Counts a malformed request, and says whether there is room for its line.
+    pub(crate) fn take(&mut self) -> bool {
         let has_room = self.malformed < u64::from(self.most);
         self.malformed = self.malformed.saturating_add(1);
         has_room

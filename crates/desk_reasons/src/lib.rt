@@ -3,7 +3,8 @@
 //! `explaining` goes over the pieces of a batch, or the one message of a file, and writes a line
 //! for each that is malformed; `judging` finds its row by the readers that the desk has, `rows` has
 //! the fields of each record by their names, `fields` what each has to be, `causes` the words, and
-//! `lines` the line of the text on which each record begins.
+//! `lines` the line of the text on which each record begins. `questions` does the same for a question
+//! over HTTP.
 //!
 //! What is written decides no answer. It is proved to be safe and to end, and is tested in its
 //! words.
@@ -14,4 +15,5 @@ pub mod explaining;
 mod fields;
 mod judging;
 mod lines;
+pub mod questions;
 mod rows;

@@ -14,8 +14,16 @@ use program_run::help::print_wrong;
 use program_run::program::run;
 use sqlite::Wary;
 use std::alloc::AllocError;
-use std::io::ErrorKind;
+use std::io::{ErrorKind, IsTerminal};
 use std::process::ExitCode;
+use watched_output::output::Watched;
+
+// Whether a command of these words may take long over one output, which shows how far it is.
+fn is_long(words: &[&str]) -> bool {
+    words
+        .iter()
+        .any(|word| *word == "batch" || *word == "export")
+}
 
 // Runs the program on the words that it was started with.
 fn run_words(rt: &HostRuntime, words: std::env::Args) -> Result<u8, AllocError>
@@ -24,6 +32,9 @@ fn run_words(rt: &HostRuntime, words: std::env::Args) -> Result<u8, AllocError>
     let alloc = rt.alloc();
     let owned: Vec<String> = words.collect(alloc)?;
     let words: Vec<&str> = owned.iter().map(|word| word.as_str()).collect(alloc)?;
+    let output = rt.stdout();
+    let may_show = is_long(words.as_slice()) && !output.is_terminal();
+    let mut output = Watched::new(rt, output, may_show);
     let (status, left) = run(
         rt,
         words.as_slice(),
@@ -33,9 +44,10 @@ fn run_words(rt: &HostRuntime, words: std::env::Args) -> Result<u8, AllocError>
         &mut Sockets,
         &mut HostFiles::new(rt),
         &mut rt.stdin(),
-        &mut rt.stdout(),
+        &mut output,
         &mut rt.stderr(),
     );
+    output.clear();
     drop(left);
     Ok(status)
 }

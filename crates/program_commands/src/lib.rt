@@ -2,8 +2,8 @@
 //! `gaps` and `serve`, each connection of which is served in `connection`; `task` gives them one,
 //! and `faults` has what can go wrong with their requests. `sending` sends a batch to a desk that is
 //! open. `checked_texts` reads texts and asks no desk, and `malformed` says behind the answers why
-//! requests were refused so, and `unread` why a file is not read. `known_clients` shows that there
-//! are clients of whom it is known what they send.
+//! requests were refused so, and `unread` why a file is not read. `front` keeps the first bytes of a
+//! connection. `known_clients` shows that there are clients of whom it is known what they send.
 #![tactic(auto)]
 
 pub mod batch;
@@ -11,6 +11,7 @@ pub mod checked_texts;
 pub mod connection;
 pub mod deliver;
 mod faults;
+mod front;
 pub mod gaps;
 pub mod known_clients;
 mod malformed;

@@ -3,6 +3,7 @@
 
 use desk_batch::BatchFault;
 use desk_reasons::explaining::{Room, explain_batch, explain_delivery, report_untold};
+use desk_reasons::questions::explain_question;
 use std::alloc::Global;
 use std::io::Write;
 use std::rt::HostRuntime;
@@ -63,6 +64,17 @@ pub(crate) fn tell_delivery<E: Write>(
     errors: &mut E,
 ) {
     let _ = explain_delivery(alloc, room, name, text, errors);
+}
+
+/// Writes a line where a question over HTTP, of which these are the first bytes, is a bad query, as
+/// far as there is room. Where memory runs out, it is lost.
+pub(crate) fn tell_question<E: Write>(
+    alloc: Global,
+    room: &mut Room,
+    request: &[u8],
+    errors: &mut E,
+) {
+    let _ = explain_question(alloc, room, request, errors);
 }
 
 /// Writes behind the answers how many lines were left out; and the hint, if so many texts were

@@ -6,22 +6,62 @@ ghost use Rattle.std.specs.Io.KnownBytes.{Appends};
 ghost use Rattle.program_commands.specs.ServedClients.{ServesNext};
 ghost use Rattle.series_rules.specs.Steps.{Asked};
 ghost use Rattle.program_lines.specs.Printing.{WritesWhole};
-ghost use Rattle.program_commands.specs.Serving.{listening_line};
+ghost use Rattle.program_commands.specs.Serving.{ServesConnection, listening_line};
 ghost use Rattle.program_commands.specs.TaskEnds.{ConnectionsServed, ServeEnds};
 
 use crate::connection::{print_line, serve_connection};
-use crate::malformed::{MOST_LINES, renew};
+use crate::front::Front;
+use crate::malformed::{MOST_LINES, renew, tell_question};
 use desk_http::{HttpFault, Routes};
 use desk_reasons::explaining::{Room, report_untold};
 use price_rules::precedence::Precedence;
-use program_clients::clients::Clients;
+use program_clients::clients::{Clients, Protocol};
 use program_clients::doors::Doors;
 use program_clients::port::{Bound, Port, why_unbound};
 use program_clients::sockets::why_unheard;
 use program_lines::fault::{Fault, report, report_why};
 use program_lines::printing::print_number;
 use series_rules::desk::Desk;
-use std::io::Write;
+use std::io::{Read, Write};
+
+// Serves the connection of a client, whose reader it gives back. Of a question over HTTP whose query
+// is bad a line on `errors` says why, as far as there is room.
+fn serve_client<D: Desk, R: Read + Drop, W: Write, O: Write, E: Write>(
+    rt: &HostRuntime,
+    routes: &Routes,
+    desk: &mut D,
+    precedence: &Precedence,
+    protocol: Protocol,
+    reader: R,
+    writer: &mut W,
+    output: &mut O,
+    room: &mut Room,
+    errors: &mut E,
+) -> (Result<(), Fault>, R)
+    ensures { ServesConnection (Asked D.seen precedence.now desk.old desk.new) protocol
+        (R.remaining reader)
+        (Appends (W.contents writer.old) (W.contents writer.new))
+        (Appends (O.contents output.old) (O.contents output.new)) result.0 }
+{
+    let alloc = rt.alloc();
+    let mut reader = Front::new(alloc, reader);
+    let ended = serve_connection(
+        alloc,
+        routes,
+        desk,
+        precedence,
+        protocol,
+        &mut reader,
+        writer,
+        output,
+        room,
+        errors,
+    );
+    if let Protocol::Exchange = protocol {
+        tell_question(alloc, room, reader.bytes(), errors);
+    }
+    (ended, reader.into_reader())
+}
 
 // Waits for a client, serves its connection, and writes the line of that. Of a client that was gone
 // before nothing was read, and nothing was asked of the desk.
@@ -41,14 +81,14 @@ fn serve_next<D: Desk, C: Clients, O: Write, E: Write>(
         (Appends (O.contents output.old) (O.contents output.new)) result }
 {
     match clients.accept() {
-        Ok(Some((protocol, mut reader, mut writer))) => {
-            let ended = serve_connection(
-                rt.alloc(),
+        Ok(Some((protocol, reader, mut writer))) => {
+            let (ended, reader) = serve_client(
+                rt,
                 routes,
                 desk,
                 precedence,
                 protocol,
-                &mut reader,
+                reader,
                 &mut writer,
                 output,
                 room,
@@ -64,8 +104,8 @@ fn serve_next<D: Desk, C: Clients, O: Write, E: Write>(
 
 /// Serves so many clients, one after the other, and writes the line of each connection at once.
 /// Gives 0, or 3 where no more clients can be had or a line cannot be written, which is reported. Of
-/// the malformed requests of batches a line on `errors` says why, of 100 an hour, and then how many
-/// more there are.
+/// the malformed requests of batches, and of bad queries, a line on `errors` says why, of 100 an hour,
+/// and then how many more there are.
 pub fn serve_clients<D: Desk, C: Clients, O: Write, E: Write>(
     rt: &HostRuntime,
     routes: &Routes,

@@ -69,11 +69,16 @@ fn is_stray(found: &Result<Metadata, Error>, log: &Result<Metadata, Error>) -> b
     }
 }
 
-// Says on a terminal that a large file is checked.
+// Says on a terminal that a large file is checked, and how long that takes on a machine of no great
+// speed.
 fn announce<E: Write>(rt: &HostRuntime, name: &str, bytes: u64, errors: &mut E) {
     if bytes > LARGE && rt.stderr().is_terminal() {
         let size = bytes / 1_000_000;
-        let _ = write!(errors, "onixdesk: checking {name}, {size} MB\n");
+        let seconds = bytes / LARGE;
+        let _ = write!(
+            errors,
+            "onixdesk: checking {name}, {size} MB: {seconds} s or so\n"
+        );
     }
 }
 

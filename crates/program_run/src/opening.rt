@@ -32,7 +32,9 @@ fn text_of(cause: Cause) -> &'static str {
         Cause::BadName => "not the name of a file to SQLite",
         Cause::Denied => "permission denied",
         Cause::Full => "no space left on the disk",
-        Cause::Busy => "another program has it open",
+        Cause::Busy => {
+            "another program has it open; if a desk is served, send it the batch (--batches), or list a copy of it (desk-copy)"
+        }
         Cause::NoDatabase => "not a database",
         Cause::NoDesk => {
             "a database of another program, or a damaged one; docs/RELIABILITY.md, Faults"

@@ -16,7 +16,7 @@ WORDS = ["--db", "large.db", "--existing", "gaps", "north"]
 UNUSABLE = "onixdesk: storage: unusable"
 
 # How many bytes a file has, and what is said on a terminal before the fault: the file is no database.
-FILES: list[tuple[int, list[str]]] = [(50_000_000, []), (50_000_001, ["onixdesk: checking large.db, 50 MB"])]
+FILES: list[tuple[int, list[str]]] = [(50_000_000, []), (50_000_001, ["onixdesk: checking large.db, 50 MB: 1 s or so"])]
 
 
 def make_file(room: Room, size: int) -> None:

@@ -11,6 +11,9 @@ from tests.running import Outcome
 
 OTHERS = "a database of another program, or a damaged one; docs/RELIABILITY.md, Faults"
 NO_FILE = "no such file or folder"
+OPEN_ELSEWHERE = (
+    "another program has it open; if a desk is served, send it the batch (--batches), or list a copy of it (desk-copy)"
+)
 
 
 def fault(line: str, *why: str, status: int = 3) -> Ran:
@@ -49,7 +52,7 @@ def storage(room: Room) -> Iterator[Outcome]:
     why = "cut.db: the disk is full or failed, or a page of the file is damaged; docs/RELIABILITY.md, Faults"
     yield Outcome("why: cut.db", room.told("--db", "cut.db", "batch"), fault("storage: disk", why))
     with serving(room, ["--db", DATABASE], None):
-        why = f"{DATABASE}: another program has it open"
+        why = f"{DATABASE}: {OPEN_ELSEWHERE}"
         yield Outcome("why: open elsewhere", room.told("--db", DATABASE, "batch"), fault("storage: unusable", why))
 
 

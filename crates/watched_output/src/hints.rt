@@ -1,0 +1,62 @@
+//! What refusals mean, and what to do.
+
+use std::io::Write;
+
+// How many kinds of refusals have a hint.
+const KINDS: usize = 5;
+
+// The front of an answer of that kind without its comma, and what to do.
+fn hint_of(kind: usize) -> (&'static str, &'static str) {
+    match kind {
+        0 => (
+            "refused,name-taken",
+            "the name has an agreement with another sender, addressee or first number; onixdesk --db FILE agreements shows it",
+        ),
+        1 => (
+            "refused,series-taken",
+            "this sender and addressee have an agreement already, under the name in the answer",
+        ),
+        2 => (
+            "refused,before-first",
+            "the number is below the first number of the agreement, the last in the answer; if that is wrong: docs/MISTAKES.md, An agreement was mistyped",
+        ),
+        3 => (
+            "refused,other-contents",
+            "the number has a message with other contents; a correction needs a new number",
+        ),
+        _ => (
+            "refused,unnumbered",
+            "the message has no MessageNumber; onixdesk convert --number N gives it one",
+        ),
+    }
+}
+
+/// Which kinds of refusals were explained.
+#[derive(Drop)]
+pub(crate) struct Hints {
+    told: [bool; KINDS],
+}
+
+impl Hints {
+    /// None yet.
+    pub(crate) fn new() -> Hints {
+        Hints {
+            told: [false; KINDS],
+        }
+    }
+
+    /// Writes what the refusal means that an answer is, for the first of each kind.
+    pub(crate) fn tell<E: Write>(&mut self, answer: &[u8], errors: &mut E) {
+        if !answer.starts_with(b"refused,") {
+            return;
+        }
+        for kind in 0..KINDS {
+            let (front, hint) = hint_of(kind);
+            if !self.told[kind] && answer.starts_with(front.as_bytes()) {
+                self.told[kind] = true;
+                let _ = write!(errors, "onixdesk: {front}: {hint}\n");
+                return;
+            }
+        }
+    }
+}

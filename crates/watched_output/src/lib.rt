@@ -1,0 +1,6 @@
+//! An output that passes on what is written to it: `output` shows on a terminal how much that is,
+//! and `hints` says what the refusals in it mean.
+#![tactic(auto)]
+
+mod hints;
+pub mod output;

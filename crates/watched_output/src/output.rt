@@ -1,0 +1,129 @@
+//! An output of which is seen what is written.
+
+ghost use Rattle.std.specs.Prelude.{◌≡◌};
+
+use crate::hints::Hints;
+use std::alloc::AllocError;
+use std::io::{IsTerminal, Result, Write};
+use std::rt::HostRuntime;
+use std::time::{Duration, Instant};
+
+// How long the line on the terminal stays as it is.
+const MILLISECONDS: u64 = 200;
+
+// Takes away what the line shows.
+const CLEAR: &str = "\x1b[K";
+
+// The time from which on the line is written again.
+fn next_time(rt: &HostRuntime) -> Option<Instant> {
+    match Instant::now(rt) {
+        Ok(now) => now.checked_add(Duration::from_millis(MILLISECONDS)),
+        Err(_) => None,
+    }
+}
+
+/// Gives a writer what it is given, writes on standard error what the refusals in it mean, and shows
+/// there how much was written, if that is a terminal.
+#[derive(Drop)]
+pub struct Watched<'a, W> {
+    rt: &'a HostRuntime,
+    writer: W,
+    hints: Hints,
+    // How many texts were written to their ends, and how many bytes.
+    texts: u64,
+    bytes: u64,
+    is_amid: bool,
+    // When the line is written next, if it is shown.
+    next: Option<Instant>,
+    has_line: bool,
+}
+
+impl<'a, W: Write> Watched<'a, W> {
+    /// A writer to which nothing was written yet. The line is shown if it may be, and standard error
+    /// is a terminal.
+    pub fn new(rt: &'a HostRuntime, writer: W, may_show: bool) -> Watched<'a, W> {
+        let is_shown = may_show && rt.stderr().is_terminal();
+        Watched {
+            rt,
+            writer,
+            hints: Hints::new(),
+            texts: 0,
+            bytes: 0,
+            is_amid: false,
+            next: if is_shown { next_time(rt) } else { None },
+            has_line: false,
+        }
+    }
+}
+
+impl<'a, W> Watched<'a, W> {
+    // Adds the line. The cursor is left at its front, so that what follows is written over it.
+    fn push_line(&self, line: &mut String) -> std::result::Result<(), AllocError> {
+        let whole = self.bytes / 1_000_000;
+        let tenth = self.bytes / 100_000 % 10;
+        line.push_str(CLEAR)?;
+        write!(line, "{} done, {whole}.{tenth} MB\r", self.texts)
+    }
+
+    // Whether it is time to write the line.
+    fn is_due(&self) -> bool {
+        match (self.next, Instant::now(self.rt)) {
+            (Some(next), Ok(now)) => next <= now,
+            _ => false,
+        }
+    }
+
+    // Shows how much was written, if the line has been as it is for 0.2 seconds.
+    fn show(&mut self)
+        ensures { self.new.writer ≡ self.old.writer }
+    {
+        if self.next.is_none() || !self.is_due() {
+            return;
+        }
+        self.next = next_time(self.rt);
+        let mut line = String::new(self.rt.alloc());
+        if let Ok(()) = self.push_line(&mut line) {
+            self.has_line = true;
+            let _ = self.rt.stderr().write_all(line.as_bytes());
+        }
+    }
+
+    // Notes that so many of these bytes were written.
+    fn note(&mut self, bytes: &[u8], count: usize)
+        ensures { self.new.writer ≡ self.old.writer }
+    {
+        if !self.is_amid {
+            self.hints.tell(bytes, &mut self.rt.stderr());
+        }
+        self.is_amid = count < bytes.len();
+        self.bytes = self.bytes.saturating_add(count as u64);
+        self.texts = self.texts.saturating_add(u64::from(!self.is_amid));
+        self.show();
+    }
+
+    /// Takes the line away.
+    pub fn clear(&mut self) {
+        if self.has_line {
+            self.has_line = false;
+            let _ = self.rt.stderr().write_all(CLEAR.as_bytes());
+        }
+    }
+}
+
+impl<'a, W: Write> Write for Watched<'a, W> {
+    ghost contents = { λ w. W.contents w.writer };
+
+    fn write(&mut self, bytes: &[u8]) -> Result<usize> {
+        match self.writer.write(bytes) {
+            Ok(count) => {
+                self.note(bytes, count);
+                Ok(count)
+            }
+            Err(error) => Err(error),
+        }
+    }
+
+    fn flush(&mut self) -> Result<()> {
+        self.writer.flush()
+    }
+}

@@ -315,7 +315,7 @@ fn parts<'a>(alloc: Global) -> Arg<'a>
         "P",
         1,
         9_999,
-        "Make P messages of each, numbered on from one message to the next; 1 without it, at most 9999. It is agreed with the series, so that P stays what it is",
+        "Make P messages of each, numbered on from one message to the next, 1 to 9999; without the option, 1. P is the number of parts that is agreed with the wholesaler for each message, and stays the same",
     )
 }
 

@@ -248,11 +248,11 @@ fn misplaced(name: &str, before: &str) -> Option<&'static str> {
     match name {
         _ if before == "EndMessage" => Some("the message has ended before it, by its EndMessage"),
         "SupplyDetail" if before == "ProductSupply" || is_priced => None,
-        "SupplyDetail" => Some("it has to stand behind a ProductSupply, a SupplyDetail or a Price"),
+        "SupplyDetail" => Some("it has to follow a ProductSupply, a SupplyDetail or a Price"),
         "Price" if is_priced => None,
-        "Price" => Some("it has to stand behind a SupplyDetail or a Price"),
+        "Price" => Some("it has to follow a SupplyDetail or a Price"),
         _ if before == "ProductSupply" => Some("the ProductSupply before it has no SupplyDetail"),
-        "ProductSupply" if before == "Message" => Some("it has to stand behind a Product"),
+        "ProductSupply" if before == "Message" => Some("it has to follow a Product"),
         _ => None,
     }
 }
@@ -268,7 +268,7 @@ fn push_undefaulted(
     } else if field_at(record, 3).is_empty() && field_at(header, DEFAULT_CURRENCY).is_empty() {
         text.push_str("CurrencyCode is empty, and the Message has no DefaultCurrencyCode")
     } else {
-        text.push_str("it may not stand here")
+        text.push_str("it is not allowed here")
     }
 }
 
@@ -280,7 +280,7 @@ fn push_misplaced(
     record: &Record<'_>,
 ) -> Result<(), AllocError> {
     if index == 0 || index >= piece.len() {
-        return text.push_str("it may not stand here");
+        return text.push_str("it is not allowed here");
     }
     let before = piece.record(index - 1);
     if let Some(why) = misplaced(field_at(record, 0), field_at(&before, 0)) {
@@ -341,7 +341,7 @@ fn push_of_record(
         if push_row(alloc, text, record, true)? {
             return Ok(());
         }
-        return text.push_str("it may not stand here");
+        return text.push_str("it is not allowed here");
     }
     if index < piece.len() && field_at(&piece.record(0), 0) == "Message" {
         return push_in_message(alloc, text, piece, index, record);

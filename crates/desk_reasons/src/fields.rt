@@ -143,7 +143,7 @@ fn hint_of_isbn(text: &str) -> &'static str {
 
 fn hint_of_day(text: &str) -> &'static str {
     if count_digits(text) == 8 && text.len() > 8 {
-        "; leave out what stands between the digits, and put the year first"
+        "; leave out what is between the digits, and put the year first"
     } else {
         ""
     }

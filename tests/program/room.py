@@ -27,9 +27,10 @@ class Ran(NamedTuple):
     errors: bytes = b""
 
 
-# A line on a malformed request; and the line of a fault, behind which another one says why.
+# A line on a refusal; and the line of a fault, behind which another one says why.
 MALFORMED = re.compile(
     rb"onixdesk: (?!rules: )(?:[^\n]*: )?line [0-9]+: |onixdesk: [0-9]+ more are malformed\n|onixdesk: without --db "
+    rb"|onixdesk: refused,[a-z-]+: |onixdesk: bad-query: "
 )
 FAULT = re.compile(
     rb"onixdesk: (?:storage|file): |onixdesk: port [0-9]+\n|onixdesk: socket\n|onixdesk: rules: (?!line )"

@@ -8,7 +8,7 @@ import threading
 from collections.abc import Iterator, Sequence
 from typing import NamedTuple
 
-from tests.program.room import SECONDS, Ran, Room
+from tests.program.room import SECONDS, Ran, Room, without_reasons
 from tools.ports import HOST as HOST, free_port as free_port
 
 # How often a port is looked for that no other program takes in the meantime.
@@ -92,10 +92,15 @@ class Serving:
             send(peer, pieces, keeps_open)
             return receive(peer)
 
-    def ended(self) -> Ran:
+    def told(self) -> Ran:
         """How the run ended, once it has served its connections."""
         output, errors = self.process.communicate(timeout=SECONDS)
         return Ran(self.process.returncode, self.first_line + output, errors)
+
+    def ended(self) -> Ran:
+        """The same without the lines that only say why."""
+        ran = self.told()
+        return ran._replace(errors=without_reasons(ran.errors))
 
     def stopped(self) -> Ran:
         """How a run that goes on ended, once it was told to."""

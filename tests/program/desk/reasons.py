@@ -4,7 +4,7 @@ import socket
 from collections.abc import Iterator
 
 from tests.program.databases import DATABASE, META, batch, execute
-from tests.program.messages import AGREEMENT
+from tests.program.messages import AGREEMENT, bare, priced
 from tests.program.room import Ran, Room
 from tests.program.serving import HOST, serving
 from tests.running import Outcome
@@ -105,7 +105,7 @@ def of_a_socket(room: Room) -> Iterator[Outcome]:
     with serving(room, ["--db", DATABASE], 1, ["--batches", "desk.socket"]) as desk:
         came = room.told("--batches", "desk.socket", "batch", given=b"AskGaps\n")
         yield Outcome("why: a batch to a socket", came, Ran(1, b"refused,malformed,1\n", line))
-        ended = desk.ended()
+        ended = desk.told()
         yield Outcome("why: the line of the desk", (ended.status, ended.errors), (0, line))
 
 
@@ -128,6 +128,95 @@ def no_database(room: Room) -> Iterator[Outcome]:
     batch(room, AGREEMENT)
     came = room.told("--db", DATABASE, "batch", given=b"AskGaps,west\n")
     yield Outcome("why: with --db", came, Ran(1, unknown))
+
+
+# A message of number 1 beside the bare one, and one without a number.
+OTHER = priced(1, "R1", "4.14")
+UNNUMBERED = b"Message,1,06,4012345000009,06,5012345678900,,,,,\nEndMessage,1\n"
+
+
+def hints(room: Room) -> Iterator[Outcome]:
+    """Behind the first refusal of each kind a line says what it means."""
+    other = AGREEMENT.replace(b"Agree,north,", b"Agree,west,")
+    given = [
+        (
+            AGREEMENT + AGREEMENT.replace(b",1\n", b",2\n"),
+            "name-taken",
+            "the name has an agreement with another sender",
+        ),
+        (AGREEMENT + other * 2, "series-taken", "this sender and addressee have an agreement already"),
+        (AGREEMENT.replace(b",1\n", b",2\n") + bare(1) * 2, "before-first", "the number is below the first number"),
+        (AGREEMENT + bare(1) + OTHER, "other-contents", "the number has a message with other contents"),
+        (AGREEMENT + UNNUMBERED, "unnumbered", "the message has no MessageNumber"),
+    ]
+    for text, kind, hint in given:
+        room.path(DATABASE).unlink(missing_ok=True)
+        came = room.told("--db", DATABASE, "batch", given=text)
+        last = came.output.splitlines()[-1].decode().split(",")[:2]
+        yield Outcome(f"why: {kind}: the answer", (came.status, last), (1, ["refused", kind]))
+        lines = [line.startswith(f"onixdesk: refused,{kind}: {hint}") for line in came.errors.decode().splitlines()]
+        yield Outcome(f"why: {kind}: the hint", lines, [True])
+    several = AGREEMENT + UNNUMBERED + OTHER + bare(1) + UNNUMBERED
+    came = room.told("batch", given=several)
+    kinds = [line.split(": ")[1] for line in came.errors.decode().splitlines()[:-1]]
+    yield Outcome("why: several hints", kinds, ["refused,unnumbered", "refused,other-contents"])
+
+
+# What is asked over HTTP, and what is wrong with it.
+QUESTIONS = {
+    "/articles/9781234567897/price?day=2025-03-01&country=GB&currency=GBP&type=02": (
+        "day 2025-03-01 is not a day of the calendar, YYYYMMDD; leave out what is between the digits, and put the year "
+        "first"
+    ),
+    "/articles/9781234567897/choice?day=20250301&country=gb&currency=GBP&type=02": (
+        "country gb is not two capital letters; write capital letters"
+    ),
+    "/articles/978-1-234-56789-7/price?day=20250301&country=GB&currency=GBP&type=02": (
+        "the article 978-1-234-56789-7 is not thirteen digits; leave out hyphens and spaces"
+    ),
+    "/articles/9781234567897/price?day=20250301&country=GB&type=02": "currency is missing",
+    "/articles/9781234567897/price?day=20250301&country=GB&currency=GBP": "type is missing",
+    "/articles/9781234567897/price?day=20250301&country=GB&country=IE&currency=GBP&type=02": "country is given 2 times",
+    "/articles/9781234567897/price?day=20250301&country=GB&currency=GBP&type=02&quantity=": (
+        "quantity is empty; it has to be 1 to 6 digits, not all zero"
+    ),
+    "/articles/9781234567897/price?day=20250301&country=G%42&currency=%E2%82%AC&type=02": (
+        "currency € is not three capital letters"
+    ),
+    "/articles/9781234567897/calendar?from=20250301&country=GB&currency=GBP&type=02": "to is missing",
+    "/articles/9781234567897/calendar?from=20250301&country=GB&currency=GBP&type=02&to=20251301": (
+        "to 20251301 is not a day of the calendar, YYYYMMDD"
+    ),
+}
+
+# What is not a bad query.
+OTHER_QUESTIONS = (
+    "/articles/9781234567897/price?day=20250301&country=GB&currency=GBP&type=02&more=1",
+    "/articles/9781234567897/calendar?from=20250301&country=GB&currency=GBP&type=02&to=20250101",
+    "/articles/9781234567897/prices?day=1",
+    "/series/north/gaps?quantity=0",
+    "/nowhere",
+)
+
+
+def asked(target: str) -> bytes:
+    return f"GET {target} HTTP/1.1\r\n\r\n".encode()
+
+
+def bad_queries(room: Room) -> Iterator[Outcome]:
+    """Of a question over HTTP whose query is bad a line of the desk says which key is wrong, and why; and of no other."""
+    with serving(room, [], len(QUESTIONS) + len(OTHER_QUESTIONS)) as desk:
+        for target in QUESTIONS:
+            reply = desk.reply([asked(target)])
+            yield Outcome(f"why: 400: {target}", reply.endswith(b'{"answer":"refused","reason":"bad-query"}'), True)
+        for target in OTHER_QUESTIONS:
+            reply = desk.reply([asked(target)])
+            yield Outcome(f"why: no bad query: {target}", b"bad-query" in reply, False)
+        came = desk.told().errors.decode().splitlines()
+        wanted = [f"onixdesk: bad-query: {why}" for why in QUESTIONS.values()]
+        for line, right in zip(came, wanted):
+            yield Outcome(f"why: the line of the desk: {right}", line, right)
+        yield Outcome("why: the lines of the desk", len(came), len(wanted))
 
 
 def rules(room: Room) -> Iterator[Outcome]:

@@ -12,19 +12,35 @@ use crate::rules::{RulesFault, read_text, table_of};
 use crate::rules_faults::write_cause;
 use csv_records::streams::InputFault;
 use price_rules::precedence::PrecedenceFault;
-use program_files::NamedFiles;
-use program_lines::fault::{Fault, report, report_file};
+use program_files::{FileFault, NamedFiles};
+use program_lines::fault::{Fault, report, report_file, report_why};
 use program_lines::printing::print_number;
 use std::alloc::Global;
 use std::io::Write;
 
+// Writes what the system says of a file that is not opened.
+fn tell_unopened<F: NamedFiles, E: Write>(files: &F, name: &str, errors: &mut E) {
+    let opened = files.open(name);
+    if let Err(FileFault::File { why, .. }) = &opened {
+        report_why(name, why.as_str(), errors);
+    }
+}
+
 // Writes why a file was not read, and gives the status.
-fn report_unread<E: Write>(fault: &InputFault, name: &str, errors: &mut E) -> u8
+fn report_unread<F: NamedFiles, E: Write>(
+    fault: &InputFault,
+    files: &F,
+    name: &str,
+    errors: &mut E,
+) -> u8
     ensures { (text : List ℕ) → InputFits limit text fault.now
         → (f : RulesFault) × RulesFit text (Err f) × (result ≡ status_of f) }
 {
     match fault {
-        InputFault::Read => report_file(name, errors),
+        InputFault::Read => {
+            report_file(name, errors);
+            tell_unopened(files, name, errors);
+        }
         InputFault::TooLarge => {
             let _ = write!(errors, "onixdesk: rules: more than 4,194,304 bytes\n");
         }
@@ -57,10 +73,10 @@ fn print_count<W: Write, E: Write>(count: usize, output: &mut W, errors: &mut E)
 }
 
 /// Writes in which line of the file of this name the text stops being a precedence table, and why,
-/// where it is read again and is none.
+/// where it is read again and is none; or why it is not opened.
 pub fn tell_cause<F: NamedFiles, E: Write>(alloc: Global, files: &F, name: &str, errors: &mut E) {
     let Ok(text) = read_text(alloc, files, name) else {
-        return;
+        return tell_unopened(files, name, errors);
     };
     match table_of(alloc, text.as_slice()) {
         Ok(_) | Err(RulesFault::Unreadable) => {}
@@ -85,7 +101,7 @@ pub fn run<F: NamedFiles, W: Write, E: Write>(
 {
     let text = match read_text(alloc, files, name) {
         Ok(text) => text,
-        Err(fault) => return report_unread(&fault, name, errors),
+        Err(fault) => return report_unread(&fault, files, name, errors),
     };
     match table_of(alloc, text.as_slice()) {
         Ok(precedence) => print_count(precedence.rules().len(), output, errors),

@@ -226,3 +226,6 @@ def rules(room: Room) -> Iterator[Outcome]:
     came = room.told("--rules", "rules.toml", "batch")
     yield Outcome("why: a rules file", came, fault("rules: bad rule 1", why, status=2))
     yield Outcome("why: a rules file has its line", why.startswith("rules: line "), True)
+    wanted = fault("file: none.toml", "none.toml: No such file or directory", status=2)
+    for words in (["--rules", "none.toml", "batch"], ["rules", "none.toml"]):
+        yield Outcome(f"why: no rules file: {' '.join(words)}", room.told(*words), wanted)

@@ -27,7 +27,7 @@ impl<R> Front<R> {
     }
 
     /// The first bytes that it gave.
-    pub(crate) fn bytes(&self) -> &[u8] {
+    pub(crate) fn kept(&self) -> &[u8] {
         self.bytes.as_slice()
     }
 

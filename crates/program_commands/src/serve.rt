@@ -58,7 +58,7 @@ fn serve_client<D: Desk, R: Read + Drop, W: Write, O: Write, E: Write>(
         errors,
     );
     if let Protocol::Exchange = protocol {
-        tell_question(alloc, room, reader.bytes(), errors);
+        tell_question(alloc, room, reader.kept(), errors);
     }
     (ended, reader.into_reader())
 }

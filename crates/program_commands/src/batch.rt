@@ -74,7 +74,7 @@ pub(crate) fn answer_batch<D: Desk, R: Read, W: Write, E: Write>(
 /// 1 where an answer was a refusal, or 3 after a fault, which is reported. Behind the answers a line
 /// on `errors` says of each request that was malformed why, and behind other refusals the hint is
 /// written.
-pub fn run<D: Desk, R: Read, W: Write, E: Write>(
+pub fn answer_input<D: Desk, R: Read, W: Write, E: Write>(
     alloc: Global,
     desk: &mut D,
     precedence: &Precedence,

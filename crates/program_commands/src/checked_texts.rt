@@ -80,7 +80,7 @@ fn report_text<F: NamedFiles, E: Write>(
 /// Reads the text of each file in turn, where `-` is standard input, and writes a line on `errors`
 /// for each request that is malformed, 100 at most, and then how many more there are. Gives 0, or 1
 /// where one is malformed, or 3 after a fault, which is reported and ends the command.
-pub fn run<F: NamedFiles, R: Read, E: Write>(
+pub fn check_texts<F: NamedFiles, R: Read, E: Write>(
     alloc: Global,
     files: &F,
     names: &[&str],

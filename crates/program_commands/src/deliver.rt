@@ -207,7 +207,7 @@ fn refusal_status(has_refusal: bool) -> u8
 /// before the next file is opened; where one is no message, a line on `errors` says why, 100 at most,
 /// and behind other refusals the hint is written. Gives 0, or 1 where an answer was a refusal, or 3
 /// after a fault, which is reported and ends the command.
-pub fn run<D: Desk, F: NamedFiles, R: Read, W: Write, E: Write>(
+pub fn deliver_files<D: Desk, F: NamedFiles, R: Read, W: Write, E: Write>(
     alloc: Global,
     desk: &mut D,
     precedence: &Precedence,

@@ -55,7 +55,7 @@ fn ask<D: Desk, W: Write>(
 /// Asks a desk for the gaps of the series of that name, and writes the answer. A name that no
 /// series can have is answered as one that none has. Gives 0, or 1 for a refusal, or 3 after a
 /// fault, which is reported.
-pub fn run<D: Desk, W: Write, E: Write>(
+pub fn ask_gaps<D: Desk, W: Write, E: Write>(
     alloc: Global,
     desk: &mut D,
     precedence: &Precedence,

@@ -213,7 +213,7 @@ fn report_unsent<E: Write>(rt: &HostRuntime, fault: &Fault, socket: &str, errors
 /// they come; behind them a line on `errors` says of each request that was malformed why. Gives 0,
 /// or 1 where an answer is a refusal, or 3 after a fault of the input, the output or the socket,
 /// which is reported; a missing answer is a fault of the socket.
-pub fn run<K: OpenDesks, R: Read, W: Write, E: Write>(
+pub fn send_input<K: OpenDesks, R: Read, W: Write, E: Write>(
     rt: &HostRuntime,
     desks: &mut K,
     socket: &str,

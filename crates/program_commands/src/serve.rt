@@ -278,7 +278,7 @@ fn listen<D: Desk, O: Write, E: Write>(
 /// many connections: an exchange over HTTP at the port, a batch at the socket. Gives 0, or 3 after
 /// a fault of the port, of the socket or of the output, or when out of memory, which is reported.
 /// The routes of HTTP are made before.
-pub fn run<D: Desk, O: Write, E: Write>(
+pub fn serve_desk<D: Desk, O: Write, E: Write>(
     rt: &HostRuntime,
     desk: &mut D,
     precedence: &Precedence,

@@ -5,7 +5,10 @@ ghost use Rattle.std.specs.Io.KnownBytes.{Appends};
 ghost use Rattle.series_rules.specs.Steps.{Asked};
 ghost use Rattle.program_commands.specs.TaskEnds.{TaskEnds};
 
-use crate::{batch, deliver, gaps, serve};
+use crate::batch::answer_input;
+use crate::deliver::deliver_files;
+use crate::gaps::ask_gaps;
+use crate::serve::serve_desk;
 use price_rules::precedence::Precedence;
 use program_clients::port::{Bound, Port};
 use program_files::NamedFiles;
@@ -43,9 +46,9 @@ pub fn run_task<D: Desk, F: NamedFiles, R: Read, W: Write, E: Write>(
         task.now (F.holds files.now) (R.remaining input.old) result }
 {
     match task {
-        Task::Batch => batch::run(rt.alloc(), desk, precedence, hint, input, output, errors),
+        Task::Batch => answer_input(rt.alloc(), desk, precedence, hint, input, output, errors),
         Task::Deliver(names) => {
-            deliver::run(
+            deliver_files(
                 rt.alloc(),
                 desk,
                 precedence,
@@ -57,12 +60,12 @@ pub fn run_task<D: Desk, F: NamedFiles, R: Read, W: Write, E: Write>(
                 errors,
             )
         }
-        Task::Gaps(name) => gaps::run(rt.alloc(), desk, precedence, name, output, errors),
+        Task::Gaps(name) => ask_gaps(rt.alloc(), desk, precedence, name, output, errors),
         Task::Serve {
             port,
             requests,
             batches,
-        } => serve::run(
+        } => serve_desk(
             rt, desk, precedence, bound, *port, *batches, *requests, output, errors,
         ),
     }

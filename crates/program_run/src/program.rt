@@ -12,8 +12,9 @@ use crate::{converting, help, listing, migrating};
 use desk_memory::MemoryDesk;
 use price_rules::precedence::Precedence;
 use program_clients::open_desks::OpenDesks;
+use program_commands::checked_texts::check_texts;
+use program_commands::sending::send_input;
 use program_commands::task::{port_of, run_task};
-use program_commands::{checked_texts, sending};
 use program_desks::files_left::FilesLeft;
 use program_desks::kept_desks::KeepsDesks;
 use program_files::NamedFiles;
@@ -130,7 +131,7 @@ fn run_action<
         }
         Action::Migrate { db } => migrating::run(rt, db, databases, output, errors),
         Action::Send { socket } => {
-            let status = sending::run(rt, desks, socket, input, output, errors);
+            let status = send_input(rt, desks, socket, input, output, errors);
             (status, FilesLeft::Untouched(databases))
         }
         Action::Convert(conversion) => {
@@ -142,7 +143,7 @@ fn run_action<
             (status, FilesLeft::Untouched(databases))
         }
         Action::CheckTexts { files: names } => {
-            let status = checked_texts::run(rt.alloc(), files, names.as_slice(), input, errors);
+            let status = check_texts(rt.alloc(), files, names.as_slice(), input, errors);
             (status, FilesLeft::Untouched(databases))
         }
     }

@@ -7,7 +7,7 @@ use Rattle.program_commands.proofs.task.run_task.Goals as goal
 
 pub returns-in-Deliver-clause-end : goal.returns-in-Deliver-clause-end
 returns-in-Deliver-clause-end g c =
-    let asked = Asked g.D.Desk.seen c.args.precedence.now c.args.desk.now c.run-in-Deliver.new.desk in
-    let written = Appends (g.W.Write.contents c.args.output.now) (g.W.Write.contents c.run-in-Deliver.new.output) in
-    subst (λ task. TaskEnds asked written task (g.F.NamedFiles.holds c.args.files.now) (g.R.Read.remaining c.args.input.now) c.run-in-Deliver.result) (sym c.in-Deliver.is)
-    (subst (λ names. DeliverEnds asked written (g.F.NamedFiles.holds c.args.files.now) (g.R.Read.remaining c.args.input.now) (map (λ (name : Bor (List ℕ)). name.now) names) c.run-in-Deliver.result) c.as_slice.ensures.value c.run-in-Deliver.ensures.end)
+    let asked = Asked g.D.Desk.seen c.args.precedence.now c.args.desk.now c.deliver_files.new.desk in
+    let written = Appends (g.W.Write.contents c.args.output.now) (g.W.Write.contents c.deliver_files.new.output) in
+    subst (λ task. TaskEnds asked written task (g.F.NamedFiles.holds c.args.files.now) (g.R.Read.remaining c.args.input.now) c.deliver_files.result) (sym c.in-Deliver.is)
+    (subst (λ names. DeliverEnds asked written (g.F.NamedFiles.holds c.args.files.now) (g.R.Read.remaining c.args.input.now) (map (λ (name : Bor (List ℕ)). name.now) names) c.deliver_files.result) c.as_slice.ensures.value c.deliver_files.ensures.end)

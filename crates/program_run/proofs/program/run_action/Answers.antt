@@ -15,10 +15,10 @@ pub returns-in-Migrate-clause-end : goal.returns-in-Migrate-clause-end
 returns-in-Migrate-clause-end g c = rw c.in-Migrate.is ((refl, refl), c.run.ensures.end)
 
 pub returns-in-Send-clause-end : goal.returns-in-Send-clause-end
-returns-in-Send-clause-end g c = rw c.in-Send.is (refl, tt, c.run-status.ensures.end)
+returns-in-Send-clause-end g c = rw c.in-Send.is (refl, tt, c.send_input-status.ensures.end)
 
 pub returns-in-Convert-clause-end : goal.returns-in-Convert-clause-end
-returns-in-Convert-clause-end g c = rw c.in-Convert.is (refl, tt, c.run-status-in-Convert.ensures.end)
+returns-in-Convert-clause-end g c = rw c.in-Convert.is (refl, tt, c.run-status.ensures.end)
 
 pub returns-in-CheckRules-clause-end : goal.returns-in-CheckRules-clause-end
 returns-in-CheckRules-clause-end g c = rw c.in-CheckRules.is ((refl, refl), tt, c.run-status-in-CheckRules.ensures.end)

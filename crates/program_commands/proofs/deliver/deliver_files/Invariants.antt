@@ -7,7 +7,7 @@ use Rattle.desk_texts.specs.Requests.{HasRecords}
 use Rattle.desk_batch.specs.Talks.{Talk, ended, refusals_in}
 use Rattle.program_commands.specs.Deliveries.{TellsTexts, delivery_of}
 use Rattle.program_commands.proofs.InputLemmas.{NoInput}
-use Rattle.program_commands.proofs.deliver.run.Given as goal
+use Rattle.program_commands.proofs.deliver.deliver_files.Given as goal
 
 -- the files so far had texts that were delivered
 abbrev pub invariant-loop-name : goal.invariant-loop-name

@@ -5,7 +5,7 @@ use Rattle.std.specs.Option.{is_some}
 use Rattle.series_rules.specs.Steps.{Asked}
 use Rattle.program_commands.proofs.ServingLemmas.{unserved_ends}
 use Rattle.program_commands.specs.Serving.{listening_line}
-use Rattle.program_commands.proofs.serve.run.Goals as goal
+use Rattle.program_commands.proofs.serve.serve_desk.Goals as goal
 
 pub returns-in-Err-clause-end : goal.returns-in-Err-clause-end
 returns-in-Err-clause-end g c =

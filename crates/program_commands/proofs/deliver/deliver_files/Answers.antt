@@ -13,7 +13,7 @@ use Rattle.program_commands.proofs.TalkEnds.{deliveries_end, talk_status}
 use Rattle.program_commands.specs.Deliveries.{delivery_of}
 use Rattle.program_commands.proofs.InputLemmas.{named_at, tells_more, untouched_more}
 use Rattle.program_commands.proofs.DeliveryLemmas.{not_less, one_file, refused_more, status_by, stopped_at}
-use Rattle.program_commands.proofs.deliver.run.Goals as goal
+use Rattle.program_commands.proofs.deliver.deliver_files.Goals as goal
 
 abbrev nameless : Bor (List ℕ)
 nameless = record { ref_ptr = (0, 0); now = [] }

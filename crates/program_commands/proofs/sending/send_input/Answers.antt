@@ -3,7 +3,7 @@ use Rattle.std.proofs.KnownBytes.{Appends-nil, Consumes-nil}
 use Rattle.std.specs.Io.KnownBytes.{Appends}
 use Rattle.program_commands.proofs.InputLemmas.{told_text}
 use Rattle.program_commands.proofs.SendingLemmas.{none_sent, wrote_came}
-use Rattle.program_commands.proofs.sending.run.Goals as goal
+use Rattle.program_commands.proofs.sending.send_input.Goals as goal
 
 pub returns-in-Err-clause-end : goal.returns-in-Err-clause-end
 returns-in-Err-clause-end g c =

@@ -4,7 +4,7 @@ use Rattle.onix_terms.specs.SeriesName.{series_name_of}
 use Rattle.series_rules.specs.Steps.{Asked}
 use Rattle.program_commands.specs.Unknown.{GapsGive}
 use Rattle.program_commands.proofs.QuestionLemmas.{question_ended, question_stopped}
-use Rattle.program_commands.proofs.gaps.run.Goals as goal
+use Rattle.program_commands.proofs.gaps.ask_gaps.Goals as goal
 
 pub returns-in-Ok-true-clause-end : goal.returns-in-Ok-true-clause-end
 returns-in-Ok-true-clause-end g c =

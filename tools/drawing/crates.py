@@ -18,6 +18,7 @@ LAYERS = {
             "program_desks",
             "program_databases",
             "program_run",
+            "watched_output",
             "onixdesk",
         ],
     ),

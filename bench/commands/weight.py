@@ -6,10 +6,10 @@
 It runs COMMAND ('make test') and looks at the processes below it twice a second. At the end it prints their processor
 time, as a multiple of what the proofs of csv_records and onix_terms took in the same run: a line for each kind of part
 (the proofs of crates, their must-fail edits, their tests with the builds, what the two compilers make of programs, and
-all else), and all together; the processor time of the whole; the most memory that a part took; and a table of what was
-proved, by the log of `rt ci`, which is the same on every machine. Machines differ, and so do runs beside other work:
+all else), and all together; the processor time of the whole; the most memory that a part took; and tables of what was
+proved, of each layer and of each crate, by the log of `rt ci`, which are the same on every machine. Machines differ, and so do runs beside other work:
 multiples of one run compare, if nothing ran beside it. With --ends csv_records is proved from nothing before and after
-COMMAND: where the two differ much, something did. With --log only that table is printed, of a log that was kept.
+COMMAND: where the two differ much, something did. With --log only these tables are printed, of a log that was kept.
 With --file what there is so far is written there every half minute. The status is that of COMMAND.
 """
 

@@ -45,31 +45,38 @@ def answered_goals(crate: Path) -> int:
 
 
 class Row(NamedTuple):
-    """What was proved of a layer, and how many modules of libraries were read for it."""
+    """What was proved of a layer or of a crate, and how many modules of libraries were read for it."""
 
-    layer: str
+    name: str
     functions: int
     goals: int
     modules: int
 
     def line(self) -> str:
-        return f"| {self.layer} | {self.functions:,} | {self.goals:,} | {self.modules:,} |"
+        return f"| {self.name} | {self.functions:,} | {self.goals:,} | {self.modules:,} |"
+
+
+def crate_rows(log: Log) -> list[Row]:
+    """A row for each crate that was proved, of the highest layer first."""
+    crates = [crate for _, of_layer in LAYERS.values() for crate in of_layer if crate in log.functions]
+    return [Row(it, log.functions[it], answered_goals(ROOT / "crates" / it), log.modules[it]) for it in crates]
 
 
 def rows(log: Log) -> list[Row]:
     """A row for each layer, highest first, and one for all."""
     found = []
     for layer, (_, crates) in LAYERS.items():
-        proved = [crate for crate in crates if crate in log.functions]
-        functions = sum(log.functions[crate] for crate in proved)
-        goals = sum(answered_goals(ROOT / "crates" / crate) for crate in proved)
-        found.append(Row(layer, functions, goals, sum(log.modules[crate] for crate in proved)))
+        of_layer = [row[1:] for row in crate_rows(log) if row.name in crates]
+        found.append(Row(layer, *(sum(each) for each in zip((0, 0, 0), *of_layer))))
     sums = (sum(each) for each in zip(*(row[1:] for row in found)))
     return [*found, Row("all", *sums)]
 
 
 def table(log: Log) -> list[str]:
-    """The rows as lines of Markdown, and how many crates were kept, of which a log has no counts."""
-    head = ["| Layer | Functions | Goals answered by hand | Modules read |", "|---|---|---|---|"]
-    last = f"{len(log.functions)} crates were proved; {len(log.kept)} were kept, and are not counted."
-    return [*head, *(row.line() for row in rows(log)), last]
+    """The rows of layers and those of crates as lines of Markdown, and how many crates were kept, of which a log has
+    no counts."""
+    lines = []
+    for name, found in (("Layer", rows(log)), ("Crate", crate_rows(log))):
+        lines += [f"| {name} | Functions | Goals answered by hand | Modules read |", "|---|---|---|---|"]
+        lines += [*(row.line() for row in found), ""]
+    return [*lines, f"{len(log.functions)} crates were proved; {len(log.kept)} were kept, and are not counted."]

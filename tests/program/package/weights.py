@@ -3,7 +3,7 @@
 from collections.abc import Iterator
 
 from bench.commands.weight import part_named
-from bench.figures.proved import Log, rows, table
+from bench.figures.proved import Log, crate_rows, rows, table
 from tests.program.room import Room
 from tests.running import Outcome
 from tools.root import ROOT
@@ -44,9 +44,12 @@ def counts(room: Room) -> Iterator[Outcome]:
         log.take(line)
     found = dict(log.functions), dict(log.modules), log.kept
     yield Outcome("bench/weight: what a log has", found, ({"csv_records": 3}, {"csv_records": 37}, {"onix_terms"}))
-    yield Outcome(
-        "bench/weight: no layer but that one", [row.layer for row in rows(log) if row.functions], ["Base", "all"]
-    )
+    layers = [row.name for row in rows(log) if row.functions]
+    yield Outcome("bench/weight: no layer but that one", layers, ["Base", "all"])
+    # The goals that this crate answers by hand are counted in its proofs.
+    (row,) = crate_rows(log)
+    yield Outcome("bench/weight: no crate but that one", (row.name, row.functions, row.modules), ("csv_records", 3, 37))
+    yield Outcome("bench/weight: a row of it", row.line() in table(log), True)
     room.write("log", LOG.encode())
     came = room.call([ROOT / "bench/weight", "--log", "log"])
     yield Outcome("bench/weight --log", (came.status, came.output.decode().splitlines()), (0, table(log)))

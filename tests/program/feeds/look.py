@@ -228,6 +228,28 @@ def notes_and_letters(room: Room) -> Iterator[Outcome]:
         yield Outcome(f"look: a letter, {language}", found_in, (1, True, False, 3, True))
 
 
+def letters_of_other_feeds(room: Room) -> Iterator[Outcome]:
+    """Of a feed that is refused a letter says why and at which place, as the page does; of one without a note it asks
+    for nothing, and has what is not read."""
+    room.write("refused.xml", b'<ONIXMessage release="3.0">\n  <Header><Sender></Header></ONIXMessage>')
+    discounted = PRICE.replace("</Price>", "<DiscountCoded><DiscountCode>T40</DiscountCode></DiscountCoded></Price>")
+    room.write("faultless.xml", feed([product(0, Article(supplied(discounted), ""))]))
+    why = re.search(rb"^onixdesk: refused.xml:2:([0-9]+): refused: (.*)$", room.run("convert", "refused.xml").errors)
+    assert why
+    told = f"line 2, column {why[1].decode()}: {why[2].decode()}"
+    _, found = table(room, "refused.xml")
+    yield Outcome("look: why it is refused", found["Feed"]["refused by onixdesk convert"], told)
+    unread = "1 x DiscountCoded of a Price, not read"
+    for language, again, example, corrected in (
+        ("en", "a file that our system can use", "example", "corrected"),
+        ("de", "eine Datei, die unser System verwenden kann", "Beispiel", "berichtigte"),
+    ):
+        for name, wanted in ("refused.xml", (told, again)), ("faultless.xml", (unread,)):
+            text = look(room, "--mail", language, name).output.decode()
+            came = [part in text for part in wanted], [part in text for part in (example, corrected, "$", "0 ")]
+            yield Outcome(f"look: a letter on {name}, {language}", came, ([True] * len(wanted), [False] * 4))
+
+
 def notes_that_are_not_written(room: Room) -> Iterator[Outcome]:
     """The converter writes 1,000 notes on what it leaves out of the prices, and counts the rest."""
     bad = PRICE.replace("<PriceAmount>", "<PriceQualifier>06</PriceQualifier><PriceAmount>")

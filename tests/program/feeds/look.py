@@ -123,6 +123,8 @@ def why_articles_have_no_price(room: Room) -> Iterator[Outcome]:
     yield Outcome("look: markets", found["Markets, by products"], {"GB IE": "13", "IE": "1", "WORLD": "1"})
     paste = ["Agree,north,06,S,,,1", '"SENDER=06,S"', "NUMBER=own", "WORDS="]
     yield Outcome("look: what to paste", list(found["To paste"]), [line.strip('"') for line in paste])
+    said = ["the number of the first message that the desk gets; 1 is that of this file"]
+    yield Outcome("look: whose number it is", list(found["Last field of Agree"]), said)
 
 
 def articles_of_two_products(room: Room) -> Iterator[Outcome]:
@@ -156,8 +158,9 @@ def numbers(room: Room) -> Iterator[Outcome]:
     for text, first, kind, told in NUMBERS:
         room.write("feed.xml", feed([product(0, ARTICLES[0])], text))
         status, found = table(room, "--series", "south", "feed.xml")
-        came = status, found["Message"]["number"], list(found["To paste"])[::2], found[SECTION]["have a price"]
-        wanted = 0, told, [f"Agree,south,06,S,,,{first}", f"NUMBER={kind}"], "1"
+        is_said = "Last field of Agree" in found
+        came = status, found["Message"]["number"], list(found["To paste"])[::2], found[SECTION]["have a price"], is_said
+        wanted = 0, told, [f"Agree,south,06,S,,,{first}", f"NUMBER={kind}"], "1", kind == "own"
         yield Outcome(f"look: number {text or 'none'}", came, wanted)
 
 

@@ -1,6 +1,9 @@
 """Files that are stopped for a person: those that would change more of what the desk says than the settings allow."""
 
+import os
+import pwd
 import shlex
+import sys
 import time
 from dataclasses import dataclass
 from pathlib import Path
@@ -141,6 +144,7 @@ def stop(found: Finding, what: str) -> Stop:
 
 
 def commands(name: str, series: str) -> str:
-    """How a person decides on it."""
+    """How root decides on it: by this program, as the user that it runs as."""
+    call = shlex.join(["runuser", "-u", pwd.getpwuid(os.geteuid()).pw_name, "--", str(Path(sys.argv[0]).absolute())])
     word = shlex.quote(kept_name(name))
-    return f"onixdesk-inbox --let-in {word} {series} takes it, onixdesk-inbox --refuse {word} {series} refuses it"
+    return f"{call} --let-in {word} {series} takes it, {call} --refuse {word} {series} refuses it"

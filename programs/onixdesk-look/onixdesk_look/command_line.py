@@ -18,7 +18,7 @@ from onixdesk_inbox.settings import words
 from onixdesk_look import letter, page
 from onixdesk_look.asking import Desk
 from onixdesk_look.converting import Converter, Feed
-from onixdesk_look.counting import Counts, lines_to_paste, series_of
+from onixdesk_look.counting import Counts, about_number, lines_to_paste, series_of
 
 PROGRAM = "onixdesk-look"
 
@@ -96,7 +96,9 @@ def sections_of(
     header = read_header(feed.messages[0])
     answers = answer(feed, counts, Desk(options.program, folder / "desk.db", show), question)
     lines = lines_to_paste(options.series or series_of(feed.file.name), header, feed, options.words)
-    return page.of_records(feed, header, counts) | answers | {"To paste": [(line, "") for line in lines]}
+    pasted = {"To paste": lines, "Last field of Agree": about_number(lines)}
+    to_paste = {section: [(line, "") for line in said] for section, said in pasted.items()}
+    return page.of_records(feed, header, counts) | answers | to_paste
 
 
 def write_page(options: argparse.Namespace, feed: Feed, question: Question, folder: Path) -> None:

@@ -1,5 +1,6 @@
 """The notes on a feed for the wholesaler: a table of them, and a text that goes with it."""
 
+import re
 from pathlib import Path
 from string import Template
 
@@ -24,12 +25,25 @@ def example(note: Note, isbns: dict[str, str]) -> str:
     return f"  {note.reference}{isbn}, line {note.line}: {note.text}"
 
 
+def parts_of(said: Said) -> list[str]:
+    """Which parts of the text are for a feed of which this is said."""
+    if said.refusal:
+        return ["greeting", "refused", "again", "closing"]
+    unread = ["unread"] if said.reasons else []
+    if not said.count:
+        return ["greeting", "faultless", *unread, "closing"]
+    return ["greeting", "remarks", "reasons", "examples", "corrected", "closing"]
+
+
 def letter(language: str, name: str, said: Said, isbns: dict[str, str]) -> str:
     """The text, whose examples are the first notes of different products."""
     template = Path(__file__).with_name(f"letter.{language}.txt").read_text(encoding="utf-8")
+    _, *halves = re.split(r"^\[([a-z]+)\]\n", template, flags=re.MULTILINE)
+    texts = dict(zip(halves[::2], halves[1::2], strict=True))
     examples = list({note.reference: note for note in reversed(said.notes)}.values())[::-1][:EXAMPLES]
-    return Template(template).substitute(
+    return Template("\n".join(texts[part] for part in parts_of(said))).substitute(
         name=name,
+        refusal=said.refusal,
         count=said.count,
         written=len(said.notes),
         reasons="\n".join(f"  {number} x {reason}" for reason, number in said.reasons.most_common()),

@@ -10,7 +10,7 @@ from typing import NamedTuple
 PROGRAM = "onixdesk: "
 
 PLACE = re.compile(r"([0-9]+):([0-9]+): (?:(.*?): )?(.*)")
-REFUSAL = re.compile(r"(?:[0-9]+:[0-9]+: )?refused: (.*)")
+REFUSAL = re.compile(r"(?:([0-9]+):([0-9]+): )?refused: (.*)")
 COUNT = re.compile(r"(.*): ([0-9]+)")
 TOTAL = re.compile(r"([0-9]+) notes?(?:, ([0-9]+) products? wrong)?")
 
@@ -29,7 +29,7 @@ class Note(NamedTuple):
 @dataclass
 class Said:
     """The notes, as many as are written, how often each reason was given, the number of all notes and of wrong
-    products, and why the file was refused or could not be read, where that is so."""
+    products, and why, and at which place, the file was refused or could not be read, where that is so."""
 
     notes: list[Note] = field(default_factory=list)
     reasons: Counter[str] = field(default_factory=Counter)
@@ -44,7 +44,8 @@ class Said:
         if of_file is None:
             self.add_summary(text)
         elif refused := REFUSAL.fullmatch(of_file):
-            self.refusal = refused[1]
+            line_of, column, why = refused.groups()
+            self.refusal = f"line {line_of}, column {column}: {why}" if line_of else why
         elif place := PLACE.fullmatch(of_file):
             self.notes.append(Note(int(place[1]), int(place[2]), place[3] or "", place[4]))
         else:

@@ -120,6 +120,7 @@ TOLD: dict[str, dict[str, str]] = {
     },
     "examples/page/README.md": {
         "apt-get install nginx": f"{SYSTEMD}: try_site",
+        "openssl req ": f"{SYSTEMD}: try_site",
         "[ -e /etc/nginx/onixdesk.passwords ]": f"{SYSTEMD}: try_site",
         "printf 'buyer:%s\\n'": f"{SYSTEMD}: try_site",
         "nginx -t && systemctl reload nginx": f"{SYSTEMD}: try_site",
@@ -145,6 +146,7 @@ TOLD: dict[str, dict[str, str]] = {
         "apt-get install prometheus-node-exporter": "nowhere: it installs a package",
         "systemctl enable --now onixdesk-prices.timer": f"{SYSTEMD}: try_prices",
         "apt-get install nginx": f"{SYSTEMD}: try_site",
+        "openssl req ": f"{SYSTEMD}: try_site",
         "nginx -t && systemctl restart nginx": f"{SYSTEMD}: try_site",
     },
 }

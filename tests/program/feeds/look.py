@@ -123,6 +123,8 @@ def why_articles_have_no_price(room: Room) -> Iterator[Outcome]:
     yield Outcome("look: markets", found["Markets, by products"], {"GB IE": "13", "IE": "1", "WORLD": "1"})
     paste = ["Agree,north,06,S,,,1", '"SENDER=06,S"', "NUMBER=own", "WORDS="]
     yield Outcome("look: what to paste", list(found["To paste"]), [line.strip('"') for line in paste])
+    said = ["the number of the first message that the desk gets; 1 is that of this file"]
+    yield Outcome("look: whose number it is", list(found["Last field of Agree"]), said)
 
 
 def articles_of_two_products(room: Room) -> Iterator[Outcome]:
@@ -156,8 +158,9 @@ def numbers(room: Room) -> Iterator[Outcome]:
     for text, first, kind, told in NUMBERS:
         room.write("feed.xml", feed([product(0, ARTICLES[0])], text))
         status, found = table(room, "--series", "south", "feed.xml")
-        came = status, found["Message"]["number"], list(found["To paste"])[::2], found[SECTION]["have a price"]
-        wanted = 0, told, [f"Agree,south,06,S,,,{first}", f"NUMBER={kind}"], "1"
+        is_said = "Last field of Agree" in found
+        came = status, found["Message"]["number"], list(found["To paste"])[::2], found[SECTION]["have a price"], is_said
+        wanted = 0, told, [f"Agree,south,06,S,,,{first}", f"NUMBER={kind}"], "1", kind == "own"
         yield Outcome(f"look: number {text or 'none'}", came, wanted)
 
 
@@ -226,6 +229,28 @@ def notes_and_letters(room: Room) -> Iterator[Outcome]:
         counts = len(set(examples)), f"{len(rows) - 1} " in text
         found_in = came.status, text.startswith(first), "$" in text, *counts
         yield Outcome(f"look: a letter, {language}", found_in, (1, True, False, 3, True))
+
+
+def letters_of_other_feeds(room: Room) -> Iterator[Outcome]:
+    """Of a feed that is refused a letter says why and at which place, as the page does; of one without a note it asks
+    for nothing, and has what is not read."""
+    room.write("refused.xml", b'<ONIXMessage release="3.0">\n  <Header><Sender></Header></ONIXMessage>')
+    discounted = PRICE.replace("</Price>", "<DiscountCoded><DiscountCode>T40</DiscountCode></DiscountCoded></Price>")
+    room.write("faultless.xml", feed([product(0, Article(supplied(discounted), ""))]))
+    why = re.search(rb"^onixdesk: refused.xml:2:([0-9]+): refused: (.*)$", room.run("convert", "refused.xml").errors)
+    assert why
+    told = f"line 2, column {why[1].decode()}: {why[2].decode()}"
+    _, found = table(room, "refused.xml")
+    yield Outcome("look: why it is refused", found["Feed"]["refused by onixdesk convert"], told)
+    unread = "1 x DiscountCoded of a Price, not read"
+    for language, again, example, corrected in (
+        ("en", "a file that our system can use", "example", "corrected"),
+        ("de", "eine Datei, die unser System verwenden kann", "Beispiel", "berichtigte"),
+    ):
+        for name, wanted in ("refused.xml", (told, again)), ("faultless.xml", (unread,)):
+            text = look(room, "--mail", language, name).output.decode()
+            came = [part in text for part in wanted], [part in text for part in (example, corrected, "$", "0 ")]
+            yield Outcome(f"look: a letter on {name}, {language}", came, ([True] * len(wanted), [False] * 4))
 
 
 def notes_that_are_not_written(room: Room) -> Iterator[Outcome]:

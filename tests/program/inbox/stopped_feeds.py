@@ -2,6 +2,8 @@
 docs/HTTP.md has them, and which counts what is posted."""
 
 import json
+import os
+import pwd
 import re
 import shutil
 from collections.abc import Iterator
@@ -14,7 +16,7 @@ from tests.program.documents.examples import block
 from tests.program.feeds.convert.case_files import FRAMES, SUPPLIER
 from tests.program.feeds.convert.wanted_runs import PRODUCT, supplied
 from tests.program.inbox.inbox_numbers import KILLED, KILLING
-from tests.program.inbox.inboxes import Inbox, ended, said, within
+from tests.program.inbox.inboxes import PROGRAM, Inbox, ended, said, within
 from tests.program.room import Group, Ran, Room
 from tests.program.serving import StandIn, standing_in
 from tests.running import Outcome
@@ -230,10 +232,8 @@ def what_the_line_has(room: Room) -> Iterator[Outcome]:
     examples = line.removeprefix(f"price list.csv: stopped: {JUMPS}").split("; ")
     shown = [example.split(" ", 1)[1] for example in examples[:3]]
     yield Outcome("stopped: examples", shown, ["02 GBP 10.000 to 1000"] * 3)
-    commands = (
-        "onixdesk-inbox --let-in 'price list.csv' north takes it, "
-        "onixdesk-inbox --refuse 'price list.csv' north refuses it"
-    )
+    call = f"runuser -u {pwd.getpwuid(os.geteuid()).pw_name} -- {PROGRAM}"
+    commands = f"{call} --let-in 'price list.csv' north takes it, {call} --refuse 'price list.csv' north refuses it"
     yield Outcome("stopped: what to do", examples[3:], [commands])
 
 

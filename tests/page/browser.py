@@ -92,6 +92,11 @@ class Browser:
         self.driver.get("about:blank")
         self.driver.get(self.site.address(f"/{address}"))
 
+    def start(self, address: str = "") -> None:
+        """Opens a view anew, and waits until its fields are filled."""
+        self.open(address)
+        self.wait(lambda: self.run("return document.getElementById('day').value"))
+
     def one(self, selector: str) -> WebElement:
         return self.driver.find_element(By.CSS_SELECTOR, selector)
 
@@ -100,6 +105,11 @@ class Browser:
 
     def text(self, selector: str) -> str:
         return str(self.one(selector).text)
+
+    def shows(self, selector: str, words: str = "") -> bool:
+        """Whether a part is seen, and has these words. It is what waits ask: WebDriver's own reading of a text takes
+        six times as long, and all of that of the browser that is waited for."""
+        return bool(self.call("shows", selector, words))
 
     def texts(self, selector: str) -> list[str]:
         return [found.text for found in self.all(selector)]
@@ -137,11 +147,11 @@ class Browser:
         texts = [""]
 
         def holds() -> bool:
-            texts.append(self.text(selector))
+            if self.shows(selector, words):
+                texts.append(self.text(selector))
             return words in texts[-1]
 
-        self.wait(holds, seconds)
-        return texts[-1]
+        return texts[-1] if self.wait(holds, seconds) else self.text(selector)
 
     def rows(self, selector: str) -> list[list[str]]:
         """The cells of a table's rows."""
@@ -158,6 +168,12 @@ class Browser:
             if message["method"] == "Network.requestWillBeSent":
                 found.append(message["params"]["request"]["url"])
         return found
+
+    def busy(self) -> float:
+        """The seconds of a processor that the page has taken, whatever else the machine does."""
+        self.driver.execute_cdp_cmd("Performance.enable", {"timeDomain": "threadTicks"})
+        metrics = self.driver.execute_cdp_cmd("Performance.getMetrics", {})["metrics"]
+        return float(next(metric["value"] for metric in metrics if metric["name"] == "TaskDuration"))
 
     def complaints(self) -> list[str]:
         """What the browser wrote to its console since the last look."""

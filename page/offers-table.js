@@ -14,13 +14,14 @@ import { codeInWords, formatter, say, sayCount, wordsOfCode } from "./wording.js
 const number = (count) => formatter(Intl.NumberFormat).format(count);
 const tag = (className, words) => element("span", { class: `tag ${className}` }, words);
 
-/** What a wholesaler's messages lack, as marks behind its name. */
-export function marksOf(series, reports) {
+/** What a wholesaler's messages lack, as marks behind its name; of what they are is said where there is room for it. */
+export function marksOf(series, reports, isWhole = false) {
   const found = reports.stateOf(series);
   if (!found.isWatched) return [tag("quiet", say("article.unwatchedTag"))];
-  const missing = found.count > 0 ? [say("article.missingTag", { count: number(found.count) })] : [];
+  const words = isWhole ? sayCount("missing.atTab", found.count) : say("article.missingTag", { count: number(found.count) });
+  const missing = found.count > 0 ? [words] : [];
   const silent = found.isSilent ? [sayCount("article.silentTag", found.days)] : [];
-  return [...missing, ...silent].map((words) => tag("unusual", words));
+  return [...missing, ...silent].map((text) => tag("unusual", text));
 }
 
 function nameCell(offer, answer, { settings, reports }) {

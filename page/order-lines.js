@@ -49,10 +49,10 @@ function behindIsbn(line, number) {
   return bare(isNext ? rest.slice(again.end).replace(/^[")]+/, "") : rest);
 }
 
-/** The copies of a text, which are wrong where it is no number from 1 to 999999. */
+/** The copies of a text, which are wrong where it is no number from 1 to 999999: then it is what was `given`. */
 function readCopies(text) {
   const isRight = /^\d{1,6}$/.test(text) && Number(text) > 0;
-  return isRight ? { copies: Number(text) } : { copies: undefined, wrong: "copies" };
+  return isRight ? { copies: Number(text) } : { copies: undefined, given: text, wrong: "copies" };
 }
 
 /** The book of a text: its `isbn` or what is `wrong` of it, and how it is `written`. */

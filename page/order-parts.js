@@ -84,7 +84,7 @@ function sumCell(amount, series, { currency, budget }) {
 
 function sumRow(name, { lines, copies, amount, series }, context) {
   const { currency, reports, save } = context;
-  const marks = series === undefined ? [] : marksOf(series, reports);
+  const marks = series === undefined ? [] : marksOf(series, reports, true);
   const cells = [
     [name, ...marks.flatMap((mark) => [" ", mark])],
     [counted(lines)],

@@ -296,13 +296,13 @@ function isbnCell(book, context) {
   return [field, link, paper];
 }
 
-/** The copies of a row: a field, and, on paper, a text. */
+/** The copies of a row, or what the list has in their place: a field, and, on paper, a text. */
 function copiesCell(book, context) {
-  const { copies } = book;
+  const { copies, given = "" } = book;
   const label = say("order.copiesOf", { isbn: book.isbn ?? book.written });
   const change = (value, isEntered) => context.edit(book, { copies: value.trim() }, isEntered);
-  const field = rowField("row-copies", copies === undefined ? "" : String(copies), label, change);
-  const text = copies === undefined ? "" : formatter(Intl.NumberFormat).format(copies);
+  const field = rowField("row-copies", String(copies ?? given), label, change);
+  const text = copies === undefined ? given : formatter(Intl.NumberFormat).format(copies);
   return [field, element("span", { class: "on-paper" }, text), removeButton(book, context)];
 }
 

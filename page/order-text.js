@@ -4,10 +4,10 @@
 const fieldOf = (text) => (/["\t]/.test(text) ? `"${text.replaceAll('"', '""')}"` : text);
 
 /** The line of a book. Where it is not sure how many copies are meant, it stays free text. */
-function lineOf({ isbn, written, copies, wrong, isUnsure, note }) {
+function lineOf({ isbn, written, copies, given = "", wrong, isUnsure, note }) {
   const number = wrong === undefined || wrong === "copies" ? isbn : written;
   if (wrong === "none" || isUnsure) return `${number} ${note}`.trim();
-  return [number, String(copies ?? ""), note].map(fieldOf).join("\t").replace(/\t$/, "");
+  return [number, String(copies ?? given), note].map(fieldOf).join("\t").replace(/\t$/, "");
 }
 
 /** The text of books, a line for each: ISBN, copies and note, between tabulators. */
@@ -22,7 +22,7 @@ export const COLUMNS_OF_TEXT = { isbn: 0, copies: 1 };
 export function edited(books, book, changes) {
   if (changes === undefined) return books.filter((other) => other !== book);
   const { isbn = book.wrong === "copies" || book.wrong === undefined ? book.isbn : book.written } = changes;
-  const { copies = book.copies } = changes;
+  const { copies = book.copies ?? book.given } = changes;
   return books.map((other) => (other === book ? { isbn, copies, isUnsure: false, note: book.note } : other));
 }
 

@@ -116,7 +116,7 @@ export const texts = {
     silentTag: { one: "seit 1 Tag still", other: "seit {count} Tagen still" },
     unwatchedTag: "nicht beobachtet",
     mayBeOld: "Die Preise können älter sein als das, was gesendet wurde.",
-    missingNote: "{wholesaler}: {ranges} fehlen.",
+    missingNote: "Meldungen von {wholesaler} fehlen: {ranges}.",
     silentNote: {
       one: "{wholesaler}: seit 1 Tag keine neue Meldung.",
       other: "{wholesaler}: seit {count} Tagen keine neue Meldung.",
@@ -288,7 +288,7 @@ export const texts = {
       copies: "Exemplare sind eine ganze Zahl von 1 bis 999999.",
       noOffers: "Niemand bietet es an.",
       goods: "Niemand bietet es an, und es ist keine Nummer eines Buches, die mit 978 oder 979 beginnt.",
-      unpriced: "Es wird angeboten, aber ohne Preis der Art {type} für {copies} in {currency}.",
+      unpriced: "Es wird angeboten, aber ohne Preis der Art {type} für {copies} in {currency}: bitte nach dem Preis fragen.",
       notChosen: "Keine Regel des Hauses lässt eines der Angebote zu.",
       changed: "Geändert: es war {wholesaler} zu {price}.",
       lost: "Der von Hand gewählte Lieferant hat es nicht mehr.",

@@ -116,7 +116,7 @@ export const texts = {
     silentTag: { one: "silent for 1 day", other: "silent for {count} days" },
     unwatchedTag: "not watched",
     mayBeOld: "Its prices may be older than what it has sent.",
-    missingNote: "{wholesaler}: {ranges} missing.",
+    missingNote: "Messages of {wholesaler} are missing: {ranges}.",
     silentNote: {
       one: "{wholesaler}: no new message for 1 day.",
       other: "{wholesaler}: no new message for {count} days.",
@@ -288,7 +288,7 @@ export const texts = {
       copies: "Copies are a whole number from 1 to 999999.",
       noOffers: "Nobody offers it.",
       goods: "Nobody offers it, and it is no book's number, which begins with 978 or 979.",
-      unpriced: "It is offered, but without a price of type {type} for {copies} in {currency}.",
+      unpriced: "It is offered, but without a price of type {type} for {copies} in {currency}: ask what it costs.",
       notChosen: "No rule of the shop admits one of the offers.",
       changed: "Changed: it was {wholesaler} at {price}.",
       lost: "The wholesaler chosen by hand has it no longer.",

@@ -39,9 +39,11 @@ def has_calendar(browser: Browser) -> bool:
 
 def answered_now(browser: Browser) -> list[list[str]]:
     """The rows of the offers, if all that is asked beside their prices is answered too."""
+    if not has_calendar(browser):
+        return []
     found: list[list[str]] = browser.call("offerCells")
     waits = any(word in cell for row in found for cell in row for word in WAITING)
-    return found if has_calendar(browser) and not waits else []
+    return [] if waits else found
 
 
 def answered(browser: Browser) -> list[list[str]]:
@@ -159,8 +161,7 @@ def catalogue(site: Site, browser: Browser) -> Iterator[Outcome]:
 
 def typed_question(site: Site, browser: Browser) -> Iterator[Outcome]:
     """What is typed goes to the address, and the address alone brings the view back."""
-    browser.open("")
-    browser.wait(lambda: browser.one("#day").get_attribute("value"))
+    browser.start()
     fields = ["#day", "#country", "#currency", "#type", "#quantity"]
     values = [browser.one(field).get_attribute("value") for field in fields]
     today = date.today().isoformat()
@@ -179,9 +180,9 @@ def typed_question(site: Site, browser: Browser) -> Iterator[Outcome]:
     yield Outcome("the question's address", address, wanted)
     yield Outcome("the address brings the answer back", ask(browser, address), rows)
     browser.run("location.hash = arguments[0]", article(quantity="10"))
-    browser.wait(lambda: "On 10 April 2025" in browser.text("#article-status"))
+    browser.wait(lambda: browser.shows("#article-status", "On 10 April 2025"))
     browser.driver.back()
-    browser.wait(lambda: "On 10 April 2025" not in browser.text("#article-status"))
+    browser.wait(lambda: not browser.shows("#article-status", "On 10 April 2025"))
     yield Outcome("back to the question before", answered(browser), rows)
     yield Outcome("the window's title", browser.driver.title, f"ISBN {ISBN} – High Street Books · buying")
     browser.one("#to-missing").click()

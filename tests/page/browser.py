@@ -61,6 +61,8 @@ def options(is_recorded: bool, key: str = "") -> Options:
         "--disable-renderer-backgrounding",
         "--disable-backgrounding-occluded-windows",
         "--disable-background-timer-throttling",
+        # A page that is opened anew has the process of the one before: to make one takes a third of what the page does.
+        "--process-per-site",
         f"--host-resolver-rules={names}",
     ]:
         chosen.add_argument(word)
@@ -78,8 +80,8 @@ class Browser:
         key = site.key_digest() if is_trusting else ""
         self.driver = webdriver.Chrome(options=options(is_recorded, key), service=Service(DRIVER))
         self.size(*WIDE)
-        # The browser asks for the name and the password once; from then on it knows them.
-        self.driver.get(site.address(user=f"{USER}:{PASSWORD}@"))
+        # The browser asks for the name and the password once; from then on it knows them. There is nothing to be kept.
+        self.driver.get(site.address("/nothing", user=f"{USER}:{PASSWORD}@"))
         self.driver.get("about:blank")
 
     def size(self, width: int, height: int) -> None:
@@ -92,6 +94,11 @@ class Browser:
         self.driver.get("about:blank")
         self.driver.get(self.site.address(f"/{address}"))
 
+    def start(self, address: str = "") -> None:
+        """Opens a view anew, and waits until its fields are filled."""
+        self.open(address)
+        self.wait(lambda: self.run("return document.getElementById('day').value"))
+
     def one(self, selector: str) -> WebElement:
         return self.driver.find_element(By.CSS_SELECTOR, selector)
 
@@ -100,6 +107,11 @@ class Browser:
 
     def text(self, selector: str) -> str:
         return str(self.one(selector).text)
+
+    def shows(self, selector: str, words: str = "") -> bool:
+        """Whether a part is seen, and has these words. It is what waits ask: WebDriver's own reading of a text takes
+        six times as long, and all of that of the browser that is waited for."""
+        return bool(self.call("shows", selector, words))
 
     def texts(self, selector: str) -> list[str]:
         return [found.text for found in self.all(selector)]
@@ -137,11 +149,11 @@ class Browser:
         texts = [""]
 
         def holds() -> bool:
-            texts.append(self.text(selector))
+            if self.shows(selector, words):
+                texts.append(self.text(selector))
             return words in texts[-1]
 
-        self.wait(holds, seconds)
-        return texts[-1]
+        return texts[-1] if self.wait(holds, seconds) else self.text(selector)
 
     def rows(self, selector: str) -> list[list[str]]:
         """The cells of a table's rows."""
@@ -158,6 +170,12 @@ class Browser:
             if message["method"] == "Network.requestWillBeSent":
                 found.append(message["params"]["request"]["url"])
         return found
+
+    def busy(self) -> float:
+        """The seconds of a processor that the page has taken, whatever else the machine does."""
+        self.driver.execute_cdp_cmd("Performance.enable", {"timeDomain": "threadTicks"})
+        metrics = self.driver.execute_cdp_cmd("Performance.getMetrics", {})["metrics"]
+        return float(next(metric["value"] for metric in metrics if metric["name"] == "TaskDuration"))
 
     def complaints(self) -> list[str]:
         """What the browser wrote to its console since the last look."""

@@ -6,6 +6,13 @@ function offerCells() {
     (cell.querySelector('.name') ?? cell).textContent));
 }
 
+// Whether a part is seen, and has these words, however its lines are broken.
+function shows(selector, words) {
+  const flat = (text) => text.replace(/\s+/g, ' ');
+  const part = document.querySelector(selector);
+  return part !== null && part.checkVisibility() && flat(part.innerText).includes(flat(words));
+}
+
 // Sixty offers of one book, of which the last one is chosen, in the place of the desk's replies.
 function answerWithManyOffers(hash) {
   const real = window.fetch;

@@ -27,7 +27,7 @@ def scan(browser: Browser, text: str) -> None:
 
 def asked(browser: Browser, isbn: str) -> bool:
     """Whether the page shows the answer for an ISBN."""
-    shown = browser.wait(lambda: f"ISBN {isbn}" in browser.text("#article-status"))
+    shown = browser.wait(lambda: browser.shows("#article-status", f"ISBN {isbn}"))
     return bool(shown and answered(browser) is not None)
 
 
@@ -155,7 +155,7 @@ def check_digits(site: Site, browser: Browser) -> Iterator[Outcome]:
 
 def asked_any(browser: Browser, isbn: str) -> bool:
     """Whether the page asked for an ISBN, whether it is offered or not."""
-    return bool(browser.wait(lambda: f"ISBN {isbn}" in browser.text("#article-status")))
+    return bool(browser.wait(lambda: browser.shows("#article-status", f"ISBN {isbn}")))
 
 
 CASES = [scanned, next_one_is_not_lost, ten_digits, hyphens, surrounded, check_digits]

@@ -53,8 +53,7 @@ def day_keys(browser: Browser, year: str, month: str, date: str) -> str:
 
 
 def article(site: Site, browser: Browser) -> Iterator[Outcome]:
-    browser.open("")
-    browser.wait(lambda: browser.one("#day").get_attribute("value"))
+    browser.start()
     yield Outcome("the focus begins at the ISBN", browser.call("focus")["id"], "isbn")
     way = tab_to(browser, has_id("skip"), is_back=True)
     places = [focus["id"] for focus in way]
@@ -87,8 +86,7 @@ def article(site: Site, browser: Browser) -> Iterator[Outcome]:
 
 def missing(site: Site, browser: Browser) -> Iterator[Outcome]:
     allow_clipboard(site, browser, "granted")
-    browser.open("")
-    browser.wait(lambda: browser.one("#day").get_attribute("value"))
+    browser.start()
     tab_to(browser, has_id("to-missing"), is_back=True)
     press(browser, Keys.ENTER)
     browser.wait_for_text("#as-of", "As of")
@@ -112,8 +110,7 @@ def skipped(site: Site, browser: Browser) -> Iterator[Outcome]:
 
 def wrong_field(site: Site, browser: Browser) -> Iterator[Outcome]:
     """The focus goes to the first field that is wrong."""
-    browser.open("")
-    browser.wait(lambda: browser.one("#day").get_attribute("value"))
+    browser.start()
     tab_to(browser, has_id("change"))
     press(browser, Keys.ENTER)
     tab_to(browser, has_id("country"))

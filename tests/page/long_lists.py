@@ -11,7 +11,19 @@ from tests.page import order_desk
 from tests.page.baskets import with_wholesalers
 from tests.page.browser import Browser, load
 from tests.page.order_desk import isbn_of
-from tests.page.orders import file_rows, lines_of, money, open_list, ordered, save_to, saved, status, sum_of, sums
+from tests.page.orders import (
+    file_rows,
+    lines_of,
+    money,
+    open_list,
+    ordered,
+    save_to,
+    saved,
+    status,
+    sum_of,
+    sums,
+    wait_for_better,
+)
 from tests.page.site import NO_LIMIT, RATE, Site
 from tests.program.room import SECONDS
 from tests.running import Outcome
@@ -48,16 +60,9 @@ def statuses(lines: list[str]) -> set[str]:
 KEYS = 20
 
 
-def busy(browser: Browser) -> float:
-    """The seconds of a processor that the page has taken, whatever else the machine does."""
-    browser.driver.execute_cdp_cmd("Performance.enable", {"timeDomain": "threadTicks"})
-    metrics = browser.driver.execute_cdp_cmd("Performance.getMetrics", {})["metrics"]
-    return float(next(metric["value"] for metric in metrics if metric["name"] == "TaskDuration"))
-
-
 def typed(browser: Browser) -> Iterator[Outcome]:
     """How long the page is busy with a key in a long list, of which no row is drawn anew."""
-    browser.wait(lambda: browser.text("#list-copies") == "")
+    wait_for_better(browser)
     come, gone = browser.run("return window.drawn")
     # Each makes room for the one with the answer; many that are not seen at first are made once more, later than others.
     name = f"a row is made anew for its answer, and not for copies that are no better: {come} come, {gone} go"
@@ -67,10 +72,10 @@ def typed(browser: Browser) -> Iterator[Outcome]:
     # The first one dims what was looked up; they are no digits, which would be taken for a scan.
     browser.one("#lines").send_keys("x")
     browser.wait(lambda: browser.run("return document.getElementById('sums-part').inert"))
-    before = busy(browser)
+    before = browser.busy()
     for _ in range(KEYS):
         ActionChains(browser.driver).send_keys("x").perform()
-    each = (busy(browser) - before) / KEYS * 1000
+    each = (browser.busy() - before) / KEYS * 1000
     browser.one("#lines").send_keys(Keys.BACKSPACE * (KEYS + 1))
     print(f"page: a key in a list of {len(WHOLE)} lines took {each:.1f} ms of a processor, {load()}", flush=True)
     browser.wait(lambda: not browser.run("return document.getElementById('sums-part').inert"))
@@ -82,10 +87,10 @@ def saved_whole(site: Site, browser: Browser) -> Iterator[Outcome]:
     folder = site.room.path("whole")
     save_to(browser, folder)
     browser.one("#csv-all").click()
-    browser.wait(lambda: browser.one("#save-question").is_displayed())
+    browser.wait(lambda: browser.shows("#save-question"))
     begun = time.monotonic()
     browser.one("#save-all").click()
-    browser.wait(lambda: browser.text("#saved-status").startswith("Saved"))
+    browser.wait(lambda: browser.shows("#saved-status", "Saved"))
     seconds = time.monotonic() - begun
     part = seconds * 388 / len(WHOLE)
     print(f"page: an order of {len(WHOLE)} books was saved in {seconds:.1f} s, of 388 in {part:.1f} s, {load()}")

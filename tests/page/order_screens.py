@@ -39,7 +39,7 @@ def narrow(site: Site, browser: Browser) -> Iterator[Outcome]:
         open_list(browser)
         browser.call("putLines", NEEDS)
         browser.one("#look-up").click()
-        browser.wait(lambda: browser.one("#sums-part").is_displayed())
+        browser.wait(lambda: browser.shows("#sums-part"))
         for width in (360, 320):
             browser.size(width, 800)
             name = f"order list in {language}, {width} pixels"
@@ -85,7 +85,7 @@ def basket(site: Site, browser: Browser) -> Iterator[Outcome]:
                 open_list(browser)
                 browser.call("putLines", text)
                 browser.one("#look-up").click()
-                browser.wait(lambda: browser.one("#sums-part").is_displayed())
+                browser.wait(lambda: browser.shows("#sums-part"))
                 browser.call("noteShifts")
                 browser.wait(lambda: len(browser.all("#list .clamped")) == BOOKS)
                 yield from laid_out(browser, f"basket, {language}, {width} pixels")

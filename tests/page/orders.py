@@ -62,16 +62,26 @@ def saved_status(browser: Browser, words: str) -> str:
     return browser.wait_for_text("#saved-status", words)
 
 
+def text_in(browser: Browser, id: str) -> str:
+    """What a part has, as the page itself reads it."""
+    return str(browser.run("return document.getElementById(arguments[0]).textContent", id))
+
+
+def wait_for_better(browser: Browser) -> None:
+    """Waits until all that could be better is looked for."""
+    browser.wait(lambda: text_in(browser, "list-copies") == "")
+
+
 def open_list(browser: Browser) -> None:
     browser.open("#order")
-    browser.wait(lambda: browser.text("#look-up"))
+    browser.wait(lambda: text_in(browser, "look-up"))
 
 
 def look_up(browser: Browser, text: str) -> None:
     """Looks lines up, and waits until all are answered."""
     browser.call("putLines", text)
     browser.one("#look-up").click()
-    browser.wait(lambda: not browser.one("#list-running").is_displayed() and browser.text("#list-status"))
+    browser.wait(lambda: not browser.shows("#list-running") and text_in(browser, "list-status"))
     status(browser, "looked up")
 
 
@@ -210,7 +220,7 @@ def thirty_books(site: Site, browser: Browser) -> Iterator[Outcome]:
         keys.tab_to(f"csv-{name}")
         keys.press(Keys.ENTER)
         if name == "gamma":
-            browser.wait(lambda: browser.one("#save-question").is_displayed())
+            browser.wait(lambda: browser.shows("#save-question"))
             told = f"The order has {len(wanted[name])} books. The prices of {len(wanted[name])} may be old"
             yield Outcome("what may be old is asked about", browser.text("#save-words").split(",")[0], told)
             keys.tab_to("save-all")
@@ -280,7 +290,7 @@ def needs(site: Site, browser: Browser) -> Iterator[Outcome]:
 
 def order_five_of_last(browser: Browser) -> None:
     """Edits the last line of a list, the second book's, to five copies, and looks the list up again."""
-    browser.wait(lambda: not browser.one("#list-running").is_displayed())
+    browser.wait(lambda: not browser.shows("#list-running"))
     browser.run("document.getElementById('lines').focus()")
     browser.one("#lines").send_keys(Keys.CONTROL, Keys.END)
     browser.one("#lines").send_keys(" 5")
@@ -347,7 +357,7 @@ BROKEN, DEARER = order_desk.BROKEN, order_desk.DEARER
 
 def notes_of(browser: Browser, *isbns: str) -> list[str]:
     """The notes of books, once other numbers of copies are looked at too."""
-    browser.wait(lambda: browser.text("#list-copies") == "")
+    wait_for_better(browser)
     return [row_of(browser, isbn)[-1] for isbn in isbns]
 
 
@@ -417,7 +427,7 @@ def changed(site: Site, browser: Browser) -> Iterator[Outcome]:
     focus = browser.run("return document.activeElement.id")
     yield Outcome("the button keeps the focus", focus, "csv-all")
     browser.one("#csv-all").click()
-    browser.wait(lambda: browser.one("#save-question").is_displayed())
+    browser.wait(lambda: browser.shows("#save-question"))
     asked = browser.text("#save-words")
     yield Outcome("what changed is asked about", asked, "The order has 2 books. 1 of them needs you.")
     browser.one("#save-all").click()
@@ -490,7 +500,8 @@ def seen_texts(browser: Browser, selector: str) -> list[str]:
 def printed(site: Site, browser: Browser) -> Iterator[Outcome]:
     """On paper there is the order of a wholesaler, with its name and time, and nothing else."""
     forms: dict[str, object] = {"gamma": {"columns": ["isbn", "copies"]}}
-    site.write_settings(order_desk.settings(shop="High Street Books", accounts={"beta": "B-7"}, forms=forms))
+    shop = {"shop": "High Street Books", "address": "12 High Street, York"}
+    site.write_settings(order_desk.settings(accounts={"beta": "B-7"}, forms=forms, **shop))
     open_list(browser)
     look_up(browser, lines_of(range(6)))
     browser.one("#order-reference").send_keys("2026-118")
@@ -505,7 +516,8 @@ def printed(site: Site, browser: Browser) -> Iterator[Outcome]:
     yield Outcome("its sum alone", browser.text("#paper .sum"), f"Sum: {total}, {copies} copies")
     yield Outcome("whose order it is", browser.text("#paper h1"), "Order: Beta & Sons")
     day = browser.run("return new Date().toLocaleDateString('en-GB', { dateStyle: 'long' })")
-    above = ["Order reference: 2026-118", f"Date: {day}", "Shop: High Street Books", "Account: B-7"]
+    above = ["Order reference: 2026-118", f"Date: {day}", "Shop: High Street Books", "Address: 12 High Street, York"]
+    above.append("Account: B-7")
     heads = ["ISBN", "Copies", "Price", "Sum", "Reference"]
     yield Outcome("its columns", browser.texts("#paper thead th"), heads)
     yield Outcome("what stands above it", browser.texts("#paper p")[:-1], above)
@@ -517,7 +529,7 @@ def printed(site: Site, browser: Browser) -> Iterator[Outcome]:
     browser.driver.execute_cdp_cmd("Emulation.setEmulatedMedia", {"media": ""})
     browser.run("window.dispatchEvent(new Event('afterprint'));")
     browser.one("#print-gamma").click()
-    browser.wait(lambda: browser.one("#save-question").is_displayed())
+    browser.wait(lambda: browser.shows("#save-question"))
     browser.one("#save-all").click()
     browser.wait(lambda: "Gamma" in browser.run("return document.getElementById('paper').textContent"))
     marked = browser.run("return document.querySelectorAll('#paper tbody tr').length")
@@ -611,9 +623,9 @@ def kept(site: Site, browser: Browser) -> Iterator[Outcome]:
     look_up(browser, f"{isbn_of(0)};2;Anna")
     rows = browser.rows("#list")
     browser.run("location.hash = '#missing'")
-    browser.wait(lambda: browser.one("#missing-view").is_displayed())
+    browser.wait(lambda: browser.shows("#missing-view"))
     browser.run("location.hash = '#order'")
-    browser.wait(lambda: browser.one("#order-view").is_displayed())
+    browser.wait(lambda: browser.shows("#order-view"))
     yield Outcome("the list is still there", browser.rows("#list"), rows)
     stores = browser.run("return JSON.stringify([{ ...localStorage }, { ...sessionStorage }, document.cookie])")
     yield Outcome("nothing is kept", [text for text in (isbn_of(0), "Anna") if text in stores], [])
@@ -665,13 +677,13 @@ def asked_before(site: Site, browser: Browser) -> Iterator[Outcome]:
     came = [item.split(" (")[0] for item in browser.texts("#list-needs li")]
     yield Outcome("each with its reason", sorted(came), sorted(reasons))
     browser.one("#csv-all").click()
-    browser.wait(lambda: browser.one("#save-question").is_displayed())
+    browser.wait(lambda: browser.shows("#save-question"))
     words = "The order has 3 books. 2 of them need you."
     yield Outcome("they are asked about", browser.text("#save-words"), words)
     browser.one("#save-none").click()
     yield Outcome("nothing is saved", list(folder.iterdir()), [])
     browser.one("#csv-all").click()
-    browser.wait(lambda: browser.one("#save-question").is_displayed())
+    browser.wait(lambda: browser.shows("#save-question"))
     browser.one("#save-right").click()
     told = saved_status(browser, "Saved").partition(": ")[2]
     yield Outcome("what is in no order is told", told, "1 book. 4 of the list are in no order.")
@@ -733,10 +745,10 @@ def missing_marks(site: Site, browser: Browser) -> Iterator[Outcome]:
     look_up(browser, f"{isbn_of(2)}\n{isbn_of(3)}")
     marked = [row.text for row in browser.all("#list tr[data-series] .tag")]
     yield Outcome("the book of a wholesaler with missing messages", marked, ["2 missing"])
-    yield Outcome("its sum", browser.texts("#sums .tag"), ["2 missing"])
+    yield Outcome("its sum", browser.texts("#sums .tag"), ["2 messages missing"])
     allow_clipboard(site, browser, "granted")
     browser.one("#copy-all").click()
-    browser.wait(lambda: browser.one("#save-question").is_displayed())
+    browser.wait(lambda: browser.shows("#save-question"))
     words = "The order has 2 books. The price of 1 may be old, since messages of its wholesaler are missing."
     yield Outcome("the question counts it", browser.text("#save-words"), words)
     browser.one("#save-all").click()

@@ -225,7 +225,7 @@ def kept_files(site: Site, browser: Browser) -> Iterator[Outcome]:
         yield Outcome("nothing is told where they are the same", known.one("#renewed").is_displayed(), False)
         site.write_settings(shop="Another Shop")
         opened(known)
-        told = known.wait(lambda: known.one("#renewed").is_displayed())
+        told = known.wait(lambda: known.shows("#renewed"))
         yield Outcome("other settings are told", told, True)
         known.one("#load-anew").click()
         came = known.wait(lambda: known.text("#shop") == "Another Shop · buying")

@@ -10,7 +10,7 @@ from tests.page.articles import ask
 from tests.page.browser import Browser
 from tests.page.days import with_clock
 from tests.page.order_desk import DEARER, EUROS_ALONE, RECOMMENDED, RISING, isbn_of
-from tests.page.orders import look_up, open_list
+from tests.page.orders import look_up, open_list, wait_for_better
 from tests.page.site import Site
 from tests.page.week import SHOP
 from tests.running import Outcome
@@ -117,7 +117,7 @@ def order_list(site: Site, browser: Browser) -> Iterator[Outcome]:
     with on_the_day(browser):
         open_list(browser)
         look_up(browser, "\n".join(LINES))
-        browser.wait(lambda: browser.text("#list-copies") == "")
+        wait_for_better(browser)
         browser.one("#order-reference").send_keys("2025-118")
         browser.run("document.activeElement.blur()")
         yield shot(browser, "page-order.png", "#list-part", WIDE)

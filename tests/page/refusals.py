@@ -143,8 +143,7 @@ Promise.all([import('/settings.js'), import('/wording.js')]).then(([{ readSettin
 
 def settings(site: Site, browser: Browser) -> Iterator[Outcome]:
     path = site.own / "desk.json"
-    browser.open("")
-    browser.wait(lambda: browser.one("#day").get_attribute("value"))
+    browser.start()
     all_told = browser.driver.execute_async_script(READ, [text for text, _ in SETTINGS])
     for (text, words), came in zip(SETTINGS, all_told, strict=True):
         # Behind a fault of JSON stands what the browser says of it.

@@ -119,8 +119,7 @@ def first_sight(site: Site, browser: Browser) -> Iterator[Outcome]:
 def forced_colours(site: Site, browser: Browser) -> Iterator[Outcome]:
     """Where the system sets the colours, the view that is open is the one that is underlined."""
     with preferring(browser, "forced-colors", "active"):
-        browser.open("")
-        browser.wait(lambda: browser.one("#day").get_attribute("value"))
+        browser.start()
         edges = browser.call("linkLines")
     yield Outcome("forced colours: the line below a view", edges, [["page", False], [None, True], [None, True]])
 

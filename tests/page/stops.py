@@ -52,7 +52,7 @@ def silent(site: Site, browser: Browser) -> Iterator[Outcome]:
     unfold(browser)
     site.freeze_desk()
     browser.call("askAndNote", article())
-    browser.wait(lambda: "Asking" in browser.text("#article-status"))
+    browser.wait(lambda: browser.shows("#article-status", "Asking"))
     stale = browser.all("#offers tr, #picture svg, #spans tr")
     yield Outcome("a new question leaves nothing of the one before", stale, [])
     words = "The desk takes longer than usual …"
@@ -113,13 +113,13 @@ def missing_view(site: Site, browser: Browser) -> Iterator[Outcome]:
     ranges = browser.texts("#report-north .ranges li")
     yield Outcome("what was reported stays", ranges[:1], ["3 to 4 (2 messages)"])
     browser.run("location.hash = '#article'")
-    browser.wait(lambda: not browser.one("#down").is_displayed())
+    browser.wait(lambda: not browser.shows("#down"))
     # A view that was left asks no more.
-    again = browser.wait(lambda: browser.one("#down").is_displayed(), 8 / PACE)
+    again = browser.wait(lambda: browser.shows("#down"), 8 / PACE)
     yield Outcome("the note goes with its view", bool(again), False)
     browser.run("location.hash = '#missing'")
     site.start_desk()
-    gone = browser.wait(lambda: not browser.one("#down").is_displayed())
+    gone = browser.wait(lambda: not browser.shows("#down"))
     yield Outcome("missing messages: the note is gone", gone, True)
 
 

@@ -4,7 +4,7 @@ import assert from "node:assert/strict";
 import { test } from "node:test";
 
 import { elsewhereInWords, fallsInWords, onlyMoreInWords } from "../page/better.js";
-import { detailsOf, sentenceOf, whyOf } from "../page/decision.js";
+import { detailsOf, sentenceOf, sumInWords, whyOf } from "../page/decision.js";
 import { untilNotes } from "../page/answer.js";
 import { keyOf } from "../page/offers.js";
 import { differenceInWords } from "../page/offers-table.js";
@@ -130,6 +130,13 @@ test("the sentence says which of two records of a wholesaler is chosen", () => {
   assert.equal(sentenceOf(answerOf([offers[0]], { ...offers[0], rule: 1 }), SETTINGS), "Buy 1 from North Books at £6.10 a copy");
   const long = { ...offers[0], reference: `\u202e${"x".repeat(300)}`, rule: 1 };
   assert.ok(sentenceOf(answerOf([long, offers[1]], long), SETTINGS).length < 100);
+});
+
+test("a net price of nothing is a reason to ask, and has no sum", () => {
+  const answer = (amount) => answerOf([offer("north", amount)], { ...offer("north", amount), rule: 1 });
+  assert.equal(sentenceOf(answer("0.000"), SETTINGS), "North Books says £0.00: ask before you order");
+  assert.equal(sumInWords(answer("0.000")), "");
+  assert.equal(sumInWords(answer("6.000")), "£6.00");
 });
 
 test("an offer at the same price is not passed over", () => {

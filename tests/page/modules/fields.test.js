@@ -36,6 +36,16 @@ test("an ISBN with a wrong last sign has a remark, which names no digit that wou
   assert.doesNotMatch(ten.remarks.isbn, /\d/);
 });
 
+// The numbers of a pen, of a bar of chocolate, of a journal, and of a shop's own; only 978 and 979 begin a book's.
+test("the bar code of other goods has a remark, so that it is not asked for like a book's", () => {
+  for (const code of ["4006381333931", "7622210449283", "9771234567003", "2012345678903"]) {
+    const { values, remarks } = readAll({ isbn: code });
+    assert.equal(values.isbn, code);
+    assert.match(remarks.isbn ?? "", /978 nor 979/, code);
+  }
+  for (const isbn of ["9780306406157", "9791090636071"]) assert.deepEqual(readAll({ isbn }).remarks, {});
+});
+
 test("an ISBN is read out of what stands around it, and several are told", () => {
   const { values, remarks } = readAll({ isbn: "ISBN: 978-0-306-40615-7 (hardback)" });
   assert.deepEqual([values.isbn, remarks], ["9780306406157", {}]);

@@ -58,7 +58,8 @@ test("a column of copies may have a word for them", () => {
 test("copies that are no whole number from 1 to 999999 are wrong", () => {
   for (const copies of ["0", "1000000", "-1", "1.5", "2,5", "1.000"]) {
     const table = `ISBN;Qty;Place\n${BOOK};${copies};shelf`;
-    assert.equal(readList(table).books[0].wrong, "copies", copies);
+    const { wrong, given } = readList(table).books[0];
+    assert.deepEqual([wrong, given], ["copies", copies]);
   }
   for (const copies of ["0", "1000000", "-1", "1.5", "1.000"]) assert.equal(only(`${BOOK} ${copies}`).wrong, "copies", copies);
   for (const copies of ["", "six"]) {

@@ -21,7 +21,9 @@ test("a list is the same when its text is read again", () => {
     "nothing here\n9,78E+12 3",
   ]) {
     const { books } = readList(text);
-    assert.deepEqual(read(textOfBooks(books)).map(parts), books.map(parts), text);
+    const again = read(textOfBooks(books));
+    assert.deepEqual(again.map(parts), books.map(parts), text);
+    assert.deepEqual(again.map(({ given }) => given), books.map(({ given }) => given), text);
   }
 });
 
@@ -32,6 +34,8 @@ test("a row has another ISBN or other copies, or is left out", () => {
   assert.deepEqual(after(books[1], { copies: "6" })[1], [SECOND, 6, "six", undefined, false]);
   assert.deepEqual(after(books[2], { copies: "4" })[2], [THIRD, 4, "", undefined, false]);
   assert.deepEqual(after(books[2], { copies: "x" })[2][3], "copies");
+  const written = (book, changes) => read(textOfBooks(edited(books, book, changes)))[2].given;
+  assert.deepEqual([written(books[0], { isbn: BOOK }), written(books[2], { isbn: BOOK })], ["0", "0"]);
   assert.deepEqual(after(books[1], undefined).map(([isbn]) => isbn), [undefined, THIRD]);
 });
 

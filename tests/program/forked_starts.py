@@ -1,6 +1,7 @@
 """Starts of the programs of Python without Python's own start: forking.py does them."""
 
 import array
+import atexit
 import functools
 import json
 import os
@@ -17,7 +18,7 @@ from pathlib import Path
 from tools.root import PACKAGES, ROOT
 from tools.words import Word
 
-FORKING = Path(__file__).with_name("forking.py")
+PROGRAM = Path(__file__).with_name("forking.py")
 
 # How the first line of these programs begins. Another Python, as that of desk-follow, is started itself.
 FIRST = "#!/usr/bin/env -S python3 -E -s -S"
@@ -31,6 +32,11 @@ TELLING = {"--help", "-h", "--version"}
 # So much a pipe takes at once, however large it is.
 OF_A_PIPE = 4096
 
+# The variables of an environment by which Python chooses at its start how it writes.
+Locale = frozenset[tuple[str, str]]
+
+# What starts programs, by its locale.
+FORKING: dict[Locale, tuple[socket.socket, subprocess.Popen[bytes]]] = {}
 LOCK = threading.Lock()
 
 
@@ -40,21 +46,36 @@ def programs() -> list[str]:
     return [str(path) for path in sorted(ROOT.glob("bin/*")) if path.read_text(encoding="utf-8").startswith(FIRST)]
 
 
-def locale_of(environment: Mapping[str, str]) -> frozenset[tuple[str, str]]:
-    """By what Python chooses at its start how it writes."""
+def locale_of(environment: Mapping[str, str]) -> Locale:
     return frozenset(item for item in environment.items() if item[0].startswith(("LC_", "LANG")))
 
 
-@functools.cache
-def forking(locale: frozenset[tuple[str, str]]) -> socket.socket:
-    """Where starts in that locale are asked for. What does them ends with this process."""
+def forking(locale: Locale) -> socket.socket:
+    """Where starts in that locale are asked for. What does them ends with this process, which waits for it."""
+    # Groups run side by side.
+    with LOCK:
+        if locale not in FORKING:
+            FORKING[locale] = begun(locale)
+        return FORKING[locale][0]
+
+
+@atexit.register
+def end() -> None:
+    for control, process in FORKING.values():
+        control.close()
+        process.communicate()
+    FORKING.clear()
+
+
+def begun(locale: Locale) -> tuple[socket.socket, subprocess.Popen[bytes]]:
     mine, its = socket.socketpair(socket.AF_UNIX, socket.SOCK_SEQPACKET)
-    words: list[Word] = [sys.executable, "-P", "-E", "-s", "-S", "-B", FORKING, str(its.fileno()), *programs()]
+    words: list[Word] = [sys.executable, "-P", "-E", "-s", "-S", "-B", PROGRAM, str(its.fileno()), *programs()]
     environment = {"PATH": os.environ["PATH"], **dict(locale)}
+    pipe, passed = subprocess.PIPE, [its.fileno()]
     # Its streams are pipes, as those of its starts are.
-    subprocess.Popen(words, stdin=subprocess.PIPE, stdout=subprocess.PIPE, env=environment, pass_fds=[its.fileno()])
+    process = subprocess.Popen(words, stdin=pipe, stdout=pipe, env=environment, pass_fds=passed)
     its.close()
-    return mine
+    return mine, process
 
 
 def words_of(words: Sequence[Word | bytes], given: bytes) -> list[str] | None:
@@ -71,10 +92,7 @@ def sent(words: list[str], folder: Path, environment: Mapping[str, str], files: 
     """Asks for a start, and lets go of its files."""
     start = {"words": words, "folder": str(folder), "environment": dict(environment), "path": PACKAGES}
     beside = [(socket.SOL_SOCKET, socket.SCM_RIGHTS, array.array("i", files))]
-    # Groups run side by side.
-    with LOCK:
-        control = forking(locale_of(environment))
-    control.sendmsg([json.dumps(start).encode()], beside)
+    forking(locale_of(environment)).sendmsg([json.dumps(start).encode()], beside)
     for file in files:
         os.close(file)
 

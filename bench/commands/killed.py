@@ -17,7 +17,7 @@ from collections import Counter
 from pathlib import Path
 from random import Random
 
-from bench.figures.desk import proved_program
+from bench.figures.words import add_program, program_of
 from bench.kills.desk import Desk, KillFault
 from bench.kills.portions import portion
 from bench.kills.requests import Maker
@@ -36,7 +36,7 @@ def arguments() -> argparse.Namespace:
     parser.add_argument("--requests", type=int, default=20_000, metavar="N")
     parser.add_argument("--every", type=int, default=300, metavar="K")
     parser.add_argument("--seed", type=int, default=1, metavar="S")
-    parser.add_argument("--desk", type=Path, metavar="PROGRAM", help="this one, not the proved one")
+    add_program(parser)
     return parser.parse_args()
 
 
@@ -56,7 +56,7 @@ def lacking(found: Counter[str]) -> list[str]:
 
 def run(given: argparse.Namespace, folder: Path) -> str:
     """Gives all portions, and what is to be said of it."""
-    program = given.desk.resolve() if given.desk else proved_program()
+    program = program_of(given)
     rules = folder / "rules.toml"
     rules.write_text(RULES)
     whole, killed = (Desk(program, folder / name, rules) for name in ("whole.db", "killed.db"))

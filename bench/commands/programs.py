@@ -15,12 +15,14 @@ from pathlib import Path
 
 from bench.figures import shop, year
 from bench.figures.beside import Bench, copy, export, tell
-from bench.figures.desk import proved_program
 from bench.figures.filling import answer_of, filled
 from bench.figures.runs import BenchmarkFault
 from bench.figures.served import Served
+from bench.figures.words import ended, parser_of, program_of
 from tools.ports import free_port
 from tools.words import Word
+
+PROGRAM = "bench/programs"
 
 # A feed is in more messages than it needs.
 PARTS = 4
@@ -102,20 +104,19 @@ OF_DESK: dict[str, Callable[[Bench], None]] = {"prices": prices, "copy": copy, "
 
 
 def words() -> argparse.Namespace:
-    parser = argparse.ArgumentParser(prog="bench/programs", description="Measures the programs beside the desk.")
-    parser.add_argument("folder", type=Path, metavar="FOLDER", help="is made")
+    parser = parser_of(PROGRAM, "Measures the programs beside the desk.")
     parser.add_argument(
         "names", nargs="*", metavar="NAME", choices=[*OF_FEEDS, *OF_DESK, []], help="measure these only"
     )
-    parser.add_argument("--desk", type=Path, metavar="PROGRAM", help="measure this one, not the proved one")
     parser.add_argument("--articles", type=int, default=100_000, metavar="N", help="those of the desk and of a feed")
     parser.add_argument("--db", type=Path, metavar="FILE", help="measure over this desk, which `renew` replaces")
     parser.add_argument("--database", metavar="WORDS", help="measure desk-follow, into this one of PostgreSQL")
     return parser.parse_args()
 
 
-def measure(given: argparse.Namespace) -> None:
-    program = given.desk.resolve() if given.desk else proved_program()
+def measure() -> int:
+    given = words()
+    program = program_of(given)
     folder = given.folder.resolve()
     shop.lay_out(program, folder)
     names = given.names or [*OF_FEEDS, *OF_DESK]
@@ -130,16 +131,8 @@ def measure(given: argparse.Namespace) -> None:
     for name, act in (OF_FEEDS | OF_DESK).items():
         if name in names:
             act(bench)
-
-
-def main() -> int:
-    try:
-        measure(words())
-    except (BenchmarkFault, FileExistsError) as fault:
-        print(f"bench/programs: {fault}", file=sys.stderr)
-        return 1
     return 0
 
 
 if __name__ == "__main__":
-    sys.exit(main())
+    sys.exit(ended(PROGRAM, measure))

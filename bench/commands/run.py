@@ -12,8 +12,9 @@ import tempfile
 from pathlib import Path
 
 from bench.figures import counted, in_files, in_memory
-from bench.figures.desk import Desk, proved_program
+from bench.figures.desk import Desk
 from bench.figures.runs import BenchmarkFault
+from bench.figures.words import add_program, program_of
 
 FIGURES = {
     "reading": in_memory.reading,
@@ -55,12 +56,12 @@ def main() -> int:
         epilog="The figures: " + ", ".join(FIGURES),
     )
     parser.add_argument("names", nargs="*", metavar="FIGURE")
-    parser.add_argument("--desk", type=Path, metavar="PROGRAM", help="measure this one, not the proved one")
+    add_program(parser)
     given = parser.parse_args()
     unknown = [name for name in given.names if name not in FIGURES]
     if unknown:
         parser.error(f"no figure {unknown[0]}")
-    program = given.desk.resolve() if given.desk else proved_program()
+    program = program_of(given)
     with tempfile.TemporaryDirectory(prefix="onixdesk-") as folder:
         desk = Desk(program, Path(folder))
         printed = [print_figure(name, desk) for name in given.names or FIGURES]

@@ -13,18 +13,16 @@ import sys
 from pathlib import Path
 
 from bench.figures import sizes, tools
-from bench.figures.desk import Desk, proved_program
+from bench.figures.desk import Desk
 from bench.figures.growing import Growing, planned
-from bench.figures.runs import BenchmarkFault
+from bench.figures.words import ended, parser_of, program_of
+
+PROGRAM = "bench/scale"
 
 
 def words() -> argparse.Namespace:
-    parser = argparse.ArgumentParser(
-        prog="bench/scale",
-        description="Measures a desk as it grows by messages, beside the same rows put by SQLite alone.",
-    )
-    parser.add_argument("folder", type=Path, metavar="FOLDER", help="is made; keeps both and what was measured")
-    parser.add_argument("--desk", type=Path, metavar="PROGRAM", help="measure this one, not the proved one")
+    does = "Measures a desk as it grows by messages, beside the same rows put by SQLite alone."
+    parser = parser_of(PROGRAM, does, "is made; keeps both and what was measured")
     parser.add_argument("--start", type=int, default=10_000, metavar="ARTICLES", help="the first size")
     parser.add_argument("--step", type=float, default=10**0.5, metavar="TIMES", help="a size to the one before")
     parser.add_argument("--end", type=int, default=1_000_000, metavar="ARTICLES", help="no size is greater")
@@ -37,11 +35,12 @@ def words() -> argparse.Namespace:
     return given
 
 
-def measure(given: argparse.Namespace) -> None:
+def measure() -> int:
+    given = words()
     if given.picture:
         tools.need("gnuplot", "gnuplot-nox")
     given.folder.mkdir(parents=True)
-    program = given.desk.resolve() if given.desk else proved_program()
+    program = program_of(given)
     plan = planned(given.message, given.start, given.step, given.end, given.questions)
     kept = given.folder / "sizes.csv"
     with open(kept, "w", encoding="ascii", buffering=1) as file:
@@ -54,16 +53,8 @@ def measure(given: argparse.Namespace) -> None:
                 print(f"    {figure.line()}", flush=True)
     if given.picture:
         subprocess.run(["gnuplot", "-c", tools.SOURCES / "growth.gp", kept, given.picture], check=True)
-
-
-def main() -> int:
-    try:
-        measure(words())
-    except (BenchmarkFault, FileExistsError) as fault:
-        print(f"bench/scale: {fault}", file=sys.stderr)
-        return 1
     return 0
 
 
 if __name__ == "__main__":
-    sys.exit(main())
+    sys.exit(ended(PROGRAM, measure))

@@ -22,15 +22,16 @@ from pathlib import Path
 
 from bench.figures import year
 from bench.figures.beside import Bench, copy, export, tell
-from bench.figures.desk import proved_program
 from bench.figures.filling import filled
 from bench.figures.past import put_past
-from bench.figures.runs import BenchmarkFault
 from bench.figures.served import Served
 from bench.figures.shop import lay_out
+from bench.figures.words import ended, parser_of, program_of
 from bench.figures.year_picture import Line, picture
 from tools.ports import HOST, free_port
 from tools.words import Word
+
+PROGRAM = "bench/year"
 
 # The file of the desk, in megabytes, from which on a start takes more than the unit's LimitDATA (docs/SCALE.md).
 START = 840
@@ -49,9 +50,7 @@ esac
 
 
 def words() -> argparse.Namespace:
-    parser = argparse.ArgumentParser(prog="bench/year", description="Renews a desk that has had a year of messages.")
-    parser.add_argument("folder", type=Path, metavar="FOLDER", help="is made")
-    parser.add_argument("--desk", type=Path, metavar="PROGRAM", help="measure this one, not the proved one")
+    parser = parser_of(PROGRAM, "Renews a desk that has had a year of messages.")
     parser.add_argument("--articles", type=int, default=20_000, metavar="N", help="those of a feed")
     parser.add_argument("--picture", type=Path, metavar="FILE", help="draw the growth of the file into this SVG file")
     parser.add_argument("--days", type=int, default=365, metavar="N", help="as many feeds come")
@@ -161,8 +160,9 @@ def renew(bench: Bench, targets: list[str]) -> int:
     return 1 if asking.wrong or longest > started - stopped + other + 0.1 else 0
 
 
-def measure(given: argparse.Namespace) -> int:
-    program, folder = given.desk.resolve() if given.desk else proved_program(), given.folder.resolve()
+def measure() -> int:
+    given = words()
+    program, folder = program_of(given), given.folder.resolve()
     lay_out(program, folder)
     bench = Bench(program, folder, given.articles, folder / "shop.db")
     began = time.monotonic()
@@ -178,13 +178,5 @@ def measure(given: argparse.Namespace) -> int:
     return status
 
 
-def main() -> int:
-    try:
-        return measure(words())
-    except (BenchmarkFault, FileExistsError) as fault:
-        print(f"bench/year: {fault}", file=sys.stderr)
-        return 1
-
-
 if __name__ == "__main__":
-    sys.exit(main())
+    sys.exit(ended(PROGRAM, measure))

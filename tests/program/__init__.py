@@ -5,6 +5,7 @@ What a case wants is taken from the desk's written rules, never from what the pr
 A group is a generator function over a `Room`, a folder of its own in which the program is run, and yields one
 `Outcome` for each of its cases. In a module of tests each function over a room alone is one, and a list `GROUPS` has
 those that take more. Groups run side by side.
+A program of Python that a room calls is started by forking.py, which spares Python's own start.
 """
 
 import importlib

@@ -9,6 +9,7 @@ from collections.abc import Callable, Iterator, Mapping, Sequence
 from pathlib import Path
 from typing import NamedTuple
 
+from tests.program import forked_starts
 from tests.running import PROGRAM, Cases, Outcome
 from tools.words import Word
 
@@ -67,7 +68,11 @@ class Room:
         folder: str = ".",
     ) -> Ran:
         """How a program ends that is run in the room, and what it writes. Its input is bytes or an open file, whose
-        number is given, as is that of another output; the environment stands in place of this one."""
+        number is given, as is that of another output; the environment stands in place of this one. A program of Python
+        is started by forking.py where nothing keeps it from that."""
+        if isinstance(given, bytes) and output == subprocess.PIPE and (forked := forked_starts.words_of(words, given)):
+            place = os.environ if environment is None else environment
+            return Ran(*forked_starts.run(forked, given, self.path(folder), place, SECONDS))
         with contextlib.ExitStack() as opened:
             text, stream = (given, None) if isinstance(given, bytes) else (None, given)
             if given is UNREADABLE:

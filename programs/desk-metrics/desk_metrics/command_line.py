@@ -11,7 +11,7 @@ from command_lines.parsing import count, parser_of
 from desk_metrics.gathering import Gathering
 from desk_metrics.kept import Standing
 from desk_metrics.watched import Places, by_desk, names_in
-from onixdesk_inbox.command_line import series
+from onixdesk_inbox.series import series
 from onixdesk_inbox.settings import Settings, address
 
 PROGRAM = "desk-metrics"

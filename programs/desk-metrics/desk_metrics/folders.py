@@ -5,8 +5,7 @@ import os
 from collections.abc import Iterator
 from pathlib import Path
 
-from onixdesk_inbox.archive import ANSWER
-from onixdesk_inbox.incoming import TAKEN
+from onixdesk_inbox.names import ANSWER, TAKEN
 
 # The file whose time is that of the last success of onixdesk-fetch.
 SUCCEEDED = "succeeded"

@@ -6,7 +6,7 @@ from dataclasses import dataclass
 from pathlib import Path
 
 from command_lines.ending import Fault
-from onixdesk_inbox.command_line import INCOMING, SETTINGS, STATE, is_series
+from onixdesk_inbox.series import INCOMING, SETTINGS, STATE, is_series
 from onixdesk_inbox.settings import Address, read_settings
 
 # In the package the settings of this name show what can be set. A series of that name has to be given.

@@ -12,7 +12,7 @@ from command_lines.parsing import parser_of
 from onixdesk_fetch.fetching import Run
 from onixdesk_fetch.server import NO_KEY, Server
 from onixdesk_fetch.settings import Settings, read_settings
-from onixdesk_inbox.command_line import INCOMING, series
+from onixdesk_inbox.series import INCOMING, series
 from onixdesk_inbox.telling import ERROR, NOTICE, WARNING, is_journal
 
 PROGRAM = "onixdesk-fetch"

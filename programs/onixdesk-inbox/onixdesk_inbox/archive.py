@@ -5,13 +5,11 @@ import itertools
 import os
 from pathlib import Path
 
-from onixdesk_inbox.names import kept_name, kind, numbered
+from onixdesk_inbox.names import ANSWER, kept_name, kind, numbered
 from onixdesk_inbox.numbers import digest_of, sync_folder
 
 # What a file of one byte takes of a disk too.
 BLOCK = 4096
-
-ANSWER = ".answer"
 
 
 def room_of(size: int) -> int:

@@ -1,11 +1,8 @@
 """The command line of onixdesk-inbox."""
 
 import argparse
-import calendar
 import os
-import re
 import sys
-import time
 from functools import partial
 from pathlib import Path
 
@@ -18,14 +15,11 @@ from onixdesk_inbox.memory import LET_IN, REFUSED
 from onixdesk_inbox.names import kept_name
 from onixdesk_inbox.numbers import digest_of
 from onixdesk_inbox.running import Run
+from onixdesk_inbox.series import INCOMING, SETTINGS, STATE, series
 from onixdesk_inbox.settings import read_settings
 from onixdesk_inbox.state import State
 from onixdesk_inbox.taking import Taker
 from onixdesk_inbox.telling import ERROR, NOTICE, PROGRAM, Voice
-
-SETTINGS = "/etc/onixdesk/inbox/{}.conf"
-INCOMING = "/var/lib/onixdesk-incoming/{}"
-STATE = "/var/lib/onixdesk-inbox/{}"
 
 DESCRIPTION = """\
 Takes the files that a wholesaler has put into a folder to a running desk: what ends in .csv as it is, what ends
@@ -40,20 +34,15 @@ line or bad settings; 3 if a folder cannot be used, or the inbox itself fails. d
 
 SINCE = {"all": ALL, "lacking": LACKING}
 
-is_series = re.compile("[a-z0-9-]{1,32}").fullmatch
-
-
-def series(word: str) -> str:
-    if not is_series(word):
-        raise argparse.ArgumentTypeError(f"{ascii(word)} is not the name of a series")
-    return word
-
 
 def since(word: str) -> Since:
     """What is taken again: `all`, what the desk is `lacking`, or what was answered since a time as copies of a desk are
     named by."""
     if word in SINCE:
         return SINCE[word]
+    import calendar
+    import time
+
     try:
         return Since(calendar.timegm(time.strptime(word, "%Y-%m-%dT%H-%M-%SZ")))
     except ValueError:

@@ -5,7 +5,6 @@ import os
 import re
 import signal
 import subprocess
-import tempfile
 import time
 from collections import deque
 from collections.abc import Iterator
@@ -96,6 +95,8 @@ def said(answer: Path, file: str, name: str) -> Said:
 
 def check_words(words: tuple[str, ...], program: Path, file: Path) -> None:
     """BadSettings where the converter does not take the words of that file of settings: it is given nothing to read."""
+    import tempfile
+
     with tempfile.TemporaryDirectory() as folder:
         call: list[str | Path] = [program, *words, "-o", folder, STANDARD_INPUT]
         ran = subprocess.run(call, stdin=subprocess.DEVNULL, capture_output=True)

@@ -5,7 +5,6 @@ import json
 import re
 from collections.abc import Iterator
 from dataclasses import dataclass
-from http.client import HTTPConnection, HTTPException
 from pathlib import Path
 from typing import Any
 
@@ -102,6 +101,9 @@ class Desk:
         self.address = address
 
     def ask(self, method: str, target: str, body: bytes | None = None) -> Reply:
+        # A fifth of a start, and most runs have nothing to ask.
+        from http.client import HTTPConnection, HTTPException
+
         connection = HTTPConnection(self.address.host, self.address.port, timeout=SECONDS)
         try:
             connection.request(method, target, body)

@@ -2,7 +2,6 @@
 memory ends that process alone."""
 
 import contextlib
-import multiprocessing
 import resource
 import subprocess
 from collections.abc import Iterator
@@ -13,8 +12,6 @@ from pathlib import Path
 from command_lines.ending import Fault
 from onixdesk_inbox.names import shown
 from onixdesk_inbox.packed import Damage, unpacked
-
-CONTEXT = multiprocessing.get_context("fork")
 
 # In bytes. A dictionary of a usual zip has half of it at most.
 MEMORY = 128 * 1_048_576
@@ -51,12 +48,16 @@ class Feed:
     unpacked: else it would take a damaged file for a whole one."""
 
     def __init__(self, source: Path) -> None:
+        # Imported where a file is packed, as few are: it would lengthen each start.
+        import multiprocessing
+
+        context = multiprocessing.get_context("fork")
         self.source = source
         # The number of the first is handed to the program.
         output, into = pipe()
         self.output, self.input = FileIO(output, "rb"), FileIO(into, "wb")
-        self.told, self.telling = CONTEXT.Pipe(duplex=False)
-        self.process = CONTEXT.Process(target=self.run, daemon=True)
+        self.told, self.telling = context.Pipe(duplex=False)
+        self.process = context.Process(target=self.run, daemon=True)
 
     def run(self) -> None:
         """What the process does."""

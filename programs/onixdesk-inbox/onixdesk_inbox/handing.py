@@ -3,16 +3,15 @@ into a file of a folder that both share. What goes wrong with them is told, and 
 
 import contextlib
 import os
-import re
 import shutil
 from dataclasses import dataclass, replace
 from pathlib import Path
-from typing import NamedTuple
 
 from command_lines.ending import Fault
 from onixdesk_inbox.conversion import Converter
 from onixdesk_inbox.desk import Accepted, accepted, replies_in
 from onixdesk_inbox.feeding import unpack
+from onixdesk_inbox.handed import Message
 from onixdesk_inbox.names import PACKED, shown
 from onixdesk_inbox.settings import NEXT, Settings
 from onixdesk_inbox.state import Work
@@ -20,27 +19,6 @@ from onixdesk_inbox.verdicts import Refusal
 
 # The most bytes of rows that wait, and of a packed feed, which is unpacked into a file for its titles.
 MOST_WAITING = MOST_UNPACKED = 1 << 30
-
-is_name = re.compile(r"([0-9]{10})-([0-9]{1,10})-([a-z0-9-]{1,32})\.csv").fullmatch
-
-
-class Message(NamedTuple):
-    """Where a feed stands: its series, the desk's number of its first message, and the second since 1970 of the
-    desk's first answer."""
-
-    series: str
-    number: int
-    moment: int
-
-    def name(self) -> str:
-        """That of the file of its rows."""
-        return f"{self.moment:010}-{self.number}-{self.series}.csv"
-
-
-def messages_in(folder: Path) -> list[tuple[Path, Message]]:
-    """The files of rows that wait, the oldest message first."""
-    names = filter(None, map(is_name, sorted(os.listdir(folder))))
-    return [(folder / found[0], Message(found[3], int(found[2]), int(found[1]))) for found in names]
 
 
 def stands(answer: Path) -> Accepted:

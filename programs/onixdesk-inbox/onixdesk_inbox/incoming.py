@@ -6,7 +6,6 @@ import errno
 import hashlib
 import io
 import os
-import secrets
 import stat
 import time
 from collections.abc import Iterator
@@ -15,7 +14,7 @@ from pathlib import Path
 
 from command_lines.ending import Fault
 from onixdesk_inbox.desk import LONGEST_MESSAGE, REASONS
-from onixdesk_inbox.names import RECORDS, UNFINISHED, ending, numbered
+from onixdesk_inbox.names import RECORDS, TAKEN, UNFINISHED, ending, numbered
 from onixdesk_inbox.verdicts import Gone, Left, Lies
 
 PIECE = 1 << 20
@@ -31,9 +30,7 @@ KINDS = {
     stat.S_IFBLK: "a device",
 }
 
-# What a file is named by while it is removed, before random digits and its ending, and how many names are tried where
-# it has to have its own back.
-TAKEN = ".onixdesk-taken-"
+# How many names are tried where a file has to have its own back.
 NAMES = 1000
 
 # A named pipe without a writer would else be waited for.
@@ -53,6 +50,11 @@ class State:
 
 def state_of(status: os.stat_result) -> State:
     return State(status.st_dev, status.st_ino, status.st_size, status.st_mtime_ns, status.st_ctime_ns)
+
+
+def digits() -> str:
+    """Random ones."""
+    return os.urandom(8).hex()
 
 
 def is_sticky(folder: int) -> bool:
@@ -136,7 +138,7 @@ class Incoming:
     def remove(self, candidate: Candidate) -> None:
         """Removes a file that was taken, unless it changed meanwhile, or another got its name. It is looked at for the
         last time under a name of its own: what gets its first name by then stays there."""
-        own = f"{TAKEN}{secrets.token_hex(8)}{ending(candidate.name)}"
+        own = f"{TAKEN}{digits()}{ending(candidate.name)}"
         try:
             if state_of(self.status(candidate.name)) != candidate.state:
                 return
@@ -168,7 +170,7 @@ class Incoming:
                     )
                     os.unlink(own, dir_fd=self.folder)
                 except PermissionError:
-                    new = f"{TAKEN.removeprefix('.')}{secrets.token_hex(8)}{ending(name) or ''}"
+                    new = f"{TAKEN.removeprefix('.')}{digits()}{ending(name) or ''}"
                     os.rename(own, new, src_dir_fd=self.folder, dst_dir_fd=self.folder)
                 return
 

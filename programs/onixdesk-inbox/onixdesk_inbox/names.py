@@ -12,6 +12,12 @@ FEEDS = (*PLAIN, *PACKED)
 # What clients of FTP, SFTP and the like add to the name of a file that they are still writing.
 UNFINISHED = (".part", ".partial", ".filepart", ".tmp", ".uploading")
 
+# What a file is named by while it is removed, before random digits and its ending.
+TAKEN = ".onixdesk-taken-"
+
+# What the name of an answer has behind that of its file.
+ANSWER = ".answer"
+
 # How much of a name or text a line shows.
 SHOWN = 300
 

@@ -1,10 +1,6 @@
 """What a packed file holds, unpacked as it is read."""
 
 import errno
-import gzip
-import lzma
-import zipfile
-import zlib
 from collections.abc import Callable, Iterator
 from pathlib import Path
 from typing import IO, Protocol
@@ -17,9 +13,6 @@ TIMES = 1_000
 
 # How much is unpacked at once: some methods of a zip give all that comes of what they take.
 PIECE = 16_384
-
-# What the modules of the standard library raise at bytes that are not what they should be.
-DAMAGES = (zipfile.BadZipFile, EOFError, zlib.error, lzma.LZMAError, RuntimeError, ValueError)
 
 
 class Damage(Exception):
@@ -35,6 +28,8 @@ class Readable(Protocol):
 
 def open_entry(file: IO[bytes]) -> Readable:
     """The one file of a zip, beside its folders and what a Mac adds."""
+    import zipfile
+
     archive = zipfile.ZipFile(file)
     entries = [entry for entry in archive.infolist() if not entry.is_dir() and not entry.filename.startswith(OF_A_MAC)]
     if len(entries) != 1:
@@ -51,6 +46,8 @@ def too_large() -> Damage:
 
 
 def open_gzip(file: IO[bytes]) -> Readable:
+    import gzip
+
     return gzip.GzipFile(fileobj=file)
 
 
@@ -76,6 +73,13 @@ def bounded(stream: Readable, packed_size: int) -> Iterator[bytes]:
 def unpacked(path: Path) -> Iterator[bytes]:
     """The pieces of what a file holds that is packed as its ending says. Damage where it is no whole one of its kind;
     OSError where it cannot be read."""
+    # Imported where a file is packed, as few are: they would lengthen each start.
+    import lzma
+    import zipfile
+    import zlib
+
+    # What they raise at bytes that are not what they should be.
+    damages = (zipfile.BadZipFile, EOFError, zlib.error, lzma.LZMAError, RuntimeError, ValueError)
     ending = path.suffix
     try:
         with path.open("rb") as file:
@@ -85,7 +89,7 @@ def unpacked(path: Path) -> Iterator[bytes]:
         if error.errno not in (None, errno.EINVAL):
             raise
         raise damage(ending, error) from None
-    except DAMAGES as error:
+    except damages as error:
         raise damage(ending, error) from None
 
 

@@ -13,7 +13,7 @@ from command_lines.ending import FAULT, BadCall, end_orderly, status_of, teller
 from command_lines.parsing import day, parser_of
 from message_records.offers import Question
 from message_records.products import products_of, read_header
-from onixdesk_inbox.command_line import series
+from onixdesk_inbox.series import series
 from onixdesk_inbox.settings import words
 from onixdesk_look import letter, page
 from onixdesk_look.asking import Desk

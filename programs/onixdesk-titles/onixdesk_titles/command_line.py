@@ -10,10 +10,9 @@ from pathlib import Path
 from command_lines.ending import DONE, FAILED, end_orderly, status_of, teller
 from command_lines.files import alone
 from command_lines.parsing import parser_of
-from onixdesk_inbox.command_line import SETTINGS, STATE
-from onixdesk_inbox.handing import messages_in
+from onixdesk_inbox.handed import messages_in
+from onixdesk_inbox.series import SETTINGS, STATE
 from onixdesk_titles.keeping import Titles
-from onixdesk_titles.rebuilding import rebuild
 from onixdesk_titles.rows import rows_in
 
 PROGRAM = "onixdesk-titles"
@@ -72,6 +71,9 @@ def take(options: argparse.Namespace) -> int:
 
 
 def hand_over_again(options: argparse.Namespace) -> int:
+    # What reads feeds, which no other command does.
+    from onixdesk_titles.rebuilding import rebuild
+
     os.umask(0o077)
     converter = options.converter.resolve()
     return DONE if rebuild(options.settings, options.state.resolve(), converter, tell) else FAILED

@@ -12,13 +12,11 @@ from typing import Any
 
 from command_lines.ending import Fault
 from command_lines.files import put
-from onixdesk_inbox.handing import Message
+from onixdesk_inbox.handed import Message
+from onixdesk_titles.kept_titles import DIGITS
 
 # By this file the page knows that titles are kept.
 MARK = "titles.json"
-
-# With more of them a million titles lie in more than a hundred thousand files, which take 4,096 bytes each at least.
-DIGITS = 8
 
 # The page fetches a file whole for an article, and so does a run that adds to it: one of 10,000 titles of four series
 # has that many bytes.

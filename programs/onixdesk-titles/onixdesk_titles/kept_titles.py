@@ -5,7 +5,9 @@ import json
 from pathlib import Path
 from typing import Any
 
-from onixdesk_titles.keeping import DIGITS
+# By how many digits the titles of a file begin alike. With more of them a million titles lie in more than a hundred
+# thousand files, which take 4,096 bytes each at least.
+DIGITS = 8
 
 
 class Titles:

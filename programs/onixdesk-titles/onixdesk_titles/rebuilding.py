@@ -5,11 +5,11 @@ import tempfile
 from collections.abc import Callable
 from pathlib import Path
 
-from onixdesk_inbox.archive import ANSWER, Archive
-from onixdesk_inbox.command_line import is_series
+from onixdesk_inbox.archive import Archive
 from onixdesk_inbox.conversion import Converter
 from onixdesk_inbox.handing import Handing
-from onixdesk_inbox.names import FEEDS, ending, shown
+from onixdesk_inbox.names import ANSWER, FEEDS, ending, shown
+from onixdesk_inbox.series import is_series
 from onixdesk_inbox.settings import Settings, read_settings
 
 # In the package the settings of this name show what can be set.

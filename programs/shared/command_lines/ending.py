@@ -2,7 +2,6 @@
 
 import signal
 import sys
-import traceback
 from collections.abc import Callable
 from pathlib import Path
 from types import FrameType
@@ -37,7 +36,10 @@ def status_of(work: Callable[[], int], tell: Callable[[str], None], place: Path)
     except KeyboardInterrupt:
         return INTERRUPTED
     except Exception:
-        # Python's own status for it is 1, which says something else of each of these programs.
+        # Imported here, since it is a tenth of a start. Python's own status for it is 1, which says something else of
+        # each of these programs.
+        import traceback
+
         for line in traceback.format_exc().splitlines():
             tell(line)
         return FAULT

@@ -4,7 +4,7 @@ import subprocess
 from collections.abc import Iterator
 
 from tests.program.databases import DATABASE, batch, gaps
-from tests.program.messages import AGREED, AGREEMENT, bare
+from tests.program.messages import AGREED, AGREEMENT, applied, bare
 from tests.program.room import SECONDS, UNREADABLE, Ran, Room
 from tests.running import Outcome
 
@@ -38,6 +38,16 @@ INPUTS = [
 def long_and_bad_inputs(room: Room) -> Iterator[Outcome]:
     for name, text, wanted in INPUTS:
         yield Outcome(name, room.run("batch", given=text), wanted)
+
+
+def largest_record(room: Room) -> Iterator[Outcome]:
+    """A message of 20,000 records that has one product, in a file, from which another run reads it."""
+    supply = b"ProductSupply,GB IE,,\n" + b"SupplyDetail,04,06,4012345000009,North Books,21,\n" * 19_996
+    came = batch(room, AGREEMENT + OPENING + PRODUCT + supply + b"EndMessage,19999\n")
+    yield Outcome("the largest record", came, Ran(0, AGREED + applied(1, 1)))
+    came = batch(room, b"AskCatalogue,north\n")
+    kept = b"catalogue,north,1\nrecord,R1,15,9781234567897\n" + supply
+    yield Outcome("the largest record, as it is kept", came, Ran(0, kept))
 
 
 def broken_streams(room: Room) -> Iterator[Outcome]:

@@ -2,15 +2,15 @@
 
 import os
 import subprocess
-import sys
 from collections.abc import Sequence
 from pathlib import Path
 
 from tests.program.feeds.convert.wanted_runs import feed_of
 from tests.program.databases import DATABASE
+from tests.program.forked_starts import WITHIN
 from tests.program.room import SECONDS, Ran, Room
 from tests.program.serving import Serving
-from tools.root import PACKAGES, ROOT
+from tools.root import ROOT
 from tools.words import Word
 
 PROGRAM = ROOT / "bin/onixdesk-inbox"
@@ -62,7 +62,7 @@ def files_in(folder: Path) -> dict[str, bytes]:
 
 def within(text: str, *words: Word) -> list[Word]:
     """The words by which a text of Python runs, which may import what ships and run a program of it."""
-    return ["env", f"PYTHONPATH={':'.join(PACKAGES)}", sys.executable, "-P", "-s", "-S", "-B", "-c", text, *words]
+    return [*WITHIN, text, *words]
 
 
 class Inbox:
@@ -109,7 +109,7 @@ class Inbox:
         )
 
     def run(self, *more: Word, **environment: str) -> Ran:
-        return ended(self.start(*more, **environment))
+        return self.room.call(self.words(*more), environment=os.environ | environment)
 
     def kept(self) -> dict[str, bytes]:
         """What is done and refused."""

@@ -11,7 +11,7 @@ from functools import partial
 from pathlib import Path
 from typing import Any
 
-from onixdesk_inbox.handing import messages_in
+from onixdesk_inbox.handed import messages_in
 from tests.program.feeds.convert.wanted_runs import zipped
 from tests.program.documents.examples import block
 from tests.program.inbox.inboxes import Inbox, files_in, of_series, said, script, within

@@ -1,6 +1,6 @@
 //! The command `check`: texts of requests are read, and no desk is asked.
 
-ghost use Rattle.std.specs.Prelude.{◌≤◌};
+ghost use Rattle.std.specs.Prelude.{◌≡◌, ◌≤◌};
 
 use crate::malformed::MOST_LINES;
 use crate::unread::report_unread;

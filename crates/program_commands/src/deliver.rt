@@ -75,9 +75,7 @@ fn deliver_text<D: Desk, W: Write, E: Write>(
     drop(request);
     match outcome {
         Ok(is_refused) => {
-            if is_refused {
-                tell_delivery(alloc, room, name, text, errors);
-            }
+            tell_delivery(alloc, is_refused, room, name, text, errors);
             Ok(is_refused)
         }
         Err(fault) => Err(DeliveryFault::Request(fault)),

@@ -54,16 +54,19 @@ pub(crate) fn tell_batch<E: Write>(alloc: Global, text: &[u8], errors: &mut E) {
     report_untold(&room, errors);
 }
 
-/// Writes a line where the text of a file is no message, as far as there is room. Where memory runs
-/// out, it is lost.
+/// Writes a line where the text of a file is refused, and is no message, as far as there is room.
+/// Where memory runs out, it is lost.
 pub(crate) fn tell_delivery<E: Write>(
     alloc: Global,
+    is_refused: bool,
     room: &mut Room,
     name: &str,
     text: &[u8],
     errors: &mut E,
 ) {
-    let _ = explain_delivery(alloc, room, name, text, errors);
+    if is_refused {
+        let _ = explain_delivery(alloc, room, name, text, errors);
+    }
 }
 
 /// Writes a line where a question over HTTP, of which these are the first bytes, is a bad query, as

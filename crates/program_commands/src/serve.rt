@@ -1,7 +1,7 @@
 //! The command `serve`: the desk over HTTP at a port of 127.0.0.1, and for batches at a socket of
 //! the file system where one is named.
 
-ghost use Rattle.std.specs.Prelude.{◌≤◌, is_some};
+ghost use Rattle.std.specs.Prelude.{◌≡◌, ◌≤◌, is_some};
 ghost use Rattle.std.specs.Io.KnownBytes.{Appends};
 ghost use Rattle.program_commands.specs.ServedClients.{ServesNext};
 ghost use Rattle.series_rules.specs.Steps.{Asked};

@@ -12,13 +12,13 @@ returns-in-Ok-Some g c =
     let kept = rw c.in-Ok-Some.field-0-is at c.in-Ok-Some.ensures.replied in
     let sent = g.C.Reader.Read.remaining c.in-Ok-Some.reader in
     inl (client_of _ g.C.Clients.speaks c.in-Ok-Some.reader sent
-    (g.C.Writer.Write.contents c.in-Ok-Some.writer) (g.C.Writer.Write.contents c.serve_client.new.writer)
-    g.C.Clients.takes_batches (g.C.Clients.coming c.args.clients.now) (g.C.Clients.coming c.close.new.self) (g.C.Clients.replied c.args.clients.now) (g.C.Clients.replied c.close.new.self) _ c.serve_client.result.0
+    (g.C.Writer.Write.contents c.in-Ok-Some.writer) (g.C.Writer.Write.contents c.serve_client-ended.new.writer)
+    g.C.Clients.takes_batches (g.C.Clients.coming c.args.clients.now) (g.C.Clients.coming c.close.new.self) (g.C.Clients.replied c.args.clients.now) (g.C.Clients.replied c.close.new.self) _ c.serve_client-ended.result.0
     (subst (λ o. IsNext sent (g.C.Clients.coming c.args.clients.now) o) (sym c.close.ensures.coming) accepted.2)
-    (replied_of (g.C.Writer.Write.contents c.in-Ok-Some.writer) (g.C.Writer.Write.contents c.serve_client.new.writer) (g.C.Clients.replied c.args.clients.now) (g.C.Clients.replied c.accept.new.self) (g.C.Clients.replied c.close.new.self)
+    (replied_of (g.C.Writer.Write.contents c.in-Ok-Some.writer) (g.C.Writer.Write.contents c.serve_client-ended.new.writer) (g.C.Clients.replied c.args.clients.now) (g.C.Clients.replied c.accept.new.self) (g.C.Clients.replied c.close.new.self)
     kept.0 kept.1 c.close.ensures.replied)
     accepted.3
-    c.in-Ok-Some.protocol accepted.0 accepted.1 c.serve_client.ensures)
+    c.in-Ok-Some.protocol accepted.0 accepted.1 c.serve_client-ended.ensures)
 
 pub returns-in-Ok-None : goal.returns-in-Ok-None
 returns-in-Ok-None g c = inl (record {

@@ -77,6 +77,13 @@ fn report_text<F: NamedFiles, E: Write>(
     }
 }
 
+// The exit status by whether a request is malformed.
+fn checked_status(has_malformed: bool) -> u8
+    ensures { result ≤ 3 }
+{
+    if has_malformed { 1 } else { 0 }
+}
+
 /// Reads the text of each file in turn, where `-` is standard input, and writes a line on `errors`
 /// for each request that is malformed, 100 at most, and then how many more there are. Gives 0, or 1
 /// where one is malformed, or 3 after a fault, which is reported and ends the command.
@@ -90,11 +97,10 @@ pub fn check_texts<F: NamedFiles, R: Read, E: Write>(
     ensures { result ≤ 3 }
 {
     let mut room = Room::new(MOST_LINES);
-    let mut status = 0u8;
+    let mut has_malformed = false;
     for name in names {
         match check_named(alloc, &mut room, files, name, input, errors) {
-            Ok(0) => {}
-            Ok(_) => status = 1,
+            Ok(count) => has_malformed |= count > 0,
             Err(fault) => {
                 report_untold(&room, errors);
                 return report_text(alloc, fault, files, name, errors);
@@ -102,5 +108,5 @@ pub fn check_texts<F: NamedFiles, R: Read, E: Write>(
         }
     }
     report_untold(&room, errors);
-    status
+    checked_status(has_malformed)
 }

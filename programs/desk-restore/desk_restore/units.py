@@ -1,5 +1,6 @@
 """The units of systemd that are of onixdesk."""
 
+import re
 import subprocess
 import time
 from collections.abc import Callable
@@ -8,6 +9,10 @@ from command_lines.ending import Fault
 
 DESK, OF_INBOX = "onixdesk.service", "onixdesk-inbox@"
 STATES = "--state=active,activating,reloading,deactivating,failed"
+
+# All of this desk. A shop's own unit of such a name, as of a second desk, is left alone.
+OTHERS = "copy|fetch@.*|follow|inbox@.*|mail|metrics|prices|prices-mail|titles"
+is_own = re.compile(rf"onixdesk(?:-(?:{OTHERS}))?\.(?:path|service|timer)").fullmatch
 
 # How many seconds the run of an inbox is waited for.
 SECONDS = 600
@@ -30,7 +35,7 @@ def found() -> list[str]:
         told = systemctl("list-units", "--plain", "--no-legend", STATES, "onixdesk*")
     except (Fault, FileNotFoundError):
         return []
-    return [line.split()[0] for line in told.splitlines() if line.strip()]
+    return [unit for unit in (line.split()[0] for line in told.splitlines() if line.strip()) if is_own(unit)]
 
 
 class Units:

@@ -110,6 +110,8 @@ class Repeat(Resuming):
             else:
                 self.take(kept)
         self.state.work.clear()
+        # The desk may have other prices now, so what is stopped is looked at anew.
+        self.state.memory.keep_stopped(None)
         return self.has_failed
 
     def files(self, since: Since) -> list[Kept]:

@@ -57,7 +57,9 @@ BLOCKS = {
     "a waiver too early": f"{CORRECT} '/^Waive,north,5",
     "a wrong message": f"{CORRECT} '/^Message,[12],06,4012345000009,06,5012345678900,2,",
     "a wholesaler that is gone": "batch() {",
-    "two shops": "awk -F, ",
+    "two shops: the second one's desk": "    runuser -u onixdesk -- onixdesk --db /var/lib/onixdesk/second.db",
+    "two shops: its unit": "install -d -o onixdesk -g onixdesk /var/lib/onixdesk-figures-second",
+    "two shops: the first one's desk": "for part in $(ls first | sort -n)",
     "a copy from before it": "desk-restore /var/lib/onixdesk-copies/",
 }
 
@@ -217,7 +219,7 @@ def two_shops(room: Room) -> Iterator[Outcome]:
     with machine(room, records) as desk:
         offered = {isbn: len(found) for isbn, found in desk.prices(A, B, C).items()}
         yield Outcome("two shops: one desk has both", offered, {A: 1, B: 1, C: 1})
-        ran = desk.run(block_with(BLOCKS["two shops"]))
+        ran = desk.run(block_with(BLOCKS["two shops: the second one's desk"]))
         yield Outcome("two shops: the second desk is made", (ran.status, ran.status and ran.errors), (0, 0))
         asked = "".join(f"AskPrice,{isbn},20250501,GB,GBP,02\n" for isbn in (A, B, C))
         came = room.run(
@@ -232,6 +234,11 @@ def two_shops(room: Room) -> Iterator[Outcome]:
             "gaps,other,first=1,next=4,greatest=3,held=0,missing=0",
         ]
         yield Outcome("two shops: the second desk", came.output.decode().splitlines(), wanted)
+        ran = desk.run(block_with(BLOCKS["two shops: the first one's desk"]))
+        yield Outcome("two shops: the first desk is made", (ran.status, ran.status and ran.errors), (0, 0))
+        yield Outcome("two shops: the first desk", desk.prices(A, B, C), offers(a="10.000"))
+        wanted = ["gaps,north,first=1,next=2,greatest=1,held=0,missing=0", "refused,unknown-series"]
+        yield Outcome("two shops: its series", desk.ask("AskGaps,north", "AskGaps,other"), wanted)
 
 
 def causes(room: Room) -> Iterator[Outcome]:
@@ -266,8 +273,8 @@ def what_changes_nothing(room: Room) -> Iterator[Outcome]:
 
 
 def each_section(_room: Room) -> Iterator[Outcome]:
-    """Each mistake has a block, or a sentence that nothing has to be done; each block is run here, and is one command
-    or stops at the first that fails."""
+    """Each mistake has a block, or a sentence that nothing has to be done; each block but that of a unit is run here,
+    and is one command or stops at the first that fails."""
     _, _, _, *sections = (ROOT / PAGE).read_text(encoding="utf-8").split("\n## ")
     texts = [text for text in sections if "\n\n    " not in text and "nothing has to be done" not in text]
     without = [text.splitlines()[0] for text in texts]

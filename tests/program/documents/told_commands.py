@@ -69,7 +69,9 @@ TOLD: dict[str, dict[str, str]] = {
         "/usr/share/onixdesk/correct.sh '/^Waive,north,5": "documents.mistakes: a_waiver_too_early",
         "/usr/share/onixdesk/correct.sh '/^Message,[12],06,4012345000009,06,5012345678900,2,": "documents.mistakes: a_wrong_message",
         "batch() {": "documents.mistakes: a_wholesaler_that_is_gone",
-        "awk -F, ": "documents.mistakes: two_shops",
+        "runuser -u onixdesk -- onixdesk --db /var/lib/onixdesk/second.db": "documents.mistakes: two_shops",
+        "install -d -o onixdesk -g onixdesk /var/lib/onixdesk-figures-second": f"{SYSTEMD}: try_two_shops",
+        "for part in $(ls first | sort -n)": "documents.mistakes: two_shops",
         "desk-restore /var/lib/onixdesk-copies/": "documents.mistakes: a_copy_from_before_it",
     },
     "docs/ONIX.md": {

@@ -34,9 +34,11 @@ onixdesk.service             loaded active running onixdesk
 onixdesk-copy.timer          loaded active waiting Copies
 onixdesk-inbox@north.path    loaded active waiting Waits
 onixdesk-inbox@north.timer   loaded active waiting Looks
+onixdesk-second.service      loaded active running another desk
 """
 
-NAMES = [line.split()[0] for line in UNITS.splitlines()]
+# All but the shop's own, which a restore is not of.
+NAMES = [line.split()[0] for line in UNITS.splitlines()[:-1]]
 
 
 def make_programs(room: Room, units: str, failing: str) -> Path:

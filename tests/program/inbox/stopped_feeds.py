@@ -26,8 +26,10 @@ OTHERS = [f"97811111{place:05}" for place in range(20)]
 
 
 class Desk(StandIn):
-    """Each article of the first twenty costs 10.00 GBP, of type 02, in the series north; another series offers all
-    for 99.00. What is posted is applied, and is not what it says from then on."""
+    """Each article of the first twenty costs 10.00 GBP at first, of type 02, in the series north; another series offers
+    all for 99.00. What is posted is applied, and is not what it says from then on."""
+
+    amount = "10.000"
 
     following = 5
     greatest: int | None = 4
@@ -46,7 +48,7 @@ class Desk(StandIn):
         is_kept = (keys["type"], keys["currency"], keys["country"]) == ("02", "GBP", "GB")
         offers: list[dict[str, str | None]] = [{"series": "south", "amount": "99.000"}]
         if article in ARTICLES:
-            north: dict[str, str | None] = {"series": "north", "amount": "10.000" if is_kept else None}
+            north: dict[str, str | None] = {"series": "north", "amount": kind.amount if is_kept else None}
             offers.append(north)
         self.reply(200, json.dumps({"answer": "price", "isbn": article, "offers": offers}).encode())
 
@@ -289,6 +291,20 @@ def what_somebody_decides(room: Room) -> Iterator[Outcome]:
         yield Outcome("stopped: one in refused is let in", decide(inbox, "--let-in", "a.csv"), 0)
         shutil.move(inbox.state / "refused/a.csv", inbox.incoming / "a.csv")
         yield Outcome("stopped: one that was refused is taken", inbox.run(), said("a.csv: done: number 5 applied"))
+
+
+def what_a_restore_changes(room: Room) -> Iterator[Outcome]:
+    """A restored desk may have the prices behind which a file was stopped no more, so that it is looked at anew."""
+    inbox = Inbox(room, 1)
+    desk = desk_at()
+    with standing_in(desk) as port:
+        start(inbox, port)
+        desk.amount = "1000.000"
+        yield Outcome("stopped: before a restore", (inbox.run(), desk.posts), (said(), []))
+        yield Outcome("stopped: a restore takes nothing new", (inbox.run("--again", "lacking"), desk.posts), (said(), []))
+        came = inbox.run().errors.decode().splitlines()[:1], desk.posts[:1]
+        wanted = ["onixdesk-inbox: a.csv: done: number 5 applied"], [WRONG]
+        yield Outcome("stopped: it is looked at anew after a restore", came, wanted)
 
 
 def what_an_uploader_changes(room: Room) -> Iterator[Outcome]:

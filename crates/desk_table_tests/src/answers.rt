@@ -9,6 +9,7 @@ use desk_tables::records::RecordRow;
 use desk_tables::series::SeriesRow;
 use onix_message::parts::{Price, Supplier};
 use onix_message::{Agreement, StoreFault};
+use onix_terms::amount::Amount;
 use onix_terms::items::Items;
 use onix_terms::number::Number;
 use onix_terms::party::Party;
@@ -176,24 +177,38 @@ impl Answer for OfferRow {
     }
 }
 
-impl Answer for Price {
-    fn is(&self, line: &str) -> bool {
-        self.price_type.as_str() == "02"
-            && self.amount.thousandths() == 12_990
-            && self.currency.as_str() == "GBP"
-            && is_world(&self.territory)
-            && is_whole(word(line, 0), self.minimum.value())
-            && self.from.is_none()
-            && self.until.is_none()
+fn is_amount(text: &str, wanted: Amount) -> bool {
+    match Amount::read(text) {
+        Some(amount) => amount.thousandths() == wanted.thousandths(),
+        None => false,
     }
 }
 
-// The words are its places and from how many copies on it holds, of whatever record and amount.
+// Whether it is one of the whole world, from so many copies on.
+fn is_from(price: &Price, minimum: &str) -> bool {
+    price.price_type.as_str() == "02"
+        && price.currency.as_str() == "GBP"
+        && is_world(&price.territory)
+        && is_whole(minimum, price.minimum.value())
+        && price.from.is_none()
+        && price.until.is_none()
+}
+
+impl Answer for Price {
+    fn is(&self, line: &str) -> bool {
+        self.amount.thousandths() == 12_990 && is_from(self, word(line, 0))
+    }
+}
+
+// The words are its reference, its places, from how many copies on it holds, and its amount.
 impl Answer for PriceRow {
     fn is(&self, line: &str) -> bool {
-        is_whole(word(line, 0), self.place)
-            && is_whole(word(line, 1), self.price_place)
-            && is_whole(word(line, 2), self.price.minimum.value())
+        self.series.as_str() == "north"
+            && self.reference.as_str() == word(line, 0)
+            && is_whole(word(line, 1), self.place)
+            && is_whole(word(line, 2), self.price_place)
+            && is_from(&self.price, word(line, 3))
+            && is_amount(word(line, 4), self.price.amount)
     }
 }
 

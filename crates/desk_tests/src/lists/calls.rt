@@ -53,7 +53,7 @@ offer_prices_without_minimums R1 1: 1;
 put_price 1 2 10
 has_minimums: true
 put_price 2 1 5
-price_rows: 1 1 1; 1 2 10; 2 1 5;
+price_rows: R1 1 1 1 12.99; R1 1 2 10 12.99; R1 2 1 5 12.99;
 offer_prices R1 1: 1; 10;
 offer_prices R1 2: 5;
 offers_by_article 9781234567897: R1 1 1 10; R1 2 5;
@@ -119,7 +119,7 @@ article_rows: R1 1 15;
 record_articles R1: R1 1 15;
 offer_rows: R1 1;
 record_offers R1: R1 1;
-price_rows: 1 1 1; 1 2 10;
+price_rows: R1 1 1 1 12.99; R1 1 2 10 12.99;
 offer_prices R1 1: 1; 10;
 offers_by_article 9781234567897: R1 1 1 10;
 -- wanted
@@ -140,7 +140,7 @@ has_record R1: true
 has_record R2: false
 article_rows: R1 1 15;
 offer_rows: R1 1;
-price_rows: 1 1 1; 1 2 10;
+price_rows: R1 1 1 1 12.99; R1 1 2 10 12.99;
 -- wanted
 as told
 -- as before
@@ -159,7 +159,7 @@ has_record R1: true
 has_record R2: false
 article_rows: R1 1 15;
 offer_rows: R1 1;
-price_rows: 1 1 1; 1 2 10;
+price_rows: R1 1 1 1 12.99; R1 1 2 10 12.99;
 -- wanted
 as told
 -- as before
@@ -178,7 +178,7 @@ has_record R1: true
 has_record R2: false
 article_rows: R1 1 15;
 offer_rows: R1 1;
-price_rows: 1 1 1; 1 2 10;
+price_rows: R1 1 1 1 12.99; R1 1 2 10 12.99;
 -- wanted
 as told
 -- as before
@@ -197,7 +197,7 @@ has_record R1: true
 has_record R2: true
 article_rows: R1 1 15;
 offer_rows: R1 1;
-price_rows: 1 1 1; 1 2 10;
+price_rows: R1 1 1 1 12.99; R1 1 2 10 12.99;
 -- wanted
 as told
 -- as before
@@ -216,7 +216,7 @@ has_record R1: true
 has_record R2: true
 article_rows: R1 1 15; R2 1 15;
 offer_rows: R1 1;
-price_rows: 1 1 1; 1 2 10;
+price_rows: R1 1 1 1 12.99; R1 1 2 10 12.99;
 -- wanted
 as told
 -- as before
@@ -235,7 +235,7 @@ has_record R1: true
 has_record R2: true
 article_rows: R1 1 15; R2 1 15;
 offer_rows: R1 1; R2 1;
-price_rows: 1 1 1; 1 2 10;
+price_rows: R1 1 1 1 12.99; R1 1 2 10 12.99;
 -- wanted
 as told
 -- as before
@@ -254,7 +254,7 @@ has_record R1: true
 has_record R2: true
 article_rows: R1 1 15; R2 1 15;
 offer_rows: R1 1; R2 1;
-price_rows: 1 1 1; 1 2 10; 1 3 100;
+price_rows: R1 1 1 1 12.99; R1 1 2 10 12.99; R1 1 3 100 12.99;
 -- wanted
 as told
 -- as before
@@ -273,7 +273,7 @@ has_record R1: true
 has_record R2: true
 article_rows: R1 1 15; R2 1 15;
 offer_rows: R1 1; R2 1;
-price_rows: 1 1 1; 1 2 10; 1 3 100;
+price_rows: R1 1 1 1 12.99; R1 1 2 10 12.99; R1 1 3 100 12.99;
 -- wanted
 as told
 -- as before
@@ -292,7 +292,7 @@ has_record R1: true
 has_record R2: true
 article_rows: R1 1 15;
 offer_rows: R1 1; R2 1;
-price_rows: 1 1 1; 1 2 10; 1 3 100;
+price_rows: R1 1 1 1 12.99; R1 1 2 10 12.99; R1 1 3 100 12.99;
 -- wanted
 as told
 -- as before

@@ -31,7 +31,7 @@ offers_by_article 9781234567897: R1 1 1;
 record_rows: R1;
 article_rows: R1 1 15;
 offer_rows: R1 1;
-price_rows: 1 1 1;
+price_rows: R1 1 1 1 12.99;
 delete_articles north R1
 delete_offers north R1
 delete_record north R1

@@ -12,7 +12,7 @@ has_record R1: true
 has_record R3: false
 article_rows: R1 1 15;
 offer_rows: R1 1;
-price_rows: 1 1 1; 1 2 10;
+price_rows: R1 1 1 1 12.99; R1 1 2 10 12.99;
 -- wanted
 version: 2
 

@@ -67,7 +67,7 @@ next_held 4: ''
 next_held 6: waived
 article_rows: R1 1 15; R2 1 15;
 offer_rows: R1 1; R2 1;
-price_rows: 1 1 1; 1 1 1;
+price_rows: R1 1 1 1 1.00; R2 1 1 1 2.00;
 -- wanted
 as told
 
@@ -112,7 +112,7 @@ series_rows: north 4012345000009 3;
 article_rows: R1 1 15; R2 1 15;
 offer_rows: R1 1; R2 1;
 put_price 1 2 10
-price_rows: 1 1 1; 1 2 10; 1 1 1;
+price_rows: R1 1 1 1 1.00; R1 1 2 10 12.99; R2 1 1 1 2.00;
 -- wanted
 as told
 -- as before
@@ -163,7 +163,7 @@ version: 2
 series_rows: north 4012345000009 3;
 article_rows: R1 1 15; R2 1 15;
 offer_rows: R1 1; R2 1;
-price_rows: 1 1 1; 1 1 1;
+price_rows: R1 1 1 1 1.00; R2 1 1 1 2.00;
 migrate: unusable
 -- wanted
 as told

@@ -5,6 +5,7 @@ import pty
 import re
 import subprocess
 from collections.abc import Iterator
+from typing import BinaryIO
 
 from tests.program.databases import DATABASE, batch
 from tests.program.desk.large_files import read_to_end
@@ -30,7 +31,7 @@ def shown(room: Room, words: list[str], is_hidden: bool = False) -> tuple[int, b
         room.path("answers").open("wb") as answers,
     ):
         call: list[Word] = [room.program, *words]
-        output = theirs if is_hidden else answers
+        output: int | BinaryIO = theirs if is_hidden else answers
         process = subprocess.Popen(call, cwd=room.folder, stdin=given, stdout=output, stderr=theirs)
         os.close(theirs)
         text = read_to_end(terminal).decode()

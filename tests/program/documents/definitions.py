@@ -19,7 +19,7 @@ NAMES_SAY_ALL = set(
     party_value price_row record_columns DeskRows MetaRow has_parties is_applied is_held is_named is_version
     meta_columns series_columns version_in with_applied with_held with_next with_series with_version without_held
     is_desk_table meta_table fault_of named asking prices_in details_in local_of scope fate_of identifier_notes
-    own_reason outputs
+    own_reason outputs is_held_back
     """.split()
 )
 

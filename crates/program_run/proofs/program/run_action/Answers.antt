@@ -24,4 +24,4 @@ pub returns-in-CheckRules-clause-end : goal.returns-in-CheckRules-clause-end
 returns-in-CheckRules-clause-end g c = rw c.in-CheckRules.is ((refl, refl), tt, c.run-status-in-CheckRules.ensures.end)
 
 pub returns-in-CheckTexts-clause-end : goal.returns-in-CheckTexts-clause-end
-returns-in-CheckTexts-clause-end g c = rw c.in-CheckTexts.is ((refl, refl), (tt, Appends-nil (g.W.Write.contents c.args.output.now)))
+returns-in-CheckTexts-clause-end g c = rw c.in-CheckTexts.is ((refl, refl), tt, Appends-nil (g.W.Write.contents c.args.output.now))

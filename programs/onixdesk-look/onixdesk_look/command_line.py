@@ -18,7 +18,7 @@ from onixdesk_inbox.settings import words
 from onixdesk_look import letter, page
 from onixdesk_look.asking import Desk
 from onixdesk_look.converting import Converter, Feed
-from onixdesk_look.counting import Counts, about_number, lines_to_paste, series_of
+from onixdesk_look.counting import Counts, lines_to_paste, series_of
 
 PROGRAM = "onixdesk-look"
 
@@ -39,23 +39,13 @@ or written. docs/ONIX.md has what to ask a wholesaler for."""
 def command_line() -> argparse.ArgumentParser:
     parser = parser_of(PROGRAM, DESCRIPTION, STATUSES)
     add = parser.add_argument
-    add(
-        "--like",
-        metavar="FILE",
-        type=Path,
-        help="the desk.json of the buyers' page, which has the shop's country,"
-        f" currency and type of price; {LIKE} without it, or the one beside this program",
-    )
+    add("--like", metavar="FILE", type=Path, help=f"a desk.json; {LIKE} without it, or the one beside this program")
     add("--day", metavar="DAY", type=day, help="the day of the prices, as 20261127; today without it")
     add("--series", metavar="NAME", type=series, help="the name for the agreement; after the FILE's name without it")
     add("--words", metavar="WORDS", type=words, default=(), help="words for onixdesk convert, as in WORDS of an inbox")
     add("--csv", action="store_true", help="write the page as a table: FILE, section, item, value")
     add("--notes", metavar="CSV", type=Path, help="write the converter's notes into this file; for a single FILE")
-    add(
-        "--mail",
-        choices=letter.LANGUAGES,
-        help="write a text to the wholesaler that goes with the notes in place of" " the page; for a single FILE",
-    )
+    add("--mail", choices=letter.LANGUAGES, help="write a text to the wholesaler in place of the page; for one FILE")
     add("--program", metavar="PROGRAM", type=Path, help="onixdesk beside this program without it")
     add("files", metavar="FILE", type=Path, nargs="+", help="a feed in XML")
     return parser
@@ -96,7 +86,9 @@ def sections_of(
     header = read_header(feed.messages[0])
     answers = answer(feed, counts, Desk(options.program, folder / "desk.db", show), question)
     lines = lines_to_paste(options.series or series_of(feed.file.name), header, feed, options.words)
-    pasted = {"To paste": lines, "Last field of Agree": about_number(lines)}
+    # A sample is seldom the first message that the desk gets, and what comes behind a number that never comes is held.
+    number = f"the number of the first message that the desk gets; {lines[0].rpartition(',')[2]} is that of this file"
+    pasted = {"To paste": lines, "Last field of Agree": [number] if "NUMBER=own" in lines else []}
     to_paste = {section: [(line, "") for line in said] for section, said in pasted.items()}
     return page.of_records(feed, header, counts) | answers | to_paste
 

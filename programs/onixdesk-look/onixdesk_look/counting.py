@@ -70,12 +70,3 @@ def lines_to_paste(series: str, header: Header, feed: Feed, words: tuple[str, ..
         f"NUMBER={'own' if is_own else 'next'}",
         f"WORDS={shlex.join([*words, *more])}",
     ]
-
-
-def about_number(lines: list[str]) -> list[str]:
-    """What is said of the number that an agreement to paste has, if numbers are the sender's: a sample is seldom the
-    first message that the desk gets, and what comes behind a number that never comes is held."""
-    agreed, _, *_ = lines
-    first = agreed.rpartition(",")[2]
-    said = f"the number of the first message that the desk gets; {first} is that of this file"
-    return [said] if "NUMBER=own" in lines else []

@@ -25,23 +25,13 @@ def example(note: Note, isbns: dict[str, str]) -> str:
     return f"  {note.reference}{isbn}, line {note.line}: {note.text}"
 
 
-def parts_of(said: Said) -> list[str]:
-    """Which parts of the text are for a feed of which this is said."""
-    if said.refusal:
-        return ["greeting", "refused", "again", "closing"]
-    unread = ["unread"] if said.reasons else []
-    if not said.count:
-        return ["greeting", "faultless", *unread, "closing"]
-    return ["greeting", "remarks", "reasons", "examples", "corrected", "closing"]
-
-
 def letter(language: str, name: str, said: Said, isbns: dict[str, str]) -> str:
     """The text, whose examples are the first notes of different products."""
     template = Path(__file__).with_name(f"letter.{language}.txt").read_text(encoding="utf-8")
-    _, *halves = re.split(r"^\[([a-z]+)\]\n", template, flags=re.MULTILINE)
-    texts = dict(zip(halves[::2], halves[1::2], strict=True))
+    parts = dict(re.findall(r"^\[([a-z]+)\]\n([^[]+)", template, flags=re.MULTILINE))
+    kind = "refused" if said.refusal else "remarks" if said.count else "unread" if said.reasons else "faultless"
     examples = list({note.reference: note for note in reversed(said.notes)}.values())[::-1][:EXAMPLES]
-    return Template("\n".join(texts[part] for part in parts_of(said))).substitute(
+    return Template("\n".join(parts[part] for part in ("greeting", kind, "closing"))).substitute(
         name=name,
         refusal=said.refusal,
         count=said.count,

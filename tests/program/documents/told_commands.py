@@ -154,7 +154,7 @@ TOLD: dict[str, dict[str, str]] = {
 }
 
 # What begins a command beside the programs of this machine.
-BEGINNINGS = ("(", "onixdesk() {", "[ ", "bin/", "MAILTO=", "file=", "/usr/share/", "desk-", "onixdesk ")
+BEGINNINGS = ("(", "onixdesk() {", "[ ", "bin/", "MAILTO=", "file=", "/usr/share/", "desk-", "onixdesk ", "promtool ")
 
 # Words that are programs too: they begin a call that docs/ARCHITECTURE.md tells of, or a setting of another program.
 NO_COMMANDS = {"run", "main", "Match", "[Service]"}

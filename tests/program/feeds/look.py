@@ -3,12 +3,16 @@
 import csv
 import io
 import json
+import os
+import pty
 import re
+import subprocess
 from collections.abc import Iterator
 from pathlib import Path
 from typing import NamedTuple
 
 from tests.program.feeds.convert.case_files import FRAMES
+from tests.program.feeds.convert.endings import all_of
 from tests.program.feeds.convert.wanted_runs import BAD, PRICE, PRODUCT, feed_of
 from tests.program.inbox.inboxes import script
 from tests.program.room import Ran, Room
@@ -320,3 +324,18 @@ def leaves_nothing(room: Room) -> Iterator[Outcome]:
     came = room.call(["env", f"TMPDIR={room.path('tmp')}", PROGRAM, "--program", room.program, "feeds/a.xml"])
     left = [path.name for folder in ("feeds", "tmp") for path in Path(room.path(folder)).iterdir()]
     yield Outcome("look: what it leaves", (came.status, left), (0, ["a.xml"]))
+
+
+def on_a_terminal(room: Room) -> Iterator[Outcome]:
+    """A line shows what is done, and is taken away before the page; where there is no terminal there is none."""
+    room.write("like.json", json.dumps(LIKE).encode())
+    room.write("a.xml", feed_of("R1"))
+    command = [PROGRAM, "--program", room.program, "--like", room.path("like.json"), room.path("a.xml")]
+    ours, theirs = pty.openpty()
+    ran = subprocess.run(command, stdout=subprocess.DEVNULL, stderr=theirs)
+    os.close(theirs)
+    shown = all_of(ours)
+    steps = [step in shown for step in (b" MB read", b"a.xml: being converted", b"a desk is asked for 1 articles")]
+    yield Outcome("look: on a terminal", (ran.returncode, steps, shown.endswith(b"\r\x1b[K")), (0, [True] * 3, True))
+    came = room.call(command)
+    yield Outcome("look: elsewhere", (came.status, came.errors), (0, b""))

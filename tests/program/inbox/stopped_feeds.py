@@ -301,7 +301,9 @@ def what_a_restore_changes(room: Room) -> Iterator[Outcome]:
         start(inbox, port)
         desk.amount = "1000.000"
         yield Outcome("stopped: before a restore", (inbox.run(), desk.posts), (said(), []))
-        yield Outcome("stopped: a restore takes nothing new", (inbox.run("--again", "lacking"), desk.posts), (said(), []))
+        yield Outcome(
+            "stopped: a restore takes nothing new", (inbox.run("--again", "lacking"), desk.posts), (said(), [])
+        )
         came = inbox.run().errors.decode().splitlines()[:1], desk.posts[:1]
         wanted = ["onixdesk-inbox: a.csv: done: number 5 applied"], [WRONG]
         yield Outcome("stopped: it is looked at anew after a restore", came, wanted)

@@ -687,6 +687,11 @@ def asked_before(site: Site, browser: Browser) -> Iterator[Outcome]:
     browser.one("#save-right").click()
     told = saved_status(browser, "Saved").partition(": ")[2]
     yield Outcome("what is in no order is told", told, "1 book. 4 of the list are in no order.")
+    gap = browser.run(
+        """const [above, told] = ['sums', 'saved-status'].map((id) => document.getElementById(id));
+        return Math.round(told.getBoundingClientRect().top - above.getBoundingClientRect().bottom)"""
+    )
+    yield Outcome(f"it is told at the buttons, {gap} pixels below them", 0 <= gap < 60, True)
     isbns = [row[:2] for row in file_rows(saved(browser, folder))[1:]]
     yield Outcome("only what needs nobody", isbns, [[isbn_of(0), "2"]])
     asks = "const leaving = new Event('beforeunload', { cancelable: true }); window.dispatchEvent(leaving);"

@@ -325,8 +325,10 @@ def recorded_hosts(site: Site, browser: Browser) -> Iterator[Outcome]:
     wanted = {f"/desk/articles/{ISBN}/{what}" for what in ("price", "choice", "calendar")}
     wanted |= {f"/desk/series/{name}/gaps" for name in ("north", "south", "west")}
     yield Outcome("what the desk was asked for", set(desk), wanted)
-    seen = {urlsplit(address).path for address in addresses}
-    yield Outcome("nginx and the browser agree", seen, {target.partition("?")[0] for *_, target in lines})
+    # A browser that is open has the files with a digest already, and takes them from there.
+    seen = {path for address in addresses if not (path := urlsplit(address).path).startswith("/page-")}
+    asked_for = {target.partition("?")[0] for *_, target in lines}
+    yield Outcome("nginx and the browser agree", seen, {path for path in asked_for if not path.startswith("/page-")})
     yield Outcome("the browser has nothing to complain of", browser.complaints(), [])
 
 

@@ -52,7 +52,7 @@ def silent(site: Site, browser: Browser) -> Iterator[Outcome]:
     unfold(browser)
     site.freeze_desk()
     browser.call("askAndNote", article())
-    browser.wait(lambda: browser.shows("#article-status", "Asking"))
+    browser.wait(lambda: not browser.shows("#article-status", ISBN))
     stale = browser.all("#offers tr, #picture svg, #spans tr")
     yield Outcome("a new question leaves nothing of the one before", stale, [])
     words = "The desk takes longer than usual …"

@@ -109,7 +109,7 @@ def of_an_article(site: Site, browser: Browser) -> Iterator[Outcome]:
     browser.wait_for_text("#title", "Almanac")
     site.freeze_desk()
     browser.run("location.hash = arguments[0]", article(OTHER))
-    browser.wait(lambda: browser.shows("#article-status", "Asking"))
+    browser.wait(lambda: not browser.shows("#article-status", ISBN))
     yield Outcome("while the next book is asked for", browser.text("#title"), "")
     site.thaw_desk()
     browser.wait_for_text("#title", "=1+1")

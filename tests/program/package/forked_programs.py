@@ -63,9 +63,9 @@ def texts(room: Room) -> Iterator[Outcome]:
 def files(room: Room) -> Iterator[Outcome]:
     """Each program, by words that it does not take."""
     for program in programs():
-        for words in [], ["--no-such-option"], ["a", "b", "c", "d"]:
-            came = room.call([program, *words])
-            yield Outcome(f"forked: {program} {words}", came, itself(room, [program, *words], b"", os.environ))
+        for text in "", "--no-such-option", "a b c d":
+            words: list[Word] = [program, *text.split()]
+            yield Outcome(f"forked: {program} {text}", room.call(words), itself(room, words, b"", os.environ))
     yield Outcome("forked: programs", len(programs()) > 5, True)
-    told = [words_of(words, b"") for words in ([programs()[0], "--help"], ["sh", "-c", programs()[0]], [room.program])]
-    yield Outcome("forked: what is started itself", told, [None, None, None])
+    themselves: list[list[Word]] = [[programs()[0], "--help"], ["sh", "-c", programs()[0]], [room.program]]
+    yield Outcome("forked: what is started itself", [words_of(words, b"") for words in themselves], [None] * 3)

@@ -60,17 +60,12 @@ def texts(room: Room) -> Iterator[Outcome]:
         yield Outcome(f"forked: {ending or 'nothing'}", room.call(words), itself(room, words, b"", os.environ))
 
 
-# Words that no program takes.
-REFUSED: list[list[str]] = [[], ["--no-such-option"], ["a", "b", "c", "d"]]
-
-
 def files(room: Room) -> Iterator[Outcome]:
     """Each program, by words that it does not take."""
     for program in programs():
-        for words in REFUSED:
-            came = room.call([program, *words])
-            yield Outcome(f"forked: {program} {words}", came, itself(room, [program, *words], b"", os.environ))
+        for text in "", "--no-such-option", "a b c d":
+            words: list[Word] = [program, *text.split()]
+            yield Outcome(f"forked: {program} {text}", room.call(words), itself(room, words, b"", os.environ))
     yield Outcome("forked: programs", len(programs()) > 5, True)
-    calls: list[list[Word]] = [[programs()[0], "--help"], ["sh", "-c", programs()[0]], [room.program]]
-    told = [words_of(words, b"") for words in calls]
-    yield Outcome("forked: what is started itself", told, [None, None, None])
+    themselves: list[list[Word]] = [[programs()[0], "--help"], ["sh", "-c", programs()[0]], [room.program]]
+    yield Outcome("forked: what is started itself", [words_of(words, b"") for words in themselves], [None] * 3)

@@ -195,7 +195,9 @@ def names_of_parts(room: Room) -> Iterator[Outcome]:
             room.path(folder).mkdir()
             room.write(f"{folder}/{name}", other)
             number = room.path(f"{folder}/{name}").stat().st_ino
-            errors = b"" if status == 0 else f"onixdesk: {folder}/{name}: already exists, with different content\n".encode()
+            errors = (
+                b"" if status == 0 else f"onixdesk: {folder}/{name}: already exists, with different content\n".encode()
+            )
             yield Outcome(f"parts: {folder}", into(room, folder), Ran(status, b"", errors))
             wanted = {name: other} if status else {"1.csv": first, "2.csv": second}
             yield Outcome(f"parts: {folder}: its files", held(room, folder), wanted)

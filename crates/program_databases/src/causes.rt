@@ -6,8 +6,8 @@ use std::fs::{File, Metadata, metadata};
 use std::io::{ErrorKind, Read};
 use std::rt::HostRuntime;
 
-/// What an error of the system says.
-pub(crate) fn cause_of_kind(kind: ErrorKind) -> Cause {
+// What an error of the system says.
+fn cause_of_kind(kind: ErrorKind) -> Cause {
     match kind {
         ErrorKind::NotFound => Cause::Missing,
         ErrorKind::PermissionDenied => Cause::Denied,
@@ -39,6 +39,15 @@ fn cause_of_file(rt: &HostRuntime, name: &str, found: &Metadata) -> Cause {
         Cause::NoDesk
     } else {
         Cause::NoDatabase
+    }
+}
+
+/// What an error of the system says of why the file of a name is not opened. That of a folder may
+/// have no kind of its own.
+pub(crate) fn cause_of_error(rt: &HostRuntime, name: &str, kind: ErrorKind) -> Cause {
+    match metadata(rt, name) {
+        Ok(found) if found.is_dir() => Cause::Folder,
+        _ => cause_of_kind(kind),
     }
 }
 

@@ -1,6 +1,6 @@
 //! The database files at paths of the file system.
 
-use crate::causes::cause_of_kind;
+use crate::causes::cause_of_error;
 use crate::databases::Databases;
 use onix_records::StoreFault;
 use program_desks::kept_desks::{Cause, OpenFault};
@@ -15,14 +15,17 @@ pub struct Paths<S: Start> {
     pub start: S,
 }
 
-// Why files could not be opened: for want of memory, or they cannot be used.
-fn fault_of(error: &OpenError) -> OpenFault {
+// Why the files of a name could not be opened: for want of memory, or they cannot be used.
+fn fault_of(rt: &HostRuntime, name: &str, error: &OpenError) -> OpenFault {
     match error {
         OpenError::OutOfMemory => OpenFault::Store(StoreFault::Memory, Cause::Unknown),
         OpenError::Io(error) if error.kind() == ErrorKind::OutOfMemory => {
             OpenFault::Store(StoreFault::Memory, Cause::Unknown)
         }
-        OpenError::Io(error) => OpenFault::Store(StoreFault::Unusable, cause_of_kind(error.kind())),
+        OpenError::Io(error) => {
+            let cause = cause_of_error(rt, name, error.kind());
+            OpenFault::Store(StoreFault::Unusable, cause)
+        }
         OpenError::Busy => OpenFault::Store(StoreFault::Unusable, Cause::Busy),
         OpenError::HotJournal => OpenFault::Store(StoreFault::Unusable, Cause::Unknown),
     }
@@ -45,7 +48,7 @@ impl<S: Start> Databases for Paths<S> {
         }
         match sqlite_std_file::open(rt, name, self.start) {
             Ok(files) => Ok(files),
-            Err(error) => Err((fault_of(&error), ())),
+            Err(error) => Err((fault_of(rt, name, &error), ())),
         }
     }
 }

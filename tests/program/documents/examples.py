@@ -249,8 +249,9 @@ def gaps_script(room: Room, *words: str) -> Ran:
 
 
 def script_of_http(room: Room) -> Iterator[Outcome]:
-    """The script compares each reply with the one that is written in it."""
-    yield Outcome("http.sh: its replies", script(room, "examples/http.sh", str(free_port())), Ran(0))
+    """The script compares each reply with the one that is written in it; what is wrong with its bad query is told."""
+    wanted = Ran(0, b"", b"onixdesk: bad-query: day is given 2 times\n")
+    yield Outcome("http.sh: its replies", script(room, "examples/http.sh", str(free_port())), wanted)
 
 
 def gaps_without_words(room: Room) -> Iterator[Outcome]:

@@ -91,6 +91,7 @@ def of_readme(room: Room) -> Iterator[Outcome]:
     like_the_repository(room)
     room.write("feed.xml", example("examples/shop/onix/north-1.xml"))
     room.write("rules.toml", example("examples/shop/rules.toml"))
+    room.write("batch.csv", example("examples/shop/monday.csv"))
     for folder in ("parts", "FOLDER"):
         room.path(folder).mkdir()
     table = ROOT.joinpath("README.md").read_text(encoding="utf-8").partition("\n| Step |")[2].partition("\n\n")[0]

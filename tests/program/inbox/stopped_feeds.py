@@ -14,7 +14,7 @@ from tests.program.documents.examples import block
 from tests.program.feeds.convert.case_files import FRAMES, SUPPLIER
 from tests.program.feeds.convert.wanted_runs import PRODUCT, supplied
 from tests.program.inbox.inbox_numbers import KILLED, KILLING
-from tests.program.inbox.inboxes import Inbox, ended, said, within
+from tests.program.inbox.inboxes import Inbox, said, within
 from tests.program.room import Group, Ran, Room
 from tests.program.serving import StandIn, standing_in
 from tests.running import Outcome
@@ -335,7 +335,7 @@ SHARES, MOST, LEAST = 4, 60, 12
 
 
 def killed(inbox: Inbox, step: int, *words: str) -> int:
-    return ended(inbox.start(*words, before=within(KILLING, str(step)))).status
+    return inbox.run(*words, before=within(KILLING, str(step))).status
 
 
 def killed_at_any_step(decision: str, share: int, room: Room) -> Iterator[Outcome]:

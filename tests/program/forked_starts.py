@@ -78,10 +78,15 @@ def begun(locale: Locale) -> tuple[socket.socket, subprocess.Popen[bytes]]:
     return mine, process
 
 
-def words_of(words: Sequence[Word | bytes], given: bytes) -> list[str] | None:
-    """The words of a start by forking.py; nothing where a program is started itself."""
+def of_python(environment: Mapping[str, str]) -> dict[str, str]:
+    return {name: value for name, value in environment.items() if name.startswith("PYTHON")}
+
+
+def words_of(words: Sequence[Word | bytes], given: bytes, environment: Mapping[str, str]) -> list[str] | None:
+    """The words of a start by forking.py; nothing where a program is started itself, as one that is given variables of
+    Python's own."""
     texts = [os.fsdecode(word) for word in words]
-    if len(given) > OF_A_PIPE or TELLING & {*texts}:
+    if len(given) > OF_A_PIPE or TELLING & {*texts} or of_python(environment) not in ({}, of_python(os.environ)):
         return None
     if list(words[: len(WITHIN)]) == WITHIN:
         return ["-c", *texts[len(WITHIN) :]]

@@ -70,9 +70,10 @@ class Room:
         """How a program ends that is run in the room, and what it writes. Its input is bytes or an open file, whose
         number is given, as is that of another output; the environment stands in place of this one. A program of Python
         is started by forking.py where nothing keeps it from that."""
-        if isinstance(given, bytes) and output == subprocess.PIPE and (forked := forked_starts.words_of(words, given)):
+        if isinstance(given, bytes) and output == subprocess.PIPE:
             place = os.environ if environment is None else environment
-            return Ran(*forked_starts.run(forked, given, self.path(folder), place, SECONDS))
+            if forked := forked_starts.words_of(words, given, place):
+                return Ran(*forked_starts.run(forked, given, self.path(folder), place, SECONDS))
         with contextlib.ExitStack() as opened:
             text, stream = (given, None) if isinstance(given, bytes) else (None, given)
             if given is UNREADABLE:

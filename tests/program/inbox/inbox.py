@@ -309,7 +309,7 @@ def what_is_still_written(room: Room) -> Iterator[Outcome]:
         time.sleep(0.05)
         (inbox.incoming / "c.xml.part").rename(inbox.incoming / "c.xml")
         lines = "a.xml: done: number 1 applied", "c.xml: waiting: it changed less than 600 s ago"
-        came = ended(inbox.start(before=within(AT_A_MOMENT, str(moment))))
+        came = inbox.run(before=within(AT_A_MOMENT, str(moment)))
         yield Outcome("inbox: what is written", came, said(*lines))
 
 
@@ -408,7 +408,7 @@ def very_many_notes(room: Room) -> Iterator[Outcome]:
         inbox = Inbox(room, desk.port)
         inbox.put({"a.xml": b"x"})
         before = ["sh", "-c", f'ulimit -d {LITTLE}; exec "$@"', "sh"]
-        came = ended(inbox.start("--converter", program, before=before))
+        came = inbox.run("--converter", program, before=before)
         yield Outcome("inbox: very many notes", came, said("a.xml: done: number 1 applied; notes: 500000 notes"))
     lines = inbox.kept().get("done/a.xml.answer", b"").decode().splitlines()
     named = line.replace("feed.xml", "a.xml")

@@ -36,7 +36,7 @@ def files_that_programs_read(room: Room) -> Iterator[Outcome]:
         inbox.incoming.joinpath(".curlrc").write_text(f'output = "{traces[3]}"\n')
         inbox.put({"a.xml": feed_of("R1")})
         folder = str(inbox.incoming)
-        came = inbox.run(
+        started = inbox.start(
             HOME=folder,
             PYTHONPATH=folder,
             PYTHONSTARTUP=f"{folder}/argparse.py",
@@ -50,7 +50,7 @@ def files_that_programs_read(room: Room) -> Iterator[Outcome]:
             ".local: not taken: it is a folder",
             "argparse.py: not taken: its name has no known ending",
         ]
-        yield Outcome("inbox: files that programs read", came, said("a.xml: done: number 1 applied", *lines))
+        yield Outcome("inbox: files that programs read", ended(started), said("a.xml: done: number 1 applied", *lines))
         yield Outcome("inbox: what they did", [trace.exists() for trace in traces], [False] * 4)
 
 
@@ -171,7 +171,7 @@ def swapped(what: str, room: Room) -> Iterator[Outcome]:
     if what != "another file":
         inbox.incoming.joinpath("a.csv.part").unlink()
     before = within(SWAPPING, inbox.incoming / "a.csv", room.path("secret.csv"), statement)
-    came = ended(inbox.start(before=before))
+    came = inbox.run(before=before)
     lines = [line for line in came.errors.decode().splitlines() if " a.csv: " in line]
     found = came.status, came.output, lines
     wanted = 0, b"", [f"onixdesk-inbox: a.csv: {why}"] if why else []
@@ -186,7 +186,7 @@ def gone_before_others(room: Room) -> Iterator[Outcome]:
         inbox = Inbox(room, desk.port)
         inbox.put({"a.csv": message_of("R1"), "b.csv": message_of("R2")})
         statement, _ = SWAPS["nothing"]
-        came = ended(inbox.start(before=within(SWAPPING, inbox.incoming / "a.csv", "", statement)))
+        came = inbox.run(before=within(SWAPPING, inbox.incoming / "a.csv", "", statement))
         yield Outcome("inbox: behind a file that is gone", came, said("b.csv: done: number 1 applied"))
 
 
@@ -222,7 +222,7 @@ def replaced_at_the_last_moment(room: Room) -> Iterator[Outcome]:
         for text, first, second in [(REPLACING, 1, 2), (KILLED, 3, 4)]:
             inbox.put({"a.csv": files[first]})
             room.write("next.csv", files[second])
-            ended(inbox.start(before=within(text, inbox.incoming / "a.csv", room.path("next.csv"))))
+            inbox.run(before=within(text, inbox.incoming / "a.csv", room.path("next.csv")))
             inbox.run()
             kept = [data for name, data in inbox.kept().items() if name.endswith(".csv")]
             found = sorted(kept)[-2:], inbox.lying()
@@ -271,18 +271,18 @@ def as_another_user(room: Room) -> Iterator[Outcome]:
     theirs = said(f"{inbox.state}: it is nobody's, who alone runs this inbox", status=3)
     yield Outcome("inbox: a run by root", (inbox.run(), inbox.kept(), [*inbox.state.iterdir()]), (theirs, {}, []))
     wanted = said("a.csv: not taken: it cannot be read: Permission denied")
-    yield Outcome("inbox: a file that cannot be read", ended(inbox.start(before=before)), wanted)
+    yield Outcome("inbox: a file that cannot be read", inbox.run(before=before), wanted)
     # As a run leaves it that was killed, when another file had come in its place.
     inbox.put({".onixdesk-taken-0123456789abcdef.csv": message_of("R1")})
     inbox.incoming.joinpath(".onixdesk-taken-0123456789abcdef.csv").chmod(0o644)
-    line = ended(inbox.start(before=before)).errors.decode().splitlines()[-1]
+    line = inbox.run(before=before).errors.decode().splitlines()[-1]
     named = re.sub("[0-9a-f]{16}", "DIGITS", line)
     wanted_line = f"onixdesk-inbox: onixdesk-taken-DIGITS.csv: {NOBODY.format(1)}"
     yield Outcome("inbox: a file that may have no second name", named, wanted_line)
     inbox.incoming.chmod(0o1777)
     os.chown(inbox.incoming, 0, 0)
     wanted = said(f"{inbox.incoming}: this user cannot take files out of it", status=3)
-    yield Outcome("inbox: a folder with a sticky bit", ended(inbox.start(before=before)), wanted)
+    yield Outcome("inbox: a folder with a sticky bit", inbox.run(before=before), wanted)
 
 
 def usable_python() -> bool:

@@ -313,7 +313,7 @@ def two_states(room: Room) -> Iterator[Outcome]:
 
 def killed_run(inbox: Inbox, step: int, converter: Path) -> int:
     before = within(KILLING, str(step))
-    return ended(inbox.start("--converter", converter, before=before)).status
+    return inbox.run("--converter", converter, before=before).status
 
 
 def steps(share: int) -> range:

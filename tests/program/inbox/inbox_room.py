@@ -14,7 +14,6 @@ from tests.program.inbox.inboxes import (
     WAITING,
     WORDS,
     Inbox,
-    ended,
     of_series,
     said,
     script,
@@ -43,7 +42,7 @@ def refused_before_a_copy(room: Room) -> Iterator[Outcome]:
         "b.xml: refused: it is a sparse file; kept as b.xml.head",
         "c.csv: refused: it is a sparse file; kept as c.csv.head",
     ]
-    came = ended(inbox.start(before=BOUNDED))
+    came = inbox.run(before=BOUNDED)
     yield Outcome("inbox: refused before a copy", came, said(*lines, status=1))
     kept = {name: data for name, data in inbox.kept().items() if not name.endswith(".answer")}
     wanted = {

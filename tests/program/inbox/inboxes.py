@@ -108,8 +108,8 @@ class Inbox:
             stderr=subprocess.PIPE,
         )
 
-    def run(self, *more: Word, **environment: str) -> Ran:
-        return self.room.call(self.words(*more), environment=os.environ | environment)
+    def run(self, *more: Word, before: Sequence[Word] = (), **environment: str) -> Ran:
+        return self.room.call([*before, *self.words(*more)], environment=os.environ | environment)
 
     def kept(self) -> dict[str, bytes]:
         """What is done and refused."""

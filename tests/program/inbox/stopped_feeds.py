@@ -353,7 +353,7 @@ SHARES, MOST, LEAST = 4, 60, 12
 
 
 def killed(inbox: Inbox, step: int, *words: str) -> int:
-    return ended(inbox.start(*words, before=within(KILLING, str(step)))).status
+    return inbox.run(*words, before=within(KILLING, str(step))).status
 
 
 def killed_at_any_step(decision: str, share: int, room: Room) -> Iterator[Outcome]:

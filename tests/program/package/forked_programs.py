@@ -49,7 +49,7 @@ def texts(room: Room) -> Iterator[Outcome]:
         "this one": {name: value for name, value in os.environ.items() if not name.startswith("PYTHON")},
         "none": {"PATH": os.environ["PATH"]},
         "of C": {"PATH": os.environ["PATH"], "LC_ALL": "C", "TZ": "Asia/Tokyo", "ÄRGER": "ß"},
-        "of UTF-8": {"PATH": os.environ["PATH"], "LANG": "C.UTF-8", "PYTHONPATH": "/nowhere"},
+        "of UTF-8": {"PATH": os.environ["PATH"], "LANG": "C.UTF-8"},
     }.items():
         given = "gegeben ü".encode()
         both = room.call(words, given, environment=environment), itself(room, words, given, environment)
@@ -68,4 +68,7 @@ def files(room: Room) -> Iterator[Outcome]:
             yield Outcome(f"forked: {program} {text}", room.call(words), itself(room, words, b"", os.environ))
     yield Outcome("forked: programs", len(programs()) > 5, True)
     themselves: list[list[Word]] = [[programs()[0], "--help"], ["sh", "-c", programs()[0]], [room.program]]
-    yield Outcome("forked: what is started itself", [words_of(words, b"") for words in themselves], [None] * 3)
+    found = [words_of(words, b"", os.environ) for words in themselves]
+    yield Outcome("forked: what is started itself", found, [None] * 3)
+    found = [words_of([programs()[0]], b"", {**os.environ, **more}) for more in ({}, {"PYTHONPATH": "/nowhere"})]
+    yield Outcome("forked: with variables of Python's own", found, [[programs()[0]], None])

@@ -86,12 +86,17 @@ def names_path(tree: ast.AST) -> bool:
     return any(ast.unparse(node) == "sys.path" for node in ast.walk(tree) if isinstance(node, ast.Attribute))
 
 
+# A module in which programs run as if they were started, each with a path of its own.
+HAS_PATH = "tests/program/forking.py"
+
+
 def imports(room: Room) -> Iterator[Outcome]:
     for package, others in MAY_IMPORT.items():
         allowed = others | {Path(package).name} | sys.stdlib_module_names
         wrong = [(str(path), sorted(more)) for path, tree in trees(package) if (more := imported(tree) - allowed)]
         yield Outcome(f"{package}: what it imports", wrong, [])
-        yield Outcome(f"{package}: sys.path", [str(path) for path, tree in trees(package) if names_path(tree)], [])
+        named = [str(path) for path, tree in trees(package) if names_path(tree)]
+        yield Outcome(f"{package}: sys.path", named, [HAS_PATH] if package == "tests" else [])
 
 
 def planted(room: Room) -> Iterator[Outcome]:

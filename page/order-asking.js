@@ -17,6 +17,9 @@ const TRIES = 3;
 const QUESTIONS = 4;
 const MORE_QUESTIONS = 24;
 
+// Of how many books nothing may be asked before a key is heard: each is drawn, and no answer is waited for between them.
+const UNHEARD = 5;
+
 // The net types that an offer may have in place of the one asked for, beside that of the recommended price.
 const NET_TYPES = ["05", "07"];
 
@@ -46,6 +49,9 @@ export function sharedWatch(watch) {
     };
   };
 }
+
+/** The time in which the browser hears a key and draws. */
+const aMoment = () => new Promise((resolve) => { setTimeout(resolve, 0); });
 
 /**
  * The questions of a list, over its `question` (day, country, currency, type), the `settings`, and while `signal`
@@ -152,10 +158,13 @@ export class OrderAsking {
     ];
     const had = this.#retailType === "" ? 2 : 3;
     for (const book of books) this.#count(book, had);
-    let done = 0;
+    let [done, unheard] = [0, 0];
     for (const step of steps) {
       await eachOf(books, async (book) => {
+        const left = this.#left;
         await step(book);
+        unheard = this.#left === left ? unheard + 1 : 0;
+        if (unheard % UNHEARD === UNHEARD - 1) await aMoment();
         // A step may need no question, which would say so.
         this.#signal.throwIfAborted();
         done += 1;

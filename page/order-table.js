@@ -425,7 +425,7 @@ function putRows(body, rows) {
 }
 
 // How many rows are made at once: while a thousand are, no key is heard.
-const AT_ONCE = 100;
+const AT_ONCE = 50;
 const LATER = "later";
 
 /** A row that is to be made later: the one that there is, or one that says nothing yet. */

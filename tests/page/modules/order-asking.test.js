@@ -172,6 +172,20 @@ test("of a list that nobody waits for any longer nothing is told, though nothing
   assert.ok(told.length > 0 && !told.includes(true), `${told}`);
 });
 
+test("while nothing is asked about many books, a key is heard between them", async () => {
+  const known = { quantity: 999_999, offers: [PRICED] };
+  const answer = () => ({ offers: [PRICED], ordered: PRICED, retail: [], most: [known], copies: [known] });
+  const books = Array.from({ length: 200 }, () => ({ ...BOOK, copies: 999_999, answer: answer() }));
+  const settings = { rules: rulesOf('[[rule]]\nseries = "south"\ncodes = ["21"]\n'), currencies: [] };
+  replies = { price: priceOf("9.000") };
+  let [told, most, heard] = [0, 0, 0];
+  const keys = setInterval(() => { [most, heard] = [Math.max(most, told - heard), told]; }, 0);
+  await asking(settings).lookForBetter(books, () => { told += 1; });
+  clearInterval(keys);
+  assert.equal(told, 5 * books.length);
+  assert.ok(0 < most && most <= told / 4, `${most} of ${told} between two keys`);
+});
+
 test("where prices of other copies are refused, there are those of the book's own", async () => {
   replies = { price: { answer: "refused", reason: "bad-query" } };
   assert.deepEqual(quantitiesOf((await better()).copies), [2]);

@@ -330,7 +330,7 @@ def on_a_terminal(room: Room) -> Iterator[Outcome]:
     """A line shows what is done, and is taken away before the page; where there is no terminal there is none."""
     room.write("like.json", json.dumps(LIKE).encode())
     room.write("a.xml", feed_of("R1"))
-    command = [PROGRAM, "--program", room.program, "--like", room.path("like.json"), room.path("a.xml")]
+    command: list[Word] = [PROGRAM, "--program", room.program, "--like", room.path("like.json"), room.path("a.xml")]
     ours, theirs = pty.openpty()
     ran = subprocess.run(command, stdout=subprocess.DEVNULL, stderr=theirs)
     os.close(theirs)

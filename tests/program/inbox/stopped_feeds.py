@@ -16,7 +16,7 @@ from tests.program.documents.examples import block
 from tests.program.feeds.convert.case_files import FRAMES, SUPPLIER
 from tests.program.feeds.convert.wanted_runs import PRODUCT, supplied
 from tests.program.inbox.inbox_numbers import KILLED, KILLING
-from tests.program.inbox.inboxes import PROGRAM, Inbox, ended, said, within
+from tests.program.inbox.inboxes import PROGRAM, Inbox, said, within
 from tests.program.room import Group, Ran, Room
 from tests.program.serving import StandIn, standing_in
 from tests.running import Outcome

@@ -173,8 +173,8 @@ def a_mistyped_database(room: Room) -> Iterator[Outcome]:
     words = [places.get(word, word) for word in sought("^ExecStart=(.+)$", unit).split()]
     # A desk that it makes would be served until it is stopped.
     came = room.call(["timeout", "60", *words])
-    why = b"onixdesk: storage: unusable\nonixdesk: cases.db: no such file or folder\n"
-    yield Outcome("a mistyped database: the unit's command", came, Ran(3, b"", why))
+    said = f"onixdesk: storage: unusable\nonixdesk: {DATABASE}: no such file or folder\n"
+    yield Outcome("a mistyped database: the unit's command", came, Ran(3, b"", said.encode()))
     yield Outcome("a mistyped database: no desk is made", [path.name for path in room.folder.iterdir()], ["rules.toml"])
 
 

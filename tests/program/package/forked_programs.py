@@ -70,5 +70,6 @@ def files(room: Room) -> Iterator[Outcome]:
     themselves: list[list[Word]] = [[programs()[0], "--help"], ["sh", "-c", programs()[0]], [room.program]]
     found = [words_of(words, b"", os.environ) for words in themselves]
     yield Outcome("forked: what is started itself", found, [None] * 3)
-    found = [words_of([programs()[0]], b"", {**os.environ, **more}) for more in ({}, {"PYTHONPATH": "/nowhere"})]
+    elsewhere = {**os.environ, "PYTHONPATH": "/nowhere"}
+    found = [words_of([programs()[0]], b"", environment) for environment in (os.environ, elsewhere)]
     yield Outcome("forked: with variables of Python's own", found, [[programs()[0]], None])

@@ -57,6 +57,13 @@ def ask(browser: Browser, address: str) -> list[list[str]]:
     return answered(browser)
 
 
+def ask_on(browser: Browser, address: str) -> list[list[str]]:
+    """The same in the page that is open, which has the settings already; opens one if none is."""
+    is_open = browser.run("return document.getElementById('isbn') !== null")
+    (browser.go if is_open else browser.open)(address)
+    return answered(browser)
+
+
 def said(browser: Browser, words: str) -> bool:
     return words in browser.wait_for_text("#article-status", words)
 
@@ -105,20 +112,19 @@ def empty(site: Site, browser: Browser) -> Iterator[Outcome]:
 
 
 def ten_copies(site: Site, browser: Browser) -> Iterator[Outcome]:
-    yield Outcome("ten copies: the offers", ask(browser, article(quantity="10")), TEN_COPIES)
+    yield Outcome("ten copies: the offers", ask_on(browser, article(quantity="10")), TEN_COPIES)
     yield Outcome("ten copies: the choice", said(browser, "South Books: retail price £9.95"), True)
 
 
 def another_country(site: Site, browser: Browser) -> Iterator[Outcome]:
-    prices = [row[2] for row in ask(browser, article(country="IE", quantity="10"))]
+    prices = [row[2] for row in ask_on(browser, article(country="IE", quantity="10"))]
     none = "no price of type 02 for 10 copies in GBP"
     yield Outcome("Ireland: South does not sell there", prices, ["£11.50", none, "£8.00"])
 
 
 def no_rule(site: Site, browser: Browser) -> Iterator[Outcome]:
-    browser.open(article(OTHER_ISBN))
     rows = [["North Books", "not available 40", "£25.00", SAME, ON]]
-    yield Outcome("no rule: the offer", answered(browser), rows)
+    yield Outcome("no rule: the offer", ask_on(browser, article(OTHER_ISBN)), rows)
     words = "No rule of the shop takes one of these offers, so none is chosen"
     yield Outcome("no rule: it is said", said(browser, words), True)
 
@@ -193,7 +199,7 @@ def typed_question(site: Site, browser: Browser) -> Iterator[Outcome]:
 
 def own_type(site: Site, browser: Browser) -> Iterator[Outcome]:
     """A type that has no words here can be asked for by the address."""
-    prices = [row[2] for row in ask(browser, article(type="77"))]
+    prices = [row[2] for row in ask_on(browser, article(type="77"))]
     yield Outcome("a type without words: the answer", prices, ["no price of type 77 for 1 copy in GBP"] * 3)
     shown = browser.run("return document.querySelector('#type').selectedOptions[0].textContent")
     yield Outcome("a type without words: its field", shown, "77 – no words for this code")

@@ -99,6 +99,11 @@ class Browser:
         self.open(address)
         self.wait(lambda: self.run("return document.getElementById('day').value"))
 
+    def go(self, address: str) -> None:
+        """Goes to another address of the page that is open, whose view has left what it said by then."""
+        come = "window.addEventListener('hashchange', () => setTimeout(arguments[1]), { once: true });"
+        self.driver.execute_async_script(f"{come} location.hash = arguments[0];", address)
+
     def one(self, selector: str) -> WebElement:
         return self.driver.find_element(By.CSS_SELECTOR, selector)
 

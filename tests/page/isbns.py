@@ -25,6 +25,15 @@ def scan(browser: Browser, text: str) -> None:
     ActionChains(browser.driver).send_keys(f"{text}\n").perform()
 
 
+def begin(browser: Browser) -> None:
+    """A view without a question, of the page that is open or of a new one."""
+    if browser.run("return location.hash") in ("", "#article"):
+        browser.open("")
+    else:
+        browser.go("#article")
+    browser.wait(lambda: browser.run(FOCUS)[0] == "isbn")
+
+
 def asked(browser: Browser, isbn: str) -> bool:
     """Whether the page shows the answer for an ISBN."""
     shown = browser.wait(lambda: browser.shows("#article-status", f"ISBN {isbn}"))
@@ -71,8 +80,7 @@ def next_one_is_not_lost(site: Site, browser: Browser) -> Iterator[Outcome]:
 
 def ten_digits(site: Site, browser: Browser) -> Iterator[Outcome]:
     for typed, isbn in [(TEN, THIRTEEN), *[(typed, ITS_THIRTEEN) for typed in ENDING_IN_X]]:
-        browser.open("")
-        browser.wait(lambda: browser.run(FOCUS)[0] == "isbn")
+        begin(browser)
         scan(browser, typed)
         browser.wait(lambda: "isbn=" in browser.run("return location.hash"))
         given = browser.run("return location.hash").partition("&")[0]
@@ -92,11 +100,8 @@ HYPHENS = [
 
 
 def hyphens(site: Site, browser: Browser) -> Iterator[Outcome]:
-    browser.open("")
-    browser.wait(lambda: browser.run(FOCUS)[0] == "isbn")
     for typed in HYPHENS:
-        browser.run("location.hash = '#article'")
-        browser.wait(lambda: browser.text("#article-status") == "")
+        begin(browser)
         browser.run("document.getElementById('isbn').value = arguments[0]", typed)
         browser.one("#question button.main").click()
         yield Outcome(f"hyphens: {typed!a}", asked(browser, ISBN), True)
@@ -119,8 +124,7 @@ SURROUNDED = [
 def surrounded(site: Site, browser: Browser) -> Iterator[Outcome]:
     """The ISBN is taken out of what stands around it."""
     for typed in SURROUNDED:
-        browser.open("")
-        browser.wait(lambda: browser.run(FOCUS)[0] == "isbn")
+        begin(browser)
         browser.run("document.getElementById('isbn').value = arguments[0]", typed)
         browser.one("#question button.main").click()
         came = browser.wait(lambda: f"isbn={ISBN}&" in browser.run("return location.hash"))
@@ -135,8 +139,7 @@ def check_digits(site: Site, browser: Browser) -> Iterator[Outcome]:
         ("0-306-40615-3", THIRTEEN),
         ("0-8044-2957-3", ITS_THIRTEEN),
     ]:
-        browser.open("")
-        browser.wait(lambda: browser.run(FOCUS)[0] == "isbn")
+        begin(browser)
         before, asked_before = site.mark(), len(site.requests())
         browser.one("#isbn").send_keys(f"{typed}\n")
         told = browser.wait_for_text("#isbn-wrong", "digit")

@@ -11,7 +11,7 @@ from urllib.parse import unquote
 from selenium.webdriver.common.action_chains import ActionChains
 from selenium.webdriver.common.keys import Keys
 
-from tests.page.articles import answered, ask, has_calendar, noted, said
+from tests.page.articles import answered, ask, ask_on, has_calendar, noted, said
 from tests.page.browser import Browser
 from tests.page.days import with_clock
 from tests.page.prices import NET, settings
@@ -252,17 +252,17 @@ def breaks(site: Site, browser: Browser) -> Iterator[Outcome]:
         cell = "1: £4.3610: £4.1412: £4.1450: £3.76"
         yield Outcome("the asked number among them, and one beyond", browser.call("offerCells")[0][4], cell)
         yield Outcome("the asked number is marked", browser.text("#offers .copies strong"), "12: £4.14")
-        ask(browser, article(FIVE_ISBN, type="05"))
+        ask_on(browser, article(FIVE_ISBN, type="05"))
         sentence = "No wholesaler has a price in GBP for 1 copy of type 05 – supplier's net price, without tax"
         yield Outcome("from five on only: the sentence", said(browser, sentence), True)
         yield Outcome(
             "from five on only: who sells it", noted(browser, "net sells it from 5 copies on, at £5.00 each."), True
         )
         yield Outcome("from five on only: the row", browser.call("offerCells")[0][3], "1: no price5: £5.00")
-        ask(browser, article(DEARER_ISBN, quantity="10", type="05"))
+        ask_on(browser, article(DEARER_ISBN, quantity="10", type="05"))
         told = "Fewer copies cost less each: 9 copies at £8.66 each, £77.94 in all."
         yield Outcome("ten cost more than nine", noted(browser, told), True)
-        ask(browser, article(BREAKS_ISBN, quantity="48", type="05"))
+        ask_on(browser, article(BREAKS_ISBN, quantity="48", type="05"))
         told = "More copies cost less in all: 50 copies at £3.76 each, £188.00 in all."
         yield Outcome("fifty cost less than forty-eight", noted(browser, told), True)
 

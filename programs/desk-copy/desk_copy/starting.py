@@ -1,7 +1,7 @@
 """What memory the next start of a desk takes, by a copy of its files, and how much its unit lets it have.
 
-A start holds each table in memory while it checks it, one after the other, so the largest counts. In the folder of
-figures the desk's waiting script writes the limit and the seconds of the last start, and desk-copy what the next one
+A start holds each table in memory while it checks it, one after the other, so the largest counts most; of the others
+and of the indexes a part is not given back. In the folder of figures the desk's waiting script writes the limit and the seconds of the last start, and desk-copy what the next one
 takes; desk-metrics reads them.
 """
 
@@ -16,10 +16,12 @@ from desk_copy.trying import left_alone, opened
 # The files of the folder, each with lines of a name and a number.
 STARTED, NEXT = "started", "next"
 
-# Measured (docs/SCALE.md): what a start takes besides, in bytes, and for each byte of the pages of the largest table.
-BESIDES, FOR_A_BYTE = 16_000_000, 1.1
+# Measured (docs/SCALE.md): what a start takes besides, in bytes, for each byte of the pages of the largest table, and for
+# each of all others.
+BESIDES, FOR_A_BYTE, FOR_OTHERS = 16_000_000, 1.1, 0.65
 
 LARGEST = "SELECT name, sum(pgsize) FROM dbstat GROUP BY name ORDER BY sum(pgsize) DESC LIMIT 1"
+ALL = "SELECT sum(pgsize) FROM dbstat"
 
 MEBIBYTE = 1 << 20
 
@@ -40,9 +42,10 @@ def start_of(database: Path) -> Start:
     try:
         with closing(opened(database)) as connection:
             table, size = connection.execute(LARGEST).fetchone()
+            (whole,) = connection.execute(ALL).fetchone()
     finally:
         left_alone(database, has_log)
-    return Start(table, BESIDES + int(FOR_A_BYTE * size))
+    return Start(table, BESIDES + int(FOR_A_BYTE * size + FOR_OTHERS * (whole - size)))
 
 
 def read_figures(file: Path) -> dict[str, float]:

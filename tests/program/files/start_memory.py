@@ -8,7 +8,7 @@ from collections.abc import Iterator
 from contextlib import closing
 from pathlib import Path
 
-from desk_copy.starting import BESIDES, FOR_A_BYTE
+from desk_copy.starting import BESIDES, FOR_A_BYTE, FOR_OTHERS, start_of
 from tests.program.databases import DATABASE, batch
 from tests.program.files.desk_copy import copy
 from tests.program.files.desk_metrics import read, write
@@ -63,6 +63,20 @@ def warnings(room: Room) -> Iterator[Outcome]:
         yield Outcome(f"start memory: {begin}", found, (0, True, []))
     left = sorted(each.name for each in room.path("copy").iterdir() if each.name.endswith("-shm"))
     yield Outcome("start memory: nothing is left beside a copy", left, [])
+
+
+def of_the_rest(room: Room) -> Iterator[Outcome]:
+    """What is in the other tables and in indexes counts too, and less."""
+    file = room.path("some.db")
+    with closing(sqlite3.connect(file)) as connection, connection:
+        connection.execute("CREATE TABLE a (text TEXT)")
+        connection.execute("CREATE TABLE b (text TEXT UNIQUE)")
+        for table, size in [("a", 4), ("b", 1)]:
+            connection.execute(f"INSERT INTO {table} VALUES (?)", ["x" * (size * MEGABYTE)])
+    table, memory = start_of(file)
+    # The index of b has its text again.
+    least = BESIDES + int(FOR_A_BYTE * 4 * MEGABYTE + FOR_OTHERS * 2 * MEGABYTE)
+    yield Outcome("start memory: and by the rest", (table, least <= memory < 1.01 * least), ("a", True))
 
 
 def opened_with(room: Room, limit: int) -> Ran:

@@ -69,9 +69,13 @@ export function kindOfAnswer({ offers, choice, question }) {
   return kind !== "retail" && isNothing(choice.amount) ? "free" : kind;
 }
 
+/** The kind of the sentence, by whether the net prices of the one who is chosen may be computed. */
+const sentenceKind = (kind, choice, settings) =>
+  kind === "net" && settings.terms.includes(choice.series) ? "netByTerms" : kind;
+
 function chosenInWords(kind, answer, settings) {
   const { choice, question } = answer;
-  return say(`article.chosen.${kind}`, {
+  return say(`article.chosen.${sentenceKind(kind, choice, settings)}`, {
     count: formatter(Intl.NumberFormat).format(Number(question.quantity)),
     wholesaler: chooserInWords(answer, settings),
     amount: money(choice.amount, question.currency),

@@ -16,7 +16,7 @@ const WORDS = "words.json";
 const NEEDED = ["series", "country", "currency", "price_type"];
 const KEYS = [
   ...NEEDED, "shop", "language", "quantities", "minutes_to_usual", "catalogue", "many_copies", "many_money",
-  "recommended_type", "currencies", "address",
+  "recommended_type", "currencies", "address", "terms",
 ];
 // What the file of prices reads of desk.json.
 const OTHERS = ["price_file"];
@@ -153,13 +153,20 @@ function readObject(text, problems) {
   return undefined;
 }
 
+/** Whether a value is a list of names of these series, each once. */
+function areNamesOf(series, value) {
+  if (!Array.isArray(value) || new Set(value).size < value.length) return false;
+  return value.every((name) => series.some((each) => each.name === name));
+}
+
 function settingsOf(given, problems) {
   const isMinutes = (value) => value === 0 || isCount(value, DAY);
+  const series = readAllSeries(given, problems);
   return {
     shop: read(given, "shop", isText, "", problems, "shop"),
     address: read(given, "address", isText, "", problems, "address"),
     language: read(given, "language", isLanguage, LANGUAGE, problems, "language"),
-    series: readAllSeries(given, problems),
+    series,
     country: readCode(given, "country", /^[A-Z]{2}$/, problems, "country"),
     currency: readCode(given, "currency", /^[A-Z]{3}$/, problems, "currency"),
     type: readCode(given, "price_type", /^\d\d$/, problems, "priceType"),
@@ -176,6 +183,7 @@ function settingsOf(given, problems) {
     ),
     currencies: read(given, "currencies", areCurrencies, [], problems, "currencies"),
     manyMoney: read(given, "many_money", isAmount, undefined, problems, "manyMoney"),
+    terms: read(given, "terms", (value) => areNamesOf(series, value), [], problems, "terms"),
   };
 }
 

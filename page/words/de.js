@@ -66,6 +66,7 @@ export const texts = {
     withReference: "{words} (\u2068{reference}\u2069)",
     chosen: {
       net: "{count} bei {wholesaler} kaufen, zu {amount} je Exemplar",
+      netByTerms: "{count} bei {wholesaler} kaufen, zu {amount} je Exemplar, nach den Konditionen des Hauses oder dem Nettopreis des Großhändlers",
       free: "{wholesaler} sagt {amount}: vor dem Bestellen nachfragen",
       retail: "{wholesaler}: Ladenpreis {amount}",
       other: "{wholesaler}: {amount} nach Preisart {type}",
@@ -476,6 +477,7 @@ export const texts = {
     currencies: "„currencies“ ist {value}; es sollte eine Liste von höchstens vier Währungen sein, wie [\"EUR\"].",
     address: "„address“ ist {value}; es sollte ein Text sein, die Anschrift der Buchhandlung.",
     seriesAccount: "„{key}“ der Reihe {number} ist {value}; es sollte ein Text sein, die Kundennummer dort.",
+    terms: "„terms“ ist {value}; es sollte eine Liste von Namen aus „series“ sein, jeder einmal, wie [\"north\"].",
     seriesCsv: "„{key}“ der Reihe {number} ist {value}; es sollte die Form einer Datei sein, wie die Dokumentation sie hat.",
     manyCopies: "„many_copies“ ist {value}; es sollte eine ganze Zahl von 1 bis 999999 sein.",
     manyMoney: "„many_money“ ist {value}; es sollte ein Betrag in Anführungszeichen sein, wie \"500.00\".",

@@ -66,6 +66,7 @@ export const texts = {
     withReference: "{words} (\u2068{reference}\u2069)",
     chosen: {
       net: "Buy {count} from {wholesaler} at {amount} a copy",
+      netByTerms: "Buy {count} from {wholesaler} at {amount} a copy, by the shop's terms, or the wholesaler's own net price",
       free: "{wholesaler} says {amount}: ask before you order",
       retail: "{wholesaler}: retail price {amount}",
       other: "{wholesaler}: {amount} by price type {type}",
@@ -476,6 +477,7 @@ export const texts = {
     currencies: "“currencies” is {value}; it should be a list of at most four currencies, such as [\"EUR\"].",
     address: "“address” is {value}; it should be a text, the shop's address.",
     seriesAccount: "“{key}” of series {number} is {value}; it should be a text, the shop's account there.",
+    terms: "“terms” is {value}; it should be a list of names of “series”, each once, such as [\"north\"].",
     seriesCsv: "“{key}” of series {number} is {value}; it should be a form of a file, as the documentation has it.",
     manyCopies: "“many_copies” is {value}; it should be a whole number from 1 to 999999.",
     manyMoney: "“many_money” is {value}; it should be an amount in quotation marks, such as \"500.00\".",

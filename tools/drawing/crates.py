@@ -41,6 +41,7 @@ LAYERS = {
             "feed_xml",
             "feed_outline",
             "feed_mapping",
+            "feed_terms",
             "feed_tests",
             "feed_conversion",
             "feed_titles",

@@ -1,6 +1,6 @@
 -- How a conversion ends, by how its reading did.
-use Rattle.std.proofs.Common.{◌≡◌, ℕ, List, [], fold, refl, sym, ap, ◌∙◌}
-use Rattle.std.specs.Prelude.{Option, Result, Ok, Err, IfErr, IfOk}
+use Rattle.std.proofs.Common.{◌≡◌, ℕ, List, [], fold, refl, sym, ap, subst, ◌∙◌}
+use Rattle.std.specs.Prelude.{Option, Result, Ok, Err}
 use Rattle.feed_xml.specs.declared.position.Position.{Position}
 use Rattle.feed_xml.specs.EncodingNames.{IsTextOf}
 use Rattle.feed_xml.specs.Tree.{Content}
@@ -8,24 +8,18 @@ use Rattle.feed_outline.specs.Dialect.{Dialect}
 use Rattle.feed_outline.specs.Message.{IsMessage}
 use Rattle.feed_outline.specs.Nodes.{nodes_in}
 use Rattle.feed_outline.specs.Outline.{parts_of}
-use Rattle.feed_mapping.specs.Vocabulary.{desk_vocabulary}
+use Rattle.feed_outline.specs.Names.{Word}
 use Rattle.feed_conversion.specs.declared.refusal.Fault.{Fault}
 use Rattle.feed_conversion.specs.declared.refusal.Fault.TheVariants as fault
 use Rattle.feed_conversion.specs.declared.refusal.Refusal.{Refusal}
-use Rattle.feed_conversion.specs.Conversion.{Options, conversion}
+use Rattle.feed_conversion.specs.Conversion.{Options, conversion, vocabulary_by}
 use Rattle.feed_conversion.specs.Keeping.{Keeping}
-use Rattle.feed_conversion.specs.Outcomes.{ExplainsFault, Yields}
-use Rattle.feed_conversion.specs.private.Endings.{Ends}
+use Rattle.feed_conversion.specs.Outcomes.{Yields}
+use Rattle.feed_conversion.specs.private.Endings.{Comes, Ends}
 use Rattle.feed_conversion.specs.Packing.{Converted}
 use Rattle.feed_conversion.specs.private.Stages.{State, Taken, finished, taken}
 use Rattle.feed_conversion.proofs.PackingLaws.{behind, result_map}
 use Rattle.feed_conversion.proofs.StageLaws.{Tell, after_lines, conversion_is, start}
-
--- what the contract of a conversion says
-abbrev pub Comes : {P N : Type 0} → Keeping P N → Option (List ℕ) → Options → Taken P N → Result ℕ Fault → P → N → Type 0
-Comes k bytes o before ended parts notes =
-    IfOk ended (λ wrong. (made : Converted) × Yields bytes o (Ok made) × (wrong ≡ made.wrong) × (parts ≡ fold k.with_part before.parts made.parts) × (notes ≡ fold k.with_note before.notes made.notes))
-    × IfErr ended (λ e. ExplainsFault bytes o e)
 
 value : {A E : Type 0} → A → Result A E → A
 value other (Ok x) = x
@@ -50,14 +44,14 @@ comes k bytes o before parts notes (Err (fault.Refused refusal)) (Err refused) s
 comes k bytes o before parts notes (Err (fault.Unread unread place said)) told says e = absurd e
 comes k bytes o before parts notes (Err fault.Memory) told says e = (tt, tt)
 
-pub read : {P N : Type 0} (k : Keeping P N) → Tell → (bytes : Option (List ℕ)) (o : Options) (before : Taken P N) (parts : P) (notes : N) (text : List ℕ) (d : Dialect) (place : Position) (inside : Content)
-    → IsTextOf bytes text → IsMessage desk_vocabulary text d place inside
-    → (first s : State P N) → first ≡ start o before → s ≡ fold (after_lines k) first (parts_of (nodes_in desk_vocabulary d [] place inside))
+read : {P N : Type 0} (k : Keeping P N) → Tell → (bytes : Option (List ℕ)) (o : Options) (before : Taken P N) (parts : P) (notes : N) (text : List ℕ) (d : Dialect) (place : Position) (inside : Content)
+    → IsTextOf bytes text → IsMessage (vocabulary_by o.terms) text d place inside
+    → (first s : State P N) → first ≡ start o before → s ≡ fold (after_lines k) first (parts_of (nodes_in (vocabulary_by o.terms) d [] place inside))
     → (ended : Result ℕ Fault) → Ends ended parts notes (finished k s) → Comes k bytes o before ended parts notes
 read {P} {N} k tell bytes o before parts notes text d place inside encoded message first s begins is ended e =
-    let told : finished k s ≡ result_map (behind k before) (conversion o (nodes_in desk_vocabulary d [] place inside)) =
-    ap (finished k) (is ∙ ap (λ (t : State P N). fold (after_lines k) t (parts_of (nodes_in desk_vocabulary d [] place inside))) begins) ∙ conversion_is k tell o before (nodes_in desk_vocabulary d [] place inside) in
-    comes k bytes o before parts notes ended (conversion o (nodes_in desk_vocabulary d [] place inside))
+    let told : finished k s ≡ result_map (behind k before) (conversion o (nodes_in (vocabulary_by o.terms) d [] place inside)) =
+    ap (finished k) (is ∙ ap (λ (t : State P N). fold (after_lines k) t (parts_of (nodes_in (vocabulary_by o.terms) d [] place inside))) begins) ∙ conversion_is k tell o before (nodes_in (vocabulary_by o.terms) d [] place inside) in
+    comes k bytes o before parts notes ended (conversion o (nodes_in (vocabulary_by o.terms) d [] place inside))
     (λ found same. record {
       text = text;
       dialect = d;
@@ -67,3 +61,12 @@ read {P} {N} k tell bytes o before parts notes text d place inside encoded messa
       message = message;
       conversion = same;
     }) (rw told at e)
+
+-- the same, of a message that was read with the vocabulary of the options
+pub read-by : {P N : Type 0} (k : Keeping P N) → Tell → (bytes : Option (List ℕ)) (o : Options) (vocabulary : List Word) → vocabulary_by o.terms ≡ vocabulary → (before : Taken P N) (parts : P) (notes : N) (text : List ℕ) (d : Dialect) (place : Position) (inside : Content)
+    → IsTextOf bytes text → IsMessage vocabulary text d place inside
+    → (first s : State P N) → first ≡ start o before → s ≡ fold (after_lines k) first (parts_of (nodes_in vocabulary d [] place inside))
+    → (ended : Result ℕ Fault) → Ends ended parts notes (finished k s) → Comes k bytes o before ended parts notes
+read-by k tell bytes o vocabulary same before parts notes text d place inside encoded message first s begins is ended e =
+    read k tell bytes o before parts notes text d place inside encoded (subst (λ (v : List Word). IsMessage v text d place inside) (sym same) message) first s begins
+    (is ∙ ap (λ (v : List Word). fold (after_lines k) first (parts_of (nodes_in v d [] place inside))) (sym same)) ended e

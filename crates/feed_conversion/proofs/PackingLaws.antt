@@ -13,7 +13,7 @@ use Rattle.feed_mapping.specs.Notes.{Note, note, wrong}
 use Rattle.feed_mapping.specs.ProductRecords.{Variant, variants}
 use Rattle.feed_mapping.specs.Products.{reference_in}
 use Rattle.feed_mapping.specs.declared.notes.Wrong.TheVariants.{TooLarge}
-use Rattle.feed_conversion.specs.Conversion.{Options, first_record, settings}
+use Rattle.feed_conversion.specs.Conversion.{Options, first_record, settings, supply_choices}
 use Rattle.feed_conversion.specs.Keeping.{Keeping}
 use Rattle.feed_conversion.specs.Messages.{empty_messages, fits, message_text}
 use Rattle.feed_conversion.specs.Packing.{Converted, Packing, product_notes}
@@ -124,7 +124,7 @@ forms_are {P} {N} k o h header before w c (f ∷ fs) =
 pub product_is : {P N : Type 0} (k : Keeping P N) (o : Options) (h : Heading) (header : Nodes) (before : Taken P N) (w : Packing) (c : Composite)
     → product_taken k o (seen k h header before w) c ≡ seen k h header before (defined.after_product (settings o h header) w c)
 unfolding product_taken
-product_is k o h header before w c = forms_are k o h header before w c (variants h.opening o.choices.id_type c)
+product_is k o h header before w c = forms_are k o h header before w c (variants h.opening (supply_choices o) c)
 
 -- ---- the end
 

@@ -259,7 +259,7 @@ forms_step t w c placings (f ∷ fs) right none =
         rw (here, next) (later (λ g is more. right g (inr (next, is)) more) now)
 
 product_step : (t : Settings) (w : Packing) (c : Composite) (placings : List Placing) → (after_product t w c).beyond ≡ None → Step t w c (after_product t w c) placings
-product_step t w c placings none = forms_step t w c placings (variants t.opening t.preferred c) (λ f is more. (w.full + 1, within more, is)) none
+product_step t w c placings none = forms_step t w c placings (variants t.opening t.supplies c) (λ f is more. (w.full + 1, within more, is)) none
   where
     within : ltb w.full t.most ≡ true → w.full + 1 ≤ t.most
     within more = omega (arith, ltb-true w.full t.most more)

@@ -21,7 +21,7 @@ none_has_room t before (f ∷ fs) v (inr is) (suc k, within, same) fit = none_ha
 placed_with_room : (t : Settings) (c : Composite) (variant : Option Variant) → IsRight t (record { product = c; variant = variant }) → HasRoom t c
     → map (λ (p : Placed). p.product) (placed_of (record { product = c; variant = variant })) ≡ c ∷ []
 placed_with_room t c (Some v) right room = refl
-placed_with_room t c None right room = absurd (none_has_room t right.0 (variants t.opening t.preferred c) room.0 right.2 room.1 (room.2 right.0 right.1))
+placed_with_room t c None right room = absurd (none_has_room t right.0 (variants t.opening t.supplies c) room.0 right.2 room.1 (room.2 right.0 right.1))
 
 map_product : (xs ys : List Placed) → map (λ (p : Placed). p.product) (xs ++ ys) ≡ map (λ (p : Placed). p.product) xs ++ map (λ (p : Placed). p.product) ys
 map_product [] ys = refl

@@ -13,10 +13,13 @@ use Rattle.onix_records.specs.Opening.{opening_of}
 use Rattle.onix_records.specs.Row.{row_of}
 use Rattle.onix_records.specs.declared.parts.Product.{Product}
 use Rattle.onix_records.specs.declared.row.Opening.{Opening}
+use Rattle.feed_mapping.specs.SupplyChoices.{SupplyChoices}
 use Rattle.feed_mapping.specs.Elements.{Composite}
 use Rattle.feed_mapping.specs.Header.{Choices, Heading, heading_in}
 use Rattle.feed_mapping.specs.ProductRecords.{Variant, variants}
-use Rattle.feed_mapping.specs.Rows.{AreOf, AreProducts, message_records, numbered, part_record, references_of, with_number}
+use Rattle.feed_terms.specs.declared.term.Term.{Term}
+use Rattle.onix_records.specs.declared.row.Form.TheVariants.{Two}
+use Rattle.feed_mapping.specs.Rows.{HaveCodes, MayCompute, AreOf, AreProducts, message_records, numbered, part_record, references_of, with_number}
 use Rattle.feed_mapping.specs.declared.header.HeaderRefusal.{HeaderRefusal}
 use Rattle.feed_conversion.specs.Conversion.{Options, conversion, header_in, products_in, settings}
 use Rattle.feed_conversion.specs.private.Whole.{by_header, by_heading, by_refusal, first_refusal}
@@ -39,7 +42,8 @@ pub record Laws : Type 0 where
   pub opening : (c : Choices) (header : Nodes) (h : Heading) → heading_in c header ≡ Ok h → (before : ℕ) → before < c.parts
       → opening_of (part_record h header before) ≡ Some (numbered (h.number + before) h.opening)
   pub rows : (n : ℕ) (o : Opening) (fields : List (List ℕ)) → row_of (numbered n o) fields ≡ row_of o fields
-  pub one : (o : Opening) (preferred : List ℕ) (c : Composite) → AllByRecursion (λ f. AreOf o f.records (references_of c.below)) (variants o preferred c)
+  pub one : (o : Opening) (choices : SupplyChoices) (c : Composite) → MayCompute o choices.terms → AllByRecursion (λ f. AreOf o f.records (references_of c.below)) (variants o choices c)
+  pub form : (c : Choices) (header : Nodes) (h : Heading) → heading_in c header ≡ Ok h → h.opening.form ≡ Two
   pub none : (o : Opening) → AreProducts o [] []
   pub joined : (o : Opening) (a b : List (List (List ℕ))) (c d : List Product) → AreProducts o a c → AreProducts o b d → AreProducts o (a ++ b) (c ++ d)
   pub message : (o : Opening) (first : List (List ℕ)) (records : List (List (List ℕ))) (products : List Product) → opening_of first ≡ Some o → AreProducts o records products
@@ -119,13 +123,13 @@ first_own t before f (g ∷ fs) P (inl same) all = subst P (sym (ap (found f) sa
     found other (Some x) = x
 first_own t before f (g ∷ fs) P (inr rest) all = first_own t before f fs P rest.1 all.1
 
-fate_own : (l : Laws) (t : Settings) (c : Composite) (variant : Option Variant) (before : ℕ) → IsFirst t before variant (variants t.opening t.preferred c) → AllByRecursion (IsOwn t) (placed_by variant c)
-fate_own l t c None before is = tt
-fate_own l t c (Some f) before is = (first_own t before f (variants t.opening t.preferred c) (λ g. AreOf t.opening g.records (references_of c.below)) is (l.one t.opening t.preferred c), tt)
+fate_own : (l : Laws) (t : Settings) → MayCompute t.opening t.supplies.terms → (c : Composite) (variant : Option Variant) (before : ℕ) → IsFirst t before variant (variants t.opening t.supplies c) → AllByRecursion (IsOwn t) (placed_by variant c)
+fate_own l t may c None before is = tt
+fate_own l t may c (Some f) before is = (first_own t before f (variants t.opening t.supplies c) (λ g. AreOf t.opening g.records (references_of c.below)) is (l.one t.opening t.supplies c may), tt)
 
-fates_own : (l : Laws) (t : Settings) (placings : List Placing) → AllByRecursion (IsRight t) placings → AllByRecursion (IsOwn t) (flat_map placed_of placings)
-fates_own l t [] right = tt
-fates_own l t (f ∷ placings) right = all_append (IsOwn t) (placed_of f) (flat_map placed_of placings) (fate_own l t f.product f.variant right.0.0 right.0.2) (fates_own l t placings right.1)
+fates_own : (l : Laws) (t : Settings) → MayCompute t.opening t.supplies.terms → (placings : List Placing) → AllByRecursion (IsRight t) placings → AllByRecursion (IsOwn t) (flat_map placed_of placings)
+fates_own l t may [] right = tt
+fates_own l t may (f ∷ placings) right = all_append (IsOwn t) (placed_of f) (flat_map placed_of placings) (fate_own l t may f.product f.variant right.0.0 right.0.2) (fates_own l t may placings right.1)
 
 -- the products of a part are the rows of its records
 part_own : (l : Laws) (t : Settings) (part : List Placed) → AllByRecursion (IsOwn t) part → AreOf t.opening (placed_records part) (references_in part)
@@ -155,10 +159,14 @@ parts_taken_from l t number f k (p ∷ parts) low own fit =
 
 -- ---- the whole message
 
-whole : (l : Laws) (o : Options) (nodes : Nodes) (made : Converted) (header : Composite) (h : Heading) → header_in nodes ≡ Some header → heading_in o.choices header.below ≡ Ok h
+may_compute : (o : Opening) (terms : Option (List Term)) → o.form ≡ Two → HaveCodes terms → MayCompute o terms
+may_compute o None two coded = tt
+may_compute o (Some terms) two coded = (two, coded)
+
+whole : (l : Laws) (o : Options) → HaveCodes o.terms → (nodes : Nodes) (made : Converted) (header : Composite) (h : Heading) → header_in nodes ≡ Some header → heading_in o.choices header.below ≡ Ok h
     → (z : Packing) → after_products (settings o h header.below) no_packing (products_in nodes) ≡ z → z.beyond ≡ None
     → converted (all_parts (settings o h header.below) z) z.notes z.tally.wrong ≡ made → AreParts o nodes made
-whole l o nodes made header h counts says z walked none is =
+whole l o coded nodes made header h counts says z walked none is =
     let t = settings o h header.below in
     let firsts : Firsts t h.number = record {
       says = l.opening o.choices header.below h says;
@@ -186,7 +194,7 @@ whole l o nodes made header h counts says z walked none is =
     let parts = held.parts ++ held.begun ∷ [] in
     let count : length parts ≡ z.full + 1 = written_count t z all.0 held in
     let less : z.full < t.most = ltb-true z.full t.most held.more in
-    let own : AllByRecursion (IsOwn t) (flat_map (λ p. p) parts) = subst (λ (ps : List Placed). AllByRecursion (IsOwn t) ps) (sym held.stand) (fates_own l t all.0 held.right) in
+    let own : AllByRecursion (IsOwn t) (flat_map (λ p. p) parts) = subst (λ (ps : List Placed). AllByRecursion (IsOwn t) ps) (sym held.stand) (fates_own l t (may_compute h.opening o.terms (l.form o.choices header.below h says) coded) all.0 held.right) in
     let texts : made.parts ≡ part_texts t 0 parts ++ empty_messages t.first (length parts) (t.most - length parts) =
     sym (ap (λ (c : Converted). c.parts) is)
     ∙ ap (λ (ts : List (List ℕ)). ts ++ empty_messages t.first (z.full + 1) (t.most - (z.full + 1))) (sym (written_texts t z all.0 held))
@@ -211,8 +219,8 @@ whole l o nodes made header h counts says z walked none is =
           (subst (λ (n : ℕ). AreTaken (h.number + 0) (part_texts t 0 parts ++ empty_messages t.first n (t.most - n)) (map references_in parts)) zero_there taken));
     }
 
-pub parts_are : (l : Laws) (o : Options) (nodes : Nodes) (made : Converted) → conversion o nodes ≡ Ok made → AreParts o nodes made
-parts_are l o nodes made e = by (first_refusal o false nodes) (sym (decides o nodes) ∙ e)
+pub parts_are : (l : Laws) (o : Options) (nodes : Nodes) (made : Converted) → HaveCodes o.terms → conversion o nodes ≡ Ok made → AreParts o nodes made
+parts_are l o nodes made coded e = by (first_refusal o false nodes) (sym (decides o nodes) ∙ e)
   where
     after_header : (header : Composite) (r : Result Heading HeaderRefusal) → heading_in o.choices header.below ≡ r → header_in nodes ≡ Some header
         → by_heading o (products_in nodes) header r ≡ Ok made → AreParts o nodes made
@@ -220,7 +228,7 @@ parts_are l o nodes made e = by (first_refusal o false nodes) (sym (decides o no
     after_header header (Ok h) f counts now =
         let t = settings o h header.below in
         let (none, is) = ended_ok t (after_products t no_packing (products_in nodes)) made now in
-        whole l o nodes made header h counts f (after_products t no_packing (products_in nodes)) refl none is
+        whole l o coded nodes made header h counts f (after_products t no_packing (products_in nodes)) refl none is
 
     go : (r : Option Composite) → header_in nodes ≡ r → by_header o (products_in nodes) r ≡ Ok made → AreParts o nodes made
     go None f now = absurd cc

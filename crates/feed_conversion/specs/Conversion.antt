@@ -1,15 +1,18 @@
 -- What an ONIX message says to the desk: messages that the desk takes and notes on what is left
 -- out, or why it is refused.
-use Rattle.std.specs.Prelude.{ℕ, ◌+◌, List, ◌∷◌, Option, Some, None}
+use Rattle.std.specs.Prelude.{ℕ, ◌+◌, false, List, ◌∷◌, Option, Some, None}
 use Rattle.std.specs.Prelude.{Result, Ok, Err, if◌then◌else◌, codes, decimal}
 use Rattle.std.specs.Option.{option_map_or}
 use Rattle.std.specs.Str.{bytes_eq}
 use Rattle.feed_outline.specs.Composites.{has_stranger}
-use Rattle.feed_outline.specs.Names.{stranger}
+use Rattle.feed_outline.specs.Names.{Word, stranger}
 use Rattle.feed_outline.specs.Nodes.{Nodes, no_nodes, node}
 use Rattle.feed_mapping.specs.Elements.{Composite, composite, each_at, text_at}
 use Rattle.feed_mapping.specs.Header.{Choices, Heading, heading_in, message_fields}
 use Rattle.feed_mapping.specs.Records.{Fields}
+use Rattle.feed_mapping.specs.SupplyChoices.{SupplyChoices}
+use Rattle.feed_mapping.specs.Vocabulary.{desk_vocabulary, terms_vocabulary}
+use Rattle.feed_terms.specs.declared.term.Term.{Term}
 use Rattle.feed_mapping.specs.declared.header.HeaderRefusal.{HeaderRefusal}
 use Rattle.feed_conversion.specs.declared.refusal.Refusal.{Refusal}
 use Rattle.feed_conversion.specs.declared.refusal.Refusal.TheVariants as why
@@ -17,10 +20,21 @@ use Rattle.feed_conversion.specs.declared.options.Allowed.{Allowed}
 use Rattle.feed_conversion.specs.Packing.{Converted, Settings, after_products, ended, no_packing}
 use Rattle.feed_conversion.specs.Tallies.{place_of}
 
--- What the caller chooses, for the Header and the parts, and how many products may be wrong
+-- What the caller chooses, for the Header and the parts, how many products may be wrong, and the
+-- terms of the shop, if it has any
 pub record Options : Type 0 where
   pub choices : Choices
   pub wrong : Allowed
+  pub terms : Option (List Term)
+
+-- which elements count
+abbrev pub vocabulary_by : Option (List Term) → List Word
+vocabulary_by None = desk_vocabulary
+vocabulary_by (Some terms) = terms_vocabulary
+
+-- what is chosen for the supplies of a product
+abbrev pub supply_choices : Options → SupplyChoices
+supply_choices o = record { preferred = o.choices.id_type; terms = o.terms; is_plain = false }
 
 -- the Header that counts: the first one, where no Product stands before it
 abbrev pub header_in : Nodes → Option Composite
@@ -46,7 +60,7 @@ settings o h header = record {
   first = first_record h header;
   opening = h.opening;
   most = o.choices.parts;
-  preferred = o.choices.id_type;
+  supplies = supply_choices o;
   allowed = o.wrong;
 }
 

@@ -8,8 +8,7 @@ use Rattle.feed_outline.specs.Dialect.{Dialect}
 use Rattle.feed_outline.specs.Faults.{Explains}
 use Rattle.feed_outline.specs.Message.{IsMessage}
 use Rattle.feed_outline.specs.Nodes.{nodes_in}
-use Rattle.feed_mapping.specs.Vocabulary.{desk_vocabulary}
-use Rattle.feed_conversion.specs.Conversion.{Options, conversion}
+use Rattle.feed_conversion.specs.Conversion.{Options, conversion, vocabulary_by}
 use Rattle.feed_conversion.specs.Packing.{Converted}
 use Rattle.feed_conversion.specs.declared.refusal.Fault.{Fault}
 use Rattle.feed_conversion.specs.declared.refusal.Fault.TheVariants as fault
@@ -24,12 +23,14 @@ pub record Yields (bytes : Option (List ℕ)) (o : Options)
   pub place : Position
   pub inside : Content
   pub encoded : IsTextOf bytes text
-  pub message : IsMessage desk_vocabulary text dialect place inside
-  pub conversion : conversion o (nodes_in desk_vocabulary dialect [] place inside) ≡ comes
+  pub message : IsMessage (vocabulary_by o.terms) text dialect place inside
+  pub conversion : conversion o
+      (nodes_in (vocabulary_by o.terms) dialect [] place inside) ≡ comes
 
 -- Refused: the bytes are a message, and that comes of it. Unread: what feed_outline says of such a
 -- fault and its place. Of out of memory nothing is said.
 abbrev pub ExplainsFault : Option (List ℕ) → Options → Fault → Type 0
 ExplainsFault bytes o (fault.Refused refusal) = Yields bytes o (Err refusal)
-ExplainsFault bytes o (fault.Unread unread place told) = Explains desk_vocabulary bytes unread place
+ExplainsFault bytes o (fault.Unread unread place told) =
+    Explains (vocabulary_by o.terms) bytes unread place
 ExplainsFault bytes o fault.Memory = Unit {0}

@@ -9,6 +9,7 @@ use Rattle.feed_mapping.specs.Notes.{Note, note, wrong}
 use Rattle.feed_mapping.specs.ProductRecords.{Variant, variants}
 use Rattle.feed_mapping.specs.Products.{reference_in}
 use Rattle.feed_mapping.specs.Records.{Fields, Records}
+use Rattle.feed_mapping.specs.SupplyChoices.{SupplyChoices}
 use Rattle.feed_mapping.specs.declared.notes.Wrong.TheVariants.{TooLarge}
 use Rattle.feed_conversion.specs.Messages.{empty_messages, fits, message_text}
 use Rattle.feed_conversion.specs.Tallies.{no_tally, place_of, refused_for, tallied}
@@ -30,13 +31,13 @@ pub record Converted : Type 0 where
   pub wrong : ℕ
 
 -- What holds for all parts of a message: the record with which the part behind so many begins and
--- what that says, how many parts there are, the type of identifier that is preferred, and how many
+-- what that says, how many parts there are, what is chosen for the supplies, and how many
 -- products may be wrong.
 pub record Settings : Type 0 where
   pub first : ℕ → Fields
   pub opening : Opening
   pub most : ℕ
-  pub preferred : List ℕ
+  pub supplies : SupplyChoices
   pub allowed : Allowed
 
 -- What the products so far have come to: how many parts are full, the records of products in the
@@ -112,7 +113,7 @@ module _ (t : Settings) (w : Packing) where
       (with_variants c more)
 
   abbrev pub after_product : Composite → Packing
-  after_product c = with_variants c (variants t.opening t.preferred c)
+  after_product c = with_variants c (variants t.opening t.supplies c)
 
   -- ---- the end
 

@@ -55,12 +55,12 @@ IsFirst t before variant (f ∷ more) =
 abbrev pub IsRight : Settings → Placing → Type 0
 IsRight t f =
     (before : ℕ) × (before ≤ t.most)
-    × IsFirst t before f.variant (variants t.opening t.preferred f.product)
+    × IsFirst t before f.variant (variants t.opening t.supplies f.product)
 
 -- one of the variants of a product is not too large for any part that can be
 abbrev pub HasRoom : Settings → Composite → Type 0
 HasRoom t c =
-    (v : Variant) × Contains (variants t.opening t.preferred c) v
+    (v : Variant) × Contains (variants t.opening t.supplies c) v
     × ((before : ℕ) → before ≤ t.most → fits (t.first before) v.records ≡ true)
 
 -- a product is wrong as it is placed: one of its notes says so

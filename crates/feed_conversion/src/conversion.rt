@@ -2,19 +2,22 @@
 
 ghost use Rattle.std.specs.Prelude.{◌≡◌, ◌+◌, ◌-◌, IfErr, IfOk, Ok, OnOk, fold};
 ghost use Rattle.feed_conversion.specs.Outcomes.{ExplainsFault, Yields};
-ghost use Rattle.feed_conversion.specs.private.Endings.{Ends, IsUnread};
+ghost use Rattle.feed_conversion.specs.private.Endings.{Comes, Ends, IsUnread};
 ghost use Rattle.feed_conversion.specs.Packing.{Converted};
-ghost use Rattle.feed_conversion.specs.private.Stages.{all_parts, empty_parts, ended, ended_at, finished, stored};
+ghost use Rattle.feed_conversion.specs.Conversion.{Options as Chosen, vocabulary_by};
+ghost use Rattle.feed_conversion.specs.private.Stages.{all_parts, empty_parts, ended, ended_at, finished, first_state, stored, taken};
+ghost use Rattle.feed_mapping.specs.Vocabulary.{desk_vocabulary, terms_vocabulary};
 ghost use Rattle.feed_conversion.specs.Views.{options_view};
 ghost use Rattle.feed_conversion.specs.private.StageViews.{begun_view};
 
-use crate::converter::Converter;
+use crate::converter::{Converter, TermsConverter};
 use crate::options::Options;
 use crate::packing::{OpenParts, Stage, first_text, hand_on};
 use crate::refusal::{Fault, Refusal};
 use crate::tally::refused_for;
 use crate::target::Target;
-use feed_outline::{Stopped, outlines_tell, read_message};
+use feed_outline::{RefusalHints, Stopped, outlines_tell, read_message};
+use feed_xml::Position;
 use std::alloc::{AllocError, Global};
 use std::io::Read;
 
@@ -135,21 +138,71 @@ fn finish<T: Target + Drop>(converter: Converter<'_, T>) -> Outcome<T>
 }
 
 // What has come of a feed that was not read.
-fn unread<'a, T: Target + Drop>(stopped: Stopped<Converter<'a, T>>) -> Outcome<T>
-    ensures { IsUnread result.ended stopped.entry.fault stopped.entry.place }
+fn unread<T: Target + Drop>(
+    target: T,
+    fault: feed_outline::Fault,
+    place: Position,
+    told: RefusalHints,
+) -> Outcome<T>
+    ensures { IsUnread result.ended fault place }
 {
-    let Stopped {
-        fault,
-        place,
-        taker,
-        told,
-    } = stopped;
-    let target = taker.into_target();
     let ended = match fault {
         feed_outline::Fault::Document(feed_xml::Fault::Memory) => Err(Fault::Memory),
         fault => Err(Fault::Unread(fault, place, told)),
     };
     Outcome { target, ended }
+}
+
+// Reads a feed of which nothing counts but for the desk.
+fn convert_by_desk<R: Read, T: Target + Drop>(
+    alloc: Global,
+    reader: &mut R,
+    converter: Converter<'_, T>,
+) -> Outcome<T>
+    ensures { (o : Chosen) (parts : T.Parts) (notes : T.Notes)
+        → vocabulary_by o.terms ≡ desk_vocabulary → converter.entry ≡ first_state o parts notes
+        → Comes T.keeping (R.remaining reader.old) o (taken parts notes 0) result.ended
+        (T.parts result.target) (T.notes result.target) }
+{
+    outlines_tell();
+    match read_message(alloc, reader, converter) {
+        Ok(converter) => finish(converter),
+        Err(stopped) => {
+            let Stopped {
+                fault,
+                place,
+                taker,
+                told,
+            } = stopped;
+            unread(taker.into_target(), fault, place, told)
+        }
+    }
+}
+
+// Reads a feed of which the terms of the shop ask more.
+fn convert_by_terms<R: Read, T: Target + Drop>(
+    alloc: Global,
+    reader: &mut R,
+    converter: Converter<'_, T>,
+) -> Outcome<T>
+    ensures { (o : Chosen) (parts : T.Parts) (notes : T.Notes)
+        → vocabulary_by o.terms ≡ terms_vocabulary → converter.entry ≡ first_state o parts notes
+        → Comes T.keeping (R.remaining reader.old) o (taken parts notes 0) result.ended
+        (T.parts result.target) (T.notes result.target) }
+{
+    outlines_tell();
+    match read_message(alloc, reader, TermsConverter { converter }) {
+        Ok(taker) => finish(taker.converter),
+        Err(stopped) => {
+            let Stopped {
+                fault,
+                place,
+                taker,
+                told,
+            } = stopped;
+            unread(taker.converter.into_target(), fault, place, told)
+        }
+    }
 }
 
 /// Reads a feed, and hands to the target the texts of the messages that come of it, and the notes
@@ -169,10 +222,9 @@ pub fn convert<'a, R: Read, T: Target + Drop>(
     ensures fault { IfErr result.ended
         (λ e. ExplainsFault (R.remaining reader.old) (options_view options.now) e) }
 {
-    outlines_tell();
     let converter = Converter::new(alloc, options, target);
-    match read_message(alloc, reader, converter) {
-        Ok(converter) => finish(converter),
-        Err(stopped) => unread(stopped),
+    match options.terms {
+        None => convert_by_desk(alloc, reader, converter),
+        Some(_) => convert_by_terms(alloc, reader, converter),
     }
 }

@@ -1,13 +1,14 @@
 //! The state of a conversion, which takes the Header and the Products of a message.
 
-ghost use Rattle.std.specs.Prelude.{◌≡◌, ◌∷◌, [], ℕ, IfOk, OnOk};
+ghost use Rattle.std.specs.Prelude.{◌≡◌, ◌++◌, ◌∷◌, [], ℕ, IfOk, OnOk};
 ghost use Rattle.feed_mapping.specs.Header.{heading_in};
 ghost use Rattle.feed_mapping.specs.HeaderViews.{choices_view, heading_view};
 ghost use Rattle.feed_mapping.specs.Notes.{note_views};
-ghost use Rattle.feed_mapping.specs.ProductRecords.{variant, small_variants, smaller_variants};
+ghost use Rattle.feed_mapping.specs.SupplyChoices.{supply_choices_view};
+ghost use Rattle.feed_mapping.specs.ProductRecords.{plain_variants, variant, small_variants, smaller_variants};
 ghost use Rattle.feed_mapping.specs.Products.{bare_record, emptied_record};
 ghost use Rattle.feed_conversion.specs.private.Stages.{IsKept, after_element, after_product, at_stage, begun_by, first_begun, first_state, stored, noted, stage_after_header, stage_after_stranger, unbegun, with_variant, with_variants, with_product};
-ghost use Rattle.feed_conversion.specs.Conversion.{Options as Chosen};
+ghost use Rattle.feed_conversion.specs.Conversion.{Options as Chosen, supply_choices};
 ghost use Rattle.feed_conversion.specs.Views.{options_view};
 ghost use Rattle.feed_conversion.specs.private.StageViews.{begun_view, stage_view};
 
@@ -20,8 +21,9 @@ use crate::target::Target;
 use csv_records::buffer::RecordBuffer;
 use csv_records::fields::FieldBuffer;
 use feed_mapping::{
-    Choices, Composite, Fate, HeaderFault, Heading, Note, Reason, ReasonKind, Wrong, add_bare,
-    add_large, add_product, desk_vocabulary, fill_message, read_heading, text_or_empty,
+    Choices, Composite, Fate, HeaderFault, Heading, Note, Reason, ReasonKind, SupplyChoices, Wrong,
+    add_bare, add_large, add_plain, add_product, desk_vocabulary, fill_message, read_heading,
+    terms_vocabulary, text_or_empty,
 };
 use feed_outline::{Elements, Line, Taker, Vocabulary, has_stranger, outlined};
 use onix_records::row::RowFault;
@@ -191,6 +193,59 @@ fn add_large_product<T: Target>(
     }
 }
 
+// Takes a product that is too large as it is: without the prices that the terms of the shop compute,
+// or smaller still.
+fn add_smaller<T: Target>(
+    alloc: Global,
+    options: &Options<'_>,
+    begun: &mut OpenParts,
+    target: &mut T,
+    product: &Composite<'_>,
+    fate: Fate,
+    notes: &[Note<'_>],
+) -> Result<(), AllocError>
+    ensures { OnOk result
+        (stored (begun_view begun.new) (T.parts target.new) (T.notes target.new)
+        ≡ with_variants T.keeping options.now.choices.parts
+        (stored (begun_view begun.old) (T.parts target.old) (T.notes target.old)) product.now
+        (plain_variants (options_view options.now).terms begun.old.opening
+        (supply_choices (options_view options.now)) product.now
+        ++ smaller_variants fate (note_views notes.now) product.now)) }
+{
+    let most = options.choices.parts;
+    if options.terms.is_none() {
+        return add_large_product(alloc, most, begun, target, product, fate, notes);
+    }
+    let mut fields = FieldBuffer::new(alloc);
+    let mut records = RecordBuffer::new(alloc);
+    let mut plain = Vec::new(alloc);
+    add_plain(
+        alloc,
+        &begun.opening,
+        &supply_choices(options),
+        product,
+        &mut fields,
+        &mut records,
+        &mut plain,
+    )?;
+    let is_kept = keep_variant(alloc, most, begun, target, product, &records, &plain)?;
+    if is_kept {
+        return Ok(());
+    }
+    add_large_product(alloc, most, begun, target, product, fate, notes)
+}
+
+// What is chosen for the supplies of a product.
+fn supply_choices<'a>(options: &Options<'a>) -> SupplyChoices<'a>
+    ensures { supply_choices_view result ≡ supply_choices (options_view options.now) }
+{
+    SupplyChoices {
+        id_type: options.choices.id_type,
+        terms: options.terms,
+        is_plain: false,
+    }
+}
+
 // Takes a product of a message that was begun.
 #[tactic(auto, unfolding(crate::specs::private::Stages::after_product))]
 fn add<T: Target>(
@@ -211,7 +266,7 @@ fn add<T: Target>(
     let fate = add_product(
         alloc,
         &begun.opening,
-        options.choices.id_type,
+        &supply_choices(options),
         product,
         &mut fields,
         &mut records,
@@ -222,7 +277,7 @@ fn add<T: Target>(
     if is_kept {
         return Ok(());
     }
-    add_large_product(alloc, most, begun, target, product, fate, &notes)
+    add_smaller(alloc, options, begun, target, product, fate, &notes)
 }
 
 // The parts of a message with this heading, before the first product. The list takes the fields of
@@ -424,5 +479,40 @@ impl<'a, T: Target + Drop> Taker for Converter<'a, T> {
                 below: node.below,
             }),
         }
+    }
+}
+
+/// The same, of a message of which the terms of the shop ask more.
+#[derive(Drop)]
+pub(crate) struct TermsConverter<'a, T: Target> {
+    pub(crate) converter: Converter<'a, T>,
+}
+
+impl<'a, T: Target> Model for TermsConverter<'a, T> {
+    ghost use Rattle.feed_conversion.specs.private.Stages.{State};
+
+    ghost Value = { State T.Parts T.Notes };
+
+    ghost view = { λ c. c.converter };
+}
+
+impl<'a, T: Target + Drop> Taker for TermsConverter<'a, T> {
+    ghost use Rattle.feed_mapping.specs.Vocabulary.{terms_vocabulary};
+    ghost use Rattle.feed_outline.specs.Outlined.{outlined};
+    ghost use Rattle.feed_outline.specs.Views.{vocabulary_view};
+    ghost use Rattle.feed_conversion.specs.private.Stages.{after_nodes};
+
+    ghost vocabulary = { terms_vocabulary };
+
+    ghost after = { λ s lines. after_nodes T.keeping s (outlined lines) };
+
+    fn vocabulary() -> Vocabulary
+        ensures { vocabulary_view result ≡ terms_vocabulary }
+    {
+        terms_vocabulary()
+    }
+
+    fn take(&mut self, lines: &[Line]) -> Result<(), AllocError> {
+        self.converter.take(lines)
     }
 }

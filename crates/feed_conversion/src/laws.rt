@@ -4,6 +4,7 @@
 ghost use Rattle.std.specs.Prelude.{◌≡◌, Ok, map};
 ghost use Rattle.std.specs.List.{AllByRecursion, flat_map};
 ghost use Rattle.feed_outline.specs.Nodes.{Nodes};
+ghost use Rattle.feed_mapping.specs.Rows.{HaveCodes};
 ghost use Rattle.feed_conversion.specs.Conversion.{Options, conversion, products_in, settings};
 ghost use Rattle.feed_conversion.specs.Packing.{Converted};
 ghost use Rattle.feed_conversion.specs.Parts.{AreParts, HasRoom};
@@ -15,10 +16,11 @@ use feed_mapping::laws::{parts_say_the_same, records_are_products};
 /// and each in the first of its variants that is not too large, as many as there is room for, with
 /// the notes of that variant. The desk takes each part with just its products: its text is UTF-8
 /// and at most 4,194,304 bytes, and the records that are read of it are a message, of at most 20,000
-/// records, whose header has the part's number.
+/// records, whose header has the part's number. Where there are terms of the shop, the types of their
+/// net prices are codes, as those of each table are.
 pub fn products_stand_in_parts()
-    ensures { (o : Options) (nodes : Nodes) (made : Converted) → conversion o nodes ≡ Ok made
-        → AreParts o nodes made }
+    ensures { (o : Options) (nodes : Nodes) (made : Converted) → HaveCodes o.terms
+        → conversion o nodes ≡ Ok made → AreParts o nodes made }
 {
     one_text();
     parts_say_the_same();

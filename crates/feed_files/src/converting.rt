@@ -27,7 +27,7 @@ use std::io::{Read, Write};
 use std::rt::HostRuntime;
 
 /// What a run is asked to do.
-#[derive(Clone, Copy, Debug)]
+#[derive(Clone, Copy)]
 pub struct Run<'a> {
     /// How each message is converted.
     pub options: Options<'a>,
@@ -191,7 +191,7 @@ fn convert_out<F: NamedFiles, R: Read, W: Write, E: Write>(
     let alloc = rt.alloc();
     let target = Collected {
         store: Spool::new(alloc, files),
-        notes: Notes::new(alloc, file, &options.choices),
+        notes: Notes::new(alloc, file, options),
         fault: None,
     };
     let mut watched = Watched::new(rt, file, reader);
@@ -262,7 +262,7 @@ fn read_parts<'a, F: NamedFiles, R: Read, E: Write>(
     let alloc = rt.alloc();
     let target = Collected {
         store: PartFiles::new(alloc, files, folder, name_of(file)),
-        notes: Notes::new(alloc, file, &options.choices),
+        notes: Notes::new(alloc, file, options),
         fault: None,
     };
     let mut watched = Watched::new(rt, file, reader);

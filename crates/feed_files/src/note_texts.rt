@@ -172,6 +172,10 @@ fn words_of_foreign(kind: Foreign, text: &[u8]) -> Words {
         Foreign::RegionExcluded => with_text("", " is a part of a country"),
         Foreign::CountryName => country(text),
         Foreign::Discount | Foreign::DiscountCoded => plain("of a Price, not read"),
+        Foreign::NoTerm => plain("that no term fits"),
+        Foreign::NothingToPay => plain("an amount of 0"),
+        Foreign::HeldBack => plain("held back"),
+        Foreign::TooManyComputed => plain("with them the Product is too large for a message"),
         Foreign::NoSupplyDetail => plain("no SupplyDetail"),
         Foreign::NoMarketLeft => plain("every Market is left out"),
         Foreign::LongMarkets => plain(LONG_MARKETS),
@@ -330,6 +334,16 @@ fn words_of(kind: ReasonKind, text: &[u8]) -> Words {
 pub(crate) fn is_counted_alone(kind: ReasonKind) -> bool {
     matches!(
         kind,
+        ReasonKind::Foreign(
+            Foreign::Discount | Foreign::DiscountCoded | Foreign::NoTerm | Foreign::HeldBack
+        )
+    )
+}
+
+/// Whether a note says that a discount of a Price is not read. With terms discounts are.
+pub(crate) fn is_of_discount(kind: ReasonKind) -> bool {
+    matches!(
+        kind,
         ReasonKind::Foreign(Foreign::Discount | Foreign::DiscountCoded)
     )
 }
@@ -377,6 +391,8 @@ fn thing_of(note: Note<'_>) -> &'static str {
         ReasonKind::Foreign(Foreign::RegionIncluded) => "region of RegionsIncluded",
         ReasonKind::Foreign(Foreign::RegionExcluded) => "region of RegionsExcluded",
         ReasonKind::Foreign(Foreign::CountryName) => "country",
+        ReasonKind::Foreign(Foreign::NothingToPay | Foreign::HeldBack) => "computed price",
+        ReasonKind::Foreign(Foreign::TooManyComputed) => "computed prices",
         ReasonKind::Wrong(Wrong::CountryAsRegion) => thing_with_region(note.line.name),
         _ => name_of(note.line.name),
     }
@@ -390,7 +406,9 @@ fn verb_of(kind: ReasonKind) -> &'static str {
             | Foreign::NoIsbn
             | Foreign::Ignored
             | Foreign::Discount
-            | Foreign::DiscountCoded,
+            | Foreign::DiscountCoded
+            | Foreign::NoTerm
+            | Foreign::HeldBack,
         ) => " ",
         _ if is_emptied(kind) => " emptied: ",
         _ => " left out: ",

@@ -2,11 +2,13 @@
 
 use crate::counts::{ProductCounts, again_in_header};
 use crate::note_texts::{
-    Saying, is_counted_alone, is_of_product, push_first, push_header_field, push_saying, saying_of,
+    Saying, is_counted_alone, is_of_discount, is_of_product, push_first, push_header_field,
+    push_saying, saying_of,
 };
 use crate::shown::{push_called, push_shown, push_shown_bytes};
 use crate::summary::Summary;
 use csv_records::buffer::RecordBuffer;
+use feed_conversion::Options;
 use feed_mapping::{
     Choices, Composite, Note, ReasonKind, Wrong, first_reason, malformed_field, next_composite,
     text_or_empty,
@@ -22,12 +24,14 @@ pub(crate) const PREFIX: &str = "onixdesk: ";
 // Those behind them are only counted.
 const MOST_LINES: u32 = 1_000;
 
-// The FILE that notes are on, what the caller chose, and which of its Products notes are on.
+// The FILE that notes are on, what the caller chose, whether there are terms of the shop, and which
+// of its Products notes are on.
 #[derive(Clone, Copy)]
 struct Scope<'a> {
     alloc: Global,
     file: &'a str,
     choices: &'a Choices<'a>,
+    has_terms: bool,
     product: u64,
 }
 
@@ -186,13 +190,14 @@ impl Lines {
 }
 
 impl<'a> Notes<'a> {
-    /// None yet, of a FILE that is read with these choices.
-    pub(crate) fn new(alloc: Global, file: &'a str, choices: &'a Choices<'a>) -> Notes<'a> {
+    /// None yet, of a FILE that is read so.
+    pub(crate) fn new(alloc: Global, file: &'a str, options: &'a Options<'a>) -> Notes<'a> {
         Notes {
             scope: Scope {
                 alloc,
                 file,
-                choices,
+                choices: &options.choices,
+                has_terms: options.terms.is_some(),
                 product: 0,
             },
             all: Lines::new(alloc),
@@ -246,6 +251,9 @@ impl<'a> Notes<'a> {
         self.summary
             .count_product(&ProductCounts::of(product, written, notes));
         for note in notes.iter() {
+            if self.scope.has_terms && is_of_discount(note.reason.kind) {
+                continue;
+            }
             let saying = saying_of(*note);
             let has_lines = !is_counted_alone(note.reason.kind);
             self.summary.add(saying, note.reason.text, has_lines)?;

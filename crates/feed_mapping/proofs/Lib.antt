@@ -8,7 +8,11 @@ pub mod ElementLaws
 pub mod IsbnLaws
 pub mod MarketLaws
 pub mod Utf8Laws
+pub mod PriceRows
+pub mod ComputedRows
+pub mod SeenPrices
 pub mod RowLaws
+pub mod GivenPriceLaws
 pub mod PriceFateLaws
 pub mod OpeningLaws
 pub mod PartLaws

@@ -1,5 +1,5 @@
 -- What a record Message with another number says, and how records are read behind it.
-use Rattle.std.proofs.Common.{◌≡◌, ℕ, List, [], ◌∷◌, Bool, true, false, Option, Some, None, refl, ap, ◌∙◌}
+use Rattle.std.proofs.Common.{◌≡◌, ℕ, List, [], ◌∷◌, Bool, true, false, Option, Some, None, refl, sym, ap, ◌∙◌}
 use Rattle.std.specs.Prelude.{◌&&◌, if◌then◌else◌, option_map, codes}
 use Rattle.std.specs.List.{list_all}
 use Rattle.std.specs.Str.{is_utf8}
@@ -10,6 +10,8 @@ use Rattle.onix_records.specs.Opening.{form_of, opening_fields, opening_from, op
 use Rattle.onix_records.specs.Price.{price_from, price_of}
 use Rattle.onix_records.specs.Row.{row_of}
 use Rattle.onix_records.specs.declared.row.Form.{Form}
+use Rattle.onix_records.specs.declared.row.Form.TheVariants as form
+use Rattle.onix_records.proofs.FrontRows.{bind-some}
 use Rattle.onix_records.specs.declared.row.Opening.{Opening}
 use Rattle.onix_records.proofs.CleanTexts.{digits-clean}
 use Rattle.onix_terms.specs.Code.{code2_of, currency_of}
@@ -21,7 +23,7 @@ use Rattle.feed_mapping.specs.Elements.{text_or_empty}
 use Rattle.feed_mapping.specs.Header.{message_fields, parsed_opening, repeat_in}
 use Rattle.feed_mapping.specs.Parties.{Pair}
 use Rattle.feed_mapping.specs.Rows.{numbered}
-use Rattle.feed_mapping.proofs.RowLaws.{cond-then}
+use Rattle.feed_mapping.proofs.PriceRows.{cond-then}
 
 -- ---- what a record is read as behind one that differs by its number alone
 
@@ -101,3 +103,28 @@ opening-numbered s a nodes n m k o digits is e =
     clean-numbered (is_clean s.id_type) (is_clean s.id_value) (is_clean a.id_type) (is_clean a.id_value) (is_clean n) (is_clean m) (list_all is_clean (repeat ∷ sent ∷ price_type ∷ currency ∷ [])) (digits-clean m k digits) all in
     ap (λ (t : Bool). if t then opening_fields (message_fields s a m nodes) else None) clean
     ∙ fields-numbered (codes "2") s.id_type s.id_value a.id_type a.id_value n m repeat sent price_type currency k o is says
+
+-- ---- the form
+
+-- a record that says form 2 begins a message of form 2
+pub form-two : (fields : List (List ℕ)) (o : Opening) → opening_of (codes "Message" ∷ codes "2" ∷ fields) ≡ Some o → o.form ≡ form.Two
+unfolding opening_of opening_fields opening_from
+form-two (a ∷ b ∷ c ∷ d ∷ n ∷ r ∷ s ∷ t ∷ u ∷ []) o e =
+    let (_, says) = cond-then _ _ o e in
+    let (s', _, e1) = bind-some (party_of a b) _ o says in
+    let (a', _, e2) = bind-some (optional_party c d) _ o e1 in
+    let (n', _, e3) = bind-some (optional number_of n) _ o e2 in
+    let (r', _, e4) = bind-some (optional digits_of r) _ o e3 in
+    let (t', _, e5) = bind-some (optional code2_of t) _ o e4 in
+    let (c', _, e6) = bind-some (optional currency_of u) _ o e5 in
+    sym (ap (λ (x : Opening). x.form) (same_Some _ o e6))
+form-two [] o e = let (_, no) = cond-then _ _ o e in cc no
+form-two (a ∷ []) o e = let (_, no) = cond-then _ _ o e in cc no
+form-two (a ∷ b ∷ []) o e = let (_, no) = cond-then _ _ o e in cc no
+form-two (a ∷ b ∷ c ∷ []) o e = let (_, no) = cond-then _ _ o e in cc no
+form-two (a ∷ b ∷ c ∷ d ∷ []) o e = let (_, no) = cond-then _ _ o e in cc no
+form-two (a ∷ b ∷ c ∷ d ∷ n ∷ []) o e = let (_, no) = cond-then _ _ o e in cc no
+form-two (a ∷ b ∷ c ∷ d ∷ n ∷ r ∷ []) o e = let (_, no) = cond-then _ _ o e in cc no
+form-two (a ∷ b ∷ c ∷ d ∷ n ∷ r ∷ s ∷ []) o e = let (_, no) = cond-then _ _ o e in cc no
+form-two (a ∷ b ∷ c ∷ d ∷ n ∷ r ∷ s ∷ t ∷ []) o e = let (_, no) = cond-then _ _ o e in cc no
+form-two (a ∷ b ∷ c ∷ d ∷ n ∷ r ∷ s ∷ t ∷ u ∷ v ∷ more) o e = let (_, no) = cond-then _ _ o e in cc no

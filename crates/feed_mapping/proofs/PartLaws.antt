@@ -11,6 +11,7 @@ use Rattle.onix_records.specs.Opening.{opening_of}
 use Rattle.onix_records.specs.PartRows.{content_rows}
 use Rattle.onix_records.specs.Row.{row_of}
 use Rattle.onix_records.specs.declared.parts.Product.{Product}
+use Rattle.onix_records.specs.declared.row.Form.TheVariants as form
 use Rattle.onix_records.specs.declared.row.Opening.{Opening}
 use Rattle.onix_records.specs.declared.row.Row.TheVariants as row
 use Rattle.onix_records.proofs.CleanTexts.{digits-clean}
@@ -21,8 +22,8 @@ use Rattle.feed_mapping.specs.Header.{Choices, Heading, ◌>>=◌, added, addres
 use Rattle.feed_mapping.specs.Rows.{AreProducts, message_records, numbered, part_record}
 use Rattle.feed_mapping.specs.declared.header.HeaderRefusal.{HeaderRefusal}
 use Rattle.feed_mapping.specs.declared.header.HeaderRefusal.TheVariants as why
-use Rattle.feed_mapping.proofs.OpeningLaws.{opening-numbered}
-use Rattle.feed_mapping.proofs.RowLaws.{rows-joined}
+use Rattle.feed_mapping.proofs.OpeningLaws.{form-two, opening-numbered}
+use Rattle.feed_mapping.proofs.PriceRows.{cond-then, rows-joined}
 
 -- ---- the number of a part
 
@@ -72,6 +73,18 @@ part-says digits numbers c header h e k less =
     let (low, high) = number-within c header n k number less in
     let parsed = some-ok (parsed_opening (message_fields s a (decimal n) header)) why.Malformed o opening in
     rw (← same) (opening-numbered s a header (decimal n) (decimal (n + k)) (n + k) o (digits (n + k) high) (numbers (n + k) low high) parsed)
+
+-- a message begins in form 2
+pub heading-form : (c : Choices) (header : Nodes) (h : Heading) → heading_in c header ≡ Ok h → h.opening.form ≡ form.Two
+heading-form c header h e =
+    let (s, from, e1) = bind-ok (sender_in c header) _ h e in
+    let (a, to, e2) = bind-ok (addressee_pair c header) _ h e1 in
+    let (n, number, e3) = bind-ok (number_in c header) _ h e2 in
+    let (o, opening, e4) = bind-ok (ok_or (parsed_opening (message_fields s a (decimal n) header)) why.Malformed) _ h e3 in
+    let same = same_Some _ h (ap value e4) in
+    let parsed = some-ok (parsed_opening (message_fields s a (decimal n) header)) why.Malformed o opening in
+    let (_, says) = cond-then _ _ o parsed in
+    ap (λ (x : Heading). x.opening.form) (sym same) ∙ form-two _ o says
 
 -- ---- a message
 

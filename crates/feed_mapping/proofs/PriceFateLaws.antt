@@ -14,6 +14,7 @@ use Rattle.feed_mapping.specs.ProductRecords.{fate_of, supplies_in, written_note
 use Rattle.feed_mapping.specs.Products.{identifier_notes, notification_in, own_reason, product_record, reference_in, right_pairs}
 use Rattle.feed_mapping.specs.Records.{first_some, is_field}
 use Rattle.feed_mapping.specs.declared.product_records.Fate.TheVariants as fate
+use Rattle.feed_mapping.specs.SupplyChoices.{SupplyChoices}
 use Rattle.feed_mapping.specs.Supplies.{detail_in, details_in, supplies_reason, supply_markets, supply_outcome}
 
 reason-is : (context : PriceContext) (nodes : Nodes) (kind : Option Reason) → IsPrice context nodes (outcome_of kind context nodes)
@@ -31,18 +32,18 @@ prices-are : (context : PriceContext) (cs : List Composite) → AllByRecursion (
 prices-are context [] = tt
 prices-are context (c ∷ cs) = (price-is context c.below, prices-are context cs)
 
-pub detail-has : (o : Opening) (preferred : List ℕ) (nodes : Nodes) → outcome_reason (detail_outcome o preferred nodes) ≡ None → HasPrices o preferred nodes
-detail-has o preferred nodes e = go (detail_reason preferred nodes) refl
+pub detail-has : (o : Opening) (choices : SupplyChoices) (nodes : Nodes) → outcome_reason (detail_outcome o choices nodes) ≡ None → HasPrices o choices nodes
+detail-has o choices nodes e = go (detail_reason choices.preferred nodes) refl
   where
-    go : (kind : Option Reason) → detail_reason preferred nodes ≡ kind → HasPrices o preferred nodes
+    go : (kind : Option Reason) → detail_reason choices.preferred nodes ≡ kind → HasPrices o choices nodes
     go (Some kind) is = let no' = rw is at e in absurd cc
-    go None is = record { own = codes "SupplyDetail" ∷ detail_fields preferred nodes; records = rw is refl; notes = rw is refl; each = prices-are (context_in o nodes) (prices_in nodes) }
+    go None is = record { own = codes "SupplyDetail" ∷ detail_fields choices.preferred nodes; records = rw is refl; notes = rw is refl; each = prices-are (context_in o nodes) (prices_in nodes) }
 
-pub supply-has : (o : Opening) (preferred : List ℕ) (nodes : Nodes) → outcome_reason (supply_outcome o preferred nodes) ≡ None → HasDetails o preferred nodes
-supply-has o preferred nodes e = go (is_some (first (details_in nodes))) refl (outcome_reason (supply_markets nodes)) refl (all_records (detail_in o preferred) (details_in nodes)) refl
+pub supply-has : (o : Opening) (choices : SupplyChoices) (nodes : Nodes) → outcome_reason (supply_outcome o choices nodes) ≡ None → HasDetails o choices nodes
+supply-has o choices nodes e = go (is_some (first (details_in nodes))) refl (outcome_reason (supply_markets nodes)) refl (all_records (detail_in o choices) (details_in nodes)) refl
   where
-    go : (some : Bool) → is_some (first (details_in nodes)) ≡ some → (kind : Option Reason) → outcome_reason (supply_markets nodes) ≡ kind → (rs : List (List (List ℕ))) → all_records (detail_in o preferred) (details_in nodes) ≡ rs
-        → HasDetails o preferred nodes
+    go : (some : Bool) → is_some (first (details_in nodes)) ≡ some → (kind : Option Reason) → outcome_reason (supply_markets nodes) ≡ kind → (rs : List (List (List ℕ))) → all_records (detail_in o choices) (details_in nodes) ≡ rs
+        → HasDetails o choices nodes
     go false d kind m rs r = let no' = rw d at e in absurd cc
     go true d (Some reason) m rs r = let no' = rw (d, m) at e in absurd cc
     go true d None m [] r = let no' = rw (d, m, r) at e in absurd cc
@@ -53,10 +54,10 @@ supply-has o preferred nodes e = go (is_some (first (details_in nodes))) refl (o
       notes = rw (d, m, r) refl;
     }
 
-pub product-has : (o : Opening) (preferred : List ℕ) (c : Composite) → fate_of o preferred c.below ≡ fate.Written → HasSupplies o preferred c
-product-has o preferred c e = go (is_field (reference_in c.below)) refl (own_reason c.below) refl (supplies_reason o preferred (supplies_in c.below)) refl
+pub product-has : (o : Opening) (choices : SupplyChoices) (c : Composite) → fate_of o choices c.below ≡ fate.Written → HasSupplies o choices c
+product-has o choices c e = go (is_field (reference_in c.below)) refl (own_reason c.below) refl (supplies_reason o choices (supplies_in c.below)) refl
   where
-    go : (stands : Bool) → is_field (reference_in c.below) ≡ stands → (own : Option Reason) → own_reason c.below ≡ own → (below : Option Reason) → supplies_reason o preferred (supplies_in c.below) ≡ below → HasSupplies o preferred c
+    go : (stands : Bool) → is_field (reference_in c.below) ≡ stands → (own : Option Reason) → own_reason c.below ≡ own → (below : Option Reason) → supplies_reason o choices (supplies_in c.below) ≡ below → HasSupplies o choices c
     go false f own w below b = let no' = rw f at e in absurd cc
     go true f (Some own) w below b = let no' = rw (f, w) at e in absurd cc
     go true f None w (Some below) b = let no' = rw (f, w, b) at e in absurd cc

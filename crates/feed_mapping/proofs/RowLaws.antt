@@ -34,158 +34,31 @@ use Rattle.onix_records.proofs.FrontRows.{bind-some}
 use Rattle.onix_terms.specs.Code.{code2_of}
 use Rattle.onix_terms.specs.Territory.{countries_text, territory_of, world_text}
 use Rattle.onix_terms.specs.declared.territory.Territory.{Territory}
-use Rattle.feed_mapping.specs.Details.{context_in, detail_fields, detail_reasons, detail_reason, field_reason, old_supply, price_in, prices_in}
+use Rattle.feed_mapping.specs.Details.{context_in, detail_fields, priced_records, supplier_id, detail_reasons, detail_reason, field_reason, old_supply, price_in, prices_in}
 use Rattle.feed_mapping.specs.Elements.{Composite, each_at, first}
 use Rattle.feed_mapping.specs.Markets.{early_market_reasons, first_kept, kept_area, kept_fields, kept_outcome, market_reason, markets_outcome, supply_record, territories_of, union_fields}
 use Rattle.feed_mapping.proofs.MarketLaws.{joined_outcome}
 use Rattle.feed_mapping.specs.Notes.{Note, Reason, foreign, wrong}
 use Rattle.feed_mapping.specs.Outcomes.{Outcome, all_notes, all_records, left_out, nothing, outcome_reason, outcome_records, written_unless}
 use Rattle.feed_mapping.specs.Prices.{PriceContext, closed_reason, date_reason, early_reasons, field_reasons, is_nothing, last_reason, outcome_of, price_fields, price_outcome, price_reasons, record_reason}
-use Rattle.feed_mapping.specs.ProductRecords.{variants, small_variants, smaller_variants, fate_by, records_by, supplies_in, too_large_notes, why_emptied}
+use Rattle.feed_mapping.specs.ProductRecords.{Variant, fate_of, plain_choices, plain_variants, product_notes, variants, small_variants, smaller_variants, fate_by, records_by, supplies_in, too_large_notes, why_emptied}
 use Rattle.feed_mapping.specs.Products.{dropping, identifier_reason, identifiers_in, is_code, is_there, notification_in, or_reference, own_reason, pair_reason, product_record, reference_in, right_pair, right_pairs, type_of, value_of, value_written}
 use Rattle.feed_mapping.specs.Records.{clean, first_some, if_empty, is_field, parsed, parsed_term, unless, invalid}
-use Rattle.feed_mapping.specs.Rows.{AreOf, AreProducts, references_of}
+use Rattle.feed_mapping.specs.Rows.{AreOf, AreProducts, MayCompute, references_of}
+use Rattle.feed_mapping.specs.SupplyChoices.{SupplyChoices}
 use Rattle.feed_mapping.specs.Supplies.{detail_in, detailed_outcome, details_in, supplies_reason, supply_in, supply_markets, supply_outcome}
 use Rattle.feed_mapping.specs.declared.notes.Foreign.TheVariants as other
 use Rattle.feed_mapping.specs.Territories.{Area, area_fields, area_in, area_reason, area_reasons, market_of}
 use Rattle.feed_mapping.specs.Unions.{union}
 use Rattle.feed_mapping.specs.declared.notes.Wrong.TheVariants as bad
 use Rattle.feed_mapping.proofs.Utf8Laws.{are_utf8, ascii-field, empty-fields, named-utf8, territory-utf8, utf8-first, utf8-joined}
-
-abbrev Records : Type 0
-Records = List (List (List ℕ))
-
--- records are these rows, and UTF-8
-record Reads (o : Opening) (records : Records) (rows : List Row) : Type 0 where
-  pub are : map (row_of o) records ≡ map Some rows
-  pub utf8 : are_utf8 records ≡ true
-
--- ---- what is read of texts
-
-pub cond-then : {A : Type 0} (b : Bool) (x : Option A) (y : A) → (if b then x else None) ≡ Some y → (b ≡ true) × (x ≡ Some y)
-cond-then true x y e = (refl, e)
-cond-then false x y e = cc e
-
-pub mapped : {A B : Type 0} (x : Option A) (f : A → B) (y : B) → option_map f x ≡ Some y → (z : A) × (x ≡ Some z) × (f z ≡ y)
-mapped None f y e = cc e
-mapped (Some z) f y e = (z, refl, same_Some (f z) y e)
-
-clean-read : {A : Type 0} (read : List (List ℕ) → Option A) (fields : List (List ℕ)) (x : A) → clean read fields ≡ Some x → (list_all is_clean fields ≡ true) × (read fields ≡ Some x)
-clean-read read fields x e = cond-then (list_all is_clean fields) (read fields) x e
-
--- texts of which something is read are UTF-8 and clean
-record IsSaid {A : Type 0} (read : List (List ℕ) → Option A) (texts : List (List ℕ)) (x : A) : Type 0 where
-  pub utf8 : list_all is_utf8 texts ≡ true
-  pub clean : list_all is_clean texts ≡ true
-  pub is : read texts ≡ Some x
-
-said-read : {A : Type 0} (read : List (List ℕ) → Option A) (texts : List (List ℕ)) (x : A) → parsed read texts ≡ Some x → IsSaid read texts x
-said-read read texts x e =
-    let (u, f) = cond-then (list_all is_utf8 texts) (clean read texts) x e in
-    let (c, g) = clean-read read texts x f in
-    record { utf8 = u; clean = c; is = g }
-
-is-there : {A : Type 0} (x : Option A) → is_some x ≡ true → (y : A) × (x ≡ Some y)
-is-there (Some y) e = (y, refl)
-is-there None e = cc e
-
--- ---- one record, as a row
-
-product-row : (o : Opening) (fields : List (List ℕ)) (p : Product) → list_all is_clean fields ≡ true → product_of fields ≡ Some p → row_of o (codes "Product" ∷ fields) ≡ Some (row.Product p)
-unfolding row_of
-product-row o fields p all is = ap (λ (t : Bool). if t then option_map row.Product (product_of fields) else None) all ∙ ap (option_map row.Product) is
-
-supply-row : (o : Opening) (fields : List (List ℕ)) (s : ProductSupply) → list_all is_clean fields ≡ true → supply_of fields ≡ Some s → row_of o (codes "ProductSupply" ∷ fields) ≡ Some (row.ProductSupply s)
-unfolding row_of
-supply-row o fields s all is = ap (λ (t : Bool). if t then option_map row.ProductSupply (supply_of fields) else None) all ∙ ap (option_map row.ProductSupply) is
-
-detail-row : (o : Opening) (fields : List (List ℕ)) (d : SupplyDetail) → list_all is_clean fields ≡ true → detail_of fields ≡ Some d → row_of o (codes "SupplyDetail" ∷ fields) ≡ Some (row.SupplyDetail d)
-unfolding row_of
-detail-row o fields d all is = ap (λ (t : Bool). if t then option_map row.SupplyDetail (detail_of fields) else None) all ∙ ap (option_map row.SupplyDetail) is
-
-price-row : (o : Opening) (fields : List (List ℕ)) (p : Price) → list_all is_clean fields ≡ true → price_of o fields ≡ Some p → row_of o (codes "Price" ∷ fields) ≡ Some (row.Price p)
-unfolding row_of
-price-row o fields p all is = ap (λ (t : Bool). if t then option_map row.Price (price_of o fields) else None) all ∙ ap (option_map row.Price) is
-
--- ---- rows one after the other
-
-map-joined : (o : Opening) (a b : Records) (xs ys : List Row) → map (row_of o) a ≡ map Some xs → map (row_of o) b ≡ map Some ys → map (row_of o) (a ++ b) ≡ map Some (xs ++ ys)
-map-joined o a b xs ys e f =
-    map-append (row_of o) a b ∙ ap (λ (k : List (Option Row)). k ++ map (row_of o) b) e ∙ ap (λ (k : List (Option Row)). map Some xs ++ k) f ∙ sym (map-append Some xs ys)
-
-pub rows-joined : (o : Opening) (a b : Records) (xs ys : List Row) → map (row_of o) a ≡ map Some xs → map (row_of o) b ≡ map Some ys → map (row_of o) (a ++ b) ≡ map Some (xs ++ ys)
-rows-joined o a b xs ys e f = map-joined o a b xs ys e f
-
-both : (o : Opening) (a b : Records) (xs ys : List Row) → Reads o a xs → Reads o b ys → Reads o (a ++ b) (xs ++ ys)
-both o a b xs ys e f = record { are = map-joined o a b xs ys e.are f.are; utf8 = utf8-joined a b e.utf8 f.utf8 }
-
-as-rows : (o : Opening) (a : Records) (xs ys : List Row) → xs ≡ ys → Reads o a xs → Reads o a ys
-as-rows o a xs ys same e = subst (λ (k : List Row). Reads o a k) same e
-
-no-rows : (o : Opening) → Reads o [] []
-no-rows o = record { are = refl; utf8 = refl }
-
--- one record before others
-one-first : (o : Opening) (fields : List (List ℕ)) (r : Row) (records : Records) (rows : List Row) → row_of o fields ≡ Some r → list_all is_utf8 fields ≡ true → Reads o records rows
-    → Reads o (fields ∷ records) (r ∷ rows)
-one-first o fields r records rows is u e = record {
-  are = ap (λ (k : Option Row). k ∷ map (row_of o) records) is ∙ ap (λ (k : List (Option Row)). Some r ∷ k) e.are;
-  utf8 = utf8-first fields records u e.utf8;
-}
-
--- ---- Prices
-
-pub last-none : {A : Type 0} (xs : List (Option A)) (y : Option A) → first_some (xs ++ y ∷ []) ≡ None → y ≡ None
-last-none [] None e = refl
-last-none [] (Some r) e = cc e
-last-none (None ∷ xs) y e = last-none xs y e
-last-none (Some r ∷ xs) y e = cc e
-
-or-none : {A : Type 0} (x y : Option A) → option_or x y ≡ None → y ≡ None
-or-none None y e = e
-or-none (Some a) y e = cc e
-
-or-first : {A : Type 0} (x y : Option A) → option_or x y ≡ None → x ≡ None
-or-first None y e = refl
-or-first (Some a) y e = cc e
-
-pub taken : {A B : Type 0} (x : Option A) (w : B) → (if is_some x then None else Some w) ≡ None → (p : A) × (x ≡ Some p)
-taken (Some p) w e = (p, refl)
-taken None w e = cc e
-
--- records are the rows of Prices
-abbrev ArePrices : Opening → Records → Type 0
-ArePrices o records = (ps : List Price) × Reads o records (map row.Price ps)
-
-reason-rows : (context : PriceContext) (nodes : Nodes) (kind : Option Reason) → first_some (price_reasons context nodes) ≡ kind
-    → ArePrices context.opening (outcome_records (outcome_of kind context nodes))
-reason-rows context nodes (Some kind) e = ([], no-rows context.opening)
-reason-rows context nodes None e =
-    let last : last_reason context nodes ≡ None = last-none (early_reasons (date_reason nodes) nodes) (last_reason context nodes) e in
-    let none : record_reason context nodes ≡ None = or-first (record_reason context nodes) (closed_reason context nodes) last in
-    let (p, read) = taken (parsed (price_of context.opening) (price_fields context nodes)) (unwrap_or (first_some (field_reasons context.opening nodes)) (wrong bad.Price [])) none in
-    let s = said-read (price_of context.opening) (price_fields context nodes) p read in (
-      p ∷ [],
-      one-first context.opening (codes "Price" ∷ price_fields context nodes) (row.Price p) [] [] (price-row context.opening (price_fields context nodes) p s.clean s.is)
-          (named-utf8 (codes "Price") (price_fields context nodes) refl s.utf8) (no-rows context.opening),
-    )
-
-price-rows : (context : PriceContext) (nodes : Nodes) → ArePrices context.opening (outcome_records (price_outcome context nodes))
-price-rows context nodes = go (is_nothing context nodes)
-  where
-    go : (bare : Bool) → ArePrices context.opening (outcome_records (if bare then nothing else outcome_of (first_some (price_reasons context nodes)) context nodes))
-    go true = ([], no-rows context.opening)
-    go false = reason-rows context nodes (first_some (price_reasons context nodes)) refl
-
-prices-rows : (o : Opening) (nodes : Nodes) (cs : List Composite) → ArePrices o (all_records (price_in o nodes) cs)
-prices-rows o nodes [] = ([], no-rows o)
-prices-rows o nodes (c ∷ cs) =
-    let (ps, e) = price-rows (context_in o nodes) c.below in
-    let (qs, f) = prices-rows o nodes cs in (
-      ps ++ qs,
-      as-rows o _ (map row.Price ps ++ map row.Price qs) (map row.Price (ps ++ qs)) (sym (map-append row.Price ps qs))
-          (both o (outcome_records (price_in o nodes c)) (all_records (price_in o nodes) cs) (map row.Price ps) (map row.Price qs) e f),
-    )
+use Rattle.feed_terms.specs.HeldBack.{is_held_back}
+use Rattle.feed_terms.specs.declared.term.Term.{Term}
+use Rattle.feed_mapping.specs.PriceTerms.{all_given, closed_kinds, supplier_of}
+use Rattle.feed_mapping.specs.declared.product_records.Fate.{Fate}
+use Rattle.feed_mapping.specs.declared.product_records.Fate.TheVariants as fate
+use Rattle.feed_mapping.proofs.ComputedRows.{TermLaws, all-with}
+use Rattle.feed_mapping.proofs.PriceRows.{Reads, Records, as-rows, both, clean-read, cond-then, detail-row, is-there, map-joined, mapped, no-rows, one-first, or-none, prices-rows, product-row, said-read, supply-row, taken}
 
 -- ---- SupplyDetails
 
@@ -201,27 +74,40 @@ one-detail o fields d ps prices all utf8 is reads =
     as-rows o _ (detail_rows (record d { prices = ps })) _ (sym (append-nil (detail_rows (record d { prices = ps }))))
     (one-first o (codes "SupplyDetail" ∷ fields) (row.SupplyDetail (record d { prices = [] })) prices (map row.Price ps) first (named-utf8 (codes "SupplyDetail") fields refl utf8) reads)
 
-detail-rows : (o : Opening) (preferred : List ℕ) (nodes : Nodes) (kind : Option Reason) → detail_reason preferred nodes ≡ kind
-    → AreDetails o (outcome_records (written_unless kind ((codes "SupplyDetail" ∷ detail_fields preferred nodes) ∷ all_records (price_in o nodes) (prices_in nodes)) (all_notes (price_in o nodes) (prices_in nodes))))
-detail-rows o preferred nodes (Some kind) e = ([], no-rows o)
-detail-rows o preferred nodes None e =
-    let fields = detail_fields preferred nodes in
-    let none = or-none (option_map (wrong bad.OldElement) (old_supply nodes)) (field_reason preferred nodes) e in
-    let (d, read) = taken (parsed detail_of fields) (unwrap_or (first_some (detail_reasons preferred nodes)) (wrong bad.SupplyDetail [])) none in
-    let s = said-read detail_of fields d read in
-    let (ps, prices) = prices-rows o nodes (prices_in nodes) in (
-      record d { prices = ps } ∷ [],
-      one-detail o fields d ps (all_records (price_in o nodes) (prices_in nodes)) s.clean s.utf8 s.is prices,
+-- the records of the Prices of a SupplyDetail
+priced-rows : TermLaws → (o : Opening) (choices : SupplyChoices) (nodes : Nodes) → MayCompute o choices.terms → ArePrices o (priced_records o choices.terms choices.is_plain choices.preferred nodes)
+priced-rows laws o choices nodes may = go choices.terms choices.is_plain may
+  where
+    go : (terms : Option (List Term)) (is_plain : Bool) → MayCompute o terms → ArePrices o (priced_records o terms is_plain choices.preferred nodes)
+    go None is_plain may = prices-rows o nodes (prices_in nodes)
+    go (Some terms) true may = prices-rows o nodes (prices_in nodes)
+    go (Some terms) false (two, coded) = (
+      _,
+      all-with laws (context_in o nodes) two terms coded (supplier_of (supplier_id choices.preferred nodes))
+          (is_held_back (closed_kinds (context_in o nodes).closed) (all_given (context_in o nodes) (prices_in nodes))) (prices_in nodes),
     )
 
-details-rows : (o : Opening) (preferred : List ℕ) (cs : List Composite) → AreDetails o (all_records (detail_in o preferred) cs)
-details-rows o preferred [] = ([], no-rows o)
-details-rows o preferred (c ∷ cs) =
-    let (ds, e) = detail-rows o preferred c.below (detail_reason preferred c.below) refl in
-    let (es, f) = details-rows o preferred cs in (
+detail-rows : TermLaws → (o : Opening) (choices : SupplyChoices) (nodes : Nodes) → MayCompute o choices.terms → (notes : List Note) (kind : Option Reason) → detail_reason choices.preferred nodes ≡ kind
+    → AreDetails o (outcome_records (written_unless kind ((codes "SupplyDetail" ∷ detail_fields choices.preferred nodes) ∷ priced_records o choices.terms choices.is_plain choices.preferred nodes) notes))
+detail-rows laws o choices nodes may notes (Some kind) e = ([], no-rows o)
+detail-rows laws o choices nodes may notes None e =
+    let fields = detail_fields choices.preferred nodes in
+    let none = or-none (option_map (wrong bad.OldElement) (old_supply nodes)) (field_reason choices.preferred nodes) e in
+    let (d, read) = taken (parsed detail_of fields) (unwrap_or (first_some (detail_reasons choices.preferred nodes)) (wrong bad.SupplyDetail [])) none in
+    let s = said-read detail_of fields d read in
+    let (ps, prices) = priced-rows laws o choices nodes may in (
+      record d { prices = ps } ∷ [],
+      one-detail o fields d ps (priced_records o choices.terms choices.is_plain choices.preferred nodes) s.clean s.utf8 s.is prices,
+    )
+
+details-rows : TermLaws → (o : Opening) (choices : SupplyChoices) → MayCompute o choices.terms → (cs : List Composite) → AreDetails o (all_records (detail_in o choices) cs)
+details-rows laws o choices may [] = ([], no-rows o)
+details-rows laws o choices may (c ∷ cs) =
+    let (ds, e) = detail-rows laws o choices c.below may _ (detail_reason choices.preferred c.below) refl in
+    let (es, f) = details-rows laws o choices may cs in (
       ds ++ es,
       as-rows o _ (flat_map detail_rows ds ++ flat_map detail_rows es) (flat_map detail_rows (ds ++ es)) (sym (flat_map-append detail_rows ds es))
-          (both o (outcome_records (detail_in o preferred c)) (all_records (detail_in o preferred) cs) (flat_map detail_rows ds) (flat_map detail_rows es) e f),
+          (both o (outcome_records (detail_in o choices c)) (all_records (detail_in o choices) cs) (flat_map detail_rows ds) (flat_map detail_rows es) e f),
     )
 
 -- ---- the Markets of a ProductSupply
@@ -326,36 +212,36 @@ never-empty : (o : Opening) (fields : List (List ℕ)) (records : Records) (ds :
 never-empty o fields records [] reads none = let are = reads.are in cc are
 never-empty o fields records (d ∷ ds) reads none = cc none
 
-detailed-rows : (o : Opening) (preferred : List ℕ) (nodes : Nodes) (notes : List Note) (kind : Option Reason) → outcome_reason (supply_markets nodes) ≡ kind
-    → (below : Records) → all_records (detail_in o preferred) (details_in nodes) ≡ below
+detailed-rows : TermLaws → (o : Opening) (choices : SupplyChoices) → MayCompute o choices.terms → (nodes : Nodes) (notes : List Note) (kind : Option Reason) → outcome_reason (supply_markets nodes) ≡ kind
+    → (below : Records) → all_records (detail_in o choices) (details_in nodes) ≡ below
     → AreSupplies o (outcome_records (written_unless (first_some (kind ∷ if_empty below (Some (wrong bad.NoDetailLeft [])) ∷ [])) (outcome_records (supply_markets nodes) ++ below) notes))
-detailed-rows o preferred nodes notes (Some kind) m below d = no-supplies o
-detailed-rows o preferred nodes notes None m [] d = no-supplies o
-detailed-rows o preferred nodes notes None m (detail ∷ below) d =
+detailed-rows laws o choices may nodes notes (Some kind) m below d = no-supplies o
+detailed-rows laws o choices may nodes notes None m [] d = no-supplies o
+detailed-rows laws o choices may nodes notes None m (detail ∷ below) d =
     let (fields, same, is) = markets-rows o (each_at "Market" nodes) m in
-    let (ds, reads) = subst (λ (k : Records). AreDetails o k) d (details-rows o preferred (details_in nodes)) in
+    let (ds, reads) = subst (λ (k : Records). AreDetails o k) d (details-rows laws o choices may (details_in nodes)) in
     subst (λ (k : Records). AreSupplies o (k ++ (detail ∷ below))) (sym same)
     (one-supply o fields is ds (detail ∷ below) (never-empty o detail below ds reads) reads)
 
-supply-rows : (o : Opening) (preferred : List ℕ) (nodes : Nodes) → AreSupplies o (outcome_records (supply_outcome o preferred nodes))
-supply-rows o preferred nodes = go (is_some (first (details_in nodes)))
+supply-rows : TermLaws → (o : Opening) (choices : SupplyChoices) → MayCompute o choices.terms → (nodes : Nodes) → AreSupplies o (outcome_records (supply_outcome o choices nodes))
+supply-rows laws o choices may nodes = go (is_some (first (details_in nodes)))
   where
-    go : (some : Bool) → AreSupplies o (outcome_records (if some then detailed_outcome o preferred nodes else left_out (foreign other.NoSupplyDetail [])))
-    go true = detailed-rows o preferred nodes _ (outcome_reason (supply_markets nodes)) refl (all_records (detail_in o preferred) (details_in nodes)) refl
+    go : (some : Bool) → AreSupplies o (outcome_records (if some then detailed_outcome o choices nodes else left_out (foreign other.NoSupplyDetail [])))
+    go true = detailed-rows laws o choices may nodes _ (outcome_reason (supply_markets nodes)) refl (all_records (detail_in o choices) (details_in nodes)) refl
     go false = no-supplies o
 
 all-joined : {A : Type 0} (P : A → Type 0) (xs ys : List A) → AllByRecursion P xs → AllByRecursion P ys → AllByRecursion P (xs ++ ys)
 all-joined P [] ys f g = g
 all-joined P (x ∷ xs) ys f g = (f.0, all-joined P xs ys f.1 g)
 
-supplies-rows : (o : Opening) (preferred : List ℕ) (cs : List Composite) → AreSupplies o (all_records (supply_in o preferred) cs)
-supplies-rows o preferred [] = no-supplies o
-supplies-rows o preferred (c ∷ cs) =
-    let s = supply-rows o preferred c.below in
-    let t = supplies-rows o preferred cs in record {
+supplies-rows : TermLaws → (o : Opening) (choices : SupplyChoices) → MayCompute o choices.terms → (cs : List Composite) → AreSupplies o (all_records (supply_in o choices) cs)
+supplies-rows laws o choices may [] = no-supplies o
+supplies-rows laws o choices may (c ∷ cs) =
+    let s = supply-rows laws o choices may c.below in
+    let t = supplies-rows laws o choices may cs in record {
       supplies = s.supplies ++ t.supplies;
       reads = as-rows o _ (flat_map supply_rows s.supplies ++ flat_map supply_rows t.supplies) (flat_map supply_rows (s.supplies ++ t.supplies)) (sym (flat_map-append supply_rows s.supplies t.supplies))
-          (both o (outcome_records (supply_in o preferred c)) (all_records (supply_in o preferred) cs) (flat_map supply_rows s.supplies) (flat_map supply_rows t.supplies) s.reads t.reads);
+          (both o (outcome_records (supply_in o choices c)) (all_records (supply_in o choices) cs) (flat_map supply_rows s.supplies) (flat_map supply_rows t.supplies) s.reads t.reads);
       details = all-joined HasDetails s.supplies t.supplies s.details t.details;
     }
 
@@ -508,27 +394,27 @@ former-none : {A : Type 0} (x y : Option A) → option_or x y ≡ None → x ≡
 former-none None y e = refl
 former-none (Some x) y e = cc e
 
-own-rows : (o : Opening) (preferred : List ℕ) (nodes : Nodes) → IsField (reference_in nodes) → (kind : Option Reason) → why_emptied o preferred nodes ≡ kind
-    → AreOf o (records_by o preferred kind nodes) (reference_in nodes ∷ [])
-own-rows o preferred nodes f (Some kind) e = emptied-rows o nodes f (right_pairs nodes) (right-pairs (identifiers_in nodes))
-own-rows o preferred nodes f None e =
-    let own = former-none (own_reason nodes) (supplies_reason o preferred (supplies_in nodes)) e in
-    standing-rows o nodes f (notification_in nodes) (own-code nodes own) (right_pairs nodes) (right-pairs (identifiers_in nodes)) (all_records (supply_in o preferred) (supplies_in nodes))
-    (supplies-rows o preferred (supplies_in nodes))
+own-rows : TermLaws → (o : Opening) (choices : SupplyChoices) → MayCompute o choices.terms → (nodes : Nodes) → IsField (reference_in nodes) → (kind : Option Reason) → why_emptied o choices nodes ≡ kind
+    → AreOf o (records_by o choices kind nodes) (reference_in nodes ∷ [])
+own-rows laws o choices may nodes f (Some kind) e = emptied-rows o nodes f (right_pairs nodes) (right-pairs (identifiers_in nodes))
+own-rows laws o choices may nodes f None e =
+    let own = former-none (own_reason nodes) (supplies_reason o choices (supplies_in nodes)) e in
+    standing-rows o nodes f (notification_in nodes) (own-code nodes own) (right_pairs nodes) (right-pairs (identifiers_in nodes)) (all_records (supply_in o choices) (supplies_in nodes))
+    (supplies-rows laws o choices may (supplies_in nodes))
 
 -- no products of no records
 none-rows : (o : Opening) → AreOf o [] []
 none-rows o = ([], refl, record { reads = refl; details = tt; utf8 = refl })
 
 -- the records of each form of a Product are the rows of a product of its reference
-pub product-rows : (o : Opening) (preferred : List ℕ) (c : Composite) → AllByRecursion (λ f. AreOf o f.records (references_of c.below)) (variants o preferred c)
-product-rows o preferred c = go (is_field (reference_in c.below)) refl
+pub product-rows : TermLaws → (o : Opening) (choices : SupplyChoices) (c : Composite) → MayCompute o choices.terms → AllByRecursion (λ f. AreOf o f.records (references_of c.below)) (variants o choices c)
+product-rows laws o choices c may = go (is_field (reference_in c.below)) refl
   where
     nodes : Nodes
     nodes = c.below
 
-    whole : IsField (reference_in nodes) → AreOf o (records_by o preferred (why_emptied o preferred nodes) nodes) (reference_in nodes ∷ [])
-    whole f = own-rows o preferred nodes f (why_emptied o preferred nodes) refl
+    whole : IsField (reference_in nodes) → (chosen : SupplyChoices) → MayCompute o chosen.terms → AreOf o (records_by o chosen (why_emptied o chosen nodes) nodes) (reference_in nodes ∷ [])
+    whole f chosen may = own-rows laws o chosen may nodes f (why_emptied o chosen nodes) refl
 
     small : IsField (reference_in nodes) → (notes : List Note) → AllByRecursion (λ f. AreOf o f.records (reference_in nodes ∷ [])) (small_variants notes nodes)
     small f notes = (emptied-rows o nodes f (right_pairs nodes) (right-pairs (identifiers_in nodes)), (emptied-rows o nodes f [] no-pairs, tt))
@@ -537,14 +423,24 @@ product-rows o preferred c = go (is_field (reference_in c.below)) refl
     standing f None notes = small f (too_large_notes c)
     standing f (Some kind) notes = small f notes
 
-    go : (stands : Bool) → is_field (reference_in nodes) ≡ stands → AllByRecursion (λ f. AreOf o f.records (references_of nodes)) (variants o preferred c)
+    plain : is_field (reference_in nodes) ≡ true → (terms : Option (List Term)) (rest : List Variant) → AllByRecursion (λ f. AreOf o f.records (reference_in nodes ∷ [])) rest
+        → AllByRecursion (λ f. AreOf o f.records (reference_in nodes ∷ [])) (plain_variants terms o choices c ++ rest)
+    plain e None rest all = all
+    plain e (Some terms) rest all = (rw e (whole (field-is (reference_in nodes) e) (plain_choices choices) may), all)
+
+    bare : is_field (reference_in nodes) ≡ false → (terms : Option (List Term)) → AllByRecursion (λ f. AreOf o f.records []) (plain_variants terms o choices c ++ [])
+    bare e None = tt
+    bare e (Some terms) = (rw e (none-rows o), tt)
+
+    go : (stands : Bool) → is_field (reference_in nodes) ≡ stands → AllByRecursion (λ f. AreOf o f.records (references_of nodes)) (variants o choices c)
     go true e =
         let f = field-is (reference_in nodes) e in
         let names : references_of nodes ≡ reference_in nodes ∷ [] = rw e refl in
-        subst (λ (rs : List (List ℕ)). AllByRecursion (λ f. AreOf o f.records rs) (variants o preferred c)) (sym names) (rw e (whole f, standing f (why_emptied o preferred nodes) _))
+        subst (λ (rs : List (List ℕ)). AllByRecursion (λ f. AreOf o f.records rs) (variants o choices c)) (sym names)
+        (rw e (whole f choices may, plain e choices.terms _ (standing f (why_emptied o choices nodes) _)))
     go false e =
         let names : references_of nodes ≡ [] = rw e refl in
-        subst (λ (rs : List (List ℕ)). AllByRecursion (λ f. AreOf o f.records rs) (variants o preferred c)) (sym names) (rw e (none-rows o, tt))
+        subst (λ (rs : List (List ℕ)). AllByRecursion (λ f. AreOf o f.records rs) (variants o choices c)) (sym names) (rw e (none-rows o, bare e choices.terms))
 
 -- products one after the other
 pub products-joined : (o : Opening) (a b : Records) (c d : List Product) → AreProducts o a c → AreProducts o b d → AreProducts o (a ++ b) (c ++ d)

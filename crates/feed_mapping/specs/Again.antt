@@ -4,7 +4,7 @@ use Rattle.std.specs.Prelude.{if◌then◌else◌, codes, is_some}
 use Rattle.std.specs.List.{list_any}
 use Rattle.std.specs.Option.{option_or}
 use Rattle.std.specs.Str.{bytes_eq}
-use Rattle.feed_outline.specs.Names.{stranger}
+use Rattle.feed_outline.specs.Names.{stranger, stranger_apart}
 use Rattle.feed_outline.specs.Nodes.{Nodes, no_nodes, node}
 use Rattle.feed_mapping.specs.Elements.{composites, first}
 
@@ -13,7 +13,13 @@ abbrev pub is_repeatable : List ℕ → Bool
 is_repeatable name =
     list_any (bytes_eq name)
     (codes "PriceCondition" ∷ codes "PriceConstraint" ∷ codes "PriceDate" ∷ codes "Discount"
-    ∷ codes "DiscountCoded" ∷ stranger ∷ [])
+    ∷ codes "DiscountCoded" ∷ stranger ∷ codes "Tax" ∷ stranger_apart ∷ [])
+
+-- what stands in it is looked at with its date, or by the terms of the shop
+abbrev pub is_read_apart : List ℕ → Bool
+is_read_apart name =
+    list_any (bytes_eq name)
+    (codes "PriceDate" ∷ codes "Discount" ∷ codes "DiscountCoded" ∷ codes "Tax" ∷ [])
 
 -- whether an element of this name does not repeat, and comes again among these
 abbrev pub is_again : List ℕ → Nodes → Bool
@@ -25,5 +31,5 @@ abbrev pub again_in : Nodes → Option (List ℕ)
 again_in no_nodes = None
 again_in (node n tag text below rest) =
     if is_again n rest then Some n
-    else option_or (if bytes_eq n (codes "PriceDate") then None else again_in below)
+    else option_or (if is_read_apart n then None else again_in below)
     (again_in rest)

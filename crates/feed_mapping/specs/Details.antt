@@ -1,5 +1,6 @@
 -- A SupplyDetail: the records that are written of it and of its Prices.
-use Rattle.std.specs.Prelude.{ℕ, List, [], ◌∷◌, Option, None, if◌then◌else◌, codes, is_some, map}
+use Rattle.std.specs.Prelude.{ℕ, Bool, List, [], ◌∷◌, ◌++◌, Option, Some, None}
+use Rattle.std.specs.Prelude.{if◌then◌else◌, codes, is_some, map}
 use Rattle.std.specs.Prelude.{option_and_then, option_map}
 use Rattle.std.specs.Option.{option_or, unwrap_or}
 use Rattle.feed_xml.specs.Grammar.{is_filled}
@@ -11,11 +12,14 @@ use Rattle.onix_records.specs.Fields.{optional}
 use Rattle.onix_records.specs.declared.row.Opening.{Opening}
 use Rattle.feed_mapping.specs.Elements.{Composite, below_at, each_at, first, some_at, text_at}
 use Rattle.feed_mapping.specs.Identifiers.{chosen, identifiers_in}
-use Rattle.feed_mapping.specs.Notes.{Reason, Reasons, wrong}
+use Rattle.feed_terms.specs.declared.term.Term.{Term}
+use Rattle.feed_mapping.specs.Notes.{Note, Reason, Reasons, wrong}
 use Rattle.feed_mapping.specs.Outcomes.{Outcome, all_notes, all_records, written_unless}
 use Rattle.feed_mapping.specs.Parties.{Pair, is_there, pair}
+use Rattle.feed_mapping.specs.PriceTerms.{records_with, supplier_of, terms_notes}
 use Rattle.feed_mapping.specs.Prices.{PriceContext, closing_keys, first_with_text, price_outcome}
-use Rattle.feed_mapping.specs.Records.{Fields, desk_reason, first_some, is_field, option_filter}
+use Rattle.feed_mapping.specs.SupplyChoices.{SupplyChoices}
+use Rattle.feed_mapping.specs.Records.{Fields, Records, desk_reason, first_some, is_field, option_filter}
 use Rattle.feed_mapping.specs.Records.{parsed}
 use Rattle.feed_mapping.specs.Records.{parsed_term, unless, invalid}
 use Rattle.feed_mapping.specs.declared.notes.Wrong.TheVariants as bad
@@ -125,10 +129,26 @@ module _ (o : Opening) where
   abbrev pub price_in : Nodes → Composite → Outcome
   price_in nodes price = price_outcome (context_in nodes) price.below
 
+  -- the records of the Prices of a SupplyDetail, with those that the terms compute, where there are
+  -- terms
+  abbrev pub priced_records : Option (List Term) → Bool → List ℕ → Nodes → Records
+  priced_records None is_plain preferred nodes = all_records (price_in nodes) (prices_in nodes)
+  priced_records (Some terms) is_plain preferred nodes =
+      records_with terms (supplier_of (supplier_id preferred nodes)) (context_in nodes)
+      (prices_in nodes) is_plain
+
+  -- what the terms say of the Prices besides
+  abbrev pub priced_notes : Option (List Term) → Bool → List ℕ → Nodes → List Note
+  priced_notes None is_plain preferred nodes = []
+  priced_notes (Some terms) is_plain preferred nodes =
+      terms_notes terms (supplier_of (supplier_id preferred nodes)) (context_in nodes)
+      (prices_in nodes) is_plain
+
   -- what a SupplyDetail comes to: its record with those of its Prices, or it is left out
-  abbrev pub detail_outcome : List ℕ → Nodes → Outcome
-  detail_outcome preferred nodes =
-      written_unless (detail_reason preferred nodes)
-      ((codes "SupplyDetail" ∷ detail_fields preferred nodes)
-      ∷ all_records (price_in nodes) (prices_in nodes))
-      (all_notes (price_in nodes) (prices_in nodes))
+  abbrev pub detail_outcome : SupplyChoices → Nodes → Outcome
+  detail_outcome choices nodes =
+      written_unless (detail_reason choices.preferred nodes)
+      ((codes "SupplyDetail" ∷ detail_fields choices.preferred nodes)
+      ∷ priced_records choices.terms choices.is_plain choices.preferred nodes)
+      (all_notes (price_in nodes) (prices_in nodes)
+      ++ priced_notes choices.terms choices.is_plain choices.preferred nodes)

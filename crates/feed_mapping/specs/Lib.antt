@@ -23,3 +23,6 @@ pub mod PriceFates
 pub mod ProductRecords
 pub mod Rows
 pub mod Vocabulary
+pub mod SupplyChoices
+pub mod PriceTerms
+pub mod TermsLaws

@@ -1,11 +1,12 @@
 -- What a Product comes to: the records of it and of its supplies, and the notes on it.
-use Rattle.std.specs.Prelude.{ℕ, Bool, ◌||◌, List, [], ◌∷◌, ◌++◌, Option, Some, None, if◌then◌else◌}
+use Rattle.std.specs.Prelude.{ℕ, Bool, true, ◌||◌, List, [], ◌∷◌, ◌++◌, Option, Some, None, if◌then◌else◌}
 use Rattle.std.specs.Prelude.{codes}
 use Rattle.std.specs.List.{list_any}
 use Rattle.std.specs.Option.{option_map_or, option_or}
 use Rattle.std.specs.Str.{bytes_eq}
 use Rattle.feed_outline.specs.Nodes.{Nodes}
 use Rattle.onix_records.specs.declared.row.Opening.{Opening}
+use Rattle.feed_terms.specs.declared.term.Term.{Term}
 use Rattle.feed_mapping.specs.Elements.{Composite, Element, each_at}
 use Rattle.feed_mapping.specs.Notes.{Note, Reason, foreign, is_wrong, note, reason_notes, wrong}
 use Rattle.feed_mapping.specs.Outcomes.{all_notes, all_records}
@@ -13,6 +14,7 @@ use Rattle.feed_mapping.specs.Products.{bare_record, emptied_record, has_isbn, i
 use Rattle.feed_mapping.specs.Products.{is_deletion, notification_in, own_reason, product_record}
 use Rattle.feed_mapping.specs.Products.{reference_in, right_pairs}
 use Rattle.feed_mapping.specs.Records.{Records, is_field}
+use Rattle.feed_mapping.specs.SupplyChoices.{SupplyChoices}
 use Rattle.feed_mapping.specs.Supplies.{supplies_reason, supply_in}
 use Rattle.feed_mapping.specs.declared.notes.Foreign.TheVariants as other
 use Rattle.feed_mapping.specs.declared.notes.Wrong.TheVariants as bad
@@ -51,19 +53,19 @@ abbrev pub fate_by : Option Reason → Fate
 fate_by None = fate.Written
 fate_by (Some reason) = fate.Emptied
 
-module _ (o : Opening) (preferred : List ℕ) where
+module _ (o : Opening) (choices : SupplyChoices) where
   -- why a Product is emptied, but for its size: for its own fields, or since none of its supplies
   -- is left
   abbrev pub why_emptied : Nodes → Option Reason
   why_emptied nodes =
-      option_or (own_reason nodes) (supplies_reason o preferred (supplies_in nodes))
+      option_or (own_reason nodes) (supplies_reason o choices (supplies_in nodes))
 
   -- its records, where it is emptied for such a reason or stands
   abbrev pub records_by : Option Reason → Nodes → Records
   records_by (Some reason) nodes = emptied_record nodes ∷ []
   records_by None nodes =
       product_record (notification_in nodes) (right_pairs nodes) nodes
-      ∷ all_records (supply_in o preferred) (supplies_in nodes)
+      ∷ all_records (supply_in o choices) (supplies_in nodes)
 
   -- its records: none of one without a RecordReference that the desk would take
   abbrev pub product_records : Nodes → Records
@@ -73,9 +75,9 @@ module _ (o : Opening) (preferred : List ℕ) where
   -- the notes on its supplies and on itself, where its own fields do not empty it
   abbrev pub notes_behind : Composite → List Note
   notes_behind c =
-      all_notes (supply_in o preferred) (supplies_in c.below)
+      all_notes (supply_in o choices) (supplies_in c.below)
       ++ option_map_or (λ reason. note c.element reason ∷ [])
-      (supplies_reason o preferred (supplies_in c.below)) (written_notes c.below c.element)
+      (supplies_reason o choices (supplies_in c.below)) (written_notes c.below c.element)
 
   -- all notes on it
   abbrev pub product_notes : Composite → List Note
@@ -115,13 +117,31 @@ smaller_variants fate.Written notes c = small_variants (too_large_notes c) c.bel
 smaller_variants fate.Emptied notes c = small_variants notes c.below
 smaller_variants fate.LeftOut notes c = []
 
+-- without the prices that the terms compute
+abbrev pub plain_choices : SupplyChoices → SupplyChoices
+plain_choices choices = record choices { is_plain = true }
+
+-- the notes on a product that is written without them, since it is too large with them
+abbrev pub plain_notes : Opening → SupplyChoices → Composite → List Note
+plain_notes o choices c =
+    product_notes o (plain_choices choices) c
+    ++ note c.element (foreign other.TooManyComputed []) ∷ []
+
+-- where there are terms, a product without the prices that they compute
+abbrev pub plain_variants : Option (List Term) → Opening → SupplyChoices → Composite → List Variant
+plain_variants None o choices c = []
+plain_variants (Some terms) o choices c =
+    variant (product_records o (plain_choices choices) c.below) (plain_notes o choices c) ∷ []
+
 -- The variants of a product, of which the first counts that is not too large for a message: as it
--- is, emptied, and emptied with its reference in place of its identifiers. One that is emptied for
--- another reason than its size has the notes that it has without.
-abbrev pub variants : Opening → List ℕ → Composite → List Variant
-variants o preferred c =
-    variant (product_records o preferred c.below) (product_notes o preferred c)
-    ∷ smaller_variants (fate_of o preferred c.below) (product_notes o preferred c) c
+-- is, without the prices that the terms compute, emptied, and emptied with its reference in place
+-- of its identifiers. One that is emptied for another reason than its size has the notes that it
+-- has without.
+abbrev pub variants : Opening → SupplyChoices → Composite → List Variant
+variants o choices c =
+    variant (product_records o choices c.below) (product_notes o choices c)
+    ∷ (plain_variants choices.terms o choices c
+    ++ smaller_variants (fate_of o choices c.below) (product_notes o choices c) c)
 
 -- whether one of some notes says that something is wrong
 abbrev pub has_wrong : List Note → Bool

@@ -1,6 +1,6 @@
 -- The records that are written, as rows of a message.
 use Rattle.std.specs.Prelude.{◌≡◌, ◌+◌, ℕ, true, List, [], ◌∷◌, ◌++◌, Some, if◌then◌else◌, codes}
-use Rattle.std.specs.Prelude.{decimal, length, map}
+use Rattle.std.specs.Prelude.{decimal, length, map, Option, None, ⊤}
 use Rattle.std.specs.List.{AllByRecursion, list_all}
 use Rattle.std.specs.Str.{is_utf8}
 use Rattle.feed_outline.specs.Nodes.{Nodes}
@@ -8,7 +8,10 @@ use Rattle.onix_records.specs.PartRows.{SuppliesHaveDetails, content_rows}
 use Rattle.onix_records.specs.Row.{row_of}
 use Rattle.onix_records.specs.declared.parts.Header.{Header}
 use Rattle.onix_records.specs.declared.parts.Product.{Product}
+use Rattle.onix_records.specs.declared.row.Form.TheVariants.{Two}
 use Rattle.onix_records.specs.declared.row.Opening.{Opening}
+use Rattle.feed_terms.specs.Laws.{HasCodes}
+use Rattle.feed_terms.specs.declared.term.Term.{Term}
 use Rattle.feed_mapping.specs.Header.{Heading, message_fields}
 use Rattle.feed_mapping.specs.Products.{reference_in}
 use Rattle.feed_mapping.specs.Records.{is_field}
@@ -48,3 +51,14 @@ abbrev pub AreOf : Opening → List (List (List ℕ)) → List (List ℕ) → Ty
 AreOf o records references =
     (products : List Product) × (map (λ p. p.reference) products ≡ references)
     × AreProducts o records products
+
+-- with terms, a message has a minimum order quantity where a Price says one, and the types of their
+-- net prices are codes
+abbrev pub MayCompute : Opening → Option (List Term) → Type 0
+MayCompute o None = ⊤
+MayCompute o (Some terms) = (o.form ≡ Two) × HasCodes terms
+
+-- the types of their net prices are codes
+abbrev pub HaveCodes : Option (List Term) → Type 0
+HaveCodes None = ⊤
+HaveCodes (Some terms) = HasCodes terms

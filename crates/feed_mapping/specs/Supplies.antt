@@ -7,6 +7,7 @@ use Rattle.feed_mapping.specs.Details.{detail_outcome, first_detail_reason}
 use Rattle.feed_mapping.specs.Elements.{Composite, each_at, first}
 use Rattle.feed_mapping.specs.Markets.{first_market_reason, markets_outcome}
 use Rattle.feed_mapping.specs.Notes.{Reason, Reasons, foreign, is_wrong, wrong}
+use Rattle.feed_mapping.specs.SupplyChoices.{SupplyChoices}
 use Rattle.feed_mapping.specs.Outcomes.{Outcome, all_notes, all_records, left_out, notes_below}
 use Rattle.feed_mapping.specs.Outcomes.{outcome_reason, outcome_records, written_unless}
 use Rattle.feed_mapping.specs.Records.{first_some, if_empty, option_filter}
@@ -33,10 +34,10 @@ abbrev pub none_left : Reason → Reason
 none_left first =
     if is_wrong first.kind then wrong bad.NoSupplyLeft [] else foreign other.NoSupplyLeft []
 
-module _ (o : Opening) (preferred : List ℕ) where
+module _ (o : Opening) (choices : SupplyChoices) where
   -- what a SupplyDetail comes to
   abbrev pub detail_in : Composite → Outcome
-  detail_in detail = detail_outcome o preferred detail.below
+  detail_in detail = detail_outcome o choices detail.below
 
   -- why a ProductSupply that has a SupplyDetail is left out: for its Markets, or since all its
   -- SupplyDetails are

@@ -1,6 +1,6 @@
 -- The elements of ONIX for Books, release 3.0 and 3.1, that say something to the desk.
 use Rattle.std.specs.Prelude.{List, [], ◌∷◌, ◌++◌}
-use Rattle.feed_outline.specs.Names.{Word, counted_alone_of, vocabulary_of}
+use Rattle.feed_outline.specs.Names.{Word, apart_of, counted_alone_of, vocabulary_of}
 
 -- Of each composite its name, and then its children. The Territory of a Price in ONIX 2.1 has a
 -- short tag alone: no element is called by its other name here.
@@ -39,4 +39,15 @@ desk_vocabulary =
     ("Product PublishingDetail"
     ∷ "PublishingDetail SalesRights"
     ∷ "Price Discount DiscountCoded"
+    ∷ [])
+
+-- the same, and behind those what the terms of the shop ask of a Price besides
+unfoldable pub terms_vocabulary : List Word
+terms_vocabulary =
+    desk_vocabulary
+    ++ apart_of
+    ("Price DiscountCoded Discount Tax"
+    ∷ "DiscountCoded DiscountCodeType=j363 DiscountCode=j364"
+    ∷ "Discount DiscountType=x467 Quantity=x320 DiscountPercent=j267"
+    ∷ "Tax TaxRatePercent=x472"
     ∷ [])

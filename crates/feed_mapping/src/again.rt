@@ -1,7 +1,7 @@
 //! Elements that come again though they do not repeat.
 
 ghost use Rattle.std.specs.Prelude.{◌≡◌, codes};
-ghost use Rattle.feed_mapping.specs.Again.{again_in, is_again, is_repeatable};
+ghost use Rattle.feed_mapping.specs.Again.{again_in, is_again, is_read_apart, is_repeatable};
 ghost use Rattle.feed_mapping.specs.PriceViews.{text_view};
 
 use crate::elements::first_composite;
@@ -17,6 +17,18 @@ fn is_repeatable(name: &[u8]) -> bool
         || name == b"Discount".as_slice()
         || name == b"DiscountCoded".as_slice()
         || name == b":".as_slice()
+        || name == b"Tax".as_slice()
+        || name == b";".as_slice()
+}
+
+// Whether what stands in an element of this name is looked at elsewhere.
+fn is_read_apart(name: &[u8]) -> bool
+    ensures { result ≡ is_read_apart name.now }
+{
+    name == b"PriceDate".as_slice()
+        || name == b"Discount".as_slice()
+        || name == b"DiscountCoded".as_slice()
+        || name == b"Tax".as_slice()
 }
 
 // Whether an element of this name does not repeat, and comes again among these.
@@ -27,7 +39,7 @@ fn is_again(name: &[u8], rest: &Elements<'_>) -> bool
 }
 
 /// The name of the first element that comes again though it does not repeat, at whatever depth;
-/// what stands in a PriceDate is not looked at.
+/// what stands in a PriceDate, or is read for the terms of the shop, is not looked at.
 pub(crate) fn again_in(elements: &Elements<'_>) -> Option<&'static [u8]>
     ensures { text_view result ≡ again_in elements.now }
 {
@@ -36,7 +48,7 @@ pub(crate) fn again_in(elements: &Elements<'_>) -> Option<&'static [u8]>
         if is_again(node.line.name, &node.rest) {
             return Some(node.line.name);
         }
-        if node.line.name != b"PriceDate".as_slice() {
+        if !is_read_apart(node.line.name) {
             if let Some(name) = again_in(&node.below) {
                 return Some(name);
             }

@@ -2,9 +2,9 @@
 
 ghost use Rattle.std.specs.Prelude.{◌≡◌, ◌++◌, ◌∷◌, ◌+◌, ◌<◌, [], ℕ, List, None, Some, IfOk, OnOk, true, is_some, map, codes, option_map};
 ghost use Rattle.std.specs.List.{list_all};
-ghost use Rattle.std.specs.Option.{unwrap_or};
+ghost use Rattle.std.specs.Option.{option_copied, unwrap_or};
 ghost use Rattle.std.specs.Str.{is_utf8};
-ghost use Rattle.feed_mapping.specs.Details.{context_by, context_in, default_minimum, old_supply, detail_fields, detail_outcome, detail_reasons, detail_reason, first_detail_reason, identifier_reasons, name_reason, price_in, prices_in, supplier_id, supplier_in, unpriced_in, unpriced_price};
+ghost use Rattle.feed_mapping.specs.Details.{context_by, context_in, default_minimum, old_supply, detail_fields, detail_outcome, detail_reasons, detail_reason, first_detail_reason, identifier_reasons, name_reason, price_in, priced_notes, priced_records, prices_in, supplier_id, supplier_in, unpriced_in, unpriced_price};
 ghost use Rattle.feed_mapping.specs.Elements.{composites, first, text_or_empty, below_of};
 ghost use Rattle.feed_mapping.specs.Notes.{note_views, reason_view, wrong};
 ghost use Rattle.feed_mapping.specs.Outcomes.{all_notes, all_records, notes_below, outcome_reason, outcome_records, written_unless};
@@ -12,6 +12,7 @@ ghost use Rattle.feed_mapping.specs.PartyViews.{pair_view};
 ghost use Rattle.feed_mapping.specs.PriceViews.{reason_read, text_view};
 ghost use Rattle.feed_mapping.specs.Prices.{context_view};
 ghost use Rattle.feed_mapping.specs.Records.{first_some, parsed, parsed_term, invalid};
+ghost use Rattle.feed_mapping.specs.SupplyChoices.{supply_choices_view};
 ghost use Rattle.feed_mapping.specs.declared.notes.Wrong.TheVariants as bad;
 ghost use Rattle.onix_records.specs.Fields.{optional};
 ghost use Rattle.onix_records.specs.declared.row.Opening.{Opening as Said};
@@ -25,10 +26,12 @@ use crate::identifiers::{SUPPLIER, choose_identifier, is_there};
 use crate::notes::{Note, Reason, Wrong};
 use crate::parties::{NO_PAIR, Pair};
 use crate::price_keys::Key;
+use crate::price_terms::{add_computed_prices, supplier_of};
 use crate::prices::{
     PriceContext, add_price, because_old, closing_keys, fill_record, first_with_text,
 };
 use crate::records::{former, is_field, may_be_empty, parsed_code, parsed_quantity, unless};
+use crate::supply_choices::SupplyChoices;
 use csv_records::buffer::RecordBuffer;
 use csv_records::fields::FieldBuffer;
 use csv_records::record::Record;
@@ -365,6 +368,49 @@ fn add_prices<'a>(
     Ok(())
 }
 
+// Adds what comes of the Prices of a SupplyDetail whose supplier has this identifier, with the
+// prices that the terms of the shop compute, if it has any.
+fn add_priced<'a>(
+    alloc: Global,
+    choices: &SupplyChoices<'_>,
+    supplier: Pair<'a>,
+    context: &PriceContext<'_, '_, '_>,
+    elements: &Elements<'a>,
+    fields: &mut FieldBuffer,
+    records: &mut RecordBuffer,
+    notes: &mut Vec<Note<'a>>,
+) -> Result<(), AllocError>
+    ensures records { (o : Said) → context_view context.now ≡ context_in o elements.now
+        → pair_view supplier.entry
+        ≡ supplier_id (supply_choices_view choices.now).preferred elements.now
+        → OnOk result (records.new ≡ records.old
+        ++ priced_records o (supply_choices_view choices.now).terms choices.now.is_plain
+        (supply_choices_view choices.now).preferred elements.now) }
+    ensures notes { (o : Said) → context_view context.now ≡ context_in o elements.now
+        → pair_view supplier.entry
+        ≡ supplier_id (supply_choices_view choices.now).preferred elements.now
+        → OnOk result (note_views notes.new.items ≡ note_views notes.old.items
+        ++ (all_notes (price_in o elements.now) (prices_in elements.now)
+        ++ priced_notes o (supply_choices_view choices.now).terms choices.now.is_plain
+        (supply_choices_view choices.now).preferred elements.now)) }
+{
+    let Some(terms) = choices.terms else {
+        return add_prices(alloc, context, elements, fields, records, notes);
+    };
+    let supplier = supplier_of(alloc, supplier)?;
+    add_computed_prices(
+        alloc,
+        terms,
+        supplier.as_ref(),
+        choices.is_plain,
+        context,
+        elements,
+        fields,
+        records,
+        notes,
+    )
+}
+
 /// Adds the records of a SupplyDetail and of its Prices in a message that begins so, and notes on
 /// what is left out below it, or gives the reason for which it is left out. Of several identifiers
 /// the first of the preferred type is written, else the first. The list takes the fields of a
@@ -372,25 +418,29 @@ fn add_prices<'a>(
 pub(crate) fn add_detail<'a>(
     alloc: Global,
     opening: &Opening,
-    preferred: &[u8],
+    choices: &SupplyChoices<'_>,
     elements: &Elements<'a>,
     fields: &mut FieldBuffer,
     records: &mut RecordBuffer,
     notes: &mut Vec<Note<'a>>,
 ) -> Result<Option<Reason<'a>>, AllocError>
     ensures reason { IfOk result (λ reason. reason_read reason
-        ≡ outcome_reason (detail_outcome opening.now preferred.now elements.now)) }
+        ≡ outcome_reason
+        (detail_outcome opening.now (supply_choices_view choices.now) elements.now)) }
     ensures records { OnOk result (records.new ≡ records.old
-        ++ outcome_records (detail_outcome opening.now preferred.now elements.now)) }
+        ++ outcome_records
+        (detail_outcome opening.now (supply_choices_view choices.now) elements.now)) }
     ensures notes { OnOk result (note_views notes.new.items ≡ note_views notes.old.items
-        ++ notes_below (detail_outcome opening.now preferred.now elements.now)) }
+        ++ notes_below (detail_outcome opening.now (supply_choices_view choices.now) elements.now)) }
 {
-    let supplier = supplier_id(preferred, elements);
+    let supplier = supplier_id(choices.id_type, elements);
     let left_out = write_detail(alloc, supplier, elements, fields, records)?;
     if left_out.is_none() {
         let closed = closing_keys(alloc, &context_by(opening, &[], elements), elements, fields)?;
         let context = context_by(opening, closed.as_slice(), elements);
-        add_prices(alloc, &context, elements, fields, records, notes)?;
+        add_priced(
+            alloc, choices, supplier, &context, elements, fields, records, notes,
+        )?;
     }
     Ok(left_out)
 }

@@ -10,8 +10,11 @@ ghost use Rattle.feed_mapping.specs.Details.{detail_outcome};
 ghost use Rattle.feed_mapping.specs.Outcomes.{outcome_reason};
 ghost use Rattle.feed_mapping.specs.PriceFates.{HasDetails, HasPrices, HasSupplies};
 ghost use Rattle.feed_mapping.specs.Supplies.{supply_outcome};
-ghost use Rattle.feed_mapping.specs.Rows.{AreOf, AreProducts, message_records, numbered, part_record, references_of};
+ghost use Rattle.feed_mapping.specs.Rows.{AreOf, AreProducts, MayCompute, message_records, numbered, part_record, references_of};
+ghost use Rattle.feed_mapping.specs.SupplyChoices.{SupplyChoices};
+ghost use Rattle.feed_mapping.specs.TermsLaws.{GivenStands, IsAdded};
 ghost use Rattle.feed_mapping.specs.Unions.{union};
+ghost use Rattle.feed_terms.specs.declared.term.Term.{Term};
 ghost use Rattle.onix_records.specs.Grammar.{IsMessage, most_records};
 ghost use Rattle.onix_records.specs.Opening.{opening_of};
 ghost use Rattle.onix_records.specs.Row.{row_of};
@@ -23,6 +26,8 @@ ghost use Rattle.onix_terms.specs.Territory.{IsIn};
 ghost use Rattle.onix_terms.specs.declared.territory.Territory.{Territory};
 
 use crate::product_records::Fate;
+use feed_terms::laws::{computed_reads_back, given_price_stands, less_computed_is_without};
+use onix_records::row::Form;
 use onix_terms::laws::number_reads_back;
 
 /// A country lies in the union of territories exactly where it lies in one of them; without a union
@@ -37,11 +42,13 @@ pub fn unions_have_the_countries_of_all()
 {}
 
 /// The record of each part says what that of the first says, but for its number, and records are
-/// read behind it as behind that.
+/// read behind it as behind that; it begins a message of form 2.
 pub fn parts_say_the_same()
     ensures opening { (c : Choices) (header : Nodes) (h : Heading) → heading_in c header ≡ Ok h
         → (before : ℕ) → before < c.parts → opening_of (part_record h header before)
         ≡ Some (numbered (h.number + before) h.opening) }
+    ensures form { (c : Choices) (header : Nodes) (h : Heading) → heading_in c header ≡ Ok h
+        → h.opening.form ≡ Form.Two }
     ensures rows { (n : ℕ) (o : Opening) (fields : List (List ℕ))
         → row_of (numbered n o) fields ≡ row_of o fields }
 {
@@ -49,12 +56,13 @@ pub fn parts_say_the_same()
 }
 
 /// The records of each variant of a Product are the rows of a product of its reference, or there
-/// are none where it has no RecordReference that the desk would take; and so are those of several
-/// Products, one after the other. With a first record and an end they are a message, if they are
-/// not too many.
+/// are none where it has no RecordReference that the desk would take, with terms in form 2; and so
+/// are those of several Products, one after the other. With a first record and an end they are a
+/// message, if they are not too many.
 pub fn records_are_products()
-    ensures one { (o : Opening) (preferred : List ℕ) (c : Composite) → AllByRecursion
-        (λ f. AreOf o f.records (references_of c.below)) (variants o preferred c) }
+    ensures one { (o : Opening) (choices : SupplyChoices) (c : Composite)
+        → MayCompute o choices.terms → AllByRecursion
+        (λ f. AreOf o f.records (references_of c.below)) (variants o choices c) }
     ensures none { (o : Opening) → AreProducts o [] [] }
     ensures joined { (o : Opening) (a b : List (List (List ℕ))) (c d : List Product)
         → AreProducts o a c → AreProducts o b d → AreProducts o (a ++ b) (c ++ d) }
@@ -64,6 +72,7 @@ pub fn records_are_products()
         → IsMessage (message_records first records) o.header products }
 {
     number_reads_back();
+    computed_reads_back();
 }
 
 /// No Price is lost: in a SupplyDetail that is not left out each Price, in order, is nothing by the
@@ -71,12 +80,27 @@ pub fn records_are_products()
 /// SupplyDetails come to, in order, each its records or one note; and a Product that is neither
 /// emptied nor left out has what its ProductSupplys come to, in the same way.
 pub fn prices_stand_or_are_told()
-    ensures details { (o : Opening) (preferred : List ℕ) (nodes : Nodes)
-        → outcome_reason (detail_outcome o preferred nodes) ≡ None
-        → HasPrices o preferred nodes }
-    ensures supplies { (o : Opening) (preferred : List ℕ) (nodes : Nodes)
-        → outcome_reason (supply_outcome o preferred nodes) ≡ None
-        → HasDetails o preferred nodes }
-    ensures products { (o : Opening) (preferred : List ℕ) (c : Composite)
-        → fate_of o preferred c.below ≡ Fate.Written → HasSupplies o preferred c }
+    ensures details { (o : Opening) (choices : SupplyChoices) (nodes : Nodes)
+        → outcome_reason (detail_outcome o choices nodes) ≡ None
+        → HasPrices o choices nodes }
+    ensures supplies { (o : Opening) (choices : SupplyChoices) (nodes : Nodes)
+        → outcome_reason (supply_outcome o choices nodes) ≡ None
+        → HasDetails o choices nodes }
+    ensures products { (o : Opening) (choices : SupplyChoices) (c : Composite)
+        → fate_of o choices c.below ≡ Fate.Written → HasSupplies o choices c }
 {}
+
+/// The terms of the shop only add records behind those of Prices: of a SupplyDetail the records
+/// less the computed ones are those without terms; and wherever a price of the feed is the current
+/// one of the offer that the desk reads of the records, by the desk's own definition, it is that
+/// with the computed ones too.
+pub fn terms_only_add()
+    ensures added { (o : Opening) (terms : List Term) (preferred : List ℕ) (nodes : Nodes)
+        → IsAdded o terms preferred nodes }
+    ensures stands { (o : Opening) (terms : List Term) (preferred : List ℕ) (nodes : Nodes)
+        → MayCompute o (Some terms) → GivenStands o terms preferred nodes }
+{
+    less_computed_is_without();
+    given_price_stands();
+    computed_reads_back();
+}

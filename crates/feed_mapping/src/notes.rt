@@ -52,6 +52,15 @@ pub enum Foreign {
     Discount,
     /// A DiscountCoded of a Price, likewise.
     DiscountCoded,
+    /// A Price of a type of the terms of the shop that none of these fits.
+    NoTerm,
+    /// A Price of which the terms compute an amount of 0.
+    NothingToPay,
+    /// A price that the terms compute of a Price, and that is held back: the feed gives one in its
+    /// place, or closes its type and currency.
+    HeldBack,
+    /// A Product that with the prices that the terms compute is too large for a message.
+    TooManyComputed,
     /// A ProductSupply without SupplyDetail.
     NoSupplyDetail,
     /// A ProductSupply whose Markets are all left out, one of them as foreign.

@@ -414,8 +414,12 @@ fn fill_price(
     }
 }
 
-// The Price that the desk reads of fields that are UTF-8.
-fn parse_fields(alloc: Global, opening: &Opening, from: &Record<'_>) -> Result<Price, RowFault>
+/// The Price that the desk reads of fields that are UTF-8.
+pub(crate) fn parse_fields(
+    alloc: Global,
+    opening: &Opening,
+    from: &Record<'_>,
+) -> Result<Price, RowFault>
     ensures { list_all is_utf8 from.now ≡ true
         → Gives result (parsed (price_of opening.now) from.now) }
 {

@@ -5,10 +5,11 @@ ghost use Rattle.feed_mapping.specs.Elements.{element_view};
 ghost use Rattle.feed_mapping.specs.Notes.{note, note_views};
 ghost use Rattle.feed_mapping.specs.Outcomes.{all_notes, all_records};
 ghost use Rattle.feed_mapping.specs.PriceViews.{reason_read};
-ghost use Rattle.feed_mapping.specs.ProductRecords.{fate_of, ignored_reason, is_followed, isbn_reason, notes_behind, product_notes, product_records, fate_by, records_by, supplies_in, too_large_notes, why_emptied, written_notes};
+ghost use Rattle.feed_mapping.specs.ProductRecords.{fate_of, ignored_reason, is_followed, isbn_reason, notes_behind, plain_choices, plain_notes, product_notes, product_records, fate_by, records_by, supplies_in, too_large_notes, why_emptied, written_notes};
 ghost use Rattle.feed_mapping.specs.Supplies.{supplies_reason, supply_in};
 ghost use Rattle.std.specs.Option.{option_map_or};
 ghost use Rattle.feed_mapping.specs.Products.{bare_record, emptied_record, has_isbn, dropping, notification_in, own_reason, product_record, right_pairs};
+ghost use Rattle.feed_mapping.specs.SupplyChoices.{supply_choices_view};
 
 use crate::elements::Composite;
 use crate::notes::{Foreign, Note, Reason, Wrong, push_note, push_reason};
@@ -18,6 +19,7 @@ use crate::products::{
 };
 use crate::records::is_field;
 use crate::supplies::add_supplies;
+use crate::supply_choices::SupplyChoices;
 use csv_records::buffer::RecordBuffer;
 use csv_records::fields::FieldBuffer;
 use feed_outline::Elements;
@@ -117,30 +119,32 @@ fn add_own(
 fn add_below<'a>(
     alloc: Global,
     opening: &Opening,
-    preferred: &[u8],
+    choices: &SupplyChoices<'_>,
     elements: &Elements<'a>,
     fields: &mut FieldBuffer,
     records: &mut RecordBuffer,
     notes: &mut Vec<Note<'a>>,
 ) -> Result<Option<Reason<'a>>, AllocError>
     ensures reason { IfOk result (λ reason. reason_read reason
-        ≡ supplies_reason opening.now preferred.now (supplies_in elements.now)) }
+        ≡ supplies_reason opening.now (supply_choices_view choices.now) (supplies_in elements.now)) }
     ensures records { OnOk result (records.new ≡ records.old
-        ++ all_records (supply_in opening.now preferred.now) (supplies_in elements.now)) }
+        ++ all_records (supply_in opening.now (supply_choices_view choices.now))
+        (supplies_in elements.now)) }
     ensures notes { OnOk result (note_views notes.new.items ≡ note_views notes.old.items
-        ++ all_notes (supply_in opening.now preferred.now) (supplies_in elements.now)) }
+        ++ all_notes (supply_in opening.now (supply_choices_view choices.now))
+        (supplies_in elements.now)) }
 {
     if is_deletion(elements) {
         return Ok(None);
     }
-    add_supplies(alloc, opening, preferred, elements, fields, records, notes)
+    add_supplies(alloc, opening, choices, elements, fields, records, notes)
 }
 
 // Adds what comes of a Product with these identifiers, of which no own field empties it.
 fn add_sound<'a>(
     alloc: Global,
     opening: &Opening,
-    preferred: &[u8],
+    choices: &SupplyChoices<'_>,
     product: &Composite<'a>,
     identifiers: &Identifiers,
     fields: &mut FieldBuffer,
@@ -148,19 +152,22 @@ fn add_sound<'a>(
     notes: &mut Vec<Note<'a>>,
 ) -> Result<Fate, AllocError>
     ensures fate { IfOk result (λ f. f ≡ fate_by
-        (supplies_reason opening.now preferred.now (supplies_in product.now.below))) }
+        (supplies_reason opening.now (supply_choices_view choices.now)
+        (supplies_in product.now.below))) }
     ensures records { identifiers.now.pairs ≡ right_pairs product.now.below
-        → OnOk result (records.new ≡ records.old ++ records_by opening.now preferred.now
-        (supplies_reason opening.now preferred.now (supplies_in product.now.below))
+        → OnOk result
+        (records.new ≡ records.old ++ records_by opening.now (supply_choices_view choices.now)
+        (supplies_reason opening.now (supply_choices_view choices.now)
+        (supplies_in product.now.below))
         product.now.below) }
     ensures notes { identifiers.now.has_isbn ≡ has_isbn product.now.below
         → OnOk result (note_views notes.new.items ≡ note_views notes.old.items
-        ++ notes_behind opening.now preferred.now product.now) }
+        ++ notes_behind opening.now (supply_choices_view choices.now) product.now) }
 {
     let count = records.len();
     let elements = &product.below;
     add_own(&identifiers.pairs, elements, fields, records)?;
-    match add_below(alloc, opening, preferred, elements, fields, records, notes)? {
+    match add_below(alloc, opening, choices, elements, fields, records, notes)? {
         None => {
             push_written_notes(identifiers.has_isbn, product, notes)?;
             Ok(Fate::Written)
@@ -178,7 +185,7 @@ fn add_sound<'a>(
 fn add_standing<'a>(
     alloc: Global,
     opening: &Opening,
-    preferred: &[u8],
+    choices: &SupplyChoices<'_>,
     product: &Composite<'a>,
     identifiers: &Identifiers,
     fields: &mut FieldBuffer,
@@ -186,15 +193,18 @@ fn add_standing<'a>(
     notes: &mut Vec<Note<'a>>,
 ) -> Result<Fate, AllocError>
     ensures fate { identifiers.now.pairs ≡ right_pairs product.now.below → IfOk result (λ f. f
-        ≡ fate_by (why_emptied opening.now preferred.now product.now.below)) }
+        ≡ fate_by (why_emptied opening.now (supply_choices_view choices.now) product.now.below)) }
     ensures records { identifiers.now.pairs ≡ right_pairs product.now.below
-        → OnOk result (records.new ≡ records.old ++ records_by opening.now preferred.now
-        (why_emptied opening.now preferred.now product.now.below) product.now.below) }
+        → OnOk result
+        (records.new ≡ records.old ++ records_by opening.now (supply_choices_view choices.now)
+        (why_emptied opening.now (supply_choices_view choices.now) product.now.below)
+        product.now.below) }
     ensures notes { identifiers.now.pairs ≡ right_pairs product.now.below
         → identifiers.now.has_isbn ≡ has_isbn product.now.below
         → OnOk result (note_views notes.new.items ≡ note_views notes.old.items
         ++ option_map_or (λ reason. note product.now.element reason ∷ [])
-        (own_reason product.now.below) (notes_behind opening.now preferred.now product.now)) }
+        (own_reason product.now.below)
+        (notes_behind opening.now (supply_choices_view choices.now) product.now)) }
 {
     match own_reason(&identifiers.pairs, &product.below) {
         Some(reason) => {
@@ -205,7 +215,7 @@ fn add_standing<'a>(
         None => add_sound(
             alloc,
             opening,
-            preferred,
+            choices,
             product,
             identifiers,
             fields,
@@ -222,17 +232,20 @@ fn add_standing<'a>(
 pub fn add_product<'a>(
     alloc: Global,
     opening: &Opening,
-    preferred: &[u8],
+    choices: &SupplyChoices<'_>,
     product: &Composite<'a>,
     fields: &mut FieldBuffer,
     records: &mut RecordBuffer,
     notes: &mut Vec<Note<'a>>,
 ) -> Result<Fate, AllocError>
-    ensures fate { IfOk result (λ f. f ≡ fate_of opening.now preferred.now product.now.below) }
+    ensures fate { IfOk result
+        (λ f. f ≡ fate_of opening.now (supply_choices_view choices.now) product.now.below) }
     ensures records { OnOk result (records.new
-        ≡ records.old ++ product_records opening.now preferred.now product.now.below) }
+        ≡ records.old
+        ++ product_records opening.now (supply_choices_view choices.now) product.now.below) }
     ensures notes { OnOk result (note_views notes.new.items
-        ≡ note_views notes.old.items ++ product_notes opening.now preferred.now product.now) }
+        ≡ note_views notes.old.items
+        ++ product_notes opening.now (supply_choices_view choices.now) product.now) }
 {
     let reference = reference_in(&product.below);
     if !is_field(reference) {
@@ -244,13 +257,39 @@ pub fn add_product<'a>(
     add_standing(
         alloc,
         opening,
-        preferred,
+        choices,
         product,
         &identifiers,
         fields,
         records,
         notes,
     )
+}
+
+/// Adds what comes of a Product without the prices that the terms of the shop compute, since it is
+/// too large for a message with them, and the notes on it then.
+pub fn add_plain<'a>(
+    alloc: Global,
+    opening: &Opening,
+    choices: &SupplyChoices<'_>,
+    product: &Composite<'a>,
+    fields: &mut FieldBuffer,
+    records: &mut RecordBuffer,
+    notes: &mut Vec<Note<'a>>,
+) -> Result<(), AllocError>
+    ensures records { OnOk result (records.new ≡ records.old ++ product_records opening.now
+        (plain_choices (supply_choices_view choices.now)) product.now.below) }
+    ensures notes { OnOk result (note_views notes.new.items ≡ note_views notes.old.items
+        ++ plain_notes opening.now (supply_choices_view choices.now) product.now) }
+{
+    let plain = SupplyChoices {
+        id_type: choices.id_type,
+        terms: choices.terms,
+        is_plain: true,
+    };
+    add_product(alloc, opening, &plain, product, fields, records, notes)?;
+    let reason = Reason::foreign(Foreign::TooManyComputed, b"");
+    push_note(notes, product.line, reason)
 }
 
 /// Adds the record of a Product that is emptied since it is too large for a message, and the notes

@@ -9,12 +9,14 @@ ghost use Rattle.feed_mapping.specs.Records.{option_filter};
 ghost use Rattle.feed_mapping.specs.declared.notes.Foreign.TheVariants as other;
 ghost use Rattle.feed_mapping.specs.declared.notes.Wrong.TheVariants as bad;
 ghost use Rattle.feed_mapping.specs.Supplies.{detail_in, details_in, detailed_outcome, first_lost, first_reason, is_lost, none_left, supplies_reason, supply_in, supply_outcome};
+ghost use Rattle.feed_mapping.specs.SupplyChoices.{supply_choices_view};
 
 use crate::details::{add_detail, first_detail_reason};
 use crate::elements::{Composite, next_composite};
 use crate::markets::{add_markets, first_market_reason};
 use crate::notes::{Foreign, Note, Reason, ReasonKind, Wrong, push_note, push_reason};
 use crate::records::former;
+use crate::supply_choices::SupplyChoices;
 use csv_records::buffer::RecordBuffer;
 use csv_records::fields::FieldBuffer;
 use feed_outline::{Elements, Line};
@@ -25,21 +27,23 @@ use std::alloc::{AllocError, Global};
 fn add_one_detail<'a>(
     alloc: Global,
     opening: &Opening,
-    preferred: &[u8],
+    choices: &SupplyChoices<'_>,
     detail: &Composite<'a>,
     fields: &mut FieldBuffer,
     records: &mut RecordBuffer,
     notes: &mut Vec<Note<'a>>,
 ) -> Result<(), AllocError>
     ensures records { OnOk result (records.new
-        ≡ records.old ++ outcome_records (detail_in opening.now preferred.now detail.now)) }
+        ≡ records.old
+        ++ outcome_records (detail_in opening.now (supply_choices_view choices.now) detail.now)) }
     ensures notes { OnOk result (note_views notes.new.items ≡ note_views notes.old.items
-        ++ outcome_notes detail.now.element (detail_in opening.now preferred.now detail.now)) }
+        ++ outcome_notes detail.now.element
+        (detail_in opening.now (supply_choices_view choices.now) detail.now)) }
 {
     let left_out = add_detail(
         alloc,
         opening,
-        preferred,
+        choices,
         &detail.below,
         fields,
         records,
@@ -52,20 +56,22 @@ fn add_one_detail<'a>(
 fn add_details<'a>(
     alloc: Global,
     opening: &Opening,
-    preferred: &[u8],
+    choices: &SupplyChoices<'_>,
     elements: &Elements<'a>,
     fields: &mut FieldBuffer,
     records: &mut RecordBuffer,
     notes: &mut Vec<Note<'a>>,
 ) -> Result<(), AllocError>
     ensures records { OnOk result (records.new ≡ records.old
-        ++ all_records (detail_in opening.now preferred.now) (details_in elements.now)) }
+        ++ all_records (detail_in opening.now (supply_choices_view choices.now))
+        (details_in elements.now)) }
     ensures notes { OnOk result (note_views notes.new.items ≡ note_views notes.old.items
-        ++ all_notes (detail_in opening.now preferred.now) (details_in elements.now)) }
+        ++ all_notes (detail_in opening.now (supply_choices_view choices.now))
+        (details_in elements.now)) }
 {
     let mut rest = elements.copy();
     while let Some((detail, behind)) = next_composite(b"SupplyDetail", &rest) {
-        add_one_detail(alloc, opening, preferred, &detail, fields, records, notes)?;
+        add_one_detail(alloc, opening, choices, &detail, fields, records, notes)?;
         rest = behind;
     }
     Ok(())
@@ -94,26 +100,29 @@ fn no_detail_left() -> Reason<'static>
 fn add_detailed<'a>(
     alloc: Global,
     opening: &Opening,
-    preferred: &[u8],
+    choices: &SupplyChoices<'_>,
     elements: &Elements<'a>,
     fields: &mut FieldBuffer,
     records: &mut RecordBuffer,
     notes: &mut Vec<Note<'a>>,
 ) -> Result<Option<Reason<'a>>, AllocError>
     ensures reason { IfOk result (λ reason. reason_read reason
-        ≡ outcome_reason (detailed_outcome opening.now preferred.now elements.now)) }
+        ≡ outcome_reason
+        (detailed_outcome opening.now (supply_choices_view choices.now) elements.now)) }
     ensures records { OnOk result (records.new ≡ records.old
-        ++ outcome_records (detailed_outcome opening.now preferred.now elements.now)) }
+        ++ outcome_records
+        (detailed_outcome opening.now (supply_choices_view choices.now) elements.now)) }
     ensures notes { IfOk result (λ kind. kind ≡ None → note_views notes.new.items
         ≡ note_views notes.old.items
-        ++ notes_below (detailed_outcome opening.now preferred.now elements.now)) }
+        ++ notes_below
+        (detailed_outcome opening.now (supply_choices_view choices.now) elements.now)) }
 {
     let count = records.len();
     if let Some(reason) = add_markets(alloc, elements, fields, records, notes)? {
         return Ok(Some(reason));
     }
     let with_market = records.len();
-    add_details(alloc, opening, preferred, elements, fields, records, notes)?;
+    add_details(alloc, opening, choices, elements, fields, records, notes)?;
     if records.len() == with_market {
         records.truncate(count);
         return Ok(Some(no_detail_left()));
@@ -126,24 +135,26 @@ fn add_detailed<'a>(
 fn add_supply<'a>(
     alloc: Global,
     opening: &Opening,
-    preferred: &[u8],
+    choices: &SupplyChoices<'_>,
     elements: &Elements<'a>,
     fields: &mut FieldBuffer,
     records: &mut RecordBuffer,
     notes: &mut Vec<Note<'a>>,
 ) -> Result<Option<Reason<'a>>, AllocError>
     ensures reason { IfOk result (λ reason. reason_read reason
-        ≡ outcome_reason (supply_outcome opening.now preferred.now elements.now)) }
+        ≡ outcome_reason
+        (supply_outcome opening.now (supply_choices_view choices.now) elements.now)) }
     ensures records { OnOk result (records.new ≡ records.old
-        ++ outcome_records (supply_outcome opening.now preferred.now elements.now)) }
+        ++ outcome_records
+        (supply_outcome opening.now (supply_choices_view choices.now) elements.now)) }
     ensures notes { IfOk result (λ kind. kind ≡ None → note_views notes.new.items
         ≡ note_views notes.old.items
-        ++ notes_below (supply_outcome opening.now preferred.now elements.now)) }
+        ++ notes_below (supply_outcome opening.now (supply_choices_view choices.now) elements.now)) }
 {
     if next_composite(b"SupplyDetail", elements).is_none() {
         return Ok(Some(no_detail()));
     }
-    add_detailed(alloc, opening, preferred, elements, fields, records, notes)
+    add_detailed(alloc, opening, choices, elements, fields, records, notes)
 }
 
 // Adds the note on an element that is left out for this reason, else the notes below it.
@@ -170,24 +181,26 @@ fn push_outcome<'a>(
 fn add_one_supply<'a>(
     alloc: Global,
     opening: &Opening,
-    preferred: &[u8],
+    choices: &SupplyChoices<'_>,
     supply: &Composite<'a>,
     fields: &mut FieldBuffer,
     records: &mut RecordBuffer,
     notes: &mut Vec<Note<'a>>,
 ) -> Result<Option<Reason<'a>>, AllocError>
     ensures reason { IfOk result (λ reason. reason_read reason
-        ≡ outcome_reason (supply_in opening.now preferred.now supply.now)) }
+        ≡ outcome_reason (supply_in opening.now (supply_choices_view choices.now) supply.now)) }
     ensures records { OnOk result (records.new
-        ≡ records.old ++ outcome_records (supply_in opening.now preferred.now supply.now)) }
+        ≡ records.old
+        ++ outcome_records (supply_in opening.now (supply_choices_view choices.now) supply.now)) }
     ensures notes { OnOk result (note_views notes.new.items ≡ note_views notes.old.items
-        ++ outcome_notes supply.now.element (supply_in opening.now preferred.now supply.now)) }
+        ++ outcome_notes supply.now.element
+        (supply_in opening.now (supply_choices_view choices.now) supply.now)) }
 {
     let mut below: Vec<Note<'a>> = Vec::new(alloc);
     let left_out = add_supply(
         alloc,
         opening,
-        preferred,
+        choices,
         &supply.below,
         fields,
         records,
@@ -216,24 +229,26 @@ fn lost_by<'a>(left_out: Option<Reason<'a>>) -> Option<Reason<'a>>
 fn add_each<'a>(
     alloc: Global,
     opening: &Opening,
-    preferred: &[u8],
+    choices: &SupplyChoices<'_>,
     elements: &Elements<'a>,
     fields: &mut FieldBuffer,
     records: &mut RecordBuffer,
     notes: &mut Vec<Note<'a>>,
 ) -> Result<Option<Reason<'a>>, AllocError>
-    ensures lost { IfOk result (λ reason. reason_read reason ≡ first_lost opening.now preferred.now
+    ensures lost { IfOk result
+        (λ reason. reason_read reason ≡ first_lost opening.now (supply_choices_view choices.now)
         (composites (codes "ProductSupply") elements.now)) }
     ensures records { OnOk result (records.new ≡ records.old ++ all_records
-        (supply_in opening.now preferred.now) (composites (codes "ProductSupply") elements.now)) }
+        (supply_in opening.now (supply_choices_view choices.now))
+        (composites (codes "ProductSupply") elements.now)) }
     ensures notes { OnOk result (note_views notes.new.items ≡ note_views notes.old.items
-        ++ all_notes (supply_in opening.now preferred.now)
+        ++ all_notes (supply_in opening.now (supply_choices_view choices.now))
         (composites (codes "ProductSupply") elements.now)) }
 {
     let mut lost = None;
     let mut rest = elements.copy();
     while let Some((supply, behind)) = next_composite(b"ProductSupply", &rest) {
-        let left_out = add_one_supply(alloc, opening, preferred, &supply, fields, records, notes)?;
+        let left_out = add_one_supply(alloc, opening, choices, &supply, fields, records, notes)?;
         lost = former(lost, lost_by(left_out));
         rest = behind;
     }
@@ -259,23 +274,24 @@ fn none_left(first: Reason<'_>) -> Reason<'static>
 pub(crate) fn add_supplies<'a>(
     alloc: Global,
     opening: &Opening,
-    preferred: &[u8],
+    choices: &SupplyChoices<'_>,
     elements: &Elements<'a>,
     fields: &mut FieldBuffer,
     records: &mut RecordBuffer,
     notes: &mut Vec<Note<'a>>,
 ) -> Result<Option<Reason<'a>>, AllocError>
     ensures reason { IfOk result (λ reason. reason_read reason
-        ≡ supplies_reason opening.now preferred.now
+        ≡ supplies_reason opening.now (supply_choices_view choices.now)
         (composites (codes "ProductSupply") elements.now)) }
     ensures records { OnOk result (records.new ≡ records.old ++ all_records
-        (supply_in opening.now preferred.now) (composites (codes "ProductSupply") elements.now)) }
+        (supply_in opening.now (supply_choices_view choices.now))
+        (composites (codes "ProductSupply") elements.now)) }
     ensures notes { OnOk result (note_views notes.new.items ≡ note_views notes.old.items
-        ++ all_notes (supply_in opening.now preferred.now)
+        ++ all_notes (supply_in opening.now (supply_choices_view choices.now))
         (composites (codes "ProductSupply") elements.now)) }
 {
     let count = records.len();
-    let lost = add_each(alloc, opening, preferred, elements, fields, records, notes)?;
+    let lost = add_each(alloc, opening, choices, elements, fields, records, notes)?;
     if records.len() != count {
         return Ok(None);
     }

@@ -1,7 +1,7 @@
 //! The elements of ONIX that say something to the desk.
 
 ghost use Rattle.std.specs.Prelude.{◌≡◌};
-ghost use Rattle.feed_mapping.specs.Vocabulary.{desk_vocabulary};
+ghost use Rattle.feed_mapping.specs.Vocabulary.{desk_vocabulary, terms_vocabulary};
 ghost use Rattle.feed_outline.specs.Views.{vocabulary_view};
 
 use feed_outline::{Vocabulary, Word, words};
@@ -59,5 +59,26 @@ pub fn desk_vocabulary() -> Vocabulary
     Vocabulary {
         first: &WORDS,
         others: &OTHER_WORDS,
+        apart: &[],
+    }
+}
+
+// What the terms of the shop ask of a Price besides.
+static TERMS_WORDS: [Word; 9] = words! {
+    b"Price": b"DiscountCoded" ^ b"discountcoded", b"Discount" ^ b"discount", b"Tax" ^ b"tax";
+    b"DiscountCoded": b"DiscountCodeType" ^ b"j363", b"DiscountCode" ^ b"j364";
+    b"Discount": b"DiscountType" ^ b"x467", b"Quantity" ^ b"x320", b"DiscountPercent" ^ b"j267";
+    b"Tax": b"TaxRatePercent" ^ b"x472";
+};
+
+/// The same, and those that say something to the terms of the shop.
+#[tactic(auto, unfolding(crate::specs::Vocabulary::desk_vocabulary, crate::specs::Vocabulary::terms_vocabulary))]
+pub fn terms_vocabulary() -> Vocabulary
+    ensures { vocabulary_view result ≡ terms_vocabulary }
+{
+    Vocabulary {
+        first: &WORDS,
+        others: &OTHER_WORDS,
+        apart: &TERMS_WORDS,
     }
 }

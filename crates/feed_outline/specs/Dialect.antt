@@ -1,14 +1,15 @@
 -- How a message is written: its kind of names and its namespace. Its root tells both.
 use Rattle.std.specs.Prelude.{ℕ, Bool, false, ◌||◌, List, [], ◌∷◌, Option, Some, None, Result, Ok}
 use Rattle.std.specs.Prelude.{Err, if◌then◌else◌, codes, unwrap_or, option_and_then}
+use Rattle.std.specs.Option.{option_or}
 use Rattle.std.specs.Str.{bytes_eq}
 use Rattle.feed_xml.specs.Grammar.{Attribute}
 use Rattle.feed_xml.specs.Values.{normalized_value_of}
 use Rattle.feed_outline.specs.declared.names.Naming.{Naming}
 use Rattle.feed_outline.specs.declared.dialect.Wrong.{Wrong}
 use Rattle.feed_outline.specs.declared.dialect.Wrong.TheVariants.{Root, Release}
-use Rattle.feed_outline.specs.Names.{Word, is_called_among, naming_of_root, name_among}
-use Rattle.feed_outline.specs.Names.{root, stranger}
+use Rattle.feed_outline.specs.Names.{Word, is_called_among, is_called_apart, naming_of_root}
+use Rattle.feed_outline.specs.Names.{name_among, root, stranger, stranger_apart}
 use Rattle.feed_outline.specs.Namespaces.{Binding, Scope, scope, bindings_of, prefix_of, local_of}
 use Rattle.feed_outline.specs.Namespaces.{address_among, address_within, undeclared}
 use Rattle.feed_outline.specs.Spaces.{collapsed, filled}
@@ -57,10 +58,11 @@ abbrev pub composite_of : List Scope → List ℕ
 composite_of [] = root
 composite_of (s ∷ around) = s.name
 
--- the reference name of an element that counts, else a stranger's, if it is called as one
-abbrev pub or_stranger : Bool → Option (List ℕ) → Option (List ℕ)
-or_stranger is_called (Some reference) = Some reference
-or_stranger is_called None = if is_called then Some stranger else None
+-- the name of a stranger, if an element is called as one that counts, or as one whose strangers are
+-- told apart
+abbrev pub stranger_by : Bool → Bool → Option (List ℕ)
+stranger_by is_called is_apart =
+    if is_called then Some stranger else if is_apart then Some stranger_apart else None
 
 -- The reference name of an element with this name and these declarations, where it counts: it is
 -- called as one that stands in the innermost of those around it, and is in the root's namespace.
@@ -70,9 +72,11 @@ abbrev pub counted : List Word → Dialect → List Scope → List ℕ → List 
     → Option (List ℕ)
 counted vocabulary d around name bindings =
     let address = address_of d (scope [] bindings ∷ around) (prefix_of name) in
-    or_stranger (is_called_among vocabulary (composite_of around) (local_of name))
+    option_or
     (if bytes_eq address d.address
     then name_among d.naming vocabulary (composite_of around) (local_of name) else None)
+    (stranger_by (is_called_among vocabulary (composite_of around) (local_of name))
+    (is_called_apart vocabulary (composite_of around) (local_of name)))
 
 -- the attribute `dateformat` of an element, where it has a text
 abbrev pub format_of : List Attribute → Option (List ℕ)

@@ -10,12 +10,14 @@ use Rattle.feed_outline.specs.declared.names.Naming.{Naming}
 use Rattle.feed_outline.specs.declared.names.Naming.TheVariants.{Reference, Short}
 
 -- An element that counts: the composite that it stands in, its reference name and its short tag,
--- and whether it is counted and nothing else
+-- whether no element is a stranger for its name, and whether one that would be is told apart from
+-- those
 pub record Word : Type 0 where
   pub composite : List ℕ
   pub reference : List ℕ
   pub short : List ℕ
   pub is_counted_alone : Bool
+  pub is_apart : Bool
 
 -- the name of the word in a message of this kind of names
 abbrev pub spelled : Naming → Word → List ℕ
@@ -40,10 +42,29 @@ is_called_among words composite name =
     list_any
     (λ w. bytes_eq w.composite composite && (not w.is_counted_alone && is_called name w)) words
 
--- a word of a composite, which is counted alone or not, by its reference name, and its short tag
--- behind = where that is not the name in small letters
-abbrev pub word : Bool → List ℕ → List ℕ → Word
-word is_counted_alone composite text =
+-- an element of a composite that does not count is called as one whose strangers are told apart
+abbrev pub is_called_apart : List Word → List ℕ → List ℕ → Bool
+is_called_apart words composite name =
+    list_any (λ w. bytes_eq w.composite composite && (w.is_apart && is_called name w)) words
+
+-- how the words of a vocabulary count
+pub data Standing : Type 0 where
+  counting : Standing
+  counted_alone : Standing
+  apart : Standing
+
+abbrev pub is_counting : Standing → Bool
+is_counting counting = true
+is_counting standing = false
+
+abbrev pub is_told_apart : Standing → Bool
+is_told_apart apart = true
+is_told_apart standing = false
+
+-- a word of a composite, which counts so, by its reference name, and its short tag behind = where
+-- that is not the name in small letters
+abbrev pub word : Standing → List ℕ → List ℕ → Word
+word standing composite text =
     let tag = after_first (λ b. b == 61) text in
     let reference = before_first (λ b. b == 61) text in
     let short = if is_filled tag then tag else str_to_ascii_lowercase text in
@@ -51,19 +72,19 @@ word is_counted_alone composite text =
       composite = composite;
       reference = reference;
       short = short;
-      is_counted_alone = is_counted_alone;
+      is_counted_alone = not (is_counting standing);
+      is_apart = is_told_apart standing;
     }
 
 -- the words of a composite, whose name goes before theirs
-abbrev pub children : Bool → List (List ℕ) → List Word
-children is_counted_alone [] = []
-children is_counted_alone (composite ∷ names) = map (word is_counted_alone composite) names
+abbrev pub children : Standing → List (List ℕ) → List Word
+children standing [] = []
+children standing (composite ∷ names) = map (word standing composite) names
 
 -- words, by rows: of each composite its name, and then its children
-abbrev pub words_of : Bool → List String → List Word
-words_of is_counted_alone rows =
-    flat_map
-    (λ row. children is_counted_alone (slice_split (λ b. b == 32) (codes row))) rows
+abbrev pub words_of : Standing → List String → List Word
+words_of standing rows =
+    flat_map (λ row. children standing (slice_split (λ b. b == 32) (codes row))) rows
 
 -- the root, by its reference name
 abbrev pub root : List ℕ
@@ -71,11 +92,15 @@ root = codes "ONIXMessage"
 
 -- a vocabulary, by rows: of each composite its name, and then its children
 abbrev pub vocabulary_of : List String → List Word
-vocabulary_of rows = words_of false rows
+vocabulary_of rows = words_of counting rows
 
 -- the same of elements that are counted and nothing else
 abbrev pub counted_alone_of : List String → List Word
-counted_alone_of rows = words_of true rows
+counted_alone_of rows = words_of counted_alone rows
+
+-- the same of elements whose strangers are told apart
+abbrev pub apart_of : List String → List Word
+apart_of rows = words_of apart rows
 
 -- the root of a message: its name tells which kind of names it has
 abbrev pub naming_of_root : List ℕ → Option Naming
@@ -88,3 +113,7 @@ naming_of_root name =
 -- No element of ONIX is called so.
 abbrev pub stranger : List ℕ
 stranger = codes ":"
+
+-- the name of one that is told apart from them
+abbrev pub stranger_apart : List ℕ
+stranger_apart = codes ";"

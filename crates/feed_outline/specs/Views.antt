@@ -29,15 +29,17 @@ word_view w =
       reference = w.reference.now;
       short = w.short.now;
       is_counted_alone = w.is_counted_alone;
+      is_apart = w.is_apart;
     }
 
 -- words, as that
 abbrev pub word_views : List Word → List Spelled
 word_views words = map word_view words
 
--- the words of a vocabulary, those of its first list before the others
+-- the words of a vocabulary, those of its first list before the others, and last those apart
 abbrev pub vocabulary_view : Vocabulary → List Spelled
-vocabulary_view v = word_views v.first.now ++ word_views v.others.now
+vocabulary_view v =
+    word_views v.first.now ++ (word_views v.others.now ++ word_views v.apart.now)
 
 abbrev pub binding_view : Binding → Declared
 binding_view b = record { prefix = b.prefix.items; address = b.address.items }

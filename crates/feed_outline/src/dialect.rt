@@ -2,14 +2,17 @@
 
 ghost use Rattle.std.specs.Prelude.{◌≡◌, ◌∷◌, [], None, IfOk, if◌then◌else◌, option_map};
 ghost use Rattle.std.specs.Str.{bytes_eq};
-ghost use Rattle.feed_outline.specs.Dialect.{address_of, composite_of, counted, or_stranger, dialect_of, format_of, is_release, root_address};
+ghost use Rattle.feed_outline.specs.Dialect.{address_of, composite_of, counted, stranger_by, dialect_of, format_of, is_release, root_address};
 ghost use Rattle.feed_outline.specs.private.Growing.{scopes_of};
-ghost use Rattle.feed_outline.specs.Names.{is_called_among, name_among};
+ghost use Rattle.feed_outline.specs.Names.{is_called_among, is_called_apart, name_among};
 ghost use Rattle.feed_outline.specs.Namespaces.{local_of, prefix_of, scope};
 ghost use Rattle.feed_outline.specs.Views.{binding_views, vocabulary_view};
 
 use crate::grower::Grower;
-use crate::names::{Naming, Vocabulary, is_called_in, name_in, naming_of_root, stranger};
+use crate::names::{
+    Naming, Vocabulary, is_called_apart_in, is_called_in, name_in, naming_of_root, stranger,
+    stranger_apart,
+};
 use crate::namespaces::{Binding, address_among, bindings_of, split_name, undeclared};
 use crate::spaces::fill;
 use feed_xml::{Attributes, Bytes};
@@ -83,12 +86,16 @@ fn other_release(release: Option<Vec<u8>>, address: Vec<u8>) -> Wrong
 // A stranger's name, where an element that does not count is called as one that does.
 fn called(vocabulary: &Vocabulary, around: &Grower, name: &[u8]) -> Option<&'static [u8]>
     ensures { option_map (λ n. n.now) result
-        ≡ or_stranger (is_called_among (vocabulary_view vocabulary.now)
-        (composite_of (scopes_of around.now.opens)) (local_of name.now)) None }
+        ≡ stranger_by (is_called_among (vocabulary_view vocabulary.now)
+        (composite_of (scopes_of around.now.opens)) (local_of name.now))
+        (is_called_apart (vocabulary_view vocabulary.now)
+        (composite_of (scopes_of around.now.opens)) (local_of name.now)) }
 {
     let (_, local) = split_name(name);
     if is_called_in(vocabulary, around.composite(), local) {
         Some(stranger())
+    } else if is_called_apart_in(vocabulary, around.composite(), local) {
+        Some(stranger_apart())
     } else {
         None
     }

@@ -1,7 +1,7 @@
 //! The names of elements.
 
 ghost use Rattle.std.specs.Prelude.{◌≡◌, option_map};
-ghost use Rattle.feed_outline.specs.Names.{is_called, is_called_among, name_among, naming_of_root, root, spelled, stranger};
+ghost use Rattle.feed_outline.specs.Names.{is_called, is_called_among, is_called_apart, name_among, naming_of_root, root, spelled, stranger, stranger_apart};
 ghost use Rattle.feed_outline.specs.Views.{vocabulary_view, word_view, word_views};
 
 /// The kinds of names that a message may be written in.
@@ -14,17 +14,19 @@ pub enum Naming {
 }
 
 /// An element that counts: the composite that it stands in, its reference name and its short tag,
-/// and whether it is counted and nothing else.
+/// whether no element is a stranger for its name, and whether one that would be is told apart from
+/// those.
 #[derive(Clone, Copy, Debug)]
 pub struct Word {
     pub composite: &'static [u8],
     pub reference: &'static [u8],
     pub short: &'static [u8],
     pub is_counted_alone: bool,
+    pub is_apart: bool,
 }
 
 /// Words, by their composites: of each of its children the reference name and the short tag, with
-/// `~` between them where it is counted alone.
+/// `~` between them where it is counted alone, and `^` where its strangers are told apart.
 #[macro_export]
 macro_rules! words {
     ($($composite:literal: $($reference:literal $mark:tt $short:literal),+;)+) => {
@@ -33,6 +35,7 @@ macro_rules! words {
             reference: $reference,
             short: $short,
             is_counted_alone: $crate::is_counted_alone!($mark),
+            is_apart: $crate::is_apart!($mark),
         },)+)+]
     };
 }
@@ -46,13 +49,32 @@ macro_rules! is_counted_alone {
     (~) => {
         true
     };
+    (^) => {
+        true
+    };
 }
 
-/// The elements that count, in two lists, of which neither is too long for the prover.
+/// Whether the mark is that of an element whose strangers are told apart.
+#[macro_export]
+macro_rules! is_apart {
+    (=) => {
+        false
+    };
+    (~) => {
+        false
+    };
+    (^) => {
+        true
+    };
+}
+
+/// The elements that count, in lists of which none is too long for the prover, and behind those a
+/// list that some takers have besides.
 #[derive(Clone, Copy, Debug)]
 pub struct Vocabulary {
     pub first: &'static [Word],
     pub others: &'static [Word],
+    pub apart: &'static [Word],
 }
 
 // The name of a word in a kind of names.
@@ -86,7 +108,7 @@ fn name_among(
 }
 
 /// The reference name of the first word of a composite that is spelled so.
-#[tactic(auto, using(crate::proofs::NameLaws::named_in_two))]
+#[tactic(auto, using(crate::proofs::NameLaws::named_in_three))]
 pub(crate) fn name_in(
     naming: Naming,
     vocabulary: &Vocabulary,
@@ -98,7 +120,10 @@ pub(crate) fn name_in(
 {
     match name_among(naming, vocabulary.first, composite, name) {
         Some(reference) => Some(reference),
-        None => name_among(naming, vocabulary.others, composite, name),
+        None => match name_among(naming, vocabulary.others, composite, name) {
+            Some(reference) => Some(reference),
+            None => name_among(naming, vocabulary.apart, composite, name),
+        },
     }
 }
 
@@ -126,13 +151,40 @@ fn is_called_among(words: &[Word], composite: &[u8], name: &[u8]) -> bool
 
 /// Whether an element of a composite is called as one that counts in any namespace, kind of names
 /// and case of letters, and is not only counted.
-#[tactic(auto, using(crate::proofs::NameLaws::called_in_two))]
+#[tactic(auto, using(crate::proofs::NameLaws::called_in_three))]
 pub(crate) fn is_called_in(vocabulary: &Vocabulary, composite: &[u8], name: &[u8]) -> bool
     ensures { result
         ≡ is_called_among (vocabulary_view vocabulary.now) composite.now name.now }
 {
     is_called_among(vocabulary.first, composite, name)
         || is_called_among(vocabulary.others, composite, name)
+        || is_called_among(vocabulary.apart, composite, name)
+}
+
+// Whether an element of a composite is called as one of these words whose strangers are told apart.
+fn is_called_apart(words: &[Word], composite: &[u8], name: &[u8]) -> bool
+    ensures { result ≡ is_called_apart (word_views words.now) composite.now name.now }
+{
+    let mut rest = words;
+    while let [first, tail @ ..] = rest {
+        if first.is_apart && first.composite == composite && is_called(name, first) {
+            return true;
+        }
+        rest = tail;
+    }
+    false
+}
+
+/// Whether an element of a composite is called as one that counts in any namespace, kind of names
+/// and case of letters, whose strangers are told apart.
+#[tactic(auto, using(crate::proofs::NameLaws::apart_in_three))]
+pub(crate) fn is_called_apart_in(vocabulary: &Vocabulary, composite: &[u8], name: &[u8]) -> bool
+    ensures { result
+        ≡ is_called_apart (vocabulary_view vocabulary.now) composite.now name.now }
+{
+    is_called_apart(vocabulary.first, composite, name)
+        || is_called_apart(vocabulary.others, composite, name)
+        || is_called_apart(vocabulary.apart, composite, name)
 }
 
 /// The reference name of the root.
@@ -148,6 +200,13 @@ pub(crate) fn stranger() -> &'static [u8]
     ensures { result.now ≡ stranger }
 {
     b":"
+}
+
+/// The name of one that is told apart from these.
+pub(crate) fn stranger_apart() -> &'static [u8]
+    ensures { result.now ≡ stranger_apart }
+{
+    b";"
 }
 
 /// The kind of names of a message whose root has this one.

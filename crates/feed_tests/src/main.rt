@@ -1,6 +1,6 @@
-//! A test of `feed_xml`, `feed_outline`, `feed_mapping` and `feed_titles`: each part of the
-//! standard input, behind `== `, is a line with its name and then tests, and what was found of each
-//! test is written.
+//! A test of `feed_xml`, `feed_outline`, `feed_mapping`, `feed_terms` and `feed_titles`: each part of
+//! the standard input, behind `== `, is a line with its name and then tests, and what was found of
+//! each test is written.
 #![tactic(auto)]
 
 mod document;
@@ -8,6 +8,7 @@ mod lines;
 mod mapping;
 mod outline;
 mod shown;
+mod terms;
 mod titles;
 
 use crate::lines::split;
@@ -22,6 +23,8 @@ fn tell(rt: HostRuntime, name: &[u8], test: &[u8]) -> io::Result<()> {
         outline::tell(rt, test)
     } else if name == b"mapping".as_slice() {
         mapping::tell(rt, test)
+    } else if name == b"terms".as_slice() {
+        terms::tell(rt, test)
     } else if name == b"titles".as_slice() {
         titles::tell(rt, test)
     } else {
@@ -29,11 +32,13 @@ fn tell(rt: HostRuntime, name: &[u8], test: &[u8]) -> io::Result<()> {
     }
 }
 
-// Runs the tests of a part, which are paragraphs where messages are mapped or their titles are
-// read, and else lines.
+// Runs the tests of a part, which are paragraphs where messages are mapped, their titles are read
+// or prices are computed, and else lines.
 fn tell_part(rt: HostRuntime, part: &[u8]) -> io::Result<()> {
     let (name, tests) = split(part, b"\n");
-    let has_paragraphs = name == b"mapping".as_slice() || name == b"titles".as_slice();
+    let has_paragraphs = name == b"mapping".as_slice()
+        || name == b"terms".as_slice()
+        || name == b"titles".as_slice();
     let mut rest = tests;
     while !rest.is_empty() {
         let (test, behind) = if has_paragraphs {

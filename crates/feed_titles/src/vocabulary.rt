@@ -35,5 +35,6 @@ pub(crate) fn title_vocabulary() -> Vocabulary
     Vocabulary {
         first: &WORDS,
         others: &[],
+        apart: &[],
     }
 }

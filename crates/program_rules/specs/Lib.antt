@@ -1,1 +1,2 @@
 pub mod RulesFile
+pub mod TermsRead

@@ -1,7 +1,11 @@
 //! The precedence table in a file: `rules` reads it, and `checking` before a desk begins with it,
-//! whose faults `rules_faults` tells by their line.
+//! whose faults `rules_faults` tells by their line. And the table of the shop's terms: `terms` reads
+//! it, and `terms_checking` before feeds are converted with it; `terms_faults` tells its faults.
 #![tactic(auto)]
 
 pub mod checking;
 pub mod rules;
 mod rules_faults;
+pub mod terms;
+pub mod terms_checking;
+mod terms_faults;

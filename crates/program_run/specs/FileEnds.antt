@@ -15,10 +15,11 @@ use Rattle.program_run.specs.OverFiles.{EndsOverFiles, IsUntouched, MigrateEnds,
 use Rattle.program_lines.specs.Printing.{PrintEnds}
 use Rattle.program_clients.specs.Sent.{Message}
 use Rattle.program_rules.specs.RulesFile.{CheckEnds, ReadsTable, status_of}
+use Rattle.program_rules.specs.TermsRead.{CheckTermsEnds}
 use Rattle.program_commands.specs.Sending.{SendEnds}
 use Rattle.program_commands.specs.TaskEnds.{TaskEnds}
 use Rattle.program_words.specs.declared.invocation.Action.{Action}
-use Rattle.program_words.specs.declared.invocation.Action.TheVariants.{CheckRules, CheckTexts, Convert, InMemory, InFile, Listed, Migrate, Send}
+use Rattle.program_words.specs.declared.invocation.Action.TheVariants.{CheckRules, CheckTerms, CheckTexts, Convert, InMemory, InFile, Listed, Migrate, Send}
 use Rattle.program_words.specs.declared.invocation.Invocation.{Invocation}
 use Rattle.program_words.specs.declared.invocation.Reading.{Reading}
 use Rattle.program_words.specs.declared.invocation.Reading.TheVariants as reading
@@ -106,6 +107,8 @@ module _ {M : Type 0} {m : DeskKind} (seen : M → View m) {K : Type 0} {k : Des
       (sent ≡ was_sent) × IsUntouched left × ConvertEnds is_told before after told written c status
   ActionEnds rules (CheckRules file) status left =
       IsQuiet × IsUntouched left × CheckEnds written (before file.now) status
+  ActionEnds rules (CheckTerms file) status left =
+      IsQuiet × IsUntouched left × CheckTermsEnds written (before file.now) status
   ActionEnds rules (CheckTexts files) status left =
       IsQuiet × IsUntouched left × written []
 

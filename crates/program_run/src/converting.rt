@@ -1,16 +1,49 @@
 //! The command `convert`.
 
-ghost use Rattle.std.specs.Prelude.{◌≤◌};
+ghost use Rattle.std.specs.Prelude.{◌≤◌, option_map};
 ghost use Rattle.std.specs.Io.KnownBytes.{Appends};
-ghost use Rattle.program_run.specs.ConvertEnds.{ConvertEnds};
+ghost use Rattle.program_run.specs.ConvertEnds.{ConvertEnds, ConvertsBy};
 
-use feed_files::convert_files;
+use feed_conversion::Options;
+use feed_files::{Run, convert_files};
+use feed_terms::table::Terms;
 use program_files::NamedFiles;
+use program_rules::terms::open_terms;
 use program_words::convert_words::Conversion;
 use std::io::{Read, Write};
 use std::rt::HostRuntime;
 
-/// Converts FILEs, and writes their titles where they are asked for.
+// Converts FILEs by these terms or by none, and writes their titles where they are asked for.
+fn run_by<F: NamedFiles, R: Read, W: Write, E: Write>(
+    rt: &HostRuntime,
+    conversion: &Conversion<'_>,
+    terms: Option<&Terms>,
+    files: &mut F,
+    input: &mut R,
+    output: &mut W,
+    errors: &mut E,
+) -> u8
+    ensures status { result ≤ 3 }
+    ensures end { ConvertsBy F.is_told (F.holds files.old) (F.holds files.new)
+        (R.remaining input.old) (Appends (W.contents output.old) (W.contents output.new))
+        conversion.now (option_map (λ t. t.now) terms.entry) result }
+{
+    let options = Options {
+        choices: conversion.run.options.choices,
+        wrong: conversion.run.options.wrong,
+        terms,
+    };
+    let run = Run {
+        options,
+        folder: conversion.run.folder,
+    };
+    let names = conversion.files.as_slice();
+    let titles = conversion.titles;
+    convert_files(rt, &run, titles, names, files, input, output, errors)
+}
+
+/// Converts FILEs, by the terms of a file where one is named, and writes their titles where they
+/// are asked for. Where there are no terms in that file, that is reported, and no FILE is opened.
 pub(crate) fn run<F: NamedFiles, R: Read, W: Write, E: Write>(
     rt: &HostRuntime,
     conversion: &Conversion<'_>,
@@ -24,8 +57,11 @@ pub(crate) fn run<F: NamedFiles, R: Read, W: Write, E: Write>(
         (R.remaining input.old) (Appends (W.contents output.old) (W.contents output.new))
         conversion.now result }
 {
-    let run = &conversion.run;
-    let names = conversion.files.as_slice();
-    let titles = conversion.titles;
-    convert_files(rt, run, titles, names, files, input, output, errors)
+    let Some(name) = conversion.terms else {
+        return run_by(rt, conversion, None, files, input, output, errors);
+    };
+    match open_terms(rt.alloc(), files, name, errors) {
+        Ok(terms) => run_by(rt, conversion, Some(&terms), files, input, output, errors),
+        Err(status) => status,
+    }
 }

@@ -19,8 +19,8 @@ use program_desks::files_left::FilesLeft;
 use program_desks::kept_desks::KeepsDesks;
 use program_files::NamedFiles;
 use program_lines::fault::{Fault, report};
-use program_rules::checking;
 use program_rules::rules::{RulesFault, open_table, report_rules};
+use program_rules::{checking, terms_checking};
 use program_words::invocation::{self, Action, Database, Invocation, Reading, Task};
 use series_rules::desk::Desk;
 use series_rules::listing::ListedDesk;
@@ -142,6 +142,10 @@ fn run_action<
             let status = checking::run(rt.alloc(), files, file, output, errors);
             (status, FilesLeft::Untouched(databases))
         }
+        Action::CheckTerms { file } => {
+            let status = terms_checking::run(rt.alloc(), files, file, output, errors);
+            (status, FilesLeft::Untouched(databases))
+        }
         Action::CheckTexts { files: names } => {
             let status = check_texts(rt.alloc(), files, names.as_slice(), input, errors);
             (status, FilesLeft::Untouched(databases))
@@ -249,11 +253,12 @@ fn read_words<'a, W: Write, E: Write>(
 }
 
 /// Runs the program on these words, of which the first is its name, and gives its exit status:
-/// 0, or 1 where an answer was a refusal, 2 for a bad command line or rules file, 3 for a fault of
-/// storage, a file, input, output, the port or the socket, or when out of memory. The command line
-/// is judged first, then the rules file, then what the command itself meets. `databases` has the
-/// database file that the words may name, `desks` the open desk, and `files` opens FILEs and makes
-/// those of `convert` and `export`; beside the status comes what is left of the database's files.
+/// 0, or 1 where an answer was a refusal, 2 for a bad command line, rules file or table of terms, 3
+/// for a fault of storage, a file, input, output, the port or the socket, or when out of memory. The
+/// command line is judged first, then the rules file, then what the command itself meets.
+/// `databases` has the database file that the words may name, `desks` the open desk, and `files`
+/// opens FILEs and makes those of `convert` and `export`; beside the status comes what is left of
+/// the database's files.
 pub fn run<
     D: ListedDesk,
     K: KeepsDesks<D>,

@@ -8,7 +8,7 @@ use Rattle.program_words.specs.Asked.{IsAction, IsListing, IsTask, Reads, ReadsW
 use Rattle.program_words.specs.CommandLine.{command_of, convert_command, export_command, free_operand, needed, onixdesk, serve_command, some_operands}
 use Rattle.program_words.specs.CommandNames.{NamesAreOfCommands, action_name, listing_name, task_name}
 use Rattle.program_words.specs.declared.invocation.Action.{Action}
-use Rattle.program_words.specs.declared.invocation.Action.TheVariants.{CheckRules, CheckTexts, Convert, InMemory, InFile, Listed, Migrate, Send}
+use Rattle.program_words.specs.declared.invocation.Action.TheVariants.{CheckRules, CheckTerms, CheckTexts, Convert, InMemory, InFile, Listed, Migrate, Send}
 use Rattle.program_words.specs.declared.invocation.Invocation.{Invocation}
 use Rattle.program_words.specs.declared.invocation.Listing.{Listing}
 use Rattle.program_words.specs.declared.invocation.Listing.TheVariants as listing
@@ -36,6 +36,7 @@ action_named top name own (Migrate db) is = sym is.0
 action_named top name own (Send socket) is = sym is.0
 action_named top name own (Convert conversion) is = sym is.0
 action_named top name own (CheckRules file) is = sym is.0
+action_named top name own (CheckTerms file) is = sym is.0
 action_named top name own (CheckTexts files) is = sym is.0
 
 abbrev first : Option (Text × List Text) → Option Text
@@ -120,6 +121,10 @@ serve : IsMet (codes "serve")
 unfolding clap_on_literals
 serve = (refl, λ more. refl)
 
+terms : IsMet (codes "terms")
+unfolding clap_on_literals
+terms = (refl, λ more. refl)
+
 abbrev IsNamed : Shape → Type 0
 IsNamed command = (program : Text) (rest : List Text) (asked : Invocation) → Reads (program ∷ command.name ∷ rest) (reading.Run asked)
     → action_name asked.action ≡ command.name
@@ -127,8 +132,11 @@ IsNamed command = (program : Text) (rest : List Text) (asked : Invocation) → R
 more : (command : Shape) (commands : List Shape) → IsNamed command → All IsNamed commands → All IsNamed (command ∷ commands)
 more = All-cons IsNamed
 
+abbrev from_terms : List Shape
+from_terms = command_of "terms" (needed (free_operand (codes "file")) ∷ []) ∷ []
+
 abbrev from_rules : List Shape
-from_rules = command_of "rules" (needed (free_operand (codes "file")) ∷ []) ∷ serve_command ∷ []
+from_rules = command_of "rules" (needed (free_operand (codes "file")) ∷ []) ∷ serve_command ∷ from_terms
 
 abbrev from_migrate : List Shape
 from_migrate = command_of "migrate" [] ∷ from_rules
@@ -161,5 +169,6 @@ names_are_of_commands =
     (more _ from_gaps (named (codes "export") export)
     (more _ from_migrate (named (codes "gaps") gaps)
     (more _ from_rules (named (codes "migrate") migrate)
-    (more _ (serve_command ∷ []) (named (codes "rules") rules_met)
-    (more _ [] (named (codes "serve") serve) (All-nil IsNamed))))))))))
+    (more _ (serve_command ∷ from_terms) (named (codes "rules") rules_met)
+    (more _ from_terms (named (codes "serve") serve)
+    (more _ [] (named (codes "terms") terms) (All-nil IsNamed)))))))))))

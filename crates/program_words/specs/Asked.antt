@@ -7,7 +7,7 @@ use Rattle.program_words.specs.CommandLine.{onixdesk}
 use Rattle.program_words.specs.ConvertWords.{AsksFor, asked_view}
 use Rattle.program_words.specs.Words.{has_flag, number_in, text_in, texts_in}
 use Rattle.program_words.specs.declared.invocation.Action.{Action}
-use Rattle.program_words.specs.declared.invocation.Action.TheVariants.{CheckRules, CheckTexts, Convert, InMemory, InFile, Listed, Migrate, Send}
+use Rattle.program_words.specs.declared.invocation.Action.TheVariants.{CheckRules, CheckTerms, CheckTexts, Convert, InMemory, InFile, Listed, Migrate, Send}
 use Rattle.program_words.specs.declared.invocation.Database.{Database}
 use Rattle.program_words.specs.declared.invocation.Invocation.{Invocation}
 use Rattle.program_words.specs.declared.invocation.Listing.{Listing}
@@ -52,11 +52,12 @@ module _ (top : List Row) where
       × (db.is_existing ≡ has_flag top (codes "existing"))
 
 -- the rules file under which an action is done, where that one is named: a desk that is open has
--- its own rules, and a conversion and the reading of rules and of texts have none
+-- its own rules, and a conversion and the reading of rules, terms and texts have none
 abbrev pub rules_for : Action → Option Text → Option Text
 rules_for (Send socket) named = None
 rules_for (Convert conversion) named = None
 rules_for (CheckRules file) named = None
+rules_for (CheckTerms file) named = None
 rules_for (CheckTexts files) named = None
 rules_for _ named = named
 
@@ -78,6 +79,8 @@ module _ (top : List Row) (name : Text) (own : List Row) where
       (name ≡ codes "convert") × AsksFor own (asked_view conversion) × NoneIsOpen
   IsAction (CheckRules file) =
       (name ≡ codes "rules") × (text_in own (codes "file") ≡ Some file.now) × NoneIsOpen
+  IsAction (CheckTerms file) =
+      (name ≡ codes "terms") × (text_in own (codes "file") ≡ Some file.now) × NoneIsOpen
   IsAction (CheckTexts files) =
       (name ≡ codes "check")
       × (texts_in own (codes "file") ≡ Some (map (λ file. file.now) files.items)) × NoneIsOpen

@@ -56,7 +56,8 @@ abbrev pub command_of : String → List Rule → Shape
 command_of name words = record (new_shape (codes name)) { rules = words }
 
 -- convert [--parts P] [--number N | --number-offset K] [--sender TYPE,VALUE]
--- [--addressee TYPE,VALUE] [--id-type TT] [--wrong none|few|all] [-o FOLDER] [FILE..]
+-- [--addressee TYPE,VALUE] [--id-type TT] [--wrong none|few|all] [--terms FILE] [-o FOLDER]
+-- [--titles TITLES] [FILE..]
 abbrev pub convert_command : Shape
 convert_command = command_of "convert" (
     number_option (codes "parts") 1 9999
@@ -66,6 +67,7 @@ convert_command = command_of "convert" (
     ∷ text_option (codes "addressee")
     ∷ text_option (codes "id-type")
     ∷ text_option (codes "wrong")
+    ∷ text_option (codes "terms")
     ∷ short_option (codes "folder") 111
     ∷ text_option (codes "titles")
     ∷ some_operands (codes "file") 0
@@ -95,7 +97,7 @@ program_options =
     ∷ []
 
 -- agreements, batch, check FILE.., convert, deliver FILE.., export [-o FOLDER], gaps [NAME],
--- migrate, rules FILE, serve
+-- migrate, rules FILE, serve, terms FILE
 abbrev pub program_commands : List Shape
 program_commands =
     command_of "agreements" []
@@ -108,6 +110,7 @@ program_commands =
     ∷ command_of "migrate" []
     ∷ command_of "rules" (needed (free_operand (codes "file")) ∷ [])
     ∷ serve_command
+    ∷ command_of "terms" (needed (free_operand (codes "file")) ∷ [])
     ∷ []
 
 -- onixdesk [OPTIONS] COMMAND

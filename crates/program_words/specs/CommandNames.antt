@@ -4,7 +4,7 @@ use Rattle.clap.specs.Walk.{Text}
 use Rattle.program_words.specs.Asked.{Reads}
 use Rattle.program_words.specs.CommandLine.{program_commands}
 use Rattle.program_words.specs.declared.invocation.Action.{Action}
-use Rattle.program_words.specs.declared.invocation.Action.TheVariants.{CheckRules, CheckTexts, Convert, InMemory, InFile, Listed, Migrate, Send}
+use Rattle.program_words.specs.declared.invocation.Action.TheVariants.{CheckRules, CheckTerms, CheckTexts, Convert, InMemory, InFile, Listed, Migrate, Send}
 use Rattle.program_words.specs.declared.invocation.Invocation.{Invocation}
 use Rattle.program_words.specs.declared.invocation.Listing.{Listing}
 use Rattle.program_words.specs.declared.invocation.Listing.TheVariants as listing
@@ -34,6 +34,7 @@ action_name (Migrate db) = codes "migrate"
 action_name (Send socket) = codes "batch"
 action_name (Convert conversion) = codes "convert"
 action_name (CheckRules file) = codes "rules"
+action_name (CheckTerms file) = codes "terms"
 action_name (CheckTexts files) = codes "check"
 
 -- where the word behind the program's name is a command's, what is run is of that command, whatever

@@ -21,11 +21,12 @@ use Rattle.program_words.specs.declared.convert_words.Conversion.{Conversion}
 use Rattle.program_words.specs.declared.convert_words.OptionName.{OptionName}
 use Rattle.program_words.specs.declared.convert_words.OptionName.TheVariants as named
 
--- What is asked: how each message is converted, the folder that takes the messages, the file that
--- takes the titles, and the names of the FILEs
+-- What is asked: how each message is converted, the folder that takes the messages, the file of the
+-- shop's terms, the file that takes the titles, and the names of the FILEs
 pub record Asked : Type 0 where
   pub options : Options
   pub folder : Option (List ℕ)
+  pub terms : Option (List ℕ)
   pub titles : Option (List ℕ)
   pub files : List (List ℕ)
 
@@ -34,6 +35,7 @@ abbrev pub asked_view : Conversion → Asked
 asked_view c = record {
   options = options_view c.run.options;
   folder = option_map (λ name. name.now) c.run.folder;
+  terms = option_map (λ name. name.now) c.terms;
   titles = option_map (λ name. name.now) c.titles;
   files = map (λ name. name.now) c.files.items;
 }
@@ -72,7 +74,7 @@ abbrev pub files_named : List Row → List (List ℕ)
 files_named own = unwrap_or (texts_in own (codes "file")) (codes "-" ∷ [])
 
 -- how each message is converted, by the options and operands: each word is read by its rule, and
--- has its default
+-- has its default; the terms are those of a file, which is not read yet
 abbrev pub AreOptions : List Row → Options → Type 0
 AreOptions own o =
     (word_or digits_of 1 own (codes "parts") ≡ Some o.choices.parts)
@@ -82,6 +84,7 @@ AreOptions own o =
     × (word_as identifier_of own (codes "addressee") ≡ Some o.choices.addressee)
     × (word_or code2_of (codes "06") own (codes "id-type") ≡ Some o.choices.id_type)
     × (word_or allowed_of FewWrong own (codes "wrong") ≡ Some o.wrong)
+    × (o.terms ≡ None)
 
 -- standard input is among these FILEs
 abbrev pub has_input : List (List ℕ) → Bool
@@ -99,6 +102,7 @@ abbrev pub AsksFor : List Row → Asked → Type 0
 AsksFor own a =
     AreOptions own a.options
     × (a.folder ≡ text_in own (codes "folder"))
+    × (a.terms ≡ text_in own (codes "terms"))
     × (a.titles ≡ text_in own (codes "titles"))
     × (a.files ≡ files_named own)
     × AreForFiles a

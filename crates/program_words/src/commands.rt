@@ -306,6 +306,31 @@ fn rules_check<'a>(alloc: Global) -> Result<Command<'a>, AllocError>
     with_word(Ok(rules), Ok(table(alloc)))
 }
 
+fn terms_file<'a>(alloc: Global) -> Arg<'a>
+    ensures { IsWord (needed (free_operand (codes "file"))) result }
+{
+    operand(
+        alloc,
+        "file",
+        "FILE",
+        "A table of the shop's terms with a wholesaler as a TOML file",
+    )
+    .required(true)
+}
+
+fn terms_check<'a>(alloc: Global) -> Result<Command<'a>, AllocError>
+    ensures { IfOk result
+        (IsCommand (command_of "terms" (needed (free_operand (codes "file")) ∷ []))) }
+{
+    let terms = bare_command(
+        alloc,
+        "terms",
+        "Read the shop's terms with a wholesaler, and write how many there are",
+        "Reads a table of the shop's terms with a wholesaler, a TOML file, and writes 'terms N', with the number of its terms. If the file is not a table of terms, or cannot be read, the status is 2, and a line on standard error says which term is bad, and why. A line on standard error names each term that never counts, since an earlier one fits every price that it fits.\n\nExample: onixdesk terms north.toml",
+    );
+    with_word(Ok(terms), Ok(terms_file(alloc)))
+}
+
 fn parts<'a>(alloc: Global) -> Arg<'a>
     ensures { IsWord (number_option (codes "parts") 1 9999) result }
 {
@@ -399,6 +424,17 @@ fn folder<'a>(alloc: Global) -> Arg<'a>
     )
 }
 
+fn terms<'a>(alloc: Global) -> Arg<'a>
+    ensures { IsWord (text_option (codes "terms")) result }
+{
+    text_option(
+        alloc,
+        "terms",
+        "FILE",
+        "Compute net prices by the shop's terms with the wholesaler, a TOML file, which onixdesk terms FILE checks",
+    )
+}
+
 fn titles<'a>(alloc: Global) -> Arg<'a>
     ensures { IsWord (text_option (codes "titles")) result }
 {
@@ -432,6 +468,7 @@ fn convert<'a>(alloc: Global) -> Result<Command<'a>, AllocError>
     let convert = with_word(convert, Ok(addressee(alloc)));
     let convert = with_word(convert, Ok(id_type(alloc)));
     let convert = with_word(convert, Ok(wrong(alloc)));
+    let convert = with_word(convert, Ok(terms(alloc)));
     let convert = with_word(convert, Ok(folder(alloc)));
     let convert = with_word(convert, Ok(titles(alloc)));
     with_word(convert, Ok(feeds(alloc)))
@@ -497,7 +534,7 @@ fn named<'a>(alloc: Global) -> Command<'a>
             "The intake of a bookshop's buying desk: numbered ONIX messages in, proved answers out",
         )
         .after_help(
-            "Exit status: 0; 1 if an answer of batch, deliver or gaps was a refusal, check found something malformed, or a FILE of convert was refused or a wrong product left out; 2 for a bad command line or rules file; 3 for a fault of storage, a file, input, output, the port or the socket, or when out of memory. While serve runs, a request that cannot be answered ends only its connection.",
+            "Exit status: 0; 1 if an answer of batch, deliver or gaps was a refusal, check found something malformed, or a FILE of convert was refused or a wrong product left out; 2 for a bad command line, rules file or table of terms; 3 for a fault of storage, a file, input, output, the port or the socket, or when out of memory. While serve runs, a request that cannot be answered ends only its connection.",
         )
         .subcommand_required(true)
 }
@@ -525,5 +562,6 @@ pub fn program<'a>(alloc: Global) -> Result<Command<'a>, AllocError>
     let program = with_command(program, gaps(alloc));
     let program = with_command(program, Ok(migrate(alloc)));
     let program = with_command(program, rules_check(alloc));
-    with_command(program, serve(alloc))
+    let program = with_command(program, serve(alloc));
+    with_command(program, terms_check(alloc))
 }

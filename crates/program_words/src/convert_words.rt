@@ -70,6 +70,8 @@ const IDENTIFIER: &str =
 #[derive(Drop)]
 pub struct Conversion<'a> {
     pub run: Run<'a>,
+    /// The file of the shop's terms, where they are given; the options of the run have none yet.
+    pub terms: Option<&'a str>,
     /// The file that takes the titles, where they are asked for.
     pub titles: Option<&'a str>,
     pub files: Vec<&'a str>,
@@ -289,7 +291,12 @@ fn options_of<'a>(words: &ArgMatches<'a>) -> Result<Options<'a>, BadWords<'a>>
         addressee,
         id_type,
     };
-    Ok(Options { choices, wrong })
+    let terms = None;
+    Ok(Options {
+        choices,
+        wrong,
+        terms,
+    })
 }
 
 // Whether standard input is among FILEs.
@@ -334,6 +341,7 @@ pub fn conversion_of<'a>(
     }
     Ok(Conversion {
         run: Run { options, folder },
+        terms: text_in(words, "terms"),
         titles,
         files,
     })

@@ -81,6 +81,10 @@ pub enum Action<'a> {
     CheckRules {
         file: &'a str,
     },
+    /// `terms FILE`: the table of the shop's terms in a file is read, and no desk is opened.
+    CheckTerms {
+        file: &'a str,
+    },
     /// `check FILE..`: each FILE is read as a text of requests, and no desk is opened.
     CheckTexts {
         files: Vec<&'a str>,
@@ -365,6 +369,20 @@ fn check_reading<'a>(alloc: Global, words: &ArgMatches<'a>) -> Reading<'a>
     }
 }
 
+// What `terms` asks for.
+fn terms_reading<'a>(alloc: Global, words: &ArgMatches<'a>) -> Reading<'a>
+    ensures { (top : List Row) → text_in top (codes "batches") ≡ None
+        → ReadsAs top (codes "terms") (words_in words.now) result }
+{
+    match text_in(words, "file") {
+        Some(file) => Reading::Run(Invocation {
+            rules: None,
+            action: Action::CheckTerms { file },
+        }),
+        None => Reading::Wrong(String::new(alloc)),
+    }
+}
+
 // What the command of that name asks for, behind the options that were found.
 fn command_reading<'a>(
     alloc: Global,
@@ -382,6 +400,7 @@ fn command_reading<'a>(
         "convert" => convert_reading(alloc, words),
         "migrate" => migrate_reading(matches),
         "rules" => rules_reading(alloc, words),
+        "terms" => terms_reading(alloc, words),
         _ => desk_reading(alloc, matches, name, words),
     }
 }

@@ -9,17 +9,18 @@ from pathlib import Path
 from command_lines.ending import DONE, FAILED, BadCall, Fault, status_of
 from command_lines.parsing import parser_of
 from onixdesk_inbox.again import ALL, LACKING, Repeat, Since
-from onixdesk_inbox.conversion import check_words
+from onixdesk_inbox.conversion import check_terms, check_words
 from onixdesk_inbox.incoming import Incoming
 from onixdesk_inbox.memory import LET_IN, REFUSED
 from onixdesk_inbox.names import kept_name
 from onixdesk_inbox.numbers import digest_of
 from onixdesk_inbox.running import Run
 from onixdesk_inbox.series import INCOMING, SETTINGS, STATE, series
-from onixdesk_inbox.settings import read_settings
+from onixdesk_inbox.settings import Settings, read_settings
 from onixdesk_inbox.state import State
 from onixdesk_inbox.taking import Taker
 from onixdesk_inbox.telling import ERROR, NOTICE, PROGRAM, Voice
+from onixdesk_inbox.terms import KeptTerms, Table, read_table
 
 DESCRIPTION = """\
 Takes the files that a wholesaler has put into a folder to a running desk: what ends in .csv as it is, what ends
@@ -66,7 +67,11 @@ def command_line() -> argparse.ArgumentParser:
         help="take again what was done, and what was refused for a mistake that may be corrected, and nothing new: of"
         " that `all`, what the desk is `lacking`, or what was answered since a time as 2026-11-27T02-30-00Z of UTC",
     )
-    add("--check", action="store_true", help="only read the settings, and try their WORDS; status 2 where one is wrong")
+    add(
+        "--check",
+        action="store_true",
+        help="only read the settings, and try their WORDS and TERMS; status 2 where one is wrong",
+    )
     decision = parser.add_mutually_exclusive_group()
     decision.add_argument(
         "--let-in",
@@ -100,6 +105,17 @@ def decide(options: argparse.Namespace, state: State, voice: Voice) -> int:
     return DONE
 
 
+def table_of(settings: Settings, converter: Path, file: Path, kept: KeptTerms | None = None) -> Table | None:
+    """The table of terms that a file of settings names, which is kept before it is used. BadSettings where it is
+    none."""
+    table = read_table(settings.terms, file) if settings.terms else None
+    if table and not (kept and kept.file(table.digest).exists()):
+        check_terms(table.data, converter, file)
+        if kept:
+            kept.keep(table)
+    return table
+
+
 def run(options: argparse.Namespace, folder: Path, programs: Path, voice: Voice) -> int:
     """Makes one run, whose state is kept in the folder."""
     name = options.series
@@ -109,6 +125,7 @@ def run(options: argparse.Namespace, folder: Path, programs: Path, voice: Voice)
     settings = read_settings(file)
     if options.check:
         check_words(settings.words, converter, file)
+        table_of(settings, converter, file)
         return DONE
     apart(incoming, folder)
     if not options.state and not folder.exists():
@@ -117,7 +134,7 @@ def run(options: argparse.Namespace, folder: Path, programs: Path, voice: Voice)
     state = State(folder, settings.state_bytes)
     if options.let_in is not None or options.refuse is not None:
         return decide(options, state, voice)
-    taker = Taker(name, settings, converter, state)
+    taker = Taker(name, settings, converter, state, table_of(settings, converter, file, state.terms))
     if options.again is not None:
         is_failed = Repeat(state, taker, voice).take_again(options.again)
     else:

@@ -93,16 +93,31 @@ def said(answer: Path, file: str, name: str) -> Said:
     return Said(first, shown(REFUSED_WORD.sub("", last, count=1)), tuple(summary))
 
 
-def check_words(words: tuple[str, ...], program: Path, file: Path) -> None:
-    """BadSettings where the converter does not take the words of that file of settings: it is given nothing to read."""
+def why_not_called(words: tuple[str, ...], program: Path) -> str:
+    """Why the converter does not take these words, or an empty text: it is given nothing to read."""
     import tempfile
 
     with tempfile.TemporaryDirectory() as folder:
         call: list[str | Path] = [program, *words, "-o", folder, STANDARD_INPUT]
         ran = subprocess.run(call, stdin=subprocess.DEVNULL, capture_output=True)
-    if ran.returncode == BAD_CALL:
-        first, *_ = ran.stderr.decode(**TEXT).splitlines()
-        raise BadSettings(f"{file}: WORDS: {shown(first)}")
+    return shown(ran.stderr.decode(**TEXT).splitlines()[0]) if ran.returncode == BAD_CALL else ""
+
+
+def check_words(words: tuple[str, ...], program: Path, file: Path) -> None:
+    """BadSettings where the converter does not take the words of that file of settings."""
+    if why := why_not_called(words, program):
+        raise BadSettings(f"{file}: WORDS: {why}")
+
+
+def check_terms(data: bytes, program: Path, file: Path) -> None:
+    """BadSettings where the converter does not take these bytes, which that file of settings names, as terms."""
+    import tempfile
+
+    with tempfile.NamedTemporaryFile(suffix=".toml") as table:
+        table.write(data)
+        table.flush()
+        if why := why_not_called(("--terms", table.name), program):
+            raise BadSettings(f"{file}: TERMS: {why.removeprefix(PROGRAM)}")
 
 
 @dataclass(frozen=True)
@@ -118,10 +133,12 @@ class Converter:
         """The program whose other name the converter is, beside it."""
         return self.program.with_name("onixdesk")
 
-    def convert(self, name: str, source: Path, number: int | None, messages: Path, answer: Path) -> Said:
+    def convert(
+        self, name: str, source: Path, number: int | None, messages: Path, answer: Path, terms: tuple[str, ...] = ()
+    ) -> Said:
         """Puts the messages of the copy of a file of that name into a folder, what is said of them into the answer, and
-        gives that."""
-        given = () if number is None else ("--number", str(number))
+        gives that. Words for the shop's terms may be among the converter's."""
+        given = terms if number is None else (*terms, "--number", str(number))
         is_packed = source.suffix in PACKED
         file = STANDARD_INPUT if is_packed else source.name
         words = [*self.words, *given, "-o", str(messages), file]

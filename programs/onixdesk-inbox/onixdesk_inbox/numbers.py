@@ -12,34 +12,20 @@ LINE = re.compile(r"([0-9a-f]{64}) ([0-9]{1,9})")
 GIVEN_BACK = 0
 
 
-class Numbers:
-    """A file of lines DIGEST NUMBER, of which the last of a digest counts."""
+class SyncedLines:
+    """A file of lines, to which lines are added, each synced. The last may have been cut by a loss of power: it is as
+    none."""
 
     def __init__(self, path: Path) -> None:
         self.path = path
-        self.given: dict[str, int] = {}
-        # How much of the file is whole lines: the last may have been cut by a loss of power.
-        self.whole = 0
-        if path.exists():
-            self.read(path.read_bytes())
-
-    def read(self, data: bytes) -> None:
+        data = path.read_bytes() if path.exists() else b""
+        # How much of the file is whole lines.
         self.whole = data.rfind(b"\n") + 1
-        for line in data[: self.whole].decode("ascii", errors="replace").splitlines():
-            if found := LINE.fullmatch(line):
-                self.given[found[1]] = int(found[2])
+        self.found = data[: self.whole].decode("ascii", errors="replace").splitlines()
 
-    def of(self, digest: str) -> int | None:
-        return self.given.get(digest) or None
-
-    def has_later(self, digest: str) -> bool:
-        """Whether other bytes were given a later number than these."""
-        return max(self.given.values(), default=0) > self.given.get(digest, 0)
-
-    def give(self, digest: str, number: int) -> None:
-        """Keeps a number for these bytes. Also one that is there is synced: the run that gave it may have been
-        killed before it was."""
-        line = b"" if self.of(digest) == number else f"{digest} {number}\n".encode()
+    def add(self, line: bytes) -> None:
+        """Adds a line; nothing where that is empty, but what was added before is synced then too: the run that added it
+        may have been killed before it was."""
         file = os.open(self.path, os.O_WRONLY | os.O_CREAT | os.O_CLOEXEC, 0o600)
         try:
             os.truncate(file, self.whole)
@@ -49,6 +35,26 @@ class Numbers:
             os.close(file)
         sync_folder(self.path.parent)
         self.whole += len(line)
+
+
+class Numbers:
+    """A file of lines DIGEST NUMBER, of which the last of a digest counts."""
+
+    def __init__(self, path: Path) -> None:
+        self.lines = SyncedLines(path)
+        found = filter(None, map(LINE.fullmatch, self.lines.found))
+        self.given = {digest: int(number) for digest, number in map(re.Match.groups, found)}
+
+    def of(self, digest: str) -> int | None:
+        return self.given.get(digest) or None
+
+    def has_later(self, digest: str) -> bool:
+        """Whether other bytes were given a later number than these."""
+        return max(self.given.values(), default=0) > self.given.get(digest, 0)
+
+    def give(self, digest: str, number: int) -> None:
+        """Keeps a number for these bytes."""
+        self.lines.add(b"" if self.of(digest) == number else f"{digest} {number}\n".encode())
         self.given[digest] = number
 
     def give_back(self, digest: str) -> None:

@@ -97,19 +97,23 @@ class Run(Resuming):
                 continue
         return has_taken
 
+    @property
+    def limits(self) -> str:
+        """By what a file was stopped: the settings, and the terms by which it was converted."""
+        return f"{self.taker.settings!r} {self.taker.terms.new}"
+
     def leave_stopped(self, candidate: Candidate) -> None:
         """Lies where the file is the one that was stopped, and nothing has changed since."""
         stopped = self.state.memory.stopped()
         if stopped and not self.state.decisions.of(stopped.digest):
-            known = candidate.name, asdict(candidate.state), repr(self.taker.settings)
+            known = candidate.name, asdict(candidate.state), self.limits
             if (stopped.name, stopped.looks, stopped.limits) == known:
                 raise Lies(Left(stopped.why, is_stopped=True))
 
     def stop(self, candidate: Candidate, digest: str, why: str) -> Lies:
         """Keeps that the file is stopped."""
         said = f"{why}; {commands(candidate.name, self.taker.series)}"
-        looks, limits = asdict(candidate.state), repr(self.taker.settings)
-        self.state.memory.keep_stopped(Stopped(candidate.name, digest, looks, limits, said))
+        self.state.memory.keep_stopped(Stopped(candidate.name, digest, asdict(candidate.state), self.limits, said))
         return Lies(Left(said, is_stopped=True))
 
     def take(self, candidate: Candidate) -> None:

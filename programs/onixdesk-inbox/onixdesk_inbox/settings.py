@@ -22,7 +22,7 @@ NO = "no"
 ANY = "any"
 
 # Words of the converter that the inbox gives itself.
-RESERVED = re.compile(r"-o.*|--(number|titles)(=.*)?|-h|--help|--?")
+RESERVED = re.compile(r"-o.*|--(number|titles|terms)(=.*)?|-h|--help|--?")
 OFFSET = re.compile(r"--number-offset(=.*)?")
 
 
@@ -48,6 +48,8 @@ class Settings:
     records_of_one_isbn: int = 1000
     # Where the rows of titles are handed over, if they are.
     titles: Path | None = None
+    # The file of the shop's terms with the wholesaler, if it has some.
+    terms: Path | None = None
     # From how many percent on a file is stopped for a person, if it is.
     stop_emptied: int | None = 50
     stop_unknown: int | None = 80
@@ -135,6 +137,12 @@ def folder(value: str) -> Path | None:
     return Path(value) if value else None
 
 
+def file(value: str) -> Path | None:
+    if value and not value.startswith("/"):
+        raise ValueError("TERMS is a file, which begins with /, or nothing")
+    return Path(value) if value else None
+
+
 def percent(value: str) -> int | None:
     if value == NO:
         return None
@@ -159,6 +167,7 @@ READERS: dict[str, tuple[str, Callable[[str], object]]] = {
     "STATE_BYTES": ("state_bytes", count_of_bytes),
     "RECORDS_OF_ONE_ISBN": ("records_of_one_isbn", count_of_records),
     "TITLES": ("titles", folder),
+    "TERMS": ("terms", file),
     "STOP_EMPTIED": ("stop_emptied", percent),
     "STOP_UNKNOWN": ("stop_unknown", percent),
     "STOP_JUMPS": ("stop_jumps", percent),
@@ -185,6 +194,8 @@ def settings_of(text: str, name: str) -> Settings:
     settings = Settings(**found)
     if settings.number == NEXT and any(OFFSET.fullmatch(word) for word in settings.words):
         raise BadSettings(f"{name}: NUMBER=next and --number-offset do not go together")
+    if settings.terms and not settings.sender:
+        raise BadSettings(f"{name}: TERMS are of one wholesaler, and SENDER={ANY} is of all")
     return settings
 
 
@@ -199,11 +210,11 @@ def setting(line: str) -> tuple[str, object]:
     return attribute, read(value)
 
 
-def read_settings(file: Path) -> Settings:
+def read_settings(path: Path) -> Settings:
     try:
-        text = file.read_text(encoding="utf-8")
+        text = path.read_text(encoding="utf-8")
     except OSError as error:
-        raise BadSettings(f"{file}: {error.strerror}") from None
+        raise BadSettings(f"{path}: {error.strerror}") from None
     except UnicodeDecodeError:
-        raise BadSettings(f"{file}: it is no UTF-8") from None
-    return settings_of(text, str(file))
+        raise BadSettings(f"{path}: it is no UTF-8") from None
+    return settings_of(text, str(path))

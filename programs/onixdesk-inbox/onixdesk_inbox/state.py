@@ -1,5 +1,5 @@
 """The folder of what the inbox keeps, where nobody else may write: its lock, the file that it is at, what is
-done and refused, the numbers that it gave, what is stopped and was decided, and what it has told."""
+done and refused, the numbers that it gave, with which terms, what is stopped and was decided, and what it has told."""
 
 import fcntl
 import os
@@ -15,6 +15,7 @@ from onixdesk_inbox.names import PACKED, ending
 from onixdesk_inbox.memory import Memory
 from onixdesk_inbox.numbers import Numbers, digest_of, sync_folder
 from onixdesk_inbox.telling import PROGRAM
+from onixdesk_inbox.terms import KeptTerms
 
 # Of a refused file that has more bytes its head is kept.
 LARGEST_REFUSED = 16_777_216
@@ -104,6 +105,7 @@ class State:
         fcntl.flock(self.lock, fcntl.LOCK_EX)
         self.memory = Memory(path)
         self.decisions = Numbers(path / "decisions")
+        self.terms = KeptTerms(path / "terms")
         self.done = Archive(path / "done")
         self.refused = Archive(path / "refused")
 

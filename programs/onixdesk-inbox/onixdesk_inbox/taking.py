@@ -2,6 +2,7 @@
 
 from dataclasses import dataclass, replace
 from pathlib import Path
+from typing import NamedTuple
 
 from command_lines.ending import Fault
 from message_records.sampling import Contents
@@ -17,6 +18,7 @@ from onixdesk_inbox.renewed import NOTHING, Before, Renewed
 from onixdesk_inbox.settings import NEXT, Settings
 from onixdesk_inbox.state import State
 from onixdesk_inbox.stopping import Given, Look
+from onixdesk_inbox.terms import NONE, Table, Terms, place_of
 from onixdesk_inbox.verdicts import Refusal, Taken, Unconverted
 
 # What a feed leaves that is not converted: one with a number of its own holds up its series.
@@ -45,8 +47,18 @@ class Copied:
         return self.source.suffix == RECORDS
 
 
+class Converted(NamedTuple):
+    """The messages of a file, what the converter said, and the table of terms that it used."""
+
+    messages: list[Path]
+    lines: Said
+    table: str
+
+
 class Taker:
-    def __init__(self, series: str, settings: Settings, converter: Path, state: State) -> None:
+    def __init__(
+        self, series: str, settings: Settings, converter: Path, state: State, table: Table | None = None
+    ) -> None:
         self.series = series
         self.settings = settings
         self.converter = Converter(converter, settings.words, settings.conversion_seconds, state.lock)
@@ -54,6 +66,7 @@ class Taker:
         self.state = state
         self.numbers: Numbers = state.numbers()
         self.renewed = Renewed(state.path / "renewed", self.desk.report)
+        self.terms = Terms(state.terms, table, lambda number: self.desk.report(series).has(number))
 
     def take(self, copied: Copied) -> Taken:
         """Takes a file to its end. Fault, where it has to be taken again; Stop, where a person has to decide on it."""
@@ -127,16 +140,14 @@ class Taker:
     def deliver_once(self, copied: Copied) -> Taken:
         """Posts it under one number. Quicker, where that was to be a new one, and is another's."""
         number = None if copied.is_records else self.number_of(copied)
-        messages, lines = self.messages_of(copied, number)
+        converted = self.converted(copied, number)
+        messages, lines = converted.messages, converted.lines
         self.look_at(copied, messages)
         came_before = self.numbers.of(copied.digest) is not None
         contents = None if came_before else self.contents_of(copied, messages)
         if number is not None:
             self.numbers.give(copied.digest, number)
-        is_new = number is not None and not came_before
-        posted = post(
-            self.desk, messages, self.state.work.answer, is_new, self.before(copied).had, self.converter.desk_program
-        )
+        posted, new_terms = self.post(copied, converted, is_new=number is not None and not came_before)
         if not posted.stand:
             self.numbers.give_back(copied.digest)
         elif contents:
@@ -149,7 +160,24 @@ class Taker:
             said="; ".join([taken.said, *more]),
             wrong_products=lines.wrong_products,
             is_late=came_before and copied.answered is None and self.is_late(copied, posted),
+            new_terms=new_terms,
         )
+
+    def post(self, copied: Copied, converted: Converted, is_new: bool) -> tuple[Posted, str]:
+        """Posts the messages, and keeps by which terms the desk took their numbers. What there is to say of these."""
+        had = self.before(copied).had
+        work = self.state.work
+        place = place_of(converted.messages) if self.terms.is_used and not copied.is_records else None
+        program = self.converter.desk_program
+        if not place:
+            return post(self.desk, converted.messages, work.answer, is_new, had, program), ""
+        self.terms.begin(*place, converted.table)
+        try:
+            posted = post(self.desk, converted.messages, work.answer, is_new, had, program)
+        except Quicker:
+            self.terms.end(*place, converted.table, has_taken=False)
+            raise
+        return posted, self.terms.end(*place, converted.table, has_taken=bool(posted.stand))
 
     def is_late(self, copied: Copied, posted: Posted) -> bool:
         """Whether a feed that had its number before changes nothing, since the desk has a later one."""
@@ -174,20 +202,44 @@ class Taker:
             return self.desk.next_number(self.series)
         return given
 
-    def messages_of(self, copied: Copied, number: int | None) -> tuple[list[Path], Said]:
-        work = self.state.work
+    def converted(self, copied: Copied, number: int | None) -> Converted:
+        """A file as messages, a feed by the table by which its number was converted first."""
         if copied.is_records:
-            work.answer.touch()
-            return [copied.source], NOTHING_SAID
+            self.state.work.answer.touch()
+            return Converted([copied.source], NOTHING_SAID, NONE)
         of_feed = None if number is None else self.number_of_feed(number)
         try:
-            lines = self.converter.convert(copied.name, copied.source, of_feed, work.messages, work.answer)
+            return self.by_its_terms(copied, number, of_feed)
         except Unconverted as refusal:
             raise Refusal(f"{refusal}; {NOTHING_TAKEN if of_feed else WAITING}") from None
+
+    def by_its_terms(self, copied: Copied, number: int | None, of_feed: int | None) -> Converted:
+        """Its number says by which table, and is known for certain once it is converted."""
+        table = self.terms.guess(number)
+        try:
+            converted = self.by_terms(copied, of_feed, table)
+        except Unconverted:
+            if table == NONE:
+                raise
+            # With terms a feed may be too large, but its number may be one that was converted by others.
+            self.state.work.begin_again()
+            converted = self.by_terms(copied, of_feed, NONE)
+        right = table
+        if self.terms.is_used and (place := place_of(converted.messages)):
+            right = self.terms.of(place[0], copied.is_done)
+        if right != converted.table:
+            self.state.work.begin_again()
+            converted = self.by_terms(copied, of_feed, right)
+        return converted
+
+    def by_terms(self, copied: Copied, of_feed: int | None, table: str) -> Converted:
+        work = self.state.work
+        words = self.terms.words(table)
+        lines = self.converter.convert(copied.name, copied.source, of_feed, work.messages, work.answer, words)
         messages = sorted(work.messages.glob("*.csv"))
         if not messages:
             raise Fault("the converter wrote no message")
-        return messages, lines
+        return Converted(messages, lines, table)
 
     def number_of_feed(self, number: int) -> int:
         """The number of the feed that begins with that number of the desk's."""

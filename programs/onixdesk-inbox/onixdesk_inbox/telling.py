@@ -51,6 +51,8 @@ class Voice:
             self.of_file(WARNING, name, f"done, {counted(taken.wrong_products)} wrong: {taken.said}")
         else:
             self.of_file(NOTICE, name, f"done: {taken.said}")
+        if taken.new_terms:
+            self.of_file(NOTICE, name, taken.new_terms)
         if taken.no_titles:
             self.of_file(WARNING, name, f"no titles: {taken.no_titles}")
 

@@ -8,7 +8,7 @@ class Taken:
     """A file that is at its end, in `done` or, refused, in `refused`; what there is to say of it, and how many of its
     products the converter found wrong. Of one that is done something may be amiss, as of one that is refused; and why
     its titles were not handed over. What one is refused for may be correctable: by somebody, without other bytes. One
-    that has come before is late where later ones have come since."""
+    that has come before is late where later ones have come since. The first one by new terms says so."""
 
     said: str
     is_refused: bool = False
@@ -17,6 +17,7 @@ class Taken:
     wrong_products: int = 0
     no_titles: str = ""
     is_late: bool = False
+    new_terms: str = ""
 
 
 @dataclass(frozen=True)

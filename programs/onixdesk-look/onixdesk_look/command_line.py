@@ -43,6 +43,12 @@ def command_line() -> argparse.ArgumentParser:
     add("--day", metavar="DAY", type=day, help="the day of the prices, as 20261127; today without it")
     add("--series", metavar="NAME", type=series, help="the name for the agreement; after the FILE's name without it")
     add("--words", metavar="WORDS", type=words, default=(), help="words for onixdesk convert, as in WORDS of an inbox")
+    add(
+        "--terms",
+        metavar="FILE",
+        type=Path,
+        help="the shop's terms with the wholesaler, by which net prices are computed",
+    )
     add("--csv", action="store_true", help="write the page as a table: FILE, section, item, value")
     add("--notes", metavar="CSV", type=Path, help="write the converter's notes into this file; for a single FILE")
     add("--mail", choices=letter.LANGUAGES, help="write a text to the wholesaler in place of the page; for one FILE")
@@ -88,7 +94,8 @@ def sections_of(
     lines = lines_to_paste(options.series or series_of(feed.file.name), header, feed, options.words)
     # A sample is seldom the first message that the desk gets, and what comes behind a number that never comes is held.
     number = f"the number of the first message that the desk gets; {lines[0].rpartition(',')[2]} is that of this file"
-    pasted = {"To paste": lines, "Last field of Agree": [number] if "NUMBER=own" in lines else []}
+    terms = [f"TERMS={options.terms}"] if options.terms else []
+    pasted = {"To paste": lines + terms, "Last field of Agree": [number] if "NUMBER=own" in lines else []}
     to_paste = {section: [(line, "") for line in said] for section, said in pasted.items()}
     return page.of_records(feed, header, counts) | answers | to_paste
 
@@ -114,7 +121,8 @@ def look(options: argparse.Namespace, question: Question, file: Path) -> int:
     with tempfile.TemporaryDirectory(prefix=f"{PROGRAM}-") as folder:
         messages = Path(folder, "messages")
         messages.mkdir()
-        feed = Converter(options.program, options.words, show).convert(file, messages)
+        terms = ("--terms", str(options.terms)) if options.terms else ()
+        feed = Converter(options.program, (*options.words, *terms), show).convert(file, messages)
         write_page(options, feed, question, Path(folder))
     return feed.status
 
@@ -123,6 +131,7 @@ def run(options: argparse.Namespace, programs: Path) -> int:
     if len(options.files) > 1 and (options.notes or options.mail):
         raise BadCall("--notes and --mail are for a single FILE")
     options.program = (options.program or programs / "onixdesk").resolve()
+    options.terms = options.terms and options.terms.resolve()
     question = question_of(options, programs)
     # A file that cannot be read keeps none of the others from being looked at.
     found = [status_of(partial(look, options, question, file), teller(PROGRAM), file) for file in options.files]

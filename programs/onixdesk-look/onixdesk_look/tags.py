@@ -10,7 +10,13 @@ PIECE = 1 << 20
 
 # The root by which a message has reference names, and that of one with short tags.
 NAMES = {"ONIXMessage": "reference names", "ONIXmessage": "short tags"}
-DISCOUNT_CODES = {"DiscountCode", "j364"}
+
+# What is read of a DiscountCoded; its type is before its code.
+DISCOUNT_CODED, CODE_TYPE, CODE = (
+    {"DiscountCoded", "discountcoded"},
+    {"DiscountCodeType", "j363"},
+    {"DiscountCode", "j364"},
+)
 
 
 class Tags:
@@ -18,7 +24,9 @@ class Tags:
 
     def __init__(self, feed: Path, show: Callable[[str], None]) -> None:
         self.release = self.names = self.fault = ""
+        # By their types, TYPE,CODE, as a table of the shop's terms has them.
         self.discount_codes: Counter[str] = Counter()
+        self.code_type = ""
         self.text: list[str] = []
         self.parser = expat.ParserCreate()
         # With it a name of HTML that no DTD declares is passed over.
@@ -41,11 +49,18 @@ class Tags:
         self.parser.StartElementHandler = self.start
 
     def start(self, name: str, _attributes: dict[str, str]) -> None:
-        if name in DISCOUNT_CODES or name.rpartition(":")[2] in DISCOUNT_CODES:
+        local = name.rpartition(":")[2]
+        if local in DISCOUNT_CODED:
+            self.code_type = ""
+        elif local in CODE or local in CODE_TYPE:
             self.text = []
             self.parser.CharacterDataHandler = self.text.append
             self.parser.EndElementHandler = self.end
 
-    def end(self, _name: str) -> None:
-        self.discount_codes[" ".join("".join(self.text).split())] += 1
+    def end(self, name: str) -> None:
+        text = " ".join("".join(self.text).split())
+        if name.rpartition(":")[2] in CODE:
+            self.discount_codes[f"{self.code_type},{text}" if self.code_type else text] += 1
+        else:
+            self.code_type = text
         self.parser.CharacterDataHandler = self.parser.EndElementHandler = None

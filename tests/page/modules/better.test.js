@@ -16,7 +16,7 @@ const at = (quantity, ...offers) => ({ quantity, offers });
 const SETTINGS = {
   series: [{ name: "north", words: "North Books" }, { name: "south", words: "South Books" }],
   rules: rulesOf('[[rule]]\nseries = "*"\ncodes = ["21"]\nmax = "20.00"\n'),
-  country: "GB", currency: "GBP", type: "05",
+  country: "GB", currency: "GBP", type: "05", terms: [],
 };
 const QUESTION = { currency: "GBP", day: "2026-11-28", type: "05" };
 
@@ -137,6 +137,21 @@ test("a net price of nothing is a reason to ask, and has no sum", () => {
   assert.equal(sentenceOf(answer("0.000"), SETTINGS), "North Books says £0.00: ask before you order");
   assert.equal(sumInWords(answer("0.000")), "");
   assert.equal(sumInWords(answer("6.000")), "£6.00");
+});
+
+test("the sentence says of whom a net price may be computed", () => {
+  const settings = { ...SETTINGS, terms: ["north"] };
+  const sentence = (name, type = "05") => {
+    const answer = answerOf([offer(name, "7.470")], { ...offer(name, "7.470"), rule: 1 });
+    return sentenceOf({ ...answer, question: { ...answer.question, type } }, settings);
+  };
+  const words = "Buy 1 from North Books at £7.47 a copy, by the shop's terms, or the wholesaler's own net price";
+  assert.equal(sentence("north"), words);
+  assert.equal(sentence("south"), "Buy 1 from South Books at £7.47 a copy");
+  assert.equal(sentence("north", "02"), "North Books: retail price £7.47");
+  // Its own retail price is beside, with the margin.
+  const answer = answerOf([offer("north", "7.470")], { ...offer("north", "7.470"), rule: 1 });
+  assert.ok(detailsOf({ ...answer, retail: [offer("north", "12.990")] }).includes("RRP £12.99 · margin 42%"));
 });
 
 test("an offer at the same price is not passed over", () => {

@@ -40,6 +40,7 @@ test("what is not named is as the page has it", () => {
     retailType: "",
     currencies: [],
     address: "",
+    terms: [],
   });
 });
 
@@ -75,6 +76,17 @@ test("the type of recommended prices, and other currencies", () => {
   assert.deepEqual([settings.retailType, settings.currencies, problems], ["04", ["EUR", "USD"], []]);
   for (const wrong of [{ recommended_type: "05" }, { recommended_type: 2 }, { currencies: "EUR" }, { currencies: ["EUR", "EUR"] }]) {
     assert.equal(problemsOf({ ...RIGHT, ...wrong }).length, 1, JSON.stringify(wrong));
+  }
+});
+
+test("the series whose net prices may be computed", () => {
+  const series = [{ name: "north", words: "North" }, { name: "south", words: "South" }];
+  const { settings, problems } = readSettings(JSON.stringify({ ...RIGHT, series, terms: ["south"] }));
+  assert.deepEqual([settings.terms, problems], [["south"], []]);
+  assert.deepEqual(readSettings(JSON.stringify(RIGHT)).settings.terms, []);
+  for (const terms of ["north", ["west"], ["north", "north"], [1], null, { north: true }]) {
+    const { settings: found, problems: [problem, ...others] } = readSettings(JSON.stringify({ ...RIGHT, series, terms }));
+    assert.deepEqual([problem?.path, others, found.terms], ["settings.terms", [], []], JSON.stringify(terms));
   }
 });
 

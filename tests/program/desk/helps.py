@@ -27,7 +27,7 @@ def helps(room: Room) -> Iterator[Outcome]:
         text = text.replace(b"Usage: onixdesk", b"Usage: " + os.fsencode(room.program.name))
         for asked in (words, ["help", *command]):
             yield Outcome(f"help: {' '.join(asked)}", room.run(*asked), Ran(0, text))
-    wanted = ["agreements", "batch", "check", "convert", "deliver", "export", "gaps", "migrate", "rules", "serve"]
+    wanted = "agreements batch check convert deliver export gaps migrate rules serve terms".split()
     yield Outcome("help: the commands whose help is compared", commands, wanted)
 
 

@@ -239,6 +239,18 @@ def waivers_as_told(room: Room) -> Iterator[Outcome]:
     yield Outcome(f"docs/ONIX.md: {command}", found, (0, 100, "waived,north,15301", "waived,north,15400"))
 
 
+def terms_as_told(room: Room) -> Iterator[Outcome]:
+    """The table of docs/ONIX.md, and what is said where a term comes behind one that is as wide."""
+    table = written(block("docs/ONIX.md", "[[term]]"))
+    command, *lines = block("docs/ONIX.md", "onixdesk terms ")
+    words = command.split()[1:]
+    room.write(words[-1], table)
+    yield Outcome(f"docs/ONIX.md: {command}", room.run(*words), Ran(0, written(lines)))
+    room.write(words[-1], table * 2)
+    said = written(block("docs/ONIX.md", "onixdesk: terms: "))
+    yield Outcome(f"docs/ONIX.md: {command}, twice", room.run(*words), Ran(0, b"terms 2\n", said))
+
+
 def script(room: Room, name: str, *words: str) -> Ran:
     """How a script of the examples ends that runs the program of the room."""
     return room.call([ROOT / name, *words], environment={**os.environ, "ONIXDESK": str(room.program)})

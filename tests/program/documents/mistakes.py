@@ -8,6 +8,7 @@ from collections.abc import Iterator
 from tests.program.documents.examples import blocks, written
 from tests.program.desk.exports import LIMIT, message_of
 from tests.program.files.machines import DESK, Machine, machine
+from tests.program.inbox.inboxes import script
 from tests.program.room import Room
 from tests.running import Outcome
 from tools.root import ROOT
@@ -56,6 +57,7 @@ BLOCKS = {
     "a wrong number": f"{CORRECT} '/^Message,[12],06,4012345000009,06,5012345678900,20250401,",
     "a waiver too early": f"{CORRECT} '/^Waive,north,5",
     "a wrong message": f"{CORRECT} '/^Message,[12],06,4012345000009,06,5012345678900,2,",
+    "a wrong percent": "sed -i 's/^percent = ",
     "a wholesaler that is gone": "batch() {",
     "two shops: the second one's desk": "    runuser -u onixdesk -- onixdesk --db /var/lib/onixdesk/second.db",
     "two shops: its unit": "install -d -o onixdesk -g onixdesk /var/lib/onixdesk-figures-second",
@@ -148,6 +150,64 @@ def a_wrong_number(room: Room) -> Iterator[Outcome]:
         wanted = ["feed.xml: done: number 2 applied"]
         yield Outcome("a wrong number: its feed", (desk.incoming(), desk.take({})), (["feed.xml"], wanted))
         yield Outcome("a wrong number: its prices", desk.prices(A, B, C), offers(a="10.000", b="20.000"))
+
+
+def priced_feed(*prices: tuple[str, str]) -> bytes:
+    """A feed without a number that says the retail price of each article."""
+    lines = [
+        '<ONIXMessage release="3.0"><Header><Sender><SenderIdentifier><SenderIDType>06</SenderIDType>',
+        "<IDValue>4012345000009</IDValue></SenderIdentifier></Sender><Addressee><AddresseeIdentifier>",
+        "<AddresseeIDType>06</AddresseeIDType><IDValue>5012345678900</IDValue></AddresseeIdentifier></Addressee></Header>",
+    ]
+    for isbn, amount in prices:
+        lines += [
+            f"<Product><RecordReference>R{isbn[-3:]}</RecordReference><NotificationType>03</NotificationType>",
+            f"<ProductIdentifier><ProductIDType>15</ProductIDType><IDValue>{isbn}</IDValue></ProductIdentifier>",
+            "<ProductSupply><SupplyDetail><Supplier><SupplierRole>04</SupplierRole><SupplierName>North</SupplierName></Supplier>",
+            "<ProductAvailability>21</ProductAvailability><Price><PriceType>02</PriceType>",
+            f"<PriceAmount>{amount}</PriceAmount><CurrencyCode>GBP</CurrencyCode></Price></SupplyDetail></ProductSupply></Product>",
+        ]
+    return written([*lines, "</ONIXMessage>"])
+
+
+def net_prices(desk: Machine) -> list[str]:
+    """The net price of each article."""
+    lines = desk.ask(*(f"AskPrice,{isbn},20250501,GB,GBP,05" for isbn in (A, B, C)))
+    return [line.rpartition(",")[2] for line in lines if line.startswith("offer,")]
+
+
+def a_wrong_percent(room: Room) -> Iterator[Outcome]:
+    with machine(room, agreed()) as desk:
+        script(room, "bin/converter", f'exec "{room.program}" convert "$@"')
+        room.path("etc/onixdesk/terms").mkdir()
+        table = room.path("etc/onixdesk/terms/north.toml")
+        table.write_text('[[term]]\ntypes = ["02"]\nnet = "05"\npercent = "4.25"\n')
+        desk.settings(SENDER="06,4012345000009", NUMBER="next", TERMS=table)
+        files = {
+            "full.xml": priced_feed((A, "12.99"), (B, "20.00")),
+            "update.xml": priced_feed((B, "10.00"), (C, "1.00")),
+        }
+        lines = [line for line in desk.take(files) if "new terms" not in line]
+        wanted = ["full.xml: done: number 1 applied", "update.xml: done: number 2 applied"]
+        yield Outcome("a wrong percent: the inbox", lines, wanted)
+        # 12.99, 10.00 and 1.00 less 4.25 %.
+        yield Outcome("a wrong percent: net prices before", net_prices(desk), ["12.440", "9.580", "0.960"])
+        ran = desk.run(block_with(BLOCKS["a wrong percent"]))
+        yield Outcome("a wrong percent: it is mended", (ran.status, ran.errors, ran.output), (0, b"", b"terms 1\n"))
+        lines = [line.partition(" on: ")[0] for line in desk.take({})]
+        wanted = [
+            "again-full.xml: done: number 3 applied",
+            "again-full.xml: new terms from number 3",
+            "again-update.xml: done: number 4 applied",
+        ]
+        yield Outcome("a wrong percent: what is taken again", lines, wanted)
+        # 12.99, 10.00 and 1.00 less 42.5 %; a half is rounded up.
+        yield Outcome("a wrong percent: net prices behind", net_prices(desk), ["7.470", "5.750", "0.580"])
+        yield Outcome(
+            "a wrong percent: the same once more",
+            [line.partition(";")[0] for line in desk.take({"full.xml": files["full.xml"]})],
+            ["full.xml: done, nothing changed, since later feeds have come: number 1 applied"],
+        )
 
 
 def a_waiver_too_early(room: Room) -> Iterator[Outcome]:

@@ -68,6 +68,7 @@ TOLD: dict[str, dict[str, str]] = {
         "/usr/share/onixdesk/correct.sh '/^Message,[12],06,4012345000009,06,5012345678900,20250401,": "documents.mistakes: a_wrong_number",
         "/usr/share/onixdesk/correct.sh '/^Waive,north,5": "documents.mistakes: a_waiver_too_early",
         "/usr/share/onixdesk/correct.sh '/^Message,[12],06,4012345000009,06,5012345678900,2,": "documents.mistakes: a_wrong_message",
+        "sed -i 's/^percent = ": "documents.mistakes: a_wrong_percent",
         "batch() {": "documents.mistakes: a_wholesaler_that_is_gone",
         "runuser -u onixdesk -- onixdesk --db /var/lib/onixdesk/second.db": "documents.mistakes: two_shops",
         "install -d -o onixdesk -g onixdesk /var/lib/onixdesk-figures-second": f"{SYSTEMD}: try_two_shops",
@@ -77,6 +78,7 @@ TOLD: dict[str, dict[str, str]] = {
     "docs/ONIX.md": {
         "bin/onixdesk-look --like page/desk.json sample.xml": f"{EXAMPLES}: desk_in_a_file",
         "seq -f 'Waive,north,%.0f'": f"{EXAMPLES}: waivers_as_told",
+        "onixdesk terms north.toml": f"{EXAMPLES}: terms_as_told",
     },
     "docs/PRICES.md": {
         "bin/desk-prices --settings page/desk.json": f"{MACHINE}: of_prices",
@@ -133,6 +135,7 @@ TOLD: dict[str, dict[str, str]] = {
     "examples/shop/README.md": {"bin/onixdesk --rules examples/shop/rules.toml batch": f"{EXAMPLES}: week"},
     "examples/shop/onix/README.md": {
         "mkdir -p week": f"{EXAMPLES}: week_in_xml",
+        "bin/onixdesk convert --terms examples/shop/onix/west/terms.toml": f"{EXAMPLES}: week_in_xml",
         "cat examples/shop/onix/agreements.csv": f"{EXAMPLES}: week_in_xml",
         "bin/onixdesk --db week/shop.db batch": f"{EXAMPLES}: week_in_xml",
     },

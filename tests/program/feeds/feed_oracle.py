@@ -4,6 +4,7 @@ it is refused."""
 import re
 from dataclasses import dataclass, field
 
+from tests.program.feeds.feed_net_prices import computed_record, outcome_of
 from tests.program.feeds.feed_prices import (
     REGION,
     closes,
@@ -53,6 +54,9 @@ SPACES = " \u00a0\u2009\u202f"
 
 Record = list[str]
 
+
+# What is counted alone of prices by the shop's terms.
+UNFITTED, HELD_BACK = "Price that no term fits", "computed price held back"
 
 # A reason where any will do.
 ANY = ("",)
@@ -242,12 +246,14 @@ def has_stranger(product: Product) -> bool:
 class Judge:
     """Reads one product of a message."""
 
-    def __init__(self, message: Message, words: Words, product: Product) -> None:
+    def __init__(self, message: Message, words: Words, product: Product, is_plain: bool = False) -> None:
         self.message = message
         self.words = words
         self.product = product
+        # Whether it is written without the prices that the shop's terms compute.
+        self.is_plain = is_plain
         self.notes: list[Note] = []
-        # What is counted without a note: the discounts of the prices that are written.
+        # What is counted without a note: the discounts of the prices that are written, or what the terms come to.
         self.discounts: list[str] = []
         # What is written of it where it is emptied.
         self.emptied: list[Record] = []
@@ -398,7 +404,34 @@ class Judge:
         unpriced = record[-1]
         priced = [price for price in detail.prices if not gives_nothing(price, unpriced)]
         closed = {key_of(price, self.message) for price in priced if closes(price, self.message, unpriced)}
-        return [record, *(one for price in priced for one in self.price(price, detail, closed))]
+        records = [(price, self.price(price, detail, closed)) for price in priced]
+        written = [price for price, its in records if its]
+        supplier = ",".join(record[2:4])
+        return [
+            record,
+            *(one for price, its in records for one in self.computed(price, its, detail, supplier, written, closed)),
+        ]
+
+    def computed(
+        self,
+        price: Price,
+        records: list[Record],
+        detail: Detail,
+        supplier: str,
+        written: list[Price],
+        closed: set[tuple[str, str]],
+    ) -> list[Record]:
+        """The record of a price, if it is written, and behind it those that the terms compute of it."""
+        if self.words.terms is None or not records:
+            return records
+        found = outcome_of(self.words.terms, price, detail, self.message, supplier, written, closed)
+        self.discounts += [UNFITTED] * found.is_unfitted
+        if self.is_plain:
+            return records
+        self.discounts += [HELD_BACK] * found.held
+        if found.is_free:
+            self.note(price, "an amount of 0")
+        return [*records, *(computed_record(one, records[0]) for one in found.written)]
 
     def price(self, price: Price, detail: Detail, closed: set[tuple[str, str]]) -> list[Record]:
         """Its record, if it is not left out, as those of these types and currencies are."""
@@ -416,7 +449,7 @@ class Judge:
             self.note(price, "PriceDates")
             return []
         self.note_territory(price.territory)
-        self.discounts += price.discounts
+        self.discounts += price.discounts if self.words.terms is None else []
         return [price_record(price, detail)]
 
 
@@ -503,6 +536,12 @@ class Judged:
     def put(self, one: Judge, filling: Filling) -> None:
         """Adds a product to the messages."""
         records = one.records()
+        if records is not None and not filling.have_room(records) and one.words.terms is not None:
+            plain = Judge(one.message, one.words, one.product, is_plain=True)
+            without = plain.records()
+            if without and filling.have_room(without):
+                plain.note(one.product, "too large")
+                one, records = plain, without
         if records is not None:
             records = records if filling.have_room(records) else one.records_too_large(filling)
             filling.add(records)

@@ -6,6 +6,9 @@ Composites are equal only to themselves, so that a note can name the one that it
 from dataclasses import dataclass, field
 from typing import NamedTuple
 
+# The file of the shop's terms.
+TERMS = "shop.toml"
+
 
 @dataclass(eq=False)
 class Identifier:
@@ -44,10 +47,23 @@ class PriceDate:
 
 
 @dataclass(eq=False)
+class Discount:
+    """A discount in percent, or in another way."""
+
+    percent: str
+    quantity: str = ""
+    discount_type: str = ""
+    # An element in it that comes again.
+    again: str = ""
+
+
+@dataclass(eq=False)
 class Price:
     """A price. `again` is the name of an element that comes again in it. `conditions` and `constraints` have the type of
     each PriceCondition and PriceConstraint, which may be empty; `old` has the texts of elements of ONIX 2.1 by their
-    names; `discounts` names the elements that are counted, and `passed_over` those that are not looked at."""
+    names; `discounts` names the elements that are counted, and `passed_over` those that are not looked at. For the terms
+    of the shop `codes` has the type and the code of each DiscountCoded, `percents` its Discounts and `taxes` the
+    TaxRatePercent of each Tax."""
 
     price_type: str
     amount: str
@@ -69,6 +85,11 @@ class Price:
     old: dict[str, str] = field(default_factory=dict)
     discounts: list[str] = field(default_factory=list)
     passed_over: list[str] = field(default_factory=list)
+    codes: list[tuple[str, str]] = field(default_factory=list)
+    percents: list[Discount] = field(default_factory=list)
+    taxes: list[str] = field(default_factory=list)
+    # An element that the terms would read, and that does not count.
+    stranger: str = ""
 
 
 @dataclass(eq=False)
@@ -132,8 +153,27 @@ class Message:
 
 
 @dataclass(frozen=True)
+class Term:
+    """One of the shop's terms; `codes`, `supplier`, `currency` and `tax` are empty where it has none."""
+
+    types: tuple[str, ...]
+    net: str
+    percent: str
+    codes: tuple[str, ...] = ()
+    supplier: str = ""
+    currency: str = ""
+    tax: str = ""
+
+    def toml(self) -> str:
+        values = {name: value for name, value in vars(self).items() if value}
+        lines = [f"{name} = {list(value) if isinstance(value, tuple) else value!r}\n" for name, value in values.items()]
+        return "".join(["[[term]]\n", *lines])
+
+
+@dataclass(frozen=True)
 class Words:
-    """The words of the command line that decide what is written."""
+    """The words of the command line that decide what is written. The shop's terms, if there are any, are in a file of a
+    name."""
 
     parts: int = 1
     number: str = ""
@@ -142,6 +182,7 @@ class Words:
     addressee: tuple[str, str] | None = None
     id_type: str = ""
     wrong: str = ""
+    terms: tuple[Term, ...] | None = None
 
     def line(self) -> list[str]:
         valued = {
@@ -152,5 +193,6 @@ class Words:
             "--addressee": ",".join(self.addressee or ()),
             "--id-type": self.id_type,
             "--wrong": self.wrong,
+            "--terms": TERMS if self.terms is not None else "",
         }
         return [word for name, value in valued.items() if value for word in (name, value)]

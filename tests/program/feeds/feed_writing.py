@@ -15,6 +15,7 @@ from tests.program.feeds.feed_names import Names
 from tests.program.feeds.feed_prices import DISCOUNTS
 from tests.program.feeds.feed_trees import (
     Detail,
+    Discount,
     Identifier,
     Market,
     Message,
@@ -104,6 +105,14 @@ COUNTED = {
     "PriceDate": "PriceDateRole DateFormat Date",
 }
 
+# Those that count besides where there are terms of the shop.
+COUNTED_WITH_TERMS = COUNTED | {
+    "Price": f"{COUNTED['Price']} Tax",
+    "DiscountCoded": "DiscountCodeType DiscountCode",
+    "Discount": "DiscountType Quantity DiscountPercent",
+    "Tax": "TaxRatePercent",
+}
+
 # Those of them that are counted alone, and are no strangers.
 COUNTED_ALONE = ["PublishingDetail", "SalesRights", *DISCOUNTS]
 
@@ -141,8 +150,9 @@ class Written(NamedTuple):
 class Writer:
     """Writes one message. What it chooses is told by the seed."""
 
-    def __init__(self, random: Random) -> None:
+    def __init__(self, random: Random, has_terms: bool = False) -> None:
         self.random = random
+        self.counted = COUNTED_WITH_TERMS if has_terms else COUNTED
         self.encoding = random.choice(ENCODINGS)
         self.is_short = random.random() < 0.5
         self.names = Names(
@@ -212,7 +222,7 @@ class Writer:
     def passed_over(self) -> str:
         """An element that does not count: of no name that does, or of one that counts elsewhere alone, of the other kind
         of names or of another namespace too; with one in it that would count elsewhere."""
-        counted = COUNTED.get(self.around[-1], "").split()
+        counted = self.counted.get(self.around[-1], "").split()
         counting = self.random.choice([name for name in COUNTING if name not in counted])
         tag = self.name(counting)
         inner = self.random.choice([f"<{tag}>7</{tag}>", self.in_another_namespace(counting)])
@@ -258,7 +268,7 @@ class Writer:
 
     def weigh(self, name: str, text: str = "") -> None:
         """Adds the size of an element of that name and text, where it counts below what is written."""
-        if name in COUNTED.get(self.around[-1], "").split():
+        if name in self.counted.get(self.around[-1], "").split():
             self.size += ELEMENT_BYTES + len(text.encode())
 
     def may_come_again(self) -> bool:
@@ -366,6 +376,22 @@ class Writer:
             ),
         )
 
+    def code(self, code: tuple[str, str]) -> None:
+        texts = dict(zip(("DiscountCodeType", "DiscountCode"), code))
+        writes = [partial(self.element, name, text) for name, text in texts.items()]
+        self.composite("DiscountCoded", lambda: self.in_any_order(*writes))
+
+    def discount(self, discount: Discount) -> None:
+        self.composite(
+            "Discount",
+            lambda: self.in_any_order(
+                lambda: self.element("DiscountType", discount.discount_type),
+                lambda: self.element("Quantity", discount.quantity),
+                lambda: self.element("DiscountPercent", discount.percent),
+                lambda: self.again(discount.again),
+            ),
+        )
+
     def price(self, price: Price) -> None:
         def coded(name: str, type_name: str, codes: list[str]) -> None:
             for code in codes:
@@ -385,6 +411,12 @@ class Writer:
         def discounts() -> None:
             for name in price.discounts:
                 self.composite(name, lambda: self.put("<DiscountType>02</DiscountType>"))
+            self.each(self.code, price.codes)
+            self.each(self.discount, price.percents)
+            for tax in price.taxes:
+                self.composite("Tax", lambda: self.element("TaxRatePercent", tax))
+            if price.stranger:
+                self.put(self.as_stranger(price.stranger))
 
         def old() -> None:
             for name, text in price.old.items():

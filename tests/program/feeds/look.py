@@ -339,3 +339,33 @@ def on_a_terminal(room: Room) -> Iterator[Outcome]:
     yield Outcome("look: on a terminal", (ran.returncode, steps, shown.endswith(b"\r\x1b[K")), (0, [True] * 3, True))
     came = room.call(command)
     yield Outcome("look: elsewhere", (came.status, came.errors), (0, b""))
+
+
+def with_terms(room: Room) -> Iterator[Outcome]:
+    """Net prices that are computed count as prices, and the messages are those that they need."""
+    room.write("shop.toml", b'[[term]]\ntypes = ["02"]\ncodes = ["01,A"]\nnet = "05"\npercent = "40"\n')
+    coded = PRICE.replace(
+        "</Price>",
+        "<DiscountCoded><DiscountCodeType>01</DiscountCodeType><DiscountCode>A</DiscountCode></DiscountCoded></Price>",
+    )
+    articles = [Article(supplied(price), "") for price in (coded, coded, PRICE)]
+    room.write("north-7.xml", feed([product(place, article) for place, article in enumerate(articles)]))
+    room.write("net.json", json.dumps(LIKE | {"price_type": "05"}).encode())
+    section = f"Price of type 05 in GBP for GB on {DAY}"
+    for words, priced, prices in [
+        ([], "0", {"02 GBP": "3"}),
+        (["--terms", "shop.toml"], "2", {"02 GBP": "3", "05 GBP": "2"}),
+    ]:
+        status, found = table(room, "--like", "net.json", *words, "north-7.xml")
+        name = f"look: {' '.join(words) or 'no terms'}"
+        yield Outcome(
+            name, (status, found[section]["have a price"], found["Prices by type and currency"]), (0, priced, prices)
+        )
+        line = f"TERMS={room.path('shop.toml').resolve()}"
+        yield Outcome(f"{name}: what to paste", line in found["To paste"], bool(words))
+    yield Outcome("look: discount codes", found["Discount codes"], {"01,A": "2"})
+    yield Outcome("look: what no term fits", found["Notes by reason"], {"Price that no term fits": "1"})
+    room.write("shop.toml", b"shop = 1")
+    came = look(room, "--terms", "shop.toml", "north-7.xml")
+    said = b"onixdesk-look: onixdesk: terms: not TOML: another key than term\n"
+    yield Outcome("look: no terms", came, Ran(2, b"", said))

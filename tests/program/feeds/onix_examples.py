@@ -29,6 +29,10 @@ NOT_SHOWN = {"Market": ["SupplyDetail,04,,,North,21,"]}
 NOTE = re.compile(r"onixdesk: (?:[^ ]+:[0-9]+:[0-9]+: (.*)|(.*, not read: [0-9]+)|([0-9]+ of [0-9]+ products? .*))")
 
 
+# The one term by which an example is converted.
+TERM = re.compile("types = ")
+
+
 class Example(NamedTuple):
     """The name of the first element, the XML, and the lines behind it."""
 
@@ -53,12 +57,17 @@ def shown(example: Example, room: Room) -> list[str]:
     """The notes and the records that come of an example, as the document has them."""
     frame = example.frame()
     room.write(FEED, f"{frame.before}\n{example.xml}{frame.behind}".encode())
-    came = convert(room, FEED)
+    terms = [line for line in example.lines if TERM.match(line)]
+    room.write("shop.toml", "".join(f"term = [{{ {line} }}]\n" for line in terms).encode())
+    came = convert(room, *(["--terms", "shop.toml"] if terms else []), FEED)
     said = [found for found in map(NOTE.fullmatch, came.errors.decode().splitlines()) if found]
     notes = [found[1] or found[2] or found[3] for found in said if not found[3] or found[3] in example.lines]
     records = came.output.decode().splitlines()[frame.records.count("\n") : -1]
     behind = NOT_SHOWN.get(example.first, [])
-    return notes + records[: len(records) - len(behind)] if records[len(records) - len(behind) :] == behind else records
+    shown_records = (
+        records[: len(records) - len(behind)] if records[len(records) - len(behind) :] == behind else records
+    )
+    return terms + notes + shown_records
 
 
 def each(room: Room) -> Iterator[Outcome]:

@@ -41,6 +41,9 @@ ENDINGS = [".xml", ".XML", ".onix"]
 
 SHOP = ("06", "5012345678900")
 
+# What the summary says of what is not read.
+NOT_READ = {name: f"{name} of a Price, not read" for name in DISCOUNTS}
+
 # What a reason says in words of its own of a country that is read as another.
 READ_AS = re.compile(" read as (GB|GR)$")
 
@@ -213,10 +216,12 @@ def summaries(name: str, cases: list[Case], errors: Errors) -> Iterator[Outcome]
 def counts_of(cases: list[Case]) -> dict[str, int]:
     """What the summary counts of messages that are written, of which it has no notes."""
     written = [case for case in cases if case.verdict.parts]
-    discounts = Counter(name for case in written for name in case.verdict.discounts)
+    discounts = Counter(NOT_READ.get(name, name) for case in written for name in case.verdict.discounts)
     again = sum(case.written.again for case in written)
     silent = sum(case.is_silent for case in written)
-    return dict(zip(NO_NOTES, [*(discounts[each] for each in DISCOUNTS), again, silent], strict=True))
+    return dict(
+        zip(NO_NOTES, [*(discounts[each] for each in NO_NOTES[: len(NO_NOTES) - 2]), again, silent], strict=True)
+    )
 
 
 def products_of(cases: list[Case]) -> dict[str, tuple[int, int]]:

@@ -1,10 +1,14 @@
 -- How a conversion ends, by the state that it comes to.
-use Rattle.std.specs.Prelude.{◌≡◌, ℕ, Result, Ok, Err}
+use Rattle.std.specs.Prelude.{◌≡◌, ℕ, List, Option, Result, Ok, Err, IfErr, IfOk, fold}
 use Rattle.feed_xml.specs.declared.position.Position.{Position}
 use Rattle.feed_outline.specs.declared.message_reading.Fault.{Fault as Unread}
 use Rattle.feed_conversion.specs.declared.refusal.Fault.{Fault}
 use Rattle.feed_conversion.specs.declared.refusal.Fault.TheVariants as fault
 use Rattle.feed_conversion.specs.declared.refusal.Refusal.{Refusal}
+use Rattle.feed_conversion.specs.Conversion.{Options}
+use Rattle.feed_conversion.specs.Keeping.{Keeping}
+use Rattle.feed_conversion.specs.Outcomes.{ExplainsFault, Yields}
+use Rattle.feed_conversion.specs.Packing.{Converted}
 use Rattle.feed_conversion.specs.private.Stages.{Taken, taken}
 
 -- how it ended at the end of the message, by what comes of it
@@ -19,3 +23,12 @@ abbrev pub IsUnread : Result ℕ Fault → Unread → Position → Type 0
 IsUnread (Err (fault.Unread unread place told)) was at = (unread ≡ was) × (place ≡ at)
 IsUnread (Err fault.Memory) was at = Unit {0}
 IsUnread other was at = ⊥
+
+-- what the contract of a conversion says
+abbrev pub Comes : {P N : Type 0} → Keeping P N → Option (List ℕ) → Options → Taken P N
+    → Result ℕ Fault → P → N → Type 0
+Comes k bytes o before ended parts notes =
+    IfOk ended (λ wrong. (made : Converted) × Yields bytes o (Ok made) × (wrong ≡ made.wrong)
+    × (parts ≡ fold k.with_part before.parts made.parts)
+    × (notes ≡ fold k.with_note before.notes made.notes))
+    × IfErr ended (λ e. ExplainsFault bytes o e)

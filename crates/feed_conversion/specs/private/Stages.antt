@@ -18,7 +18,7 @@ use Rattle.feed_mapping.specs.ProductRecords.{Variant, variants}
 use Rattle.feed_mapping.specs.Products.{reference_in}
 use Rattle.feed_mapping.specs.declared.header.HeaderRefusal.{HeaderRefusal}
 use Rattle.feed_mapping.specs.declared.notes.Wrong.TheVariants.{TooLarge}
-use Rattle.feed_conversion.specs.Conversion.{Options, header_refused}
+use Rattle.feed_conversion.specs.Conversion.{Options, header_refused, supply_choices}
 use Rattle.feed_conversion.specs.Keeping.{Keeping}
 use Rattle.feed_conversion.specs.Messages.{end_record}
 use Rattle.feed_conversion.specs.Packing.{beyond_at, product_notes}
@@ -163,7 +163,7 @@ with_variants k most h c (v ∷ more) =
 unfoldable pub after_product : {P N : Type 0} → Keeping P N → Options → Stored P N → Composite
     → Stored P N
 after_product k o h c =
-    with_variants k o.choices.parts h c (variants h.begun.opening o.choices.id_type c)
+    with_variants k o.choices.parts h c (variants h.begun.opening (supply_choices o) c)
 
 -- ---- elements
 

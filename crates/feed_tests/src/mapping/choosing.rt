@@ -2,7 +2,9 @@
 
 use crate::lines::split;
 use feed_mapping::{Choices, Pair};
+use feed_terms::table::Terms;
 use onix_terms::number::Number;
+use std::alloc::Global;
 
 // What stands behind the letter of the first line before the message that begins with it.
 fn chosen(letter: u8, paragraph: &[u8]) -> Option<&[u8]> {
@@ -55,6 +57,12 @@ pub fn choices_in(paragraph: &[u8]) -> Choices<'_> {
         addressee: pair_of(chosen(b'A', paragraph)),
         id_type: chosen(b'I', paragraph).unwrap_or(b"06"),
     }
+}
+
+/// The terms of the shop, where a line has a table of them that is read.
+pub fn terms_in(alloc: Global, paragraph: &[u8]) -> Option<Terms> {
+    let table = std::str::from_utf8(chosen(b'T', paragraph)?).ok()?;
+    Terms::read(alloc, table).ok()
 }
 
 /// The message.

@@ -1,11 +1,15 @@
 //! What is shown of a message.
 
-use crate::mapping::choosing::choices_in;
+use crate::mapping::choosing::{choices_in, terms_in};
 use csv_records::buffer::RecordBuffer;
 use csv_records::fields::FieldBuffer;
 use csv_records::writing::write_records;
-use feed_mapping::{Composite, HeaderFault, Note, add_product, desk_vocabulary, read_heading};
+use feed_mapping::{
+    Composite, HeaderFault, Note, SupplyChoices, add_product, desk_vocabulary, read_heading,
+    terms_vocabulary,
+};
 use feed_outline::{Elements, Line, Taker, Vocabulary, outlined};
+use feed_terms::table::Terms;
 use onix_records::row::Opening;
 use std::alloc::{AllocError, Global};
 use std::marker::Model;
@@ -16,6 +20,7 @@ pub struct Shown {
     alloc: Global,
     paragraph: Vec<u8>,
     opening: Option<Opening>,
+    terms: Option<Terms>,
     text: String,
 }
 
@@ -50,7 +55,7 @@ fn record_text(alloc: Global, fields: &FieldBuffer) -> Result<String, AllocError
 // The records of a Product, and notes on what is left out of it.
 fn product_records<'a>(
     alloc: Global,
-    preferred: &[u8],
+    choices: &SupplyChoices<'_>,
     opening: &Opening,
     product: &Composite<'a>,
     notes: &mut Vec<Note<'a>>,
@@ -60,7 +65,7 @@ fn product_records<'a>(
     let _fate = add_product(
         alloc,
         opening,
-        preferred,
+        choices,
         product,
         &mut fields,
         &mut records,
@@ -76,8 +81,14 @@ impl Shown {
             alloc,
             paragraph: Vec::from_slice(alloc, paragraph)?,
             opening: None,
+            terms: terms_in(alloc, paragraph),
             text: String::new(alloc),
         })
+    }
+
+    /// Whether there are terms of the shop.
+    pub fn has_terms(&self) -> bool {
+        self.terms.is_some()
     }
 
     /// The text.
@@ -132,7 +143,11 @@ impl Shown {
             None => return self.push_name("no header"),
             Some(opening) => product_records(
                 self.alloc,
-                choices_in(&self.paragraph).id_type,
+                &SupplyChoices {
+                    id_type: choices_in(&self.paragraph).id_type,
+                    terms: self.terms.as_ref(),
+                    is_plain: false,
+                },
                 opening,
                 product,
                 &mut notes,
@@ -164,5 +179,33 @@ impl Taker for Shown {
         } else {
             self.take_product(&Composite { line, below })
         }
+    }
+}
+
+/// The same, of a message of which the terms of the shop ask more.
+#[derive(Drop)]
+pub struct ShownWithTerms {
+    pub shown: Shown,
+}
+
+impl Model for ShownWithTerms {
+    ghost Value = { Unit {0} };
+
+    ghost view = { λ s. tt };
+}
+
+impl Taker for ShownWithTerms {
+    ghost use Rattle.feed_mapping.specs.Vocabulary.{terms_vocabulary};
+
+    ghost vocabulary = { terms_vocabulary };
+
+    ghost after = { λ s lines. tt };
+
+    fn vocabulary() -> Vocabulary {
+        terms_vocabulary()
+    }
+
+    fn take(&mut self, lines: &[Line]) -> Result<(), AllocError> {
+        self.shown.take(lines)
     }
 }

@@ -5,6 +5,8 @@ The cases stand in tests/conversions (`written_cases`), and have these parts:
     -- PLACE      the XML at that place of a message that is else usual (`FRAMES`), or, where PLACE is
                   `file`, the whole file
     -- words ..   words of the command line
+    -- table ..   the terms of the shop, as TOML has an array of tables
+    -- term ..    the one term, beside types = ["02"] and net = "05"
     -- records    the records that come of the XML at that place, each with LF; those around it and the
                   count of EndMessage are added
     -- all-records, of a file, or where those around the place are others
@@ -51,7 +53,8 @@ SHORT_TAGS = dict(
     CountryExcluded=j304 TerritoryExcluded=j308 (j303)=j303 SupplyToCountry=j138 SupplyToRegion=j139
     SupplyToCountryExcluded=j140 SupplyToTerritory=j397 OrderQuantityMinimum=x532 PriceDate=pricedate PriceDateRole=x476
     DateFormat=j260 Date=b306 Discount=discount DiscountCoded=discountcoded
-    PublishingDetail=publishingdetail SalesRights=salesrights
+    PublishingDetail=publishingdetail SalesRights=salesrights DiscountCodeType=j363 DiscountCode=j364
+    DiscountType=x467 Quantity=x320 DiscountPercent=j267 Tax=tax TaxRatePercent=x472
     """.split()
 )
 
@@ -139,6 +142,7 @@ class Case(NamedTuple):
     place: str
     xml: str
     words: list[str]
+    table: str
     wanted: Converted
     summary: list[str] | None
 
@@ -224,13 +228,14 @@ def case_of(written: Written) -> Case:
         parts[key] = repeated(value or (body.rstrip("\n") + "\n" if body.strip() else ""))
     place = next(key for key in parts if key in FRAMES or key == WHOLE_FILE)
     words = parts.get("words", "").split()
+    table = parts.get("table", f'[{{ types = ["02"], net = "05", {parts["term"]} }}]' if "term" in parts else "")
     records = None
     if "refused" not in parts:
         records = (parts.get("all-records") or records_of(place, parts["records"])).encode()
     lines = {key: text.rstrip("\n").split("\n") if text else [] for key, text in parts.items()}
     summary = lines.get("summary")
     wanted = Converted(records, lines.get("notes", []), lines.get("wrong", []), parts.get("refused", ""))
-    return Case(written.name, place, parts[place], words, wanted, summary)
+    return Case(written.name, place, parts[place], words, table, wanted, summary)
 
 
 def read_cases(path: Path) -> list[Case]:

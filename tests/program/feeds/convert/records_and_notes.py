@@ -92,8 +92,11 @@ def read_lines(errors: bytes) -> tuple[dict[int, list[tuple[str, str, str]]], li
     return of_feeds, summary
 
 
-def check(words: list[str], feeds: list[Feed], room: Room) -> Iterator[Outcome]:
+def check(words: list[str], table: str, feeds: list[Feed], room: Room) -> Iterator[Outcome]:
     """Converts the feeds in one run, each into a file of its own."""
+    if table:
+        room.write("shop.toml", f"term = {table}\n".encode())
+        words = [*words, "--terms", "shop.toml"]
     room.path("out").mkdir()
     for number, feed in enumerate(feeds):
         room.write(f"{number}.xml", feed.data)
@@ -103,7 +106,7 @@ def check(words: list[str], feeds: list[Feed], room: Room) -> Iterator[Outcome]:
         path = room.path(f"out/{number}.csv")
         records = path.read_bytes() if path.exists() else None
         yield Outcome(feed.name, came_as(of_feeds.get(number, []), records, feed), wanted(feed))
-    name = f"{feeds[0].name} {' '.join(words)}"
+    name = f"{feeds[0].name} {' '.join(words)}{table}"
     yield Outcome(f"{name}: the status", ran.status, max(feed.wanted.status() for feed in feeds))
     yield from summed(name, feeds, summary)
 
@@ -124,21 +127,21 @@ AT_ONCE = 30
 
 
 def groups(cases: list[Case]) -> Iterator[Group]:
-    """Those with the same words are converted together, but for one with a summary of its own; --number is for one file
-    alone."""
-    together: dict[tuple[str, ...], list[list[Feed]]] = {}
+    """Those with the same words and terms are converted together, but for one with a summary of its own; --number is for
+    one file alone."""
+    together: dict[tuple[tuple[str, ...], str], list[list[Feed]]] = {}
     for case in cases:
         for feed in case.feeds():
-            runs = together.setdefault(tuple(case.words), [[]])
+            runs = together.setdefault((tuple(case.words), case.table), [[]])
             if feed.summary is not None:
                 runs.insert(0, [feed])
                 continue
             if len(runs[-1]) == AT_ONCE or "--number" in case.words and runs[-1]:
                 runs.append([])
             runs[-1].append(feed)
-    for words, runs in together.items():
+    for (words, table), runs in together.items():
         for feeds in filter(None, runs):
-            yield Group(f"convert: {feeds[0].name}", partial(check, list(words), feeds))
+            yield Group(f"convert: {feeds[0].name}", partial(check, list(words), table, feeds))
 
 
 CASES = [case for path in sorted(FOLDER.glob("*.txt")) for case in read_cases(path)]

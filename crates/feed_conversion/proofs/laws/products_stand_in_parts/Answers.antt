@@ -8,6 +8,7 @@ returns c =
       opening = c.parts_say_the_same.ensures.opening;
       rows = c.parts_say_the_same.ensures.rows;
       one = c.records_are_products.ensures.one;
+      form = c.parts_say_the_same.ensures.form;
       none = c.records_are_products.ensures.none;
       joined = c.records_are_products.ensures.joined;
       message = c.records_are_products.ensures.message;

@@ -4,7 +4,9 @@ use Rattle.feed_mapping.proofs.RowLaws.{product-rows, products-joined}
 use Rattle.feed_mapping.proofs.laws.records_are_products.Goals as goal
 
 pub returns-clause-one : goal.returns-clause-one
-returns-clause-one c = product-rows
+returns-clause-one c =
+    let laws = c.computed_reads_back.ensures in
+    product-rows (record { writable = laws.writable; read = laws.read })
 
 pub returns-clause-none : goal.returns-clause-none
 returns-clause-none c = λ o. record { reads = refl; details = tt; utf8 = refl }

@@ -9,6 +9,7 @@ returns c =
     let five = c.with_word-convert-5.ensures _ _ four c.addressee.ensures in
     let six = c.with_word-convert-6.ensures _ _ five c.id_type.ensures in
     let seven = c.with_word-convert-7.ensures _ _ six c.wrong.ensures in
-    let eight = c.with_word-convert-8.ensures _ _ seven c.folder.ensures in
-    let nine = c.with_word-convert-9.ensures _ _ eight c.titles.ensures in
-    c.with_word.ensures _ _ nine c.feeds.ensures
+    let eight = c.with_word-convert-8.ensures _ _ seven c.terms.ensures in
+    let nine = c.with_word-convert-9.ensures _ _ eight c.folder.ensures in
+    let ten = c.with_word-convert-10.ensures _ _ nine c.titles.ensures in
+    c.with_word.ensures _ _ ten c.feeds.ensures

@@ -11,4 +11,5 @@ returns c =
     let seven = c.with_command-program-7.ensures _ _ six c.gaps.ensures in
     let eight = c.with_command-program-8.ensures _ _ seven c.migrate.ensures in
     let nine = c.with_command-program-9.ensures _ _ eight c.rules_check.ensures in
-    c.with_command.ensures _ _ nine c.serve.ensures
+    let ten = c.with_command-program-10.ensures _ _ nine c.serve.ensures in
+    c.with_command.ensures _ _ ten c.terms_check.ensures

@@ -26,5 +26,10 @@ returns-in-rules c =
     subst (λ name. ReadsAs (words_in c.args.matches.now) name (words_in c.args.words.now) c.rules_reading.result) (sym c.in-rules.is)
     (c.rules_reading.ensures (words_in c.args.matches.now) (sym c.in_default.ensures))
 
+pub returns-in-terms : goal.returns-in-terms
+returns-in-terms c =
+    subst (λ name. ReadsAs (words_in c.args.matches.now) name (words_in c.args.words.now) c.terms_reading.result) (sym c.in-terms.is)
+    (c.terms_reading.ensures (words_in c.args.matches.now) (sym c.in_default.ensures))
+
 pub returns-in_default-name : goal.returns-in_default-name
 returns-in_default-name c = c.desk_reading.ensures (sym c.in_default.ensures)

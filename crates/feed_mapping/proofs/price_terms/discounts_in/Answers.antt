@@ -1,0 +1,8 @@
+use Rattle.std.proofs.Common.{sym}
+use Rattle.std.specs.Option.{option_to_list}
+use Rattle.feed_mapping.specs.PriceTerms.{discount_in}
+use Rattle.feed_mapping.proofs.ElementLaws.{one-more}
+use Rattle.feed_mapping.proofs.price_terms.discounts_in.Goals as goal
+
+pub loop-discount-preserved : goal.loop-discount-preserved
+loop-discount-preserved c = one-more (λ x. option_to_list (discount_in x)) _ _ _ _ _ _ (sym c.in-Some.ensures) c.in_ok-push_discount.ensures c.loop-discount.invariant

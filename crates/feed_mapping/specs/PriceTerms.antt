@@ -1,0 +1,179 @@
+-- What the terms of the shop see of the Prices of a SupplyDetail, and what comes of them by these.
+use Rattle.std.specs.Prelude.{◌≡◌, ℕ, Bool, true, false, ◌&&◌, ◌||◌, List, [], ◌∷◌, ◌++◌, Option, Some, None}
+use Rattle.std.specs.Prelude.{if◌then◌else◌, codes, is_some, length, map, nat_lt, replicate}
+use Rattle.std.specs.List.{flat_map, list_any}
+use Rattle.std.specs.Option.{option_to_list}
+use Rattle.std.specs.Str.{bytes_eq, is_utf8}
+use Rattle.feed_outline.specs.Names.{stranger_apart}
+use Rattle.feed_outline.specs.Nodes.{Nodes, no_nodes, node}
+use Rattle.onix_records.specs.Price.{price_of}
+use Rattle.onix_records.specs.declared.parts.Price.{Price}
+use Rattle.onix_terms.specs.Code.{code2_of, currency_of}
+use Rattle.onix_terms.specs.Options.{◌>>=◌}
+use Rattle.feed_terms.specs.HeldBack.{is_held_back}
+use Rattle.feed_terms.specs.Percents.{feed_percent_of}
+use Rattle.feed_terms.specs.Prices.{code_said, discount_of}
+use Rattle.feed_terms.specs.WithTerms.{remarks_of, with_terms}
+use Rattle.feed_terms.specs.declared.with_terms.Remarks.{Remarks}
+use Rattle.feed_terms.specs.declared.price.Discount.{Discount}
+use Rattle.feed_terms.specs.declared.price.GivenPrice.{GivenPrice}
+use Rattle.feed_terms.specs.declared.price.Kind.{Kind}
+use Rattle.feed_terms.specs.declared.term.Term.{Term}
+use Rattle.feed_mapping.specs.Elements.{Composite, Element, composites, each_at, first}
+use Rattle.feed_mapping.specs.Elements.{text_at}
+use Rattle.feed_mapping.specs.Notes.{Note, foreign, note}
+use Rattle.feed_mapping.specs.Outcomes.{Outcome, all_records, written}
+use Rattle.feed_mapping.specs.Parties.{Pair, is_there}
+use Rattle.feed_mapping.specs.Prices.{PriceContext, price_fields, price_outcome}
+use Rattle.feed_mapping.specs.Records.{Records, parsed, parsed_term}
+use Rattle.feed_mapping.specs.declared.notes.Foreign.TheVariants as other
+use Rattle.feed_mapping.specs.declared.price_keys.Key.{Key}
+
+-- ---- what a Price says to the terms
+
+-- whether an element of a Price is read for the terms alone
+abbrev pub is_of_terms : List ℕ → Bool
+is_of_terms name =
+    list_any (bytes_eq name) (codes "DiscountCoded" ∷ codes "Discount" ∷ codes "Tax" ∷ [])
+
+-- of what stands in such an element, one is a stranger, or comes again
+abbrev pub is_mixed : Nodes → Bool
+is_mixed no_nodes = false
+is_mixed (node n tag text below rest) =
+    (bytes_eq n stranger_apart || is_some (first (composites n rest))) || is_mixed rest
+
+-- a Price is garbled: one of the elements that the terms read is a stranger, or comes again in one
+-- of those
+abbrev pub is_garbled : Nodes → Bool
+is_garbled no_nodes = false
+is_garbled (node n tag text below rest) =
+    (bytes_eq n stranger_apart || (is_of_terms n && is_mixed below)) || is_garbled rest
+
+-- the code that a DiscountCoded says
+abbrev pub code_in : Composite → Option (List ℕ)
+code_in c =
+    if is_utf8 (text_at "DiscountCodeType" c.below) && is_utf8 (text_at "DiscountCode" c.below)
+    then code_said (text_at "DiscountCodeType" c.below) (text_at "DiscountCode" c.below) else None
+
+-- the discount that a Discount says
+abbrev pub discount_in : Composite → Option Discount
+discount_in c =
+    if is_utf8 (text_at "DiscountType" c.below)
+    && (is_utf8 (text_at "Quantity" c.below) && is_utf8 (text_at "DiscountPercent" c.below))
+    then discount_of (text_at "DiscountType" c.below) (text_at "Quantity" c.below)
+    (text_at "DiscountPercent" c.below)
+    else None
+
+-- the rate of a Tax, where there is just one
+abbrev pub tax_in : List Composite → Option ℕ
+tax_in (tax ∷ []) = parsed_term feed_percent_of (text_at "TaxRatePercent" tax.below)
+tax_in taxes = None
+
+-- a Price that says so, and what it says to the terms besides
+abbrev pub given_of : Price → Nodes → GivenPrice
+given_of price nodes = record {
+  price = price;
+  codes = flat_map (λ c. option_to_list (code_in c)) (each_at "DiscountCoded" nodes);
+  discounts = flat_map (λ c. option_to_list (discount_in c)) (each_at "Discount" nodes);
+  tax = tax_in (each_at "Tax" nodes);
+  garbled = is_garbled nodes;
+}
+
+-- what the terms see of what a Price comes to: it, where it is written
+abbrev pub given_by : Outcome → Option Price → Nodes → List GivenPrice
+given_by (written records notes) (Some price) nodes = given_of price nodes ∷ []
+given_by outcome price nodes = []
+
+module _ (context : PriceContext) where
+  -- what they see of a Price
+  abbrev pub given_in : Nodes → List GivenPrice
+  given_in nodes =
+      given_by (price_outcome context nodes)
+      (parsed (price_of context.opening) (price_fields context nodes)) nodes
+
+  -- of some Prices
+  abbrev pub all_given : List Composite → List GivenPrice
+  all_given prices = flat_map (λ c. given_in c.below) prices
+
+  -- what comes of a Price
+  abbrev pub outcome_in : Composite → Outcome
+  outcome_in c = price_outcome context c.below
+
+  -- whether they see a Price
+  abbrev pub is_seen : Composite → Bool
+  is_seen c = nat_lt 0 (length (given_in c.below))
+
+  -- the element of a Price that the terms see
+  abbrev pub elements_in : Composite → List Element
+  elements_in c = map (λ g. c.element) (given_in c.below)
+
+-- what the terms see of the Prices of a SupplyDetail fits these records, and whether each is
+-- written
+pub record AreWritten (context : PriceContext) (prices : List Composite) (kept : Records)
+    (seen : List GivenPrice) (flags : List Bool) : Type 0 where
+  pub records : kept ≡ all_records (outcome_in context) prices
+  pub given : seen ≡ all_given context prices
+  pub are_written : flags ≡ map (is_seen context) prices
+
+-- a type and a currency that are both there
+abbrev pub kind_of : Key → Option Kind
+kind_of key = do
+  type_letters ← key.price_type
+  currency_letters ← key.currency
+  price_type ← parsed_term code2_of type_letters
+  currency ← parsed_term currency_of currency_letters
+  Some (record { price_type = price_type; currency = currency })
+
+-- the types and currencies that are closed
+abbrev pub closed_kinds : List Key → List Kind
+closed_kinds keys = flat_map (λ k. option_to_list (kind_of k)) keys
+
+-- a supplier as a term has it, by an identifier that is there and UTF-8
+abbrev pub supplier_of : Pair → Option (List ℕ)
+supplier_of i =
+    if is_there i && (is_utf8 i.id_type && is_utf8 i.id_value)
+    then Some (i.id_type ++ 44 ∷ i.id_value) else None
+
+-- ---- what comes of them
+
+-- that no term fits a Price
+abbrev pub unfitted_notes : Element → Bool → List Note
+unfitted_notes element is = if is then note element (foreign other.NoTerm []) ∷ [] else []
+
+-- that an amount of 0 is computed of it
+abbrev pub free_notes : Element → Bool → List Note
+free_notes element is = if is then note element (foreign other.NothingToPay []) ∷ [] else []
+
+-- notes on a Price of which that is said, one for each computed price that is held back; where the
+-- computed prices are left out, none but that no term fits it
+abbrev pub remark_notes : Bool → Element → Remarks → List Note
+remark_notes true element r = unfitted_notes element r.is_unfitted
+remark_notes false element r =
+    unfitted_notes element r.is_unfitted
+    ++ (free_notes element r.is_free
+    ++ replicate r.held (note element (foreign other.HeldBack [])))
+
+-- the notes on Prices with these elements, of each of which that is said
+abbrev pub all_remark_notes : Bool → List Element → List Remarks → List Note
+all_remark_notes is_plain [] remarks = []
+all_remark_notes is_plain (element ∷ elements) [] = []
+all_remark_notes is_plain (element ∷ elements) (r ∷ remarks) =
+    remark_notes is_plain element r ++ all_remark_notes is_plain elements remarks
+
+module _ (terms : List Term) (supplier : Option (List ℕ)) (context : PriceContext)
+    (prices : List Composite) where
+  -- the records of the Prices of a SupplyDetail, as they stand, or with those that the terms
+  -- compute
+  abbrev pub records_with : Bool → Records
+  records_with true = all_records (outcome_in context) prices
+  records_with false =
+      with_terms terms supplier (closed_kinds context.closed) (all_given context prices)
+      (all_records (outcome_in context) prices)
+
+  -- notes on what else comes of them
+  abbrev pub terms_notes : Bool → List Note
+  terms_notes is_plain =
+      all_remark_notes is_plain (flat_map (elements_in context) prices)
+      (map (remarks_of terms supplier
+      (is_held_back (closed_kinds context.closed) (all_given context prices)))
+      (all_given context prices))

@@ -1,0 +1,508 @@
+//! What the terms of the shop see of the Prices of a SupplyDetail, and what comes of them by these.
+
+ghost use Rattle.std.specs.Prelude.{◌≡◌, ◌≤◌, ◌++◌, ◌∷◌, [], ℕ, List, IfOk, OnOk, true, codes, length, map, replicate, if◌then◌else◌};
+ghost use Rattle.std.specs.List.{flat_map, list_all};
+ghost use Rattle.std.specs.Str.{bytes_eq, is_utf8};
+ghost use Rattle.feed_outline.specs.Names.{stranger_apart};
+ghost use Rattle.std.specs.Option.{option_copied, option_to_list};
+ghost use Rattle.feed_mapping.specs.Elements.{composites, element_view};
+ghost use Rattle.feed_mapping.specs.Notes.{foreign, note, note_views};
+ghost use Rattle.feed_mapping.specs.Outcomes.{all_notes, outcome_notes, outcome_records};
+ghost use Rattle.feed_mapping.specs.PartyViews.{pair_view};
+ghost use Rattle.feed_mapping.specs.Prices.{PriceContext as Seen, context_view};
+ghost use Rattle.feed_mapping.specs.PriceTerms.{AreWritten, all_given, closed_kinds, code_in, discount_in, elements_in, given_in, given_of, is_garbled, is_mixed, is_of_terms, is_seen, kind_of, outcome_in, records_with, all_remark_notes, remark_notes, supplier_of, tax_in, terms_notes};
+ghost use Rattle.feed_mapping.specs.Records.{parsed};
+ghost use Rattle.feed_mapping.specs.declared.notes.Foreign.TheVariants as other;
+ghost use Rattle.feed_terms.specs.HeldBack.{is_held_back};
+ghost use Rattle.feed_terms.specs.WithTerms.{HavePrices, remarks_of, with_terms};
+ghost use Rattle.onix_records.specs.Price.{price_of};
+
+use crate::elements::{Composite, first_composite, next_composite, text_or_empty};
+use crate::identifiers::is_there;
+use crate::notes::{Foreign, Note, Reason, push_note};
+use crate::parties::Pair;
+use crate::price_keys::Key;
+use crate::prices::{PriceContext, add_price, parse_fields};
+use crate::records::{parsed_code, parsed_currency, utf8_text};
+use csv_records::buffer::RecordBuffer;
+use csv_records::fields::FieldBuffer;
+use csv_records::record::Record;
+use feed_outline::{Elements, Line};
+use feed_terms::percent::Percent;
+use feed_terms::price::{Discount, GivenPrice, Kind, code_said};
+use feed_terms::table::Terms;
+use feed_terms::with_terms::{Remarks, add_with_terms};
+use onix_records::parts::Price;
+use onix_records::row::{Opening, RowFault};
+use onix_terms::items::Items;
+use onix_terms::text::Text;
+use std::alloc::{AllocError, Global};
+
+/// Whether an element of a Price is read for the terms alone.
+pub(crate) fn is_of_terms(name: &[u8]) -> bool
+    ensures { result ≡ is_of_terms name.now }
+{
+    name == b"DiscountCoded".as_slice()
+        || name == b"Discount".as_slice()
+        || name == b"Tax".as_slice()
+}
+
+// Whether an element is called as one that the terms read, and is none.
+fn is_stranger_apart(name: &[u8]) -> bool
+    ensures { result ≡ bytes_eq name.now stranger_apart }
+{
+    name == b";".as_slice()
+}
+
+// Whether of what stands in such an element one is a stranger, or comes again.
+fn is_mixed(elements: &Elements<'_>) -> bool
+    ensures { result ≡ is_mixed elements.now }
+{
+    let mut rest = elements.copy();
+    while let Some(node) = rest.first() {
+        let name = node.line.name;
+        if is_stranger_apart(name) || first_composite(name, &node.rest).is_some() {
+            return true;
+        }
+        rest = node.rest;
+    }
+    false
+}
+
+// Whether one of the elements that the terms read is a stranger, or comes again in one of those.
+fn is_garbled(elements: &Elements<'_>) -> bool
+    ensures { result ≡ is_garbled elements.now }
+{
+    let mut rest = elements.copy();
+    while let Some(node) = rest.first() {
+        let name = node.line.name;
+        if is_stranger_apart(name) || (is_of_terms(name) && is_mixed(&node.below)) {
+            return true;
+        }
+        rest = node.rest;
+    }
+    false
+}
+
+// The code that a DiscountCoded says.
+fn code_in(alloc: Global, coded: &Composite<'_>) -> Result<Option<Text>, AllocError>
+    ensures { IfOk result (λ code. code ≡ code_in coded.now) }
+{
+    let Some(code_type) = utf8_text(text_or_empty(b"DiscountCodeType", &coded.below)) else {
+        return Ok(None);
+    };
+    let Some(code) = utf8_text(text_or_empty(b"DiscountCode", &coded.below)) else {
+        return Ok(None);
+    };
+    code_said(alloc, code_type, code)
+}
+
+// Adds the code that a DiscountCoded says.
+fn push_code(
+    alloc: Global,
+    coded: &Composite<'_>,
+    codes: &mut Items<Text>,
+) -> Result<(), AllocError>
+    ensures { OnOk result (codes.new ≡ codes.old ++ option_to_list (code_in coded.now)) }
+{
+    match code_in(alloc, coded)? {
+        Some(code) => {
+            codes.push(code)?;
+            Ok(())
+        }
+        None => Ok(()),
+    }
+}
+
+// The codes that the DiscountCodeds of a Price say.
+fn codes_in(alloc: Global, elements: &Elements<'_>) -> Result<Items<Text>, AllocError>
+    ensures { IfOk result (λ all. all
+        ≡ flat_map (λ c. option_to_list (code_in c))
+        (composites (codes "DiscountCoded") elements.now)) }
+{
+    let mut all = Items::new(alloc);
+    let mut rest = elements.copy();
+    while let Some((coded, behind)) = next_composite(b"DiscountCoded", &rest) {
+        push_code(alloc, &coded, &mut all)?;
+        rest = behind;
+    }
+    Ok(all)
+}
+
+// The discount that a Discount says.
+fn discount_in(discount: &Composite<'_>) -> Option<Discount>
+    ensures { result ≡ discount_in discount.now }
+{
+    let discount_type = utf8_text(text_or_empty(b"DiscountType", &discount.below))?;
+    let quantity = utf8_text(text_or_empty(b"Quantity", &discount.below))?;
+    let percent = utf8_text(text_or_empty(b"DiscountPercent", &discount.below))?;
+    Discount::read(discount_type, quantity, percent)
+}
+
+// Adds the discount that a Discount says.
+fn push_discount(
+    discount: &Composite<'_>,
+    discounts: &mut Items<Discount>,
+) -> Result<(), AllocError>
+    ensures { OnOk result
+        (discounts.new ≡ discounts.old ++ option_to_list (discount_in discount.now)) }
+{
+    match discount_in(discount) {
+        Some(said) => {
+            discounts.push(said)?;
+            Ok(())
+        }
+        None => Ok(()),
+    }
+}
+
+// The discounts that the Discounts of a Price say.
+fn discounts_in(alloc: Global, elements: &Elements<'_>) -> Result<Items<Discount>, AllocError>
+    ensures { IfOk result (λ all. all
+        ≡ flat_map (λ c. option_to_list (discount_in c))
+        (composites (codes "Discount") elements.now)) }
+{
+    let mut all = Items::new(alloc);
+    let mut rest = elements.copy();
+    while let Some((discount, behind)) = next_composite(b"Discount", &rest) {
+        push_discount(&discount, &mut all)?;
+        rest = behind;
+    }
+    Ok(all)
+}
+
+// The rate of the Tax of a Price, where it has just one.
+fn tax_in(elements: &Elements<'_>) -> Option<Percent>
+    ensures { result ≡ tax_in (composites (codes "Tax") elements.now) }
+{
+    let (tax, behind) = next_composite(b"Tax", elements)?;
+    if next_composite(b"Tax", &behind).is_some() {
+        return None;
+    }
+    Percent::read_of_feed(utf8_text(text_or_empty(b"TaxRatePercent", &tax.below))?)
+}
+
+// A Price that says so, and what it says to the terms besides.
+fn given_of(alloc: Global, price: Price, elements: &Elements<'_>) -> Result<GivenPrice, AllocError>
+    ensures { IfOk result (λ given. given ≡ given_of price elements.now) }
+{
+    Ok(GivenPrice {
+        price,
+        codes: codes_in(alloc, elements)?,
+        discounts: discounts_in(alloc, elements)?,
+        tax: tax_in(elements),
+        garbled: is_garbled(elements),
+    })
+}
+
+// The Price that is read of a record.
+fn price_in(
+    alloc: Global,
+    opening: &Opening,
+    record: &Record<'_>,
+) -> Result<Option<Price>, AllocError>
+    ensures { (fields : List (List ℕ)) → record.now ≡ codes "Price" ∷ fields
+        → list_all is_utf8 fields ≡ true
+        → IfOk result (λ price. price ≡ parsed (price_of opening.now) fields) }
+{
+    let Some((_, behind)) = record.split_first() else {
+        return Ok(None);
+    };
+    match parse_fields(alloc, opening, &behind) {
+        Ok(price) => Ok(Some(price)),
+        Err(RowFault::Wrong) => Ok(None),
+        Err(RowFault::Memory) => Err(AllocError),
+    }
+}
+
+// Of the Prices of a SupplyDetail those that are written: the record of each and what the terms see
+// of it; and of all Prices whether they are.
+#[derive(Drop)]
+struct WrittenPrices {
+    records: RecordBuffer,
+    given: Vec<GivenPrice>,
+    are_written: Vec<bool>,
+}
+
+// Adds what comes of a Price, and what the terms see of it.
+fn add_written<'a>(
+    alloc: Global,
+    context: &PriceContext<'_, '_, '_>,
+    price: &Composite<'a>,
+    fields: &mut FieldBuffer,
+    written: &mut WrittenPrices,
+    notes: &mut Vec<Note<'a>>,
+) -> Result<(), AllocError>
+    ensures records { OnOk result (written.new.records ≡ written.old.records
+        ++ outcome_records (outcome_in (context_view context.now) price.now)) }
+    ensures given { OnOk result (written.new.given.items ≡ written.old.given.items
+        ++ given_in (context_view context.now) price.now.below) }
+    ensures are_written { OnOk result (written.new.are_written.items
+        ≡ written.old.are_written.items ++ is_seen (context_view context.now) price.now ∷ []) }
+    ensures notes { OnOk result (note_views notes.new.items ≡ note_views notes.old.items
+        ++ outcome_notes price.now.element (outcome_in (context_view context.now) price.now)) }
+{
+    let count = written.records.len();
+    add_price(alloc, context, price, fields, &mut written.records, notes)?;
+    if written.records.len() == count {
+        written.are_written.push(false)?;
+        return Ok(());
+    }
+    // A record that is written is that of a Price, so it is memory that ran out.
+    let Some(said) = price_in(alloc, context.opening, &written.records.record(count))? else {
+        return Err(AllocError);
+    };
+    written.given.push(given_of(alloc, said, &price.below)?)?;
+    written.are_written.push(true)?;
+    Ok(())
+}
+
+// Adds notes on what comes of the Prices of a SupplyDetail, and gives those that are written.
+fn written_in<'a>(
+    alloc: Global,
+    context: &PriceContext<'_, '_, '_>,
+    elements: &Elements<'a>,
+    fields: &mut FieldBuffer,
+    notes: &mut Vec<Note<'a>>,
+) -> Result<WrittenPrices, AllocError>
+    ensures written { IfOk result (λ w. AreWritten (context_view context.now)
+        (composites (codes "Price") elements.now) w.records w.given.items w.are_written.items) }
+    ensures notes { OnOk result (note_views notes.new.items ≡ note_views notes.old.items
+        ++ all_notes (outcome_in (context_view context.now))
+        (composites (codes "Price") elements.now)) }
+{
+    let mut written = WrittenPrices {
+        records: RecordBuffer::new(alloc),
+        given: Vec::new(alloc),
+        are_written: Vec::new(alloc),
+    };
+    let mut rest = elements.copy();
+    while let Some((price, behind)) = next_composite(b"Price", &rest) {
+        add_written(alloc, context, &price, fields, &mut written, notes)?;
+        rest = behind;
+    }
+    Ok(written)
+}
+
+// The kind of a key that has both.
+fn kind_of(key: &Key) -> Option<Kind>
+    ensures { result ≡ kind_of key.now }
+{
+    let type_letters = key.price_type?;
+    let currency_letters = key.currency?;
+    Some(Kind {
+        price_type: parsed_code(type_letters.as_slice())?,
+        currency: parsed_currency(currency_letters.as_slice())?,
+    })
+}
+
+// The types and currencies that are closed.
+fn closed_kinds(alloc: Global, keys: &[Key]) -> Result<Vec<Kind>, AllocError>
+    ensures { IfOk result (λ kinds. kinds.items ≡ closed_kinds keys.now) }
+{
+    let mut kinds = Vec::new(alloc);
+    for key in keys {
+        if let Some(kind) = kind_of(key) {
+            kinds.push(kind)?;
+        }
+    }
+    Ok(kinds)
+}
+
+/// The supplier of an identifier as a term has it.
+pub(crate) fn supplier_of(alloc: Global, supplier: Pair<'_>) -> Result<Option<Text>, AllocError>
+    ensures { IfOk result (λ text. text ≡ supplier_of (pair_view supplier.entry)) }
+{
+    if !is_there(supplier) {
+        return Ok(None);
+    }
+    let Some(id_type) = utf8_text(supplier.id_type) else {
+        return Ok(None);
+    };
+    let Some(id_value) = utf8_text(supplier.id_value) else {
+        return Ok(None);
+    };
+    let mut text = Text::from_str(alloc, id_type)?;
+    text.push_str(",")?;
+    text.push_str(id_value)?;
+    Ok(Some(text))
+}
+
+// Adds a note of this kind on the element of a line.
+fn push_foreign<'a>(
+    notes: &mut Vec<Note<'a>>,
+    line: &'a Line,
+    kind: Foreign,
+) -> Result<(), AllocError>
+    ensures { OnOk result (note_views notes.new.items ≡ note_views notes.old.items
+        ++ note (element_view line.now) (foreign kind []) ∷ []) }
+{
+    push_note(notes, line, Reason::foreign(kind, b""))
+}
+
+// Adds so many notes that a price that is computed of a Price is held back.
+fn push_held<'a>(held: usize, line: &'a Line, notes: &mut Vec<Note<'a>>) -> Result<(), AllocError>
+    ensures { OnOk result (note_views notes.new.items ≡ note_views notes.old.items
+        ++ replicate held (note (element_view line.now) (foreign other.HeldBack []))) }
+{
+    let mut left = held;
+    while left > 0 {
+        push_foreign(notes, line, Foreign::HeldBack)?;
+        left -= 1;
+    }
+    Ok(())
+}
+
+// Adds the notes on a Price of which that is said.
+fn push_remarks<'a>(
+    is_plain: bool,
+    line: &'a Line,
+    remarks: Remarks,
+    notes: &mut Vec<Note<'a>>,
+) -> Result<(), AllocError>
+    ensures { OnOk result (note_views notes.new.items ≡ note_views notes.old.items
+        ++ remark_notes is_plain (element_view line.now) remarks) }
+{
+    if remarks.is_unfitted {
+        push_foreign(notes, line, Foreign::NoTerm)?;
+    }
+    if is_plain {
+        return Ok(());
+    }
+    if remarks.is_free {
+        push_foreign(notes, line, Foreign::NothingToPay)?;
+    }
+    push_held(remarks.held, line, notes)
+}
+
+// Adds the notes on those of the Prices that are written, of each of which that is said.
+fn push_all_remarks<'a>(
+    is_plain: bool,
+    elements: &Elements<'a>,
+    are_written: &[bool],
+    remarks: &[Remarks],
+    notes: &mut Vec<Note<'a>>,
+) -> Result<(), AllocError>
+    ensures { (context : Seen)
+        → are_written.now ≡ map (is_seen context) (composites (codes "Price") elements.now)
+        → length remarks.now ≡ length (all_given context (composites (codes "Price") elements.now))
+        → OnOk result (note_views notes.new.items ≡ note_views notes.old.items
+        ++ all_remark_notes is_plain (flat_map (elements_in context)
+        (composites (codes "Price") elements.now)) remarks.now) }
+{
+    let mut rest = elements.copy();
+    let mut written = are_written;
+    let mut left = remarks;
+    while let Some((price, behind)) = next_composite(b"Price", &rest) {
+        let [is_written, more @ ..] = written else {
+            return Ok(());
+        };
+        written = more;
+        rest = behind;
+        if !*is_written {
+            continue;
+        }
+        let [first, others @ ..] = left else {
+            return Ok(());
+        };
+        push_remarks(is_plain, price.line, *first, notes)?;
+        left = others;
+    }
+    Ok(())
+}
+
+// Adds records.
+fn push_records(from: &RecordBuffer, records: &mut RecordBuffer) -> Result<(), AllocError>
+    ensures { OnOk result (records.new ≡ records.old ++ from.now) }
+{
+    for place in 0..from.len() {
+        records.push(&from.record(place))?;
+    }
+    Ok(())
+}
+
+// Adds the records of the Prices that are written, each with those behind it that the terms
+// compute, unless these are left out, and says what else comes of each.
+fn add_records(
+    alloc: Global,
+    terms: &Terms,
+    supplier: Option<&Text>,
+    is_plain: bool,
+    closed: &[Kind],
+    written: &WrittenPrices,
+    records: &mut RecordBuffer,
+) -> Result<Vec<Remarks>, AllocError>
+    requires { HavePrices written.now.records written.now.given.items }
+    ensures records { OnOk result (records.new ≡ records.old
+        ++ (if is_plain then written.now.records else with_terms terms.now
+        (option_copied supplier.entry) closed.now written.now.given.items written.now.records)) }
+    ensures remarks { IfOk result (λ r. r.items ≡ map (remarks_of terms.now
+        (option_copied supplier.entry) (is_held_back closed.now written.now.given.items))
+        written.now.given.items) }
+{
+    let given = written.given.as_slice();
+    if !is_plain {
+        return add_with_terms(
+            alloc,
+            terms,
+            supplier,
+            closed,
+            given,
+            &written.records,
+            records,
+        );
+    }
+    push_records(&written.records, records)?;
+    let mut computed = RecordBuffer::new(alloc);
+    add_with_terms(
+        alloc,
+        terms,
+        supplier,
+        closed,
+        given,
+        &written.records,
+        &mut computed,
+    )
+}
+
+/// Adds the records of the Prices of a SupplyDetail, each with those behind it that the terms
+/// compute, unless these are left out, and notes.
+pub(crate) fn add_computed_prices<'a>(
+    alloc: Global,
+    terms: &Terms,
+    supplier: Option<&Text>,
+    is_plain: bool,
+    context: &PriceContext<'_, '_, '_>,
+    elements: &Elements<'a>,
+    fields: &mut FieldBuffer,
+    records: &mut RecordBuffer,
+    notes: &mut Vec<Note<'a>>,
+) -> Result<(), AllocError>
+    ensures records { OnOk result (records.new ≡ records.old ++ records_with terms.now
+        (option_copied supplier.entry) (context_view context.now)
+        (composites (codes "Price") elements.now) is_plain) }
+    ensures notes { OnOk result (note_views notes.new.items ≡ note_views notes.old.items
+        ++ (all_notes (outcome_in (context_view context.now))
+        (composites (codes "Price") elements.now)
+        ++ terms_notes terms.now (option_copied supplier.entry) (context_view context.now)
+        (composites (codes "Price") elements.now) is_plain)) }
+{
+    let written = written_in(alloc, context, elements, fields, notes)?;
+    let closed = closed_kinds(alloc, context.closed)?;
+    let remarks = add_records(
+        alloc,
+        terms,
+        supplier,
+        is_plain,
+        closed.as_slice(),
+        &written,
+        records,
+    )?;
+    push_all_remarks(
+        is_plain,
+        elements,
+        written.are_written.as_slice(),
+        remarks.as_slice(),
+        notes,
+    )
+}

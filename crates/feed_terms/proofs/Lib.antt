@@ -1,0 +1,15 @@
+pub mod ComputedAmounts
+pub mod Stands
+pub mod Without
+pub mod TermTables
+pub mod TakenPrices
+pub mod Digits
+pub mod LeastPrices
+pub mod BadTerms
+pub mod Starts
+pub mod WithRecords
+pub mod FirstFitting
+pub mod CodeLists
+pub mod ReadBack
+pub mod Writable
+pub mod TermTypes

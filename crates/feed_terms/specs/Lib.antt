@@ -1,0 +1,13 @@
+pub mod Percents
+pub mod TermsFile
+pub mod Reading
+pub mod Prices
+pub mod Fits
+pub mod Codes
+pub mod Precedes
+pub mod Amounts
+pub mod Computed
+pub mod HeldBack
+pub mod GivenStarts
+pub mod WithTerms
+pub mod Laws

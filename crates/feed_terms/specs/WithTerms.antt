@@ -1,0 +1,91 @@
+-- The records of a SupplyDetail with the prices that are computed.
+use Rattle.std.specs.Prelude.{◌≡◌, ℕ, List, [], ◌∷◌, ◌++◌, ◌==◌, Bool, not, ◌&&◌, Option}
+use Rattle.std.specs.Prelude.{◌-◌, ◌<◌, ◌≤◌, IfSome, drop, filter, is_none, length, map}
+use Rattle.std.specs.Prelude.{slice_get, take}
+use Rattle.std.specs.List.{flat_map, list_any}
+use Rattle.onix_records.specs.Price.{minimum_fields}
+use Rattle.onix_records.specs.declared.parts.Price.{Price}
+use Rattle.feed_terms.specs.Amounts.{two_decimals}
+use Rattle.feed_terms.specs.Computed.{computed_by}
+use Rattle.feed_terms.specs.Fits.{fitting, is_of_table}
+use Rattle.feed_terms.specs.HeldBack.{is_held_back}
+use Rattle.feed_terms.specs.declared.computed.ComputedPrice.{ComputedPrice}
+use Rattle.feed_terms.specs.declared.price.GivenPrice.{GivenPrice}
+use Rattle.feed_terms.specs.declared.price.Kind.{Kind}
+use Rattle.feed_terms.specs.declared.term.Term.{Term}
+use Rattle.feed_terms.specs.declared.with_terms.Outcome.{Outcome}
+use Rattle.feed_terms.specs.declared.with_terms.Remarks.{Remarks}
+
+-- the record of a computed price: that of the price that it comes from, but for type, amount and
+-- minimum, which is there where it is above 1
+abbrev pub computed_record : List (List ℕ) → ComputedPrice → List (List ℕ)
+computed_record fields c =
+    take 1 fields ++ (c.price_type ∷ two_decimals c.amount
+    ∷ (take 6 (drop 3 fields) ++ minimum_fields c.minimum))
+
+-- a computed price, as the desk holds it
+abbrev pub price_of_computed : Price → ComputedPrice → Price
+price_of_computed price c =
+    record price { price_type = c.price_type; amount = c.amount; minimum = c.minimum }
+
+-- Prices of that supplier, where those that are computed of a price are held back by this test.
+module _ (terms : List Term) (supplier : Option (List ℕ))
+    (is_held : Price → ComputedPrice → Bool) where
+  -- the prices that are computed of one
+  abbrev pub computed_of : GivenPrice → List ComputedPrice
+  computed_of g = computed_by (fitting supplier g terms) g
+
+  -- those that are not held back
+  abbrev pub left_of : GivenPrice → List ComputedPrice
+  left_of g = filter (λ c. not (is_held g.price c)) (computed_of g)
+
+  -- those that are written: an amount of 0 is none
+  abbrev pub written_of : GivenPrice → List ComputedPrice
+  written_of g = filter (λ c. not (c.amount == 0)) (left_of g)
+
+  -- how many are held back
+  abbrev pub held_of : GivenPrice → ℕ
+  held_of g = length (computed_of g) - length (left_of g)
+
+  -- whether one that is left has an amount of 0
+  abbrev pub is_free : GivenPrice → Bool
+  is_free g = list_any (λ c. c.amount == 0) (left_of g)
+
+  -- whether no term fits one that is of a type of the table
+  abbrev pub is_unfitted : GivenPrice → Bool
+  is_unfitted g = is_none (fitting supplier g terms) && is_of_table terms g
+
+  -- what is said of one besides
+  abbrev pub remarks_of : GivenPrice → Remarks
+  remarks_of g = record { held = held_of g; is_free = is_free g; is_unfitted = is_unfitted g }
+
+  -- the record of a price, and behind it those of the prices that are computed of it
+  abbrev pub with_computed : List (List ℕ) → GivenPrice → List (List (List ℕ))
+  with_computed fields g = fields ∷ map (computed_record fields) (written_of g)
+
+  -- the records of prices, each with those behind it
+  abbrev pub with_all : List (List (List ℕ)) → List GivenPrice → List (List (List ℕ))
+  with_all [] prices = []
+  with_all (fields ∷ records) [] = fields ∷ records
+  with_all (fields ∷ records) (g ∷ prices) = with_computed fields g ++ with_all records prices
+
+  -- prices of the desk with those that are computed
+  abbrev pub prices_with : List GivenPrice → List Price
+  prices_with given =
+      flat_map (λ g. g.price ∷ map (price_of_computed g.price) (written_of g)) given
+
+  -- what comes of a price
+  pub record IsOutcome (g : GivenPrice) (o : Outcome) : Type 0 where
+    pub written : o.written.items ≡ written_of g
+    pub remarks : o.remarks ≡ remarks_of g
+
+-- the records of the Prices of a SupplyDetail with the terms
+abbrev pub with_terms : List Term → Option (List ℕ) → List Kind → List GivenPrice
+    → List (List (List ℕ)) → List (List (List ℕ))
+with_terms terms supplier closed given records =
+    with_all terms supplier (is_held_back closed given) records given
+
+-- records of Prices, as many as there are prices, each with the nine fields that a Price has
+pub record HavePrices (records : List (List (List ℕ))) (given : List GivenPrice) : Type 0 where
+  pub count : length records ≡ length given
+  pub fields : (k : ℕ) → k < length records → IfSome (slice_get records k) (λ r. 9 ≤ length r)

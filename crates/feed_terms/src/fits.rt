@@ -1,0 +1,99 @@
+//! Which term fits a price.
+
+ghost use Rattle.std.specs.Prelude.{◌≡◌, IfOk};
+ghost use Rattle.std.specs.Option.{option_copied};
+ghost use Rattle.feed_terms.specs.Fits.{fits_besides, has_discount, has_tax, is_among, is_asked, supplier_text};
+
+use crate::percent::Percent;
+use crate::price::{Discount, GivenPrice};
+use crate::term::{Rate, Term};
+use onix_terms::code::{Code2, Currency};
+use onix_terms::party::Party;
+use onix_terms::text::Text;
+use std::alloc::{AllocError, Global};
+
+/// The identifier of a supplier, as a term has it.
+pub fn supplier_text(alloc: Global, party: &Party) -> Result<Text, AllocError>
+    ensures { IfOk result (λ text. text ≡ supplier_text party.now) }
+{
+    let mut text = Text::from_str(alloc, party.id_type.as_str())?;
+    text.push_str(",")?;
+    text.push_str(party.id_value.as_str())?;
+    Ok(text)
+}
+
+/// Whether a type is among these.
+pub(crate) fn has_type(types: &[Code2], code: Code2) -> bool
+    ensures { result ≡ is_among types.now code }
+{
+    types.iter().any(|other| code == *other)
+}
+
+/// Whether a price is of one of the types of a term.
+pub(crate) fn is_of_type(term: &Term, given: &GivenPrice) -> bool
+    ensures { result ≡ is_among term.now.types given.now.price.price_type }
+{
+    has_type(term.types.as_slice(), given.price.price_type)
+}
+
+pub(crate) fn is_among(texts: &[Text], text: &Text) -> bool
+    ensures { result ≡ is_among texts.now text.now }
+{
+    texts.iter().any(|other| text == other)
+}
+
+// Whether a supplier is the one that a term asks for, if it does.
+pub(crate) fn is_supplier(asked: Option<&Text>, supplier: Option<&Text>) -> bool
+    ensures { result ≡ is_asked (option_copied asked.entry) (option_copied supplier.entry) }
+{
+    match asked {
+        None => true,
+        Some(asked) => match supplier {
+            None => false,
+            Some(supplier) => asked == supplier,
+        },
+    }
+}
+
+fn is_currency(asked: Option<Currency>, currency: Currency) -> bool
+    ensures { result ≡ is_asked asked (Some currency) }
+{
+    match asked {
+        None => true,
+        Some(asked) => asked == currency,
+    }
+}
+
+// Whether a Discount says a percent, where a term goes by it.
+fn has_discount(percent: Rate, discounts: &[Discount]) -> bool
+    ensures { result ≡ has_discount percent discounts.now }
+{
+    match percent {
+        Rate::Fixed(_) => true,
+        Rate::Feed => match discounts {
+            [] => false,
+            [_, ..] => true,
+        },
+    }
+}
+
+// Whether the Tax says a percent, where a term goes by it.
+fn has_tax(tax: Option<Rate>, said: Option<Percent>) -> bool
+    ensures { result ≡ has_tax tax said }
+{
+    match tax {
+        Some(Rate::Feed) => said.is_some(),
+        _ => true,
+    }
+}
+
+/// Whether a term fits a price of this supplier but for its codes.
+pub(crate) fn fits_besides(term: &Term, supplier: Option<&Text>, given: &GivenPrice) -> bool
+    ensures { result ≡ fits_besides (option_copied supplier.entry) given.now term.now }
+{
+    is_of_type(term, given)
+        && is_supplier(term.supplier.as_ref(), supplier)
+        && is_currency(term.currency, given.price.currency)
+        && has_discount(term.percent, given.discounts.as_slice())
+        && has_tax(term.tax, given.tax)
+}

@@ -1,0 +1,254 @@
+//! The records of a SupplyDetail with the prices that are computed.
+
+ghost use Rattle.std.specs.Prelude.{◌≡◌, ◌≤◌, ◌==◌, ◌++◌, true, OnOk, IfOk, ◌&&◌, filter, is_none, length, map, not};
+ghost use Rattle.std.specs.Option.{option_copied};
+ghost use Rattle.onix_records.specs.Price.{minimum_fields};
+ghost use Rattle.std.specs.List.{list_any};
+ghost use Rattle.feed_terms.specs.Fits.{is_of_table};
+ghost use Rattle.feed_terms.specs.GivenStarts.{held_by};
+ghost use Rattle.feed_terms.specs.HeldBack.{is_held_back};
+ghost use Rattle.feed_terms.specs.WithTerms.{HavePrices, IsOutcome, computed_record, remarks_of, with_computed, with_terms};
+
+use crate::amounts::two_decimals;
+use crate::computed::{ComputedPrice, computed_by};
+use crate::held_back::GivenStarts;
+use crate::price::{GivenPrice, Kind};
+use crate::table::Terms;
+use crate::term::Term;
+use csv_records::buffer::RecordBuffer;
+use csv_records::fields::FieldBuffer;
+use csv_records::record::Record;
+use itoa::Buffer;
+use onix_records::parts::Price;
+use onix_terms::quantity::Quantity;
+use onix_terms::text::Text;
+use std::alloc::{AllocError, Global};
+
+/// What is said of a Price beside the prices that are written behind it.
+#[derive(Clone, Copy, Debug)]
+pub struct Remarks {
+    /// How many computed prices are held back.
+    pub held: usize,
+    /// Whether an amount of 0 was computed that is not held back.
+    pub is_free: bool,
+    /// Whether no term fits it, though it is of a type of the table.
+    pub is_unfitted: bool,
+}
+
+/// What comes of a Price by the terms.
+#[derive(Drop)]
+pub struct Outcome {
+    /// The prices that are written behind it.
+    pub written: Vec<ComputedPrice>,
+    pub remarks: Remarks,
+}
+
+// The computed prices that are not held back.
+fn left_of(
+    alloc: Global,
+    starts: &GivenStarts,
+    price: &Price,
+    prices: &[ComputedPrice],
+) -> Result<Vec<ComputedPrice>, AllocError>
+    ensures left { IfOk result (λ left. left.items
+        ≡ filter (λ c. not (held_by starts.now price.now c)) prices.now) }
+    ensures no_more { IfOk result (λ left. length left.items ≤ length prices.now) }
+{
+    let mut left = Vec::new(alloc);
+    for computed in prices {
+        if !starts.hold_back(price, computed) {
+            left.push(*computed)?;
+        }
+    }
+    Ok(left)
+}
+
+fn is_free(price: &ComputedPrice) -> bool
+    ensures { result ≡ (price.now.amount == 0) }
+{
+    price.amount.thousandths() == 0
+}
+
+// The prices of more than nothing.
+fn written_of(alloc: Global, left: &[ComputedPrice]) -> Result<Vec<ComputedPrice>, AllocError>
+    ensures { IfOk result
+        (λ written. written.items ≡ filter (λ c. not (c.amount == 0)) left.now) }
+{
+    let mut written = Vec::new(alloc);
+    for price in left {
+        if !is_free(price) {
+            written.push(*price)?;
+        }
+    }
+    Ok(written)
+}
+
+// Whether one of some prices is nothing.
+fn has_free(prices: &[ComputedPrice]) -> bool
+    ensures { result ≡ list_any (λ c. c.amount == 0) prices.now }
+{
+    prices.iter().any(|price| is_free(price))
+}
+
+// Whether no term fits a price that is of a type of the table.
+fn is_unfitted(terms: &Terms, term: Option<&Term>, given: &GivenPrice) -> bool
+    ensures { result ≡ (is_none (option_copied term.entry) && is_of_table terms.now given.now) }
+{
+    match term {
+        Some(_) => false,
+        None => terms.has_type(given),
+    }
+}
+
+/// What comes of a Price of a supplier whose SupplyDetail gives prices that start so.
+pub fn outcome_of(
+    alloc: Global,
+    terms: &Terms,
+    supplier: Option<&Text>,
+    starts: &GivenStarts,
+    given: &GivenPrice,
+) -> Result<Outcome, AllocError>
+    ensures { IfOk result (IsOutcome terms.now (option_copied supplier.entry)
+        (held_by starts.now) given.now) }
+{
+    let term = terms.fitting(supplier, given);
+    let is_unfitted = is_unfitted(terms, term, given);
+    let computed = computed_by(alloc, term, given)?;
+    let left = left_of(alloc, starts, &given.price, computed.as_slice())?;
+    let written = written_of(alloc, left.as_slice())?;
+    Ok(Outcome {
+        written,
+        remarks: Remarks {
+            held: computed.len() - left.len(),
+            is_free: has_free(left.as_slice()),
+            is_unfitted,
+        },
+    })
+}
+
+// The minimum order quantity, where it is above 1.
+fn push_minimum(fields: &mut FieldBuffer, minimum: Quantity) -> Result<(), AllocError>
+    ensures { OnOk result (fields.new ≡ fields.old ++ minimum_fields minimum) }
+{
+    let minimum = minimum.value();
+    if minimum > 1 {
+        let mut buffer = Buffer::new();
+        fields.push(buffer.format(minimum))?;
+    }
+    Ok(())
+}
+
+// Puts the fields of a computed price in place of what the list had, by those of the price that it
+// comes from.
+fn fill_computed(
+    alloc: Global,
+    source: &Record<'_>,
+    price: &ComputedPrice,
+    fields: &mut FieldBuffer,
+) -> Result<(), AllocError>
+    requires { 9 ≤ length source.now }
+    ensures { OnOk result (fields.new ≡ computed_record source.now price.now) }
+{
+    let amount = two_decimals(alloc, price.amount)?;
+    fields.clear();
+    fields.push_record(&source.part(0, 1))?;
+    fields.push(price.price_type.as_str())?;
+    fields.push(amount.as_str())?;
+    fields.push_record(&source.part(3, 9))?;
+    push_minimum(fields, price.minimum)
+}
+
+/// Adds the records of computed prices behind that of the price that they come from.
+pub fn push_computed(
+    alloc: Global,
+    source: &Record<'_>,
+    prices: &[ComputedPrice],
+    fields: &mut FieldBuffer,
+    records: &mut RecordBuffer,
+) -> Result<(), AllocError>
+    requires { 9 ≤ length source.now }
+    ensures { OnOk result
+        (records.new ≡ records.old ++ map (computed_record source.now) prices.now) }
+{
+    for price in prices {
+        fill_computed(alloc, source, price, fields)?;
+        records.push(&fields.as_record())?;
+    }
+    Ok(())
+}
+
+// Adds the record of a Price, and behind it those of the prices that are computed of it, and says
+// what else comes of it.
+fn add_with_computed(
+    alloc: Global,
+    terms: &Terms,
+    supplier: Option<&Text>,
+    starts: &GivenStarts,
+    given: &GivenPrice,
+    source: &Record<'_>,
+    fields: &mut FieldBuffer,
+    output: &mut RecordBuffer,
+) -> Result<Remarks, AllocError>
+    requires { 9 ≤ length source.now }
+    ensures records { OnOk result (output.new ≡ output.old
+        ++ with_computed terms.now (option_copied supplier.entry) (held_by starts.now)
+        source.now given.now) }
+    ensures remarks { IfOk result (λ r. r
+        ≡ remarks_of terms.now (option_copied supplier.entry) (held_by starts.now) given.now) }
+{
+    let outcome = outcome_of(alloc, terms, supplier, starts, given)?;
+    output.push(source)?;
+    push_computed(alloc, source, outcome.written.as_slice(), fields, output)?;
+    Ok(outcome.remarks)
+}
+
+/// Adds the records of the Prices of a SupplyDetail, of which the feed gives these, each with those
+/// of the prices that are computed of it behind it, and says of each what else comes of it.
+pub fn add_with_terms(
+    alloc: Global,
+    terms: &Terms,
+    supplier: Option<&Text>,
+    closed: &[Kind],
+    given: &[GivenPrice],
+    records: &RecordBuffer,
+    output: &mut RecordBuffer,
+) -> Result<Vec<Remarks>, AllocError>
+    requires { HavePrices records.now given.now }
+    ensures records { OnOk result (output.new ≡ output.old
+        ++ with_terms terms.now (option_copied supplier.entry) closed.now given.now records.now) }
+    ensures remarks { IfOk result (λ r. r.items ≡ map (remarks_of terms.now
+        (option_copied supplier.entry) (is_held_back closed.now given.now)) given.now) }
+{
+    let starts = GivenStarts::of(alloc, closed, given)?;
+    let mut fields = FieldBuffer::new(alloc);
+    let mut remarks = Vec::new(alloc);
+    for place in 0..given.len() {
+        let remark = add_with_computed(
+            alloc,
+            terms,
+            supplier,
+            &starts,
+            &given[place],
+            &records.record(place),
+            &mut fields,
+            output,
+        )?;
+        remarks.push(remark)?;
+    }
+    Ok(remarks)
+}
+
+/// Whether records are those of so many Prices, each with the nine fields that a Price has.
+pub fn have_prices(records: &RecordBuffer, given: &[GivenPrice]) -> bool
+    ensures { result ≡ true → HavePrices records.now given.now }
+{
+    if records.len() != given.len() {
+        return false;
+    }
+    for place in 0..records.len() {
+        if records.record(place).len() < 9 {
+            return false;
+        }
+    }
+    true
+}

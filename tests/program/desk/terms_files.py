@@ -1,0 +1,74 @@
+"""Tables of the shop's terms that the command `terms` reads or refuses, with the lines on standard error."""
+
+from collections.abc import Iterator
+
+from tests.program.room import UNREADABLE, Ran, Room
+from tests.program.written_cases import TESTS, Written, read_file, repeated, unescaped
+from tests.running import Outcome
+
+TERM = b'[[term]]\ntypes = ["02"]\nnet = "05"\npercent = "42.5"\n'
+
+
+def preceded(later: int, earlier: int) -> bytes:
+    return b"onixdesk: terms: term %d never counts: term %d always precedes it\n" % (later, earlier)
+
+
+def wanted(case: Written) -> Ran:
+    said, *warned = [head for head, _ in case.parts]
+    if not said.startswith("terms "):
+        return Ran(2, b"", f"onixdesk: terms: {said}\n".encode())
+    if warned == ["all preceded"]:
+        lines = b"".join(preceded(later, 1) for later in range(2, 1000))
+    else:
+        pairs = [[int(number) for number in line.split()[1:]] for line in warned]
+        lines = b"".join(preceded(later, earlier) for later, earlier in pairs)
+    return Ran(0, f"{said}\n".encode(), lines)
+
+
+def tables(room: Room) -> Iterator[Outcome]:
+    for case in read_file(TESTS / "rules/terms.txt"):
+        room.write("north.toml", unescaped(repeated(case.text)))
+        came = room.run("terms", "north.toml", given=UNREADABLE)
+        yield Outcome(f"terms: {case.name}", came, wanted(case))
+
+
+# Name, text that is no TOML, and the line that is wrong.
+UNREAD = [
+    ("no value", b"term = ", 1),
+    ("a text that is not closed", b'[[term]]\n\nnet = "05\n', 3),
+    ("a key twice", TERM + b'net = "07"\n', 5),
+    ("not UTF-8", b"# The shop\n# \xff\n", 2),
+    ("a byte 0", b"# The shop\nterm = []\0\n", 2),
+    ("deep arrays", b"term = " + b"[" * 100_000, 1),
+]
+
+
+def tables_that_are_no_toml(room: Room) -> Iterator[Outcome]:
+    """The cause is the parser's own words."""
+    for name, text, line in UNREAD:
+        room.write("north.toml", text)
+        came = room.run("terms", "north.toml", given=UNREADABLE)
+        place, _, cause = came.errors.removesuffix(b"\n").rpartition(b": ")
+        place_wanted = 2, b"", b"onixdesk: terms: not TOML: line %d" % line
+        yield Outcome(f"terms: {name}", (came.status, came.output, place), place_wanted)
+        yield Outcome(f"terms: {name}: the cause", (cause != b"", b"\n" in cause), (True, False))
+
+
+def tables_that_cannot_be_read(room: Room) -> Iterator[Outcome]:
+    for file in "absent.toml", ".":
+        line = f"onixdesk: file: {file}\n".encode()
+        yield Outcome(f"terms: {file}", room.run("terms", file), Ran(2, b"", line))
+    room.write("north.toml", TERM)
+    full = room.run("terms", "north.toml", is_full=True)
+    yield Outcome("terms: a full output", full, Ran(3, b"", b"onixdesk: output\n"))
+    came = room.run("--db", "shop.db", "--rules", "absent.toml", "terms", "north.toml")
+    yield Outcome("terms: behind other options", came, Ran(0, b"terms 1\n"))
+    line = b"onixdesk: --batches goes with batch\n"
+    yield Outcome("terms: at a socket", room.run("--batches", "socket", "terms", "north.toml"), Ran(2, b"", line))
+    room.write("-", TERM)
+    yield Outcome("terms: a file of the name -", room.run("terms", "-", given=UNREADABLE), Ran(0, b"terms 1\n"))
+    for words in (), ("north.toml", "north.toml"):
+        status = room.run("terms", *words).status
+        yield Outcome(f"terms: {len(words)} files", status, 2)
+    names = sorted(path.name for path in room.folder.iterdir())
+    yield Outcome("terms: no desk is opened", names, ["-", "north.toml"])

@@ -37,17 +37,20 @@ fn is_path_of(rt: &HostRuntime, path: &str, file: &File) -> bool {
 }
 
 // Whether the lock of a file could be taken. Where a file system has none, a new file is ours, and
-// another one may be that of a run that lives.
-fn is_locked(file: &File, is_new: bool) -> bool {
+// another one may be that of a run that lives. With a fault a run that lives has it.
+fn is_locked(rt: &HostRuntime, path: &str, file: &File, is_new: bool) -> Result<bool, FileFault> {
     match file.try_lock() {
-        Ok(()) => true,
-        Err(TryLockError::WouldBlock) => false,
-        Err(TryLockError::Error(_)) => is_new,
+        Ok(()) => Ok(true),
+        Err(TryLockError::WouldBlock) => {
+            let why = "another run makes files of this NAME";
+            Err(FileFault::new(rt.alloc(), path, why))
+        }
+        Err(TryLockError::Error(_)) => Ok(is_new),
     }
 }
 
-// The file of that name, locked. None where another run has it, or the name is that of something
-// else.
+// The file of that name, locked. None where who had the lock has just removed it, or the name is
+// that of something else. With a fault a run that lives has it.
 fn take_lock(rt: &HostRuntime, path: &str) -> Result<Option<File>, FileFault> {
     let made = create_new(rt, path)?;
     let is_new = made.is_some();
@@ -56,7 +59,9 @@ fn take_lock(rt: &HostRuntime, path: &str) -> Result<Option<File>, FileFault> {
         None => open_left(rt, path),
     };
     match found {
-        Some(file) if is_locked(&file, is_new) && is_path_of(rt, path, &file) => Ok(Some(file)),
+        Some(file) if is_locked(rt, path, &file, is_new)? && is_path_of(rt, path, &file) => {
+            Ok(Some(file))
+        }
         _ => Ok(None),
     }
 }
@@ -68,7 +73,8 @@ fn lock_path(alloc: Global, folder: &str, name: &str, number: u32) -> Result<Str
 }
 
 impl Hidden {
-    /// The first names for a message of that NAME that no other run has.
+    /// The first names for a message of that NAME that nothing else has. With a fault a run that
+    /// lives has them, since the two would give the same files their names.
     pub(crate) fn take(rt: &HostRuntime, folder: &str, name: &str) -> Result<Hidden, FileFault> {
         for number in 0..TRIES {
             let path = lock_path(rt.alloc(), folder, name, number)?;

@@ -1,12 +1,16 @@
 use Rattle.std.proofs.Common.{◌≡◌, ◌++◌, ◌∙◌, ℕ, Bool, List, Option, Some, ap, sym}
+use denote.Bor.{Bor}
+use Rattle.std.specs.Prelude.{option_map}
+use Rattle.std.specs.Option.{option_copied}
 use Rattle.std.proofs.lemmas.Result.{on_ok_weaker}
 use Rattle.onix_records.specs.declared.row.Opening.{Opening}
 use Rattle.feed_outline.specs.Nodes.{Nodes}
 use Rattle.feed_terms.specs.declared.term.Term.{Term}
 use Rattle.feed_mapping.specs.Details.{context_in, price_in, priced_notes, prices_in, supplier_id}
-use Rattle.feed_mapping.specs.Notes.{note_views}
+use Rattle.feed_terms.specs.declared.table.Terms.{Terms}
+use Rattle.feed_mapping.specs.Notes.{Note, note_views}
 use Rattle.feed_mapping.specs.Outcomes.{all_notes}
-use Rattle.feed_mapping.specs.Prices.{PriceContext}
+use Rattle.feed_mapping.specs.Prices.{PriceContext, context_view}
 use Rattle.feed_mapping.specs.PriceTerms.{outcome_in, supplier_of, terms_notes}
 use Rattle.feed_mapping.proofs.details.add_priced.Goals as goal
 
@@ -19,4 +23,10 @@ noted o nodes context same terms t is preferred s own is_plain =
     ∙ ap (λ (k : Option (List Term)). all_notes (price_in o nodes) (prices_in nodes) ++ priced_notes o k is_plain preferred nodes) (sym is)
 
 pub returns-clause-notes : goal.returns-clause-notes
-returns-clause-notes c = ?
+returns-clause-notes c = λ o same mine.
+    on_ok_weaker c.add_computed_prices.result
+    (λ told. told
+    ∙ ap (λ (k : List Note). note_views c.args.notes.now.items ++ k)
+    (noted o c.args.elements.now (context_view c.args.context.now) same _ c.in-Some.terms.now (ap (option_map (λ (t : Bor Terms). t.now)) c.in-Some.is)
+    c.args.choices.now.id_type.now (option_copied c.as_ref.result) (c.as_ref.ensures.value ∙ c.in_ok-supplier.ensures ∙ ap supplier_of mine) c.args.choices.now.is_plain))
+    c.add_computed_prices.ensures.notes

@@ -1,10 +1,60 @@
+use Rattle.std.proofs.Common.{◌≡◌, ◌++◌, ◌∙◌, List, append_assoc, ap, length, map}
+use Rattle.std.specs.Prelude.{OnOk, codes}
+use Rattle.std.specs.List.{flat_map}
+use Rattle.std.specs.Option.{option_copied}
+use Rattle.std.proofs.lemmas.List.{length-map}
+use Rattle.std.proofs.lemmas.Result.{on_ok_weaker}
+use Rattle.feed_terms.specs.HeldBack.{is_held_back}
+use Rattle.feed_terms.specs.WithTerms.{remarks_of}
+use Rattle.feed_terms.specs.declared.price.GivenPrice.{GivenPrice}
+use Rattle.feed_terms.specs.declared.with_terms.Remarks.{Remarks}
+use Rattle.feed_mapping.specs.Elements.{Composite, composites}
+use Rattle.feed_mapping.specs.Notes.{Note, note_views}
+use Rattle.feed_mapping.specs.Outcomes.{all_notes}
+use Rattle.feed_mapping.specs.Prices.{PriceContext, context_view}
+use Rattle.feed_mapping.specs.PriceTerms.{all_given, all_remark_notes, elements_in, is_seen, outcome_in, records_with, terms_notes}
+use Rattle.feed_mapping.specs.Records.{Records}
+use Rattle.feed_mapping.proofs.SeenPrices.{have-prices, records-are, said-of-each}
 use Rattle.feed_mapping.proofs.price_terms.add_computed_prices.Goals as goal
 
 pub add_records-requires : goal.add_records-requires
-add_records-requires c = ?
+add_records-requires c =
+    have-prices (context_view c.args.context.now) (composites (codes "Price") c.args.elements.now) c.in_ok-written.written.records c.in_ok-written.written.given.items
+    c.in_ok-written.written.are_written.items c.in_ok-written.ensures.written
+
+records-of : (c : goal.After-drop-written-6)
+    → c.add_records.new.records ≡ c.args.records.now ++ records_with c.args.terms.now (option_copied c.args.supplier) (context_view c.args.context.now) (composites (codes "Price") c.args.elements.now) c.args.is_plain
+records-of c =
+    c.in_ok-remarks.ensures.records
+    ∙ ap (λ (k : Records). c.args.records.now ++ k)
+    (records-are c.args.terms.now (option_copied c.args.supplier) (context_view c.args.context.now) (composites (codes "Price") c.args.elements.now) c.in_ok-written.written.records c.in_ok-written.written.given.items
+    c.in_ok-written.written.are_written.items c.in_ok-written.ensures.written c.as_slice.result.now (c.as_slice.ensures.value ∙ c.in_ok-closed.ensures) c.args.is_plain)
+
+remarks-of : (c : goal.After-drop-written-6) → c.as_slice-3.result.now
+    ≡ map (remarks_of c.args.terms.now (option_copied c.args.supplier) (is_held_back c.as_slice.result.now c.in_ok-written.written.given.items)) c.in_ok-written.written.given.items
+remarks-of c = c.as_slice-3.ensures.value ∙ c.in_ok-remarks.ensures.remarks
+
+noted : (c : goal.After-drop-written-6) → OnOk c.push_all_remarks.result
+    (note_views c.push_all_remarks.new.notes.items ≡ note_views c.written_in.new.notes.items
+    ++ all_remark_notes c.args.is_plain (flat_map (elements_in (context_view c.args.context.now)) (composites (codes "Price") c.args.elements.now)) c.as_slice-3.result.now)
+noted c =
+    let are = c.in_ok-written.ensures.written in
+    c.push_all_remarks.ensures (context_view c.args.context.now) (c.as_slice-2.ensures.value ∙ are.are_written)
+    (ap length (remarks-of c) ∙ length-map c.in_ok-written.written.given.items _ ∙ ap length are.given)
 
 pub returns-clause-records : goal.returns-clause-records
-returns-clause-records c = ?
+returns-clause-records c = on_ok_weaker c.push_all_remarks.result (λ told. records-of c) (noted c)
 
 pub returns-clause-notes : goal.returns-clause-notes
-returns-clause-notes c = ?
+returns-clause-notes c =
+    let context = context_view c.args.context.now in
+    let prices = composites (codes "Price") c.args.elements.now in
+    let said = all_remark_notes c.args.is_plain (flat_map (elements_in context) prices) in
+    let remarks = remarks-of c
+    ∙ said-of-each c.args.terms.now (option_copied c.args.supplier) context prices c.in_ok-written.written.records c.in_ok-written.written.given.items
+    c.in_ok-written.written.are_written.items c.in_ok-written.ensures.written c.as_slice.result.now (c.as_slice.ensures.value ∙ c.in_ok-closed.ensures) in
+    on_ok_weaker c.push_all_remarks.result
+    (λ told. told ∙ ap (λ (k : List Remarks). note_views c.written_in.new.notes.items ++ said k) remarks
+    ∙ ap (λ (k : List Note). k ++ terms_notes c.args.terms.now (option_copied c.args.supplier) context prices c.args.is_plain) c.in_ok-written.ensures.notes
+    ∙ append_assoc (note_views c.args.notes.now.items) (all_notes (outcome_in context) prices) (terms_notes c.args.terms.now (option_copied c.args.supplier) context prices c.args.is_plain))
+    (noted c)

@@ -1,6 +1,6 @@
 -- The records of the Prices of a SupplyDetail, with those that terms compute, are rows of Prices.
-use Rattle.std.proofs.Common.{◌≡◌, ◌≤◌, ◌<◌, ◌+◌, ◌/◌, ◌%◌, ◌^◌, ◌∙◌, ◌⊎◌, inl, inr, ℕ, List, [], ◌∷◌, ◌++◌, Bool, true, false, Option, Some, None, IfSome, length, map, drop, take, slice_get, refl, sym, ap, subst, arith, lit<, length-append, zero, suc}
-use Rattle.std.specs.Prelude.{◌==◌, ◌&&◌, ◌||◌, codes, decimal, if◌then◌else◌, is_some, nat_lt, not}
+use Rattle.std.proofs.Common.{◌≡◌, ◌≤◌, ◌<◌, ◌/◌, ◌%◌, ◌^◌, ◌∙◌, ◌⊎◌, inl, inr, ℕ, List, [], ◌∷◌, ◌++◌, Bool, true, false, Option, Some, None, IfSome, length, map, drop, take, slice_get, refl, sym, ap, subst, arith, lit<, length-append, zero, suc}
+use Rattle.std.specs.Prelude.{◌==◌, ◌&&◌, ◌||◌, codes, decimal, if◌then◌else◌, nat_lt}
 use Rattle.std.specs.Char.{is_ascii, is_ascii_digit}
 use Rattle.std.specs.List.{AllByRecursion, flat_map, list_all}
 use Rattle.std.specs.Option.{option_to_list, unwrap_or}
@@ -39,7 +39,7 @@ use Rattle.feed_terms.specs.declared.price.Discount.{Discount}
 use Rattle.feed_terms.specs.declared.price.GivenPrice.{GivenPrice}
 use Rattle.feed_terms.specs.declared.term.Term.{Term}
 use Rattle.feed_mapping.specs.Elements.{Composite, each_at, text_at}
-use Rattle.feed_mapping.specs.Notes.{Note, Reason, wrong}
+use Rattle.feed_mapping.specs.Notes.{Reason, wrong}
 use Rattle.feed_mapping.specs.Outcomes.{Outcome, all_records, nothing, outcome_records}
 use Rattle.feed_mapping.specs.Prices.{PriceContext, closed_reason, date_reason, early_reasons, field_reasons, is_nothing, last_reason, outcome_of, price_fields, price_outcome, price_reasons, record_reason}
 use Rattle.feed_mapping.specs.PriceTerms.{all_given, discount_in, given_by, given_of, outcome_in}

@@ -1,5 +1,5 @@
 -- A price of the feed that holds does so with the computed ones too, in the records.
-use Rattle.std.proofs.Common.{◌≡◌, ℕ, false, List, [], ◌∷◌, ◌++◌, Option, Some, None, map, refl, sym, ap, subst, ◌∙◌}
+use Rattle.std.proofs.Common.{◌≡◌, ℕ, List, [], ◌∷◌, Option, Some, map, refl, sym, ap, subst, ◌∙◌}
 use Rattle.std.specs.List.{flat_map}
 use Rattle.feed_outline.specs.Nodes.{Nodes}
 use Rattle.onix_records.specs.declared.parts.Price.{Price}
@@ -7,8 +7,6 @@ use Rattle.onix_records.specs.declared.row.Opening.{Opening}
 use Rattle.onix_records.specs.declared.row.Row.{Row}
 use Rattle.onix_records.specs.declared.row.Row.TheVariants as row
 use Rattle.price_rules.specs.Price.{IsCurrent}
-use Rattle.price_rules.specs.declared.offer.Offer.{Offer}
-use Rattle.price_rules.specs.declared.offer.PriceQuery.{PriceQuery}
 use Rattle.feed_terms.specs.HeldBack.{is_held_back}
 use Rattle.feed_terms.specs.Laws.{GivenPriceStands}
 use Rattle.feed_terms.specs.WithTerms.{prices_with}

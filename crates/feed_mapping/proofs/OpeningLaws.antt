@@ -106,11 +106,10 @@ opening-numbered s a nodes n m k o digits is e =
 
 -- ---- the form
 
--- a record that says form 2 begins a message of form 2
-pub form-two : (fields : List (List ℕ)) (o : Opening) → opening_of (codes "Message" ∷ codes "2" ∷ fields) ≡ Some o → o.form ≡ form.Two
-unfolding opening_of opening_fields opening_from
-form-two (a ∷ b ∷ c ∷ d ∷ n ∷ r ∷ s ∷ t ∷ u ∷ []) o e =
-    let (_, says) = cond-then _ _ o e in
+-- fields that say form 2 are those of a message of form 2
+fields-two : (fields : List (List ℕ)) (o : Opening) → opening_fields (codes "2" ∷ fields) ≡ Some o → o.form ≡ form.Two
+unfolding opening_fields opening_from
+fields-two (a ∷ b ∷ c ∷ d ∷ n ∷ r ∷ s ∷ t ∷ u ∷ []) o says =
     let (s', _, e1) = bind-some (party_of a b) _ o says in
     let (a', _, e2) = bind-some (optional_party c d) _ o e1 in
     let (n', _, e3) = bind-some (optional number_of n) _ o e2 in
@@ -118,13 +117,19 @@ form-two (a ∷ b ∷ c ∷ d ∷ n ∷ r ∷ s ∷ t ∷ u ∷ []) o e =
     let (t', _, e5) = bind-some (optional code2_of t) _ o e4 in
     let (c', _, e6) = bind-some (optional currency_of u) _ o e5 in
     sym (ap (λ (x : Opening). x.form) (same_Some _ o e6))
-form-two [] o e = let (_, no) = cond-then _ _ o e in cc no
-form-two (a ∷ []) o e = let (_, no) = cond-then _ _ o e in cc no
-form-two (a ∷ b ∷ []) o e = let (_, no) = cond-then _ _ o e in cc no
-form-two (a ∷ b ∷ c ∷ []) o e = let (_, no) = cond-then _ _ o e in cc no
-form-two (a ∷ b ∷ c ∷ d ∷ []) o e = let (_, no) = cond-then _ _ o e in cc no
-form-two (a ∷ b ∷ c ∷ d ∷ n ∷ []) o e = let (_, no) = cond-then _ _ o e in cc no
-form-two (a ∷ b ∷ c ∷ d ∷ n ∷ r ∷ []) o e = let (_, no) = cond-then _ _ o e in cc no
-form-two (a ∷ b ∷ c ∷ d ∷ n ∷ r ∷ s ∷ []) o e = let (_, no) = cond-then _ _ o e in cc no
-form-two (a ∷ b ∷ c ∷ d ∷ n ∷ r ∷ s ∷ t ∷ []) o e = let (_, no) = cond-then _ _ o e in cc no
-form-two (a ∷ b ∷ c ∷ d ∷ n ∷ r ∷ s ∷ t ∷ u ∷ v ∷ more) o e = let (_, no) = cond-then _ _ o e in cc no
+fields-two [] o says = cc
+fields-two (a ∷ []) o says = cc
+fields-two (a ∷ b ∷ []) o says = cc
+fields-two (a ∷ b ∷ c ∷ []) o says = cc
+fields-two (a ∷ b ∷ c ∷ d ∷ []) o says = cc
+fields-two (a ∷ b ∷ c ∷ d ∷ n ∷ []) o says = cc
+fields-two (a ∷ b ∷ c ∷ d ∷ n ∷ r ∷ []) o says = cc
+fields-two (a ∷ b ∷ c ∷ d ∷ n ∷ r ∷ s ∷ []) o says = cc
+fields-two (a ∷ b ∷ c ∷ d ∷ n ∷ r ∷ s ∷ t ∷ []) o says = cc
+fields-two (a ∷ b ∷ c ∷ d ∷ n ∷ r ∷ s ∷ t ∷ u ∷ v ∷ more) o says = cc
+
+-- a record that says form 2 begins a message of form 2
+pub form-two : (fields : List (List ℕ)) (o : Opening) → opening_of (codes "Message" ∷ codes "2" ∷ fields) ≡ Some o → o.form ≡ form.Two
+unfolding opening_of
+form-two fields o e =
+    fields-two fields o (cond-then (list_all is_clean (codes "Message" ∷ codes "2" ∷ fields)) (opening_fields (codes "2" ∷ fields)) o e).1

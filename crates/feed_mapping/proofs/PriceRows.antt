@@ -1,57 +1,33 @@
 -- The records that are made of Prices are their rows.
-use Rattle.std.proofs.Common.{◌≡◌, ℕ, List, [], ◌∷◌, ◌++◌, Bool, true, false, Option, Some, None, map, length, refl, sym, ap, ◌∙◌, subst}
-use Rattle.std.specs.Prelude.{◌==◌, ◌&&◌, ◌||◌, not, if◌then◌else◌, option_map, codes, is_some}
-use Rattle.std.specs.List.{AllByRecursion, flat_map, list_all}
-use Rattle.std.specs.Option.{option_map_or, option_or, unwrap_or}
-use Rattle.std.specs.Str.{bytes_eq, is_utf8}
-use Rattle.std.proofs.lemmas.Bool.{and_from, and_parts}
-use Rattle.std.proofs.lemmas.List.{append-nil, map-append}
-use Rattle.std.proofs.lemmas.List.Concat.{flat_map-append}
-use Rattle.std.proofs.lemmas.Option.{cond_some, same_Some}
-use Rattle.std.specs.Char.{is_ascii, is_ascii_digit}
-use Rattle.onix_records.proofs.CleanTexts.{code2-clean}
-use Rattle.onix_terms.specs.Options.{nonempty}
-use Rattle.feed_mapping.specs.declared.notes.Wrong.{Wrong}
-use Rattle.feed_xml.specs.Grammar.{is_filled}
+use Rattle.std.proofs.Common.{◌≡◌, ℕ, List, [], ◌∷◌, ◌++◌, Bool, true, false, Option, Some, None, map, refl, sym, ap, ◌∙◌, subst}
+use Rattle.std.specs.Prelude.{if◌then◌else◌, option_map, codes, is_some}
+use Rattle.std.specs.List.{list_all}
+use Rattle.std.specs.Option.{option_or, unwrap_or}
+use Rattle.std.specs.Str.{is_utf8}
+use Rattle.std.proofs.lemmas.List.{map-append}
+use Rattle.std.proofs.lemmas.Option.{same_Some}
 use Rattle.feed_outline.specs.Nodes.{Nodes}
 use Rattle.onix_records.specs.Detail.{detail_of}
-use Rattle.onix_records.specs.Fields.{is_clean, territory_fields}
-use Rattle.onix_records.specs.PartRows.{HasDetails, SuppliesHaveDetails, detail_rows, product_rows, supply_rows}
+use Rattle.onix_records.specs.Fields.{is_clean}
 use Rattle.onix_records.specs.Price.{price_of}
-use Rattle.onix_records.specs.Product.{pairs_of, product_of}
+use Rattle.onix_records.specs.Product.{product_of}
 use Rattle.onix_records.specs.Row.{row_of}
 use Rattle.onix_records.specs.Supply.{supply_of}
 use Rattle.onix_records.specs.declared.parts.Price.{Price}
 use Rattle.onix_records.specs.declared.parts.Product.{Product}
-use Rattle.onix_records.specs.declared.parts.ProductIdentifier.{ProductIdentifier}
 use Rattle.onix_records.specs.declared.parts.ProductSupply.{ProductSupply}
 use Rattle.onix_records.specs.declared.parts.SupplyDetail.{SupplyDetail}
 use Rattle.onix_records.specs.declared.row.Opening.{Opening}
 use Rattle.onix_records.specs.declared.row.Row.{Row}
 use Rattle.onix_records.specs.declared.row.Row.TheVariants as row
-use Rattle.onix_records.proofs.Bare.{detail-bare, product-bare, supply-bare}
-use Rattle.onix_records.proofs.FrontRows.{bind-some}
-use Rattle.onix_terms.specs.Code.{code2_of}
-use Rattle.onix_terms.specs.Territory.{countries_text, territory_of, world_text}
-use Rattle.onix_terms.specs.declared.territory.Territory.{Territory}
-use Rattle.feed_mapping.specs.Details.{context_in, detail_fields, detail_reasons, detail_reason, field_reason, old_supply, price_in, prices_in}
-use Rattle.feed_mapping.specs.Elements.{Composite, each_at, first}
-use Rattle.feed_mapping.specs.Markets.{early_market_reasons, first_kept, kept_area, kept_fields, kept_outcome, market_reason, markets_outcome, supply_record, territories_of, union_fields}
-use Rattle.feed_mapping.proofs.MarketLaws.{joined_outcome}
-use Rattle.feed_mapping.specs.Notes.{Note, Reason, foreign, wrong}
-use Rattle.feed_mapping.specs.Outcomes.{Outcome, all_notes, all_records, left_out, nothing, outcome_reason, outcome_records, written_unless}
+use Rattle.feed_mapping.specs.Details.{context_in, price_in}
+use Rattle.feed_mapping.specs.Elements.{Composite}
+use Rattle.feed_mapping.specs.Notes.{Reason, wrong}
+use Rattle.feed_mapping.specs.Outcomes.{all_records, nothing, outcome_records}
 use Rattle.feed_mapping.specs.Prices.{PriceContext, closed_reason, date_reason, early_reasons, field_reasons, is_nothing, last_reason, outcome_of, price_fields, price_outcome, price_reasons, record_reason}
-use Rattle.feed_mapping.specs.ProductRecords.{variants, small_variants, smaller_variants, fate_by, records_by, supplies_in, too_large_notes, why_emptied}
-use Rattle.feed_mapping.specs.Products.{dropping, identifier_reason, identifiers_in, is_code, is_there, notification_in, or_reference, own_reason, pair_reason, product_record, reference_in, right_pair, right_pairs, type_of, value_of, value_written}
-use Rattle.feed_mapping.specs.Records.{clean, first_some, if_empty, is_field, parsed, parsed_term, unless, invalid}
-use Rattle.feed_mapping.specs.Rows.{AreOf, AreProducts, references_of}
-use Rattle.feed_mapping.specs.SupplyChoices.{SupplyChoices}
-use Rattle.feed_mapping.specs.Supplies.{detail_in, detailed_outcome, details_in, supplies_reason, supply_in, supply_markets, supply_outcome}
-use Rattle.feed_mapping.specs.declared.notes.Foreign.TheVariants as other
-use Rattle.feed_mapping.specs.Territories.{Area, area_fields, area_in, area_reason, area_reasons, market_of}
-use Rattle.feed_mapping.specs.Unions.{union}
+use Rattle.feed_mapping.specs.Records.{clean, first_some, parsed}
 use Rattle.feed_mapping.specs.declared.notes.Wrong.TheVariants as bad
-use Rattle.feed_mapping.proofs.Utf8Laws.{are_utf8, ascii-field, empty-fields, named-utf8, territory-utf8, utf8-first, utf8-joined}
+use Rattle.feed_mapping.proofs.Utf8Laws.{are_utf8, named-utf8, utf8-first, utf8-joined}
 
 abbrev pub Records : Type 0
 Records = List (List (List ℕ))

@@ -5,7 +5,7 @@ use Rattle.std.specs.List.{AllByRecursion, flat_map, list_all}
 use Rattle.std.specs.Option.{option_map_or, option_or, unwrap_or}
 use Rattle.std.specs.Str.{bytes_eq, is_utf8}
 use Rattle.std.proofs.lemmas.Bool.{and_from, and_parts}
-use Rattle.std.proofs.lemmas.List.{append-nil, map-append}
+use Rattle.std.proofs.lemmas.List.{append-nil}
 use Rattle.std.proofs.lemmas.List.Concat.{flat_map-append}
 use Rattle.std.proofs.lemmas.Option.{cond_some, same_Some}
 use Rattle.std.specs.Char.{is_ascii, is_ascii_digit}
@@ -17,7 +17,6 @@ use Rattle.feed_outline.specs.Nodes.{Nodes}
 use Rattle.onix_records.specs.Detail.{detail_of}
 use Rattle.onix_records.specs.Fields.{is_clean, territory_fields}
 use Rattle.onix_records.specs.PartRows.{HasDetails, SuppliesHaveDetails, detail_rows, product_rows, supply_rows}
-use Rattle.onix_records.specs.Price.{price_of}
 use Rattle.onix_records.specs.Product.{pairs_of, product_of}
 use Rattle.onix_records.specs.Row.{row_of}
 use Rattle.onix_records.specs.Supply.{supply_of}
@@ -27,21 +26,19 @@ use Rattle.onix_records.specs.declared.parts.ProductIdentifier.{ProductIdentifie
 use Rattle.onix_records.specs.declared.parts.ProductSupply.{ProductSupply}
 use Rattle.onix_records.specs.declared.parts.SupplyDetail.{SupplyDetail}
 use Rattle.onix_records.specs.declared.row.Opening.{Opening}
-use Rattle.onix_records.specs.declared.row.Row.{Row}
 use Rattle.onix_records.specs.declared.row.Row.TheVariants as row
 use Rattle.onix_records.proofs.Bare.{detail-bare, product-bare, supply-bare}
 use Rattle.onix_records.proofs.FrontRows.{bind-some}
 use Rattle.onix_terms.specs.Code.{code2_of}
 use Rattle.onix_terms.specs.Territory.{countries_text, territory_of, world_text}
 use Rattle.onix_terms.specs.declared.territory.Territory.{Territory}
-use Rattle.feed_mapping.specs.Details.{context_in, detail_fields, priced_records, supplier_id, detail_reasons, detail_reason, field_reason, old_supply, price_in, prices_in}
+use Rattle.feed_mapping.specs.Details.{context_in, detail_fields, priced_records, supplier_id, detail_reasons, detail_reason, field_reason, old_supply, prices_in}
 use Rattle.feed_mapping.specs.Elements.{Composite, each_at, first}
 use Rattle.feed_mapping.specs.Markets.{early_market_reasons, first_kept, kept_area, kept_fields, kept_outcome, market_reason, markets_outcome, supply_record, territories_of, union_fields}
 use Rattle.feed_mapping.proofs.MarketLaws.{joined_outcome}
 use Rattle.feed_mapping.specs.Notes.{Note, Reason, foreign, wrong}
-use Rattle.feed_mapping.specs.Outcomes.{Outcome, all_notes, all_records, left_out, nothing, outcome_reason, outcome_records, written_unless}
-use Rattle.feed_mapping.specs.Prices.{PriceContext, closed_reason, date_reason, early_reasons, field_reasons, is_nothing, last_reason, outcome_of, price_fields, price_outcome, price_reasons, record_reason}
-use Rattle.feed_mapping.specs.ProductRecords.{Variant, fate_of, plain_choices, plain_variants, product_notes, variants, small_variants, smaller_variants, fate_by, records_by, supplies_in, too_large_notes, why_emptied}
+use Rattle.feed_mapping.specs.Outcomes.{Outcome, all_records, left_out, outcome_reason, outcome_records, written_unless}
+use Rattle.feed_mapping.specs.ProductRecords.{Variant, plain_choices, plain_variants, variants, small_variants, smaller_variants, fate_by, records_by, supplies_in, too_large_notes, why_emptied}
 use Rattle.feed_mapping.specs.Products.{dropping, identifier_reason, identifiers_in, is_code, is_there, notification_in, or_reference, own_reason, pair_reason, product_record, reference_in, right_pair, right_pairs, type_of, value_of, value_written}
 use Rattle.feed_mapping.specs.Records.{clean, first_some, if_empty, is_field, parsed, parsed_term, unless, invalid}
 use Rattle.feed_mapping.specs.Rows.{AreOf, AreProducts, MayCompute, references_of}
@@ -51,14 +48,12 @@ use Rattle.feed_mapping.specs.declared.notes.Foreign.TheVariants as other
 use Rattle.feed_mapping.specs.Territories.{Area, area_fields, area_in, area_reason, area_reasons, market_of}
 use Rattle.feed_mapping.specs.Unions.{union}
 use Rattle.feed_mapping.specs.declared.notes.Wrong.TheVariants as bad
-use Rattle.feed_mapping.proofs.Utf8Laws.{are_utf8, ascii-field, empty-fields, named-utf8, territory-utf8, utf8-first, utf8-joined}
+use Rattle.feed_mapping.proofs.Utf8Laws.{ascii-field, empty-fields, named-utf8, territory-utf8, utf8-joined}
 use Rattle.feed_terms.specs.HeldBack.{is_held_back}
 use Rattle.feed_terms.specs.declared.term.Term.{Term}
 use Rattle.feed_mapping.specs.PriceTerms.{all_given, closed_kinds, supplier_of}
-use Rattle.feed_mapping.specs.declared.product_records.Fate.{Fate}
-use Rattle.feed_mapping.specs.declared.product_records.Fate.TheVariants as fate
 use Rattle.feed_mapping.proofs.ComputedRows.{TermLaws, all-with}
-use Rattle.feed_mapping.proofs.PriceRows.{Reads, Records, as-rows, both, clean-read, cond-then, detail-row, is-there, map-joined, mapped, no-rows, one-first, or-none, prices-rows, product-row, said-read, supply-row, taken}
+use Rattle.feed_mapping.proofs.PriceRows.{ArePrices, Reads, Records, as-rows, both, clean-read, cond-then, detail-row, is-there, map-joined, mapped, no-rows, one-first, or-none, prices-rows, product-row, said-read, supply-row, taken}
 
 -- ---- SupplyDetails
 

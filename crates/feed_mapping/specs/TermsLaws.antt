@@ -1,5 +1,5 @@
 -- What the terms of the shop change of the records of a SupplyDetail.
-use Rattle.std.specs.Prelude.{◌≡◌, ℕ, false, List, Option, Some, None, map, length}
+use Rattle.std.specs.Prelude.{◌≡◌, ℕ, false, List, Some, None, map, length}
 use Rattle.feed_outline.specs.Nodes.{Nodes}
 use Rattle.onix_records.specs.Row.{row_of}
 use Rattle.onix_records.specs.declared.parts.Price.{Price}
@@ -12,10 +12,8 @@ use Rattle.feed_terms.specs.HeldBack.{is_held_back}
 use Rattle.feed_terms.specs.Laws.{less_behind}
 use Rattle.feed_terms.specs.WithTerms.{written_of}
 use Rattle.feed_terms.specs.declared.term.Term.{Term}
-use Rattle.feed_mapping.specs.Details.{context_in, price_in, priced_records, prices_in, supplier_id}
-use Rattle.feed_mapping.specs.Outcomes.{all_records}
+use Rattle.feed_mapping.specs.Details.{context_in, priced_records, prices_in, supplier_id}
 use Rattle.feed_mapping.specs.PriceTerms.{all_given, closed_kinds, supplier_of}
-use Rattle.feed_mapping.specs.Rows.{MayCompute}
 
 -- the desk reads these prices of records
 abbrev pub AreRead : Opening → List (List (List ℕ)) → List Price → Type 0

@@ -1,4 +1,3 @@
-use Rattle.feed_terms.specs.HeldBack.{is_held_back}
 use Rattle.feed_mapping.specs.Details.{context_in, price_in, prices_in, supplier_id}
 use Rattle.feed_mapping.specs.Outcomes.{all_records}
 use Rattle.feed_mapping.specs.PriceTerms.{all_given, closed_kinds, supplier_of}

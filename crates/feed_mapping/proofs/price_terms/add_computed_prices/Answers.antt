@@ -6,13 +6,12 @@ use Rattle.std.proofs.lemmas.List.{length-map}
 use Rattle.std.proofs.lemmas.Result.{on_ok_weaker}
 use Rattle.feed_terms.specs.HeldBack.{is_held_back}
 use Rattle.feed_terms.specs.WithTerms.{remarks_of}
-use Rattle.feed_terms.specs.declared.price.GivenPrice.{GivenPrice}
 use Rattle.feed_terms.specs.declared.with_terms.Remarks.{Remarks}
-use Rattle.feed_mapping.specs.Elements.{Composite, composites}
+use Rattle.feed_mapping.specs.Elements.{composites}
 use Rattle.feed_mapping.specs.Notes.{Note, note_views}
 use Rattle.feed_mapping.specs.Outcomes.{all_notes}
-use Rattle.feed_mapping.specs.Prices.{PriceContext, context_view}
-use Rattle.feed_mapping.specs.PriceTerms.{all_given, all_remark_notes, elements_in, is_seen, outcome_in, records_with, terms_notes}
+use Rattle.feed_mapping.specs.Prices.{context_view}
+use Rattle.feed_mapping.specs.PriceTerms.{all_remark_notes, elements_in, outcome_in, records_with, terms_notes}
 use Rattle.feed_mapping.specs.Records.{Records}
 use Rattle.feed_mapping.proofs.SeenPrices.{have-prices, records-are, said-of-each}
 use Rattle.feed_mapping.proofs.price_terms.add_computed_prices.Goals as goal

@@ -199,13 +199,13 @@ fn given_of(alloc: Global, price: Price, elements: &Elements<'_>) -> Result<Give
 fn price_in(
     alloc: Global,
     opening: &Opening,
-    record: &Record<'_>,
+    price_record: &Record<'_>,
 ) -> Result<Option<Price>, AllocError>
-    ensures { (fields : List (List ℕ)) → record.now ≡ codes "Price" ∷ fields
+    ensures { (fields : List (List ℕ)) → price_record.now ≡ codes "Price" ∷ fields
         → list_all is_utf8 fields ≡ true
         → IfOk result (λ price. price ≡ parsed (price_of opening.now) fields) }
 {
-    let Some((_, behind)) = record.split_first() else {
+    let Some((_, behind)) = price_record.split_first() else {
         return Ok(None);
     };
     match parse_fields(alloc, opening, &behind) {

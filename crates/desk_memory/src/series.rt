@@ -6,7 +6,7 @@ ghost use Rattle.std.specs.FinMap as map;
 ghost use Rattle.std.specs.Ordering.{nat_cmp};
 ghost use Rattle.catalogue_rules.specs.Offers.{offers_in};
 ghost use Rattle.desk_memory.specs.Folded.{IsFolded};
-ghost use Rattle.desk_memory.specs.KeptSeries.{stands_at};
+ghost use Rattle.desk_memory.specs.KeptSeries.{AreSame, stands_at};
 ghost use Rattle.desk_memory.specs.Stands.{with_standing};
 ghost use Rattle.series_rules.specs.Answers.{answer_against, placed_answer, waived_by};
 ghost use Rattle.series_rules.specs.declared.requests.Standing.{Standing};
@@ -55,9 +55,8 @@ impl Model for Series {
 
 // Removes what stands at a number.
 fn take_out(numbers: &mut BTreeMap<Number, Standing>, number: Number)
-    ensures { (n : ℕ)
-        → get nat_cmp numbers.new n
-        ≡ (if nat_eq number n then None else get nat_cmp numbers.old n) }
+    ensures { AreSame (λ n. if nat_eq number n then None else get nat_cmp numbers.old n)
+        (get nat_cmp numbers.new) }
 {
     numbers.remove(&number);
 }
@@ -75,13 +74,12 @@ fn deliver_new(
     requires absent { get nat_cmp numbers.old number ≡ None }
     requires folded { IsFolded (get nat_cmp numbers.old) from fold.old }
     ensures folded { IsFolded (get nat_cmp numbers.new) from fold.new }
-    ensures ok { OnOk result
-        ((n : ℕ)
-        → get nat_cmp numbers.new n
-        ≡ with_standing (get nat_cmp numbers.old) number (Standing.Message contents) n) }
+    ensures ok { OnOk result (AreSame
+        (with_standing (get nat_cmp numbers.old) number (Standing.Message contents))
+        (get nat_cmp numbers.new)) }
     ensures answer { (hs : List Standing) → IsFront (get nat_cmp numbers.new) from hs
         → IfOk result (λ a. a ≡ placed_answer hs series from number) }
-    ensures err { OnErr result ((n : ℕ) → get nat_cmp numbers.new n ≡ get nat_cmp numbers.old n) }
+    ensures err { OnErr result (AreSame (get nat_cmp numbers.old) (get nat_cmp numbers.new)) }
 {
     numbers.insert(number, Standing::Message(contents))?;
     match fold.place(numbers, series, from, number) {
@@ -105,14 +103,13 @@ fn deliver_at(
     requires above { from ≤ number }
     requires folded { IsFolded (get nat_cmp numbers.old) from fold.old }
     ensures folded { IsFolded (get nat_cmp numbers.new) from fold.new }
-    ensures ok { OnOk result
-        ((n : ℕ)
-        → get nat_cmp numbers.new n
-        ≡ with_standing (get nat_cmp numbers.old) number (Standing.Message contents) n) }
+    ensures ok { OnOk result (AreSame
+        (with_standing (get nat_cmp numbers.old) number (Standing.Message contents))
+        (get nat_cmp numbers.new)) }
     ensures answer { (hs : List Standing) → IsFront (get nat_cmp numbers.new) from hs
         → IfOk result (λ a.
         a ≡ answer_against hs series from number contents (get nat_cmp numbers.new number)) }
-    ensures err { OnErr result ((n : ℕ) → get nat_cmp numbers.new n ≡ get nat_cmp numbers.old n) }
+    ensures err { OnErr result (AreSame (get nat_cmp numbers.old) (get nat_cmp numbers.new)) }
 {
     match numbers.get(&number) {
         Some(Standing::Waived) => {
@@ -139,12 +136,11 @@ fn waive_at(
 ) -> Result<WaiveAnswer, AllocError>
     ensures folded { (from : ℕ) (fold : Fold) → IsFolded (get nat_cmp numbers.old) from fold
         → IsFolded (get nat_cmp numbers.new) from fold }
-    ensures ok { OnOk result
-        ((n : ℕ)
-        → get nat_cmp numbers.new n
-        ≡ with_standing (get nat_cmp numbers.old) number Standing.Waived n) }
+    ensures ok { OnOk result (AreSame
+        (with_standing (get nat_cmp numbers.old) number Standing.Waived)
+        (get nat_cmp numbers.new)) }
     ensures answer { IfOk result (λ a. a ≡ waived_by (get nat_cmp numbers.new number)) }
-    ensures err { OnErr result ((n : ℕ) → get nat_cmp numbers.new n ≡ get nat_cmp numbers.old n) }
+    ensures err { OnErr result (AreSame (get nat_cmp numbers.old) (get nat_cmp numbers.new)) }
 {
     match numbers.get(&number) {
         Some(Standing::Waived) => Ok(WaiveAnswer::Waived),
@@ -160,7 +156,7 @@ impl Series {
     /// An agreed series at whose numbers nothing stands. It does not allocate.
     pub(crate) fn new(alloc: Global, agreement: Agreement) -> Series
         ensures agreement { result.agreement ≡ agreement }
-        ensures nothing { (n : ℕ) → stands_at result.numbers n ≡ None }
+        ensures nothing { AreSame (λ _. None) (stands_at result.numbers) }
     {
         let fold = Fold::new(alloc, agreement.first);
         Series {
@@ -185,16 +181,15 @@ impl Series {
     ) -> Result<DeliveryAnswer, AllocError>
         requires { self.old.agreement.first ≤ number }
         ensures agreement { self.new.agreement ≡ self.old.agreement }
-        ensures ok { OnOk result
-            ((n : ℕ)
-            → stands_at self.new.numbers n
-            ≡ with_standing (stands_at self.old.numbers) number (Standing.Message contents) n) }
+        ensures ok { OnOk result (AreSame
+            (with_standing (stands_at self.old.numbers) number (Standing.Message contents))
+            (stands_at self.new.numbers)) }
         ensures answer { (hs : List Standing)
             → IsFront (stands_at self.new.numbers) self.old.agreement.first hs → IfOk result (λ a.
             a ≡ answer_against hs self.old.agreement.name self.old.agreement.first number contents
             (stands_at self.new.numbers number)) }
         ensures err { OnErr result
-            ((n : ℕ) → stands_at self.new.numbers n ≡ stands_at self.old.numbers n) }
+            (AreSame (stands_at self.old.numbers) (stands_at self.new.numbers)) }
     {
         let name = self.agreement.name;
         let first = self.agreement.first;
@@ -212,13 +207,12 @@ impl Series {
     pub(crate) fn waive(&mut self, number: Number) -> Result<WaiveAnswer, AllocError>
         requires { self.old.agreement.first ≤ number }
         ensures agreement { self.new.agreement ≡ self.old.agreement }
-        ensures ok { OnOk result
-            ((n : ℕ)
-            → stands_at self.new.numbers n
-            ≡ with_standing (stands_at self.old.numbers) number Standing.Waived n) }
+        ensures ok { OnOk result (AreSame
+            (with_standing (stands_at self.old.numbers) number Standing.Waived)
+            (stands_at self.new.numbers)) }
         ensures answer { IfOk result (λ a. a ≡ waived_by (stands_at self.new.numbers number)) }
         ensures err { OnErr result
-            ((n : ℕ) → stands_at self.new.numbers n ≡ stands_at self.old.numbers n) }
+            (AreSame (stands_at self.old.numbers) (stands_at self.new.numbers)) }
     {
         let answer = waive_at(&mut self.numbers, number)?;
         // Where memory runs out, a later call goes on.

@@ -1,5 +1,5 @@
 -- How one FILE ends.
-use Rattle.std.proofs.Common.{◌≡◌, ◌<◌, ◌⊎◌, ◌∙◌, ℕ, zero, suc, arith, List, [], Option, Some, None, Bool, true, false, Ok, Err, Result, inl, inr, refl, sym, subst}
+use Rattle.std.proofs.Common.{◌≡◌, ◌<◌, ◌⊎◌, ◌∙◌, ℕ, List, [], Option, Some, None, Bool, true, false, Ok, Err, Result, inl, inr, refl, sym, subst}
 use Rattle.std.specs.Prelude.{IfErr, IfOk}
 use Rattle.std.specs.List.{concat, fold}
 use Rattle.program_files.specs.Holdings.{Holdings, MayName, NamedText, Names}
@@ -10,19 +10,19 @@ use Rattle.feed_conversion.specs.Conversion.{Options}
 use Rattle.feed_conversion.specs.Outcomes.{ExplainsFault, Yields}
 use Rattle.feed_conversion.specs.Packing.{Converted}
 use Rattle.feed_conversion.specs.declared.refusal.Fault.{Fault}
-use Rattle.feed_files.specs.Ends.{AreTold, Asking, IsEnd, IsTaken, IsUnconverted, asking, file_end, is_converted}
+use Rattle.feed_files.specs.Ends.{AreTold, Asking, IsEnd, IsOfWrong, IsTaken, IsUnconverted, asking, file_end, is_converted}
 use Rattle.feed_files.specs.declared.ended.Ended.{Ended}
 use Rattle.feed_files.specs.declared.ended.Ended.TheVariants as ended
 use Rattle.feed_files.proofs.KeptLemmas.{all_told, files_told}
 
 -- a FILE that was converted, so many of whose products are wrong
 pub converted_taken : {T : Type 0} (with_part : T → List ℕ → T) (o : Options) (bytes : Option (List ℕ)) (before after : T) (wrong : ℕ) (e : Ended) (made : Converted)
-    → Yields bytes o (Ok made) → after ≡ fold with_part before made.parts → wrong ≡ made.wrong → (wrong ≡ 0 → e ≡ ended.Done) → (0 < wrong → e ≡ ended.LeftOut)
-    → IsTaken with_part o bytes before after e
-converted_taken with_part o bytes before after zero e made says kept is done left = subst (IsTaken with_part o bytes before after) (sym (done refl)) (made, says, sym is, kept)
-converted_taken with_part o bytes before after (suc n) e made says kept is done left =
-    let some : 0 < suc n = omega arith in
-    subst (IsTaken with_part o bytes before after) (sym (left some)) (made, says, subst (λ k. 0 < k) is some, kept)
+    → Yields bytes o (Ok made) → after ≡ fold with_part before made.parts → wrong ≡ made.wrong → IsOfWrong wrong e → IsTaken with_part o bytes before after e
+converted_taken with_part o bytes before after wrong ended.Done made says kept is none = (made, says, sym is ∙ none, kept)
+converted_taken with_part o bytes before after wrong ended.LeftOut made says kept is some = (made, says, subst (λ k. 0 < k) is some, kept)
+converted_taken with_part o bytes before after wrong ended.Refused made says kept is h = absurd h
+converted_taken with_part o bytes before after wrong ended.Packed made says kept is h = absurd h
+converted_taken with_part o bytes before after wrong ended.Fault made says kept is h = absurd h
 
 -- a FILE that was not converted
 pub stopped_taken : {T : Type 0} (with_part : T → List ℕ → T) (o : Options) (bytes : Option (List ℕ)) (before after : T) (e : Ended) (f : Fault)
@@ -35,11 +35,11 @@ pub read_taken : {T : Type 0} (with_part : T → List ℕ → T) (o : Options) (
     → IfOk r (λ wrong. (made : Converted) × Yields bytes o (Ok made) × (wrong ≡ made.wrong) × (after ≡ fold with_part before made.parts)
     × (◌≡◌ {A = Unit {0}} tt (fold (λ kept n. kept) tt made.notes)))
     → IfErr r (λ f. ExplainsFault bytes o f)
-    → IfOk r (λ wrong. wrong ≡ 0 → e ≡ ended.Done) → IfOk r (λ wrong. 0 < wrong → e ≡ ended.LeftOut) → IfErr r (λ f. IsUnconverted f e)
+    → IfOk r (λ wrong. IsOfWrong wrong e) → IfErr r (λ f. IsUnconverted f e)
     → IsTaken with_part o bytes before after e
-read_taken with_part o bytes before after (Ok wrong) e converted explains done left stopped =
-    converted_taken with_part o bytes before after wrong e converted.0 converted.1 converted.3 converted.2 done left
-read_taken with_part o bytes before after (Err f) e converted explains done left stopped = stopped_taken with_part o bytes before after e f stopped explains
+read_taken with_part o bytes before after (Ok wrong) e converted explains of_wrong stopped =
+    converted_taken with_part o bytes before after wrong e converted.0 converted.1 converted.3 converted.2 of_wrong
+read_taken with_part o bytes before after (Err f) e converted explains of_wrong stopped = stopped_taken with_part o bytes before after e f stopped explains
 
 -- what was written of all texts
 written_all : {E : Type 0} (told : Bool) (parts : List (List ℕ)) (texts : Option (List ℕ)) (r : Result (Unit {0}) E) (written : List ℕ)

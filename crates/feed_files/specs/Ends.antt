@@ -31,6 +31,12 @@ is_converted ended.Done = true
 is_converted ended.LeftOut = true
 is_converted other = false
 
+-- one that was converted, so many of whose products are wrong, ended so
+abbrev pub IsOfWrong : ℕ → Ended → Type 0
+IsOfWrong wrong ended.Done = wrong ≡ 0
+IsOfWrong wrong ended.LeftOut = 0 < wrong
+IsOfWrong wrong other = ⊥
+
 -- the fault is of what the bytes say: no read failed, memory did not run out, and nothing but the
 -- bytes was refused
 abbrev pub IsRefusal : Fault → Type 0
@@ -48,16 +54,13 @@ IsUnconverted f e = (e ≡ ended.Fault) ⊎ ((e ≡ ended.Refused) × IsRefusal 
 -- of its messages, where it was converted. With part: what it makes of one text more
 abbrev pub IsTaken : {T : Type 0} → (T → List ℕ → T) → Options → Option (List ℕ) → T → T → Ended
     → Type 0
-IsTaken with_part o bytes before after ended.Done =
-    (made : Converted) × Yields bytes o (Ok made) × (made.wrong ≡ 0)
-    × (after ≡ fold with_part before made.parts)
-IsTaken with_part o bytes before after ended.LeftOut =
-    (made : Converted) × Yields bytes o (Ok made) × (0 < made.wrong)
-    × (after ≡ fold with_part before made.parts)
 IsTaken with_part o bytes before after ended.Refused =
     (f : Fault) × IsRefusal f × ExplainsFault bytes o f
 IsTaken with_part o bytes before after ended.Packed = ⊥
 IsTaken with_part o bytes before after ended.Fault = ⊤
+IsTaken with_part o bytes before after converted =
+    (made : Converted) × Yields bytes o (Ok made) × IsOfWrong made.wrong converted
+    × (after ≡ fold with_part before made.parts)
 
 -- how a run is asked to convert, and whether it is told what files hold
 pub record Asking : Type 0 where
@@ -122,12 +125,6 @@ module _ (a : Asking) (name : List ℕ) where
 
 -- how a FILE of this name and of these bytes, where they are told, ends so
 abbrev pub EndsAs : Ended → Asking → List ℕ → Option (List ℕ) → FileEnd → Type 0
-EndsAs ended.Done a name bytes e =
-    (made : Converted) × Yields bytes a.options (Ok made) × (made.wrong ≡ 0)
-    × WritesTo a name a.folder made.parts e
-EndsAs ended.LeftOut a name bytes e =
-    (made : Converted) × Yields bytes a.options (Ok made) × (0 < made.wrong)
-    × WritesTo a name a.folder made.parts e
 EndsAs ended.Refused a name bytes e =
     LeavesNothing e × ((f : Fault) × IsRefusal f × ExplainsFault bytes a.options f)
 EndsAs ended.Packed a name bytes e = LeavesNothing e × (is_packed name ≡ true)
@@ -135,6 +132,9 @@ EndsAs ended.Fault a name bytes e =
     LeavesNothing e
     ⊎ ((made : Converted) × Yields bytes a.options (Ok made)
     × MayWriteTo a name a.folder made.parts e)
+EndsAs converted a name bytes e =
+    (made : Converted) × Yields bytes a.options (Ok made) × IsOfWrong made.wrong converted
+    × WritesTo a name a.folder made.parts e
 
 -- How a FILE of this name and of these bytes, where they are told, ends: its messages are written,
 -- where it was converted, with or without wrong products; nothing is, where it was refused for what

@@ -1,12 +1,12 @@
 //! A run over FILEs.
 
-ghost use Rattle.std.specs.Prelude.{◌≡◌, ◌≢◌, ◌⊎◌, ◌<◌, ◌≤◌, ◌&&◌, ℕ, List, [], Option, IfErr, IfOk, OnOk, codes, is_some, map, max, option_map, true, false};
+ghost use Rattle.std.specs.Prelude.{◌≡◌, ◌≢◌, ◌⊎◌, ◌≤◌, ◌&&◌, ℕ, List, [], Option, IfErr, IfOk, OnOk, codes, is_some, map, max, option_map, true, false};
 ghost use Rattle.std.specs.Io.KnownBytes.{Appends};
 ghost use Rattle.program_files.specs.Holdings.{MayName, Names};
 ghost use Rattle.program_files.specs.PartFiles.{files_of, place};
 ghost use Rattle.program_files.specs.Texts.{with_file};
 ghost use Rattle.feed_conversion.specs.Views.{options_view};
-ghost use Rattle.feed_files.specs.Ends.{IsEnd, IsTaken, IsUnconverted, asking, file_end, is_converted};
+ghost use Rattle.feed_files.specs.Ends.{IsEnd, IsOfWrong, IsTaken, IsUnconverted, asking, file_end, is_converted};
 ghost use Rattle.feed_files.specs.Runs.{AllEnd, outputs, run_asking};
 ghost use Rattle.feed_files.specs.Titles.{EndsWith, TitlesEnd, are_converted};
 
@@ -126,8 +126,7 @@ fn end_of<E: Write>(
     kept: &Option<FileFault>,
     errors: &mut E,
 ) -> Ended
-    ensures done { IfOk read.now (λ wrong. wrong ≡ 0 → result ≡ Ended.Done) }
-    ensures left_out { IfOk read.now (λ wrong. 0 < wrong → result ≡ Ended.LeftOut) }
+    ensures ok { IfOk read.now (λ wrong. IsOfWrong wrong result) }
     ensures err { IfErr read.now (λ f. IsUnconverted f result) }
 {
     match read {
@@ -146,8 +145,7 @@ fn end_of_seen<E: Write>(
     kept: &Option<FileFault>,
     errors: &mut E,
 ) -> Ended
-    ensures done { IfOk read.now (λ wrong. wrong ≡ 0 → result ≡ Ended.Done) }
-    ensures left_out { IfOk read.now (λ wrong. 0 < wrong → result ≡ Ended.LeftOut) }
+    ensures ok { IfOk read.now (λ wrong. IsOfWrong wrong result) }
     ensures err { IfErr read.now (λ f. IsUnconverted f result) }
 {
     let known = RefusedFile {

@@ -1,7 +1,7 @@
 //! How a FILE ends.
 
-ghost use Rattle.std.specs.Prelude.{◌≡◌, ◌<◌, ◌≤◌, true, false};
-ghost use Rattle.feed_files.specs.Ends.{is_converted, status_of};
+ghost use Rattle.std.specs.Prelude.{◌≡◌, ◌≤◌};
+ghost use Rattle.feed_files.specs.Ends.{IsOfWrong, is_converted, status_of};
 
 /// How a FILE ended.
 #[derive(Clone, Copy, Debug, PartialEq, Eq)]
@@ -40,8 +40,7 @@ impl Ended {
 
     /// That of a FILE that was converted, so many of whose products are wrong.
     pub fn of_converted(wrong: u32) -> Ended
-        ensures done { wrong ≡ 0 → result ≡ Ended.Done }
-        ensures left_out { 0 < wrong → result ≡ Ended.LeftOut }
+        ensures { IsOfWrong wrong result }
     {
         if wrong == 0 {
             Ended::Done

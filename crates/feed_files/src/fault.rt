@@ -1,15 +1,16 @@
 //! What is said of files that cannot be read or written.
 
 use crate::notes::PREFIX;
-use crate::shown::push_shown;
+use crate::shown::SHOWN;
 use program_files::FileFault;
+use shown_texts::push_shown;
 use std::alloc::{AllocError, Global};
 use std::io::Write;
 
 // Adds the line of a file of this name.
 fn push_line(line: &mut String, name: &str, why: &str) -> Result<(), AllocError> {
     line.push_str(PREFIX)?;
-    push_shown(line, name)?;
+    push_shown(line, name, SHOWN)?;
     line.push_str(": ")?;
     line.push_str(why)?;
     line.push_str("\n")

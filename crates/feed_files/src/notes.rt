@@ -5,7 +5,7 @@ use crate::note_texts::{
     Saying, is_counted_alone, is_of_discount, is_of_product, push_first, push_header_field,
     push_saying, saying_of,
 };
-use crate::shown::{push_called, push_shown, push_shown_bytes};
+use crate::shown::{SHOWN, push_called, push_shown_bytes};
 use crate::summary::Summary;
 use csv_records::buffer::RecordBuffer;
 use feed_conversion::Options;
@@ -15,6 +15,7 @@ use feed_mapping::{
 };
 use feed_outline::first_called;
 use feed_xml::Position;
+use shown_texts::push_shown;
 use std::alloc::{AllocError, Global};
 
 /// What each line on standard error begins with.
@@ -63,7 +64,7 @@ pub struct Notes<'a> {
 /// Adds the beginning of a line on what stands at a place of a FILE.
 pub(crate) fn push_place(text: &mut String, file: &str, place: Position) -> Result<(), AllocError> {
     text.push_str(PREFIX)?;
-    push_shown(text, file)?;
+    push_shown(text, file, SHOWN)?;
     write!(text, ":{}:{}: ", place.line, place.column)
 }
 

@@ -1,7 +1,8 @@
 //! A line on a terminal that shows how far a FILE is.
 
-use crate::shown::push_shown;
+use crate::shown::SHOWN;
 use program_files::STANDARD_INPUT;
+use shown_texts::push_shown;
 use std::alloc::AllocError;
 use std::io::{IsTerminal, Write};
 use std::rt::HostRuntime;
@@ -66,7 +67,7 @@ impl<'a> Progress<'a> {
     // Adds the line for so many bytes that were read.
     fn push_line(&self, count: u64, line: &mut String) -> Result<(), AllocError> {
         line.push_str(CLEAR)?;
-        push_shown(line, self.file)?;
+        push_shown(line, self.file, SHOWN)?;
         line.push_str(": ")?;
         push_size(line, count)?;
         match self.size {

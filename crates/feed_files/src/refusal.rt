@@ -3,13 +3,14 @@
 use crate::garbled::push_garbled;
 use crate::notes::{Notes, push_place};
 use crate::numbers::push_number;
-use crate::shown::{push_reference, push_shown, push_shown_bytes};
+use crate::shown::{SHOWN, push_reference, push_shown_bytes};
 use crate::unread;
 use crate::watched::Seen;
 use feed_conversion::{Fault, Options, Refusal};
 use feed_mapping::{HeaderRefusal, Pair};
 use feed_outline::{RefusalHints, Wrong};
 use feed_xml::Position;
+use shown_texts::push_shown;
 use std::alloc::AllocError;
 
 const NO_HEADER: &str = "no Header before the first Product, and so neither a sender nor a number";
@@ -249,6 +250,6 @@ pub(crate) fn push_packed(line: &mut String, file: &str) -> Result<(), AllocErro
     push_start(line, file, Position::first())?;
     let command = unpacking(file);
     write!(line, "the file is compressed; unpack it first: {command} ")?;
-    push_shown(line, file)?;
+    push_shown(line, file, SHOWN)?;
     line.push_str(" | onixdesk convert\n")
 }

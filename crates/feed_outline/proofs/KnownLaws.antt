@@ -1,14 +1,12 @@
 -- What the root of a document tells, and that each of its references stands for something.
-use Rattle.std.proofs.Common.{◌≡◌, ℕ, Bool, true, false, List, [], ◌∷◌, ◌++◌, Some, None, Ok, refl, sym, ap, ◌∙◌, fold}
+use Rattle.std.proofs.Common.{◌≡◌, ℕ, Bool, true, false, List, [], ◌∷◌, ◌++◌, Some, None, Ok, refl, sym, ap, ◌∙◌, append-nil, fold, subst}
 use Rattle.std.specs.Prelude.{◌&&◌}
 use Rattle.std.specs.List.{AllByRecursion, list_all}
 use Rattle.std.proofs.lemmas.Bool.{and_from, and_parts, and_right}
-use Rattle.std.proofs.lemmas.List.Folds.{list_all-append}
-use Rattle.std.proofs.lemmas.List.Sums.{fold-append}
 use Rattle.feed_outline.specs.Names.{Word}
 use Rattle.feed_xml.specs.declared.position.Position.{Position}
-use Rattle.feed_xml.specs.Grammar.{Token, raw, reference, cdata, comment, instruction, declaration, doctype, start, empty, end}
-use Rattle.feed_xml.specs.Positions.{first_position, position_past}
+use Rattle.feed_xml.specs.Grammar.{Token, raw, reference, cdata, comment, instruction, declaration, doctype, start, empty, end, spelling}
+use Rattle.feed_xml.specs.Positions.{first_position, position_after}
 use Rattle.feed_xml.specs.Tree.{Content}
 use Rattle.feed_xml.specs.Trees.{IsRoot, IsTree}
 use Rattle.feed_outline.specs.Dialect.{Dialect}
@@ -73,33 +71,49 @@ all_known : (tokens : List Token) → AllByRecursion IsQuiet tokens → list_all
 all_known [] h = refl
 all_known (token ∷ tokens) h = and_from (is_known token) (list_all is_known tokens) (quiet_known token h.0) (all_known tokens h.1)
 
-known_root : (vocabulary : List Word) {T : Type 0} (after : T → List Line → T) (t : T) (d : Dialect) (root behind : List Token) (name : List ℕ) (inside : Content) (p : Position) → IsRoot root name inside
-    → root_of (root ++ behind) ≡ Some (Ok d) → (fold (feed vocabulary after) (feed_from t p) (root ++ behind)).known ≡ true → list_all is_known (root ++ behind) ≡ true
-known_root vocabulary after t d [] behind name inside p r e k = absurd r
-known_root vocabulary after t d (start n attributes space ∷ tokens) behind name inside p r e k =
-    let f = feed vocabulary after (feed_from t p) (start n attributes space) in
-    (and_parts (list_all is_known (tokens ++ behind)) f.known (sym (known_fold vocabulary after f (tokens ++ behind) d (root_step vocabulary after (feed_from t p) (start n attributes space) ∙ e)) ∙ k)).0
-known_root vocabulary after t d (empty n attributes space ∷ tokens) behind name inside p r e k =
-    let f = feed vocabulary after (feed_from t p) (empty n attributes space) in
-    (and_parts (list_all is_known (tokens ++ behind)) f.known (sym (known_fold vocabulary after f (tokens ++ behind) d (root_step vocabulary after (feed_from t p) (empty n attributes space) ∙ e)) ∙ k)).0
-known_root vocabulary after t d (raw b ∷ tokens) behind name inside p r e k = absurd r
-known_root vocabulary after t d (reference body ∷ tokens) behind name inside p r e k = absurd r
-known_root vocabulary after t d (cdata body ∷ tokens) behind name inside p r e k = absurd r
-known_root vocabulary after t d (comment body ∷ tokens) behind name inside p r e k = absurd r
-known_root vocabulary after t d (instruction body ∷ tokens) behind name inside p r e k = absurd r
-known_root vocabulary after t d (declaration body ∷ tokens) behind name inside p r e k = absurd r
-known_root vocabulary after t d (doctype body ∷ tokens) behind name inside p r e k = absurd r
-known_root vocabulary after t d (end n space ∷ tokens) behind name inside p r e k = absurd r
+-- behind a root's first tag
+known_tag : (vocabulary : List Word) {T : Type 0} (after : T → List Line → T) (t : T) (d : Dialect) (p : Position) (tag token : Token) (tokens : List Token) → token ≡ tag → is_known tag ≡ true
+    → root_of (tag ∷ []) ≡ root_of (tag ∷ tokens) → root_of (token ∷ tokens) ≡ Some (Ok d) → (fold (feed vocabulary after) (feed_from t p) (token ∷ tokens)).known ≡ true → list_all is_known (token ∷ tokens) ≡ true
+known_tag vocabulary after t d p tag token tokens same known rooted e k =
+    let f = feed vocabulary after (feed_from t p) token in
+    let root : f.root ≡ Some (Ok d) =
+    root_step vocabulary after (feed_from t p) token ∙ ap (λ x. root_of (x ∷ [])) same ∙ rooted ∙ ap (λ x. root_of (x ∷ tokens)) (sym same) ∙ e in
+    and_from (is_known token) (list_all is_known tokens) (ap is_known same ∙ known)
+    (and_parts (list_all is_known tokens) f.known (sym (known_fold vocabulary after f tokens d root) ∙ k)).0
 
--- a message at whose end all is known has no reference that stands for nothing
+known_from : (vocabulary : List Word) {T : Type 0} (after : T → List Line → T) (t : T) (d : Dialect) (p : Position) (before root behind tokens more : List Token) (name : List ℕ) (inside : Content) → IsRoot root name inside
+    → AllByRecursion IsQuiet before → tokens ++ more ≡ before ++ (root ++ behind) → root_of tokens ≡ Some (Ok d) → (fold (feed vocabulary after) (feed_from t p) tokens).known ≡ true → list_all is_known tokens ≡ true
+known_from vocabulary after t d p before root behind [] more name inside r q parts e k = absurd cc
+known_from vocabulary after t d p (first ∷ before) root behind (token ∷ tokens) more name inside r q parts e k =
+    let same : token ≡ first = cc in
+    let rest : tokens ++ more ≡ before ++ (root ++ behind) = cc in
+    let quiet : IsQuiet token = subst IsQuiet (sym same) q.0 in
+    let step = misc_before vocabulary after t p (token ∷ []) (quiet, tt) in
+    and_from (is_known token) (list_all is_known tokens) (quiet_known token quiet)
+    (known_from vocabulary after t d (position_after p (spelling token)) before root behind tokens more name inside r q.1 rest (sym (misc_root (token ∷ []) tokens (quiet, tt)) ∙ e) (sym (ap (λ f. (fold (feed vocabulary after) f tokens).known) step) ∙ k))
+known_from vocabulary after t d p [] (start n attributes space ∷ root) behind (token ∷ tokens) more name inside r q parts e k =
+    let same : token ≡ start n attributes space = cc in known_tag vocabulary after t d p (start n attributes space) token tokens same refl refl e k
+known_from vocabulary after t d p [] (empty n attributes space ∷ root) behind (token ∷ tokens) more name inside r q parts e k =
+    let same : token ≡ empty n attributes space = cc in known_tag vocabulary after t d p (empty n attributes space) token tokens same refl refl e k
+known_from vocabulary after t d p [] [] behind (token ∷ tokens) more name inside r q parts e k = absurd r
+known_from vocabulary after t d p [] (raw b ∷ root) behind (token ∷ tokens) more name inside r q parts e k = absurd r
+known_from vocabulary after t d p [] (reference body ∷ root) behind (token ∷ tokens) more name inside r q parts e k = absurd r
+known_from vocabulary after t d p [] (cdata body ∷ root) behind (token ∷ tokens) more name inside r q parts e k = absurd r
+known_from vocabulary after t d p [] (comment body ∷ root) behind (token ∷ tokens) more name inside r q parts e k = absurd r
+known_from vocabulary after t d p [] (instruction body ∷ root) behind (token ∷ tokens) more name inside r q parts e k = absurd r
+known_from vocabulary after t d p [] (declaration body ∷ root) behind (token ∷ tokens) more name inside r q parts e k = absurd r
+known_from vocabulary after t d p [] (doctype body ∷ root) behind (token ∷ tokens) more name inside r q parts e k = absurd r
+known_from vocabulary after t d p [] (end n space ∷ root) behind (token ∷ tokens) more name inside r q parts e k = absurd r
+
+-- tokens with which a document begins, and at whose end all is known, have no reference that stands
+-- for nothing
+pub known_front : (vocabulary : List Word) {T : Type 0} (after : T → List Line → T) (t : T) (d : Dialect) (tokens more : List Token) (name : List ℕ) (inside : Content) → IsTree (tokens ++ more) name inside
+    → root_of tokens ≡ Some (Ok d) → (fold (feed vocabulary after) (first_feed t) tokens).known ≡ true → list_all is_known tokens ≡ true
+known_front vocabulary after t d tokens more name inside tree e k =
+    known_from vocabulary after t d first_position tree.before tree.root tree.behind tokens more name inside tree.is_root (quiet_prolog tree.before tree.prolog) tree.parts e k
+
+-- so a message at whose end all is known
 pub known_tree : (vocabulary : List Word) {T : Type 0} (after : T → List Line → T) (t : T) (d : Dialect) (tokens : List Token) (name : List ℕ) (inside : Content) → IsTree tokens name inside
     → root_of tokens ≡ Some (Ok d) → (fold (feed vocabulary after) (first_feed t) tokens).known ≡ true → list_all is_known tokens ≡ true
 known_tree vocabulary after t d tokens name inside tree e k =
-    let root = tree.root ++ tree.behind in
-    let before = quiet_prolog tree.before tree.prolog in
-    let p = position_past first_position tree.before in
-    let told : root_of root ≡ Some (Ok d) = sym (misc_root tree.before root before) ∙ ap root_of (sym tree.parts) ∙ e in
-    let runs = ap (fold (feed vocabulary after) (first_feed t)) tree.parts ∙ fold-append (feed vocabulary after) (first_feed t) tree.before root ∙ ap (λ f. fold (feed vocabulary after) f root) (misc_before vocabulary after t first_position tree.before before) in
-    let known : (fold (feed vocabulary after) (feed_from t p) root).known ≡ true = sym (ap (λ f. f.known) runs) ∙ k in
-    ap (list_all is_known) tree.parts ∙ list_all-append is_known tree.before root
-    ∙ and_from (list_all is_known tree.before) (list_all is_known root) (all_known tree.before before) (known_root vocabulary after t d tree.root tree.behind name inside p tree.is_root told known)
+    known_front vocabulary after t d tokens [] name inside (subst (λ ts. IsTree ts name inside) (sym (append-nil tokens)) tree) e k

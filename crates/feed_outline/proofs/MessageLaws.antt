@@ -12,7 +12,7 @@ use Rattle.feed_xml.specs.declared.fault.Fault.TheVariants.{Malformed, NotText, 
 use Rattle.feed_xml.specs.declared.position.Position.{Position}
 use Rattle.feed_xml.specs.Grammar.{Token, is_token, spelling}
 use Rattle.feed_xml.specs.Faults.{AtFault}
-use Rattle.feed_xml.specs.Documents.{IsDocument, IsNoDocument, IsNoText}
+use Rattle.feed_xml.specs.Documents.{AreFront, IsDocument, IsNoDocument, IsNoText}
 use Rattle.feed_xml.specs.Positions.{first_position, position_past}
 use Rattle.feed_xml.specs.EncodingNames.{IsTextOf, OfText, IsOfUnknown}
 use Rattle.feed_xml.specs.Limits.{BeginsWith, Bound, Follows, Meets, IsDeep, IsGarbled, IsLarge, IsLong, NoneMayStand}
@@ -28,12 +28,12 @@ use Rattle.feed_outline.specs.Outline.{Line, parts_of}
 use Rattle.feed_outline.specs.Sizes.{first_large}
 use Rattle.feed_outline.specs.private.Feed.{Feed, feed, first_feed, fits, is_sound, is_sound_with, takes_more, takes_more_with}
 use Rattle.feed_outline.specs.Roots.{root_of, root_place}
-use Rattle.feed_outline.specs.Faults.{Explains, IsRefusedRoot, IsUnknown, Refuses}
+use Rattle.feed_outline.specs.Faults.{Explains, IsLargeAt, IsRefusedRoot, IsUnknown, Refuses}
 use Rattle.feed_outline.specs.private.Reasons.{IsAt, IsReason, RefusesReference, RefusesRoot}
 use Rattle.feed_outline.specs.private.Finishing.{finished, finished_with, first_place_of, is_of_text}
 use Rattle.feed_outline.specs.Message.{IsMessage}
 use Rattle.feed_outline.proofs.FeedLaws.{tree_feeds}
-use Rattle.feed_outline.proofs.KnownLaws.{has_root, known_tree, unknown_among}
+use Rattle.feed_outline.proofs.KnownLaws.{has_root, known_front, known_tree, unknown_among}
 use Rattle.feed_outline.proofs.LargeLaws.{is_stuck, stuck_large}
 use Rattle.feed_outline.proofs.RefusalLaws.{Finds, finds_root, finds_unknown, places, roots}
 use Rattle.feed_outline.proofs.TreeLaws.{is_large, tree_kept}
@@ -54,6 +54,12 @@ all_tokens : (bytes : Option (List ℕ)) (text : List ℕ) (tokens : List Token)
 all_tokens None text tokens is document = tt
 all_tokens (Some b) text tokens is document =
     (text, is, ([], document.spelled ∙ sym (append-nil (flat_map spelling tokens)), ([], subst AreDocument (sym (append-nil tokens)) document.are), tt))
+
+-- what holds of tokens with which a document begins holds of a text that begins with them
+holds_there : (Limit : Bound) (tokens : List Token) (bytes : Option (List ℕ)) → ((rest : List ℕ) → AreFront tokens → Limit tokens rest) → OfText (BeginsWith tokens) bytes → OfText (Meets Limit tokens) bytes
+holds_there Limit tokens None holds begins = tt
+holds_there Limit tokens (Some b) holds begins =
+    let m = begins.2 in (begins.0, begins.1, (m.0, m.1, m.2, holds m.0 m.2))
 
 -- ---- tokens that are refused
 
@@ -101,6 +107,10 @@ refuses vocabulary {T = T} after taker bytes tokens begins refused = go f.root r
     root_is : f.root ≡ root_of tokens
     root_is = roots vocabulary after (first_feed taker) tokens
 
+    known_there : (d : Dialect) → root_of tokens ≡ Some (Ok d) → f.known ≡ true → (front : AreFront tokens) → list_all is_known tokens ≡ true
+    known_there d root known front =
+        let are = front.1 in known_front vocabulary after taker d tokens front.0 are.name are.inside are.tree root known
+
     go : (o : Option (Result Dialect Wrong)) → f.root ≡ o → (k : Bool) → f.known ≡ k → (small : Bool) → fits f.child ≡ small → takes_more_with o k small ≡ false
         → Comes vocabulary after taker bytes (finished_with o k small f)
     go None e k known small size r = absurd cc
@@ -112,8 +122,12 @@ refuses vocabulary {T = T} after taker bytes tokens begins refused = go f.root r
     go (Some (Ok d)) e true known true size r = absurd cc
     go (Some (Ok d)) e true known false size r =
         let place = first_place_of f.child.lines f.place in
-        let large = is_large vocabulary after taker d tokens place (sym root_is ∙ e) (is_stuck f.child f.place size) in
-        record { ok = tt; err = (tokens, begins, (place, large)); at = (tokens, begins, large) }
+        let root = sym root_is ∙ e in
+        record {
+          ok = tt;
+          err = tt;
+          at = (tokens, holds_there (IsLargeAt vocabulary place) tokens bytes (λ rest front. is_large vocabulary after taker d tokens place rest root (known_there d root known front) (is_stuck f.child f.place size)) begins);
+        }
     go (Some (Ok d)) e false known small size r =
         let unsound : is_sound f ≡ false = ap (λ o. is_sound_with o f.known) e ∙ known in
         let h = finds_unknown vocabulary after (first_feed taker) tokens refl known unsound (λ w x. absurd (cc (sym e ∙ x))) in

@@ -225,9 +225,9 @@ none_stuck t d p place f e s = other s.first s.others (ap (λ g. g.child.lines) 
     other : (l : Line) (ls : List Line) → [] ≡ l ∷ ls → ⊥
     other l ls h = cc
 
-pub is_large : (vocabulary : List Word) {T : Type 0} (after : T → List Line → T) (t : T) (d : Dialect) (tokens : List Token) (place : Position) → root_of tokens ≡ Some (Ok d)
-    → IsStuck place (fold (feed vocabulary after) (first_feed t) tokens).child → IsLargeAt vocabulary tokens place
-is_large vocabulary after t d tokens place e s = (d, e, λ more name inside tree k. go more name inside tree k (first_large (nodes_in vocabulary d [] (root_place first_position tokens) inside)) refl)
+pub is_large : (vocabulary : List Word) {T : Type 0} (after : T → List Line → T) (t : T) (d : Dialect) (tokens : List Token) (place : Position) (rest : List ℕ) → root_of tokens ≡ Some (Ok d)
+    → list_all is_known tokens ≡ true → IsStuck place (fold (feed vocabulary after) (first_feed t) tokens).child → IsLargeAt vocabulary place tokens rest
+is_large vocabulary after t d tokens place rest e known s = (d, e, known, λ more name inside tree k. go more name inside tree k (first_large (nodes_in vocabulary d [] (root_place first_position tokens) inside)) refl)
   where
     decide : (more : List Token) (name : List ℕ) (inside : Content) → IsTree (tokens ++ more) name inside → list_all is_known (tokens ++ more) ≡ true
         → (o : Option Position) → first_large (nodes_in vocabulary d [] (root_place first_position tokens) inside) ≡ o → first_large (nodes_in vocabulary d [] (root_place first_position (tokens ++ more)) inside) ≡ o

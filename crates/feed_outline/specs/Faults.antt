@@ -9,7 +9,7 @@ use Rattle.feed_xml.specs.Grammar.{Token}
 use Rattle.feed_xml.specs.declared.position.Position.{Position}
 use Rattle.feed_xml.specs.EncodingNames.{OfText, IsOfUnknown}
 use Rattle.feed_xml.specs.Positions.{first_position, position_past}
-use Rattle.feed_xml.specs.Limits.{BeginsWith, Bound, Follows, Meets, IsDeep, IsGarbled, IsLarge}
+use Rattle.feed_xml.specs.Limits.{Bound, Follows, Meets, IsDeep, IsGarbled, IsLarge}
 use Rattle.feed_xml.specs.Limits.{IsLong, NoneMayStand}
 use Rattle.feed_xml.specs.Documents.{IsNoDocument, IsNoText}
 use Rattle.feed_xml.specs.Tree.{Content}
@@ -24,19 +24,15 @@ use Rattle.feed_outline.specs.Nodes.{is_known, nodes_in}
 use Rattle.feed_outline.specs.Sizes.{first_large}
 use Rattle.feed_outline.specs.Roots.{root_of, root_place}
 
--- In each message that begins with these tokens, and whose references all stand for something, the
--- first of what is sought stands at this place.
-abbrev pub IsFirstAt : (Dialect → Position → Content → Option Position) → List Token → Position
-    → Type 0
-IsFirstAt first tokens place =
-    (d : Dialect) × (root_of tokens ≡ Some (Ok d))
+-- Each reference so far stands for something, and in each message that goes on so, and whose
+-- references all do, the first Header or Product that is too large begins at this place.
+abbrev pub IsLargeAt : List Word → Position → Bound
+IsLargeAt vocabulary place tokens rest =
+    (d : Dialect) × (root_of tokens ≡ Some (Ok d)) × (list_all is_known tokens ≡ true)
     × ((more : List Token) (name : List ℕ) (inside : Content)
     → IsTree (tokens ++ more) name inside → list_all is_known (tokens ++ more) ≡ true
-    → first d (root_place first_position tokens) inside ≡ Some place)
-
--- a Header or Product that is too large
-abbrev pub IsLargeAt : List Word → List Token → Position → Type 0
-IsLargeAt vocabulary = IsFirstAt (λ d p inside. first_large (nodes_in vocabulary d [] p inside))
+    → first_large (nodes_in vocabulary d [] (root_place first_position tokens) inside)
+    ≡ Some place)
 
 -- the first tag follows, which is that of a refused root
 abbrev pub IsRefusedRoot : Wrong → Bound
@@ -55,6 +51,12 @@ module _ (vocabulary : List Word) (bytes : Option (List ℕ)) where
   Refuses Limit place =
       (tokens : List Token) × OfText (Meets Limit tokens) bytes
       × (place ≡ position_past first_position tokens)
+
+  -- Where a Header or Product that is too large begins: the text begins with tokens, as a document
+  -- may, that tell so.
+  abbrev pub RefusesLarge : Position → Type 0
+  RefusesLarge place =
+      (tokens : List Token) × OfText (Meets (IsLargeAt vocabulary place) tokens) bytes
 
   -- Why a message is refused, and where. Malformed: what the reader has left is no document, and at
   -- the place none goes on with a token that follows. No text: its bytes are none, and no text goes
@@ -75,5 +77,4 @@ module _ (vocabulary : List Word) (bytes : Option (List ℕ)) where
   Explains (Document other) place = Unit {0}
   Explains (Message wrong) place = Refuses (IsRefusedRoot wrong) place
   Explains Reference place = Refuses IsUnknown place
-  Explains TooLarge place =
-      (tokens : List Token) × OfText (BeginsWith tokens) bytes × IsLargeAt vocabulary tokens place
+  Explains TooLarge place = RefusesLarge place

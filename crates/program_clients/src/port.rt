@@ -96,6 +96,6 @@ impl<'a> Clients for Port<'a> {
 
     fn close(&mut self, reader: Timed<'a>, writer: Timed<'a>) {
         drop(writer);
-        reader.into_stream().close();
+        reader.into_stream().shut_down();
     }
 }

@@ -64,7 +64,7 @@ impl Stream {
 
     /// Closes it. What a client of a port sent behind its request is taken first, as far as it is
     /// there: where such bytes are left, the close can undo a reply that is still on its way.
-    pub fn close(self) {
+    pub fn shut_down(self) {
         let Stream::Port(mut stream) = self else {
             return;
         };

@@ -88,7 +88,7 @@ pub fn tell_cause<F: NamedFiles, E: Write>(alloc: Global, files: &F, name: &str,
 /// Reads the precedence table in the file of this name, and writes how many rules it has. Gives 0;
 /// or 2 where it is none or cannot be read, or 3 where memory ran out or the line cannot be
 /// written, which is reported, with the line of the file and the cause.
-pub fn run<F: NamedFiles, W: Write, E: Write>(
+pub fn check_rules<F: NamedFiles, W: Write, E: Write>(
     alloc: Global,
     files: &F,
     name: &str,

@@ -43,7 +43,7 @@ fn print_count<W: Write, E: Write>(count: usize, output: &mut W, errors: &mut E)
 /// them that an earlier one always precedes is reported. Gives 0; or 2 where there is no table or
 /// it cannot be read, or 3 where memory ran out or the line cannot be written, which is reported,
 /// with the cause.
-pub fn run<F: NamedFiles, W: Write, E: Write>(
+pub fn check_terms<F: NamedFiles, W: Write, E: Write>(
     alloc: Global,
     files: &F,
     name: &str,

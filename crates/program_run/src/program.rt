@@ -139,11 +139,11 @@ fn run_action<
             (status, FilesLeft::Untouched(databases))
         }
         Action::CheckRules { file } => {
-            let status = checking::run(rt.alloc(), files, file, output, errors);
+            let status = checking::check_rules(rt.alloc(), files, file, output, errors);
             (status, FilesLeft::Untouched(databases))
         }
         Action::CheckTerms { file } => {
-            let status = terms_checking::run(rt.alloc(), files, file, output, errors);
+            let status = terms_checking::check_terms(rt.alloc(), files, file, output, errors);
             (status, FilesLeft::Untouched(databases))
         }
         Action::CheckTexts { files: names } => {

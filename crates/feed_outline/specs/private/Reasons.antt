@@ -17,7 +17,8 @@ use Rattle.feed_outline.specs.Names.{Word}
 use Rattle.feed_outline.specs.Nodes.{is_known}
 use Rattle.feed_outline.specs.Roots.{root_of}
 use Rattle.feed_outline.specs.declared.dialect.Wrong.{Wrong}
-use Rattle.feed_outline.specs.Faults.{IsLargeAt, IsRefusedRoot, IsUnknown, Refuses}
+use Rattle.feed_outline.specs.Faults.{IsRefusedRoot, IsUnknown, Refuses}
+use Rattle.feed_outline.specs.Faults.{RefusesLarge}
 
 -- a token is the tag of a refused root, behind these tokens
 abbrev pub RefusesRoot : Wrong → List Token → Token → Type 0
@@ -34,7 +35,7 @@ module _ (vocabulary : List Word) where
   AreRefused (Document fault) tokens = Unit {0}
   AreRefused (Message wrong) tokens = root_of tokens ≡ Some (Err wrong)
   AreRefused Reference tokens = list_all is_known tokens ≡ false
-  AreRefused TooLarge tokens = (place : Position) × IsLargeAt vocabulary tokens place
+  AreRefused TooLarge tokens = Unit {0}
 
   -- the text of the bytes that a reader has left, where it tells them, begins with tokens that are
   -- refused
@@ -55,7 +56,7 @@ module _ (vocabulary : List Word) where
   IsReason bytes (Document Refused) = ⊥
   IsReason bytes (Message wrong) = RefusesText bytes (Message wrong)
   IsReason bytes Reference = RefusesText bytes Reference
-  IsReason bytes TooLarge = RefusesText bytes TooLarge
+  IsReason bytes TooLarge = Unit {0}
 
   -- where it is
   abbrev pub IsAt : Option (List ℕ) → Fault → Position → Type 0
@@ -70,5 +71,4 @@ module _ (vocabulary : List Word) where
   IsAt bytes (Document Refused) place = ⊥
   IsAt bytes (Message wrong) place = Refuses vocabulary bytes (IsRefusedRoot wrong) place
   IsAt bytes Reference place = Refuses vocabulary bytes IsUnknown place
-  IsAt bytes TooLarge place =
-      (tokens : List Token) × OfText (BeginsWith tokens) bytes × IsLargeAt vocabulary tokens place
+  IsAt bytes TooLarge place = RefusesLarge vocabulary bytes place

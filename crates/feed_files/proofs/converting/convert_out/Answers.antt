@@ -28,8 +28,8 @@ module _ (g : Over) (c : After-end_of_seen-ended g) where
       let ended = c.end_of_seen-ended.result in
       let first = told_texts told g.F.NamedFiles.scratch_text c.new.result.first.items c.new.result.rest in
       let read = read_taken (with_text told) options (g.R.Read.remaining c.new-watched.result.reader.now) first texts
-      c.convert-target.result.ended ended c.convert-target.ensures.converted c.convert-target.ensures.fault c.end_of_seen-ended.ensures.done
-      c.end_of_seen-ended.ensures.left_out c.end_of_seen-ended.ensures.err in
+      c.convert-target.result.ended ended c.convert-target.ensures.converted c.convert-target.ensures.fault c.end_of_seen-ended.ensures.ok
+      c.end_of_seen-ended.ensures.err in
       let of_bytes : IsTaken (with_text told) options bytes first texts ended =
       subst (λ reader. IsTaken (with_text told) options (g.R.Read.remaining reader.now) first texts ended) c.new-watched.ensures read in
       subst (λ before. IsTaken (with_text told) options bytes before texts ended) c.new.ensures of_bytes

@@ -15,8 +15,8 @@ returns g c =
     let texts = map text_of store.made.items in
     let first = map text_of c.new.result.made.items in
     let read = read_taken (with_file told) o (g.R.Read.remaining c.new-watched.result.reader.now) first texts
-    c.convert-target.result.ended e c.convert-target.ensures.converted c.convert-target.ensures.fault c.end_of_seen-ended.ensures.done
-    c.end_of_seen-ended.ensures.left_out c.end_of_seen-ended.ensures.err in
+    c.convert-target.result.ended e c.convert-target.ensures.converted c.convert-target.ensures.fault c.end_of_seen-ended.ensures.ok
+    c.end_of_seen-ended.ensures.err in
     let bytes = g.R.Read.remaining c.args.reader.now in
     let of_bytes : IsTaken (with_file told) o bytes first texts e =
     subst (λ reader. IsTaken (with_file told) o (g.R.Read.remaining reader.now) first texts e) c.new-watched.ensures read in

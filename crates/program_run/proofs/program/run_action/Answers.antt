@@ -21,10 +21,10 @@ pub returns-in-Convert-clause-end : goal.returns-in-Convert-clause-end
 returns-in-Convert-clause-end g c = rw c.in-Convert.is (refl, tt, c.run-status.ensures.end)
 
 pub returns-in-CheckRules-clause-end : goal.returns-in-CheckRules-clause-end
-returns-in-CheckRules-clause-end g c = rw c.in-CheckRules.is ((refl, refl), tt, c.run-status-in-CheckRules.ensures.end)
+returns-in-CheckRules-clause-end g c = rw c.in-CheckRules.is ((refl, refl), tt, c.check_rules-status.ensures.end)
 
 pub returns-in-CheckTerms-clause-end : goal.returns-in-CheckTerms-clause-end
-returns-in-CheckTerms-clause-end g c = rw c.in-CheckTerms.is ((refl, refl), tt, c.run-status-in-CheckTerms.ensures.end)
+returns-in-CheckTerms-clause-end g c = rw c.in-CheckTerms.is ((refl, refl), tt, c.check_terms-status.ensures.end)
 
 pub returns-in-CheckTexts-clause-end : goal.returns-in-CheckTexts-clause-end
 returns-in-CheckTexts-clause-end g c = rw c.in-CheckTexts.is ((refl, refl), tt, Appends-nil (g.W.Write.contents c.args.output.now))

@@ -4,7 +4,7 @@ use Rattle.price_rules.specs.declared.precedence.PrecedenceFault.TheVariants as 
 use Rattle.program_rules.specs.RulesFile.{status_of}
 use Rattle.program_rules.specs.declared.rules.RulesFault.{RulesFault}
 use Rattle.program_rules.specs.declared.rules.RulesFault.TheVariants as rules_fault
-use Rattle.program_rules.proofs.checking.run.Goals as goal
+use Rattle.program_rules.proofs.checking.check_rules.Goals as goal
 
 at_most : (f : RulesFault) → status_of f ≤ 3
 at_most (rules_fault.Table fault.Memory) = omega arith

@@ -4,7 +4,7 @@ use Rattle.feed_terms.specs.declared.reading.ReadFault.{ReadFault}
 use Rattle.feed_terms.specs.declared.reading.ReadFault.TheVariants as read_fault
 use Rattle.feed_terms.specs.declared.term.TermsFault.TheVariants as fault
 use Rattle.program_rules.specs.TermsRead.{terms_status}
-use Rattle.program_rules.proofs.terms_checking.run.Goals as goal
+use Rattle.program_rules.proofs.terms_checking.check_terms.Goals as goal
 
 at_most : (f : ReadFault) → terms_status f ≤ 3
 at_most (read_fault.Table fault.Memory) = omega arith

@@ -15,7 +15,7 @@ use Rattle.desk_batch.specs.Talks.{Talks}
 use Rattle.desk_batch.specs.declared.batch.BatchFault.{BatchFault}
 use Rattle.program_commands.specs.ServedClients.{AreFirst, AreReplied, IsOf}
 use Rattle.program_commands.specs.Connections.{Connection, IsServed, WritesLines, WritesServed, lines_of}
-use Rattle.program_commands.specs.Deliveries.{TellsTexts, delivery_of}
+use Rattle.program_commands.specs.Deliveries.{AreTexts, delivery_of}
 use Rattle.program_lines.specs.Printing.{PrintEnds}
 use Rattle.program_commands.specs.Serving.{listening_line}
 use Rattle.program_clients.specs.declared.clients.Protocol.{Protocol}
@@ -53,8 +53,7 @@ module _ (asked : List Step → Type 0) (written : List ℕ → Type 0) where
   -- asked; where there are other files the status is 3. Holds: what names hold
   abbrev pub DeliverEnds : Holdings → Option (List ℕ) → List (List ℕ) → ℕ → Type 0
   DeliverEnds holds told names status =
-      (texts : List (List ℕ)) × (length texts ≤ length names) × All HasRecords texts
-      × TellsTexts holds told names texts
+      (texts : List (List ℕ)) × AreTexts holds told names texts × All HasRecords texts
       × (own : ℕ) × RequestsEnd (map delivery_of texts) own
       × (status ≡ (if nat_lt (length texts) (length names) then 3 else own))
 

@@ -23,7 +23,7 @@ serving-init g c = record {
   each = All-nil (λ (d : Connection). IsOf g.C.Clients.speaks d.ending);
   first = none_first (g.C.Clients.coming c.args.clients.now);
   replied = none_replied (g.C.Clients.replied c.args.clients.now);
-  lines = Appends-nil (g.O.Write.contents c.args.output.now);
+  lines = Appends-nil (g.O.Write.contents c.args.streams.now.output);
   asked = refl;
 }
 

@@ -95,7 +95,7 @@ task_as asked asks written f (task.Gaps name) holds told status ended = by (seri
     by (Some series) end = requests_as asked asks written f _ _ end
     by None end = (f [] end.0, end.1)
 task_as asked asks written f (task.Serve port requests batches) holds told status ended =
-    (ended.0, (ended.1.0, ended.1.1, f _ ended.1.2), ended.2, ended.3)
+    (ended.0, (ended.1.0, ended.1.1, f _ ended.1.2), ended.2)
 
 -- a command that ended over a desk ended so over its files
 pub task_between : {k : DeskKind} (rules : List Rule) (written : List ℕ → Type 0) (task : Task) (holds : Holdings) (told : Option (List ℕ)) (old first last new : View k) (own : ℕ) → OpensAs old first → LeavesAs last new

@@ -12,11 +12,13 @@ returns-in-Ok-clause-end g c =
     let ended = c.serve_clients.ensures.end in (
       ended.0,
       ended.4,
-      inr (lines_behind _ _ _ (listening_line c.args.place.port) ended.0 c.in-Ok.ensures ended.5),
-      elim ended.6 [
-        | inl done ↦ inl (done.0, done.1, Appends-trans _ _ _ _ _ c.in-Ok.ensures done.2)
-        | inr three ↦ inr three
-      ],
+      inr (
+        lines_behind _ _ _ (listening_line c.args.place.port) ended.0 c.in-Ok.ensures ended.5.0,
+        elim ended.5.1 [
+          | inl done ↦ inl (done.0, done.1, Appends-trans _ _ _ _ _ c.in-Ok.ensures done.2)
+          | inr three ↦ inr three
+        ],
+      ),
     )
 
 pub returns-in-Err-clause-end : goal.returns-in-Err-clause-end

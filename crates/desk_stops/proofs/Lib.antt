@@ -4,3 +4,4 @@ pub mod ConnectionLaws
 pub mod ClauseLemmas
 pub mod FileLemmas
 mod SessionLemmas
+pub mod OneContent

@@ -1,10 +1,11 @@
 //! Laws over runs with stops.
 
 ghost use Rattle.std.specs.Prelude.{List};
-ghost use Rattle.desk_stops.specs.Connections.{EmptyHoldsNoRows, storage};
+ghost use Rattle.desk_stops.specs.Connections.{EmptyHoldsNoRows, RowsHaveOneContent, storage};
 ghost use Rattle.desk_stops.specs.Effective.{AnsweredAreWhole, AnsweredAsIfNeverStopped, AnswersAreExplained, DoubtEndsWithAChange, RunsGoOn, WhatIsLeftIsEffective, WhatIsOpenedIsEffective};
 ghost use Rattle.price_rules.specs.declared.precedence.Rule.{Rule};
 
+use desk_rows::laws::one_standing_text;
 use sqlite::Alter;
 
 /// The law over runs with stops. For every list of events in which each step keeps the clauses of
@@ -60,3 +61,11 @@ pub fn doubt_ends_with_a_change<S: Alter>()
 pub fn empty_holds_no_rows()
     ensures { EmptyHoldsNoRows }
 {}
+
+/// Whatever list the rows of a desk are found to be those of, its content is one: the same agreement
+/// under each name, and the same at each number of each series.
+pub fn rows_have_one_content()
+    ensures { RowsHaveOneContent }
+{
+    one_standing_text();
+}

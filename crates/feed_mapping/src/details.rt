@@ -431,7 +431,8 @@ pub(crate) fn add_detail<'a>(
         ++ outcome_records
         (detail_outcome opening.now (supply_choices_view choices.now) elements.now)) }
     ensures notes { OnOk result (note_views notes.new.items ≡ note_views notes.old.items
-        ++ notes_below (detail_outcome opening.now (supply_choices_view choices.now) elements.now)) }
+        ++ notes_below
+        (detail_outcome opening.now (supply_choices_view choices.now) elements.now)) }
 {
     let supplier = supplier_id(choices.id_type, elements);
     let left_out = write_detail(alloc, supplier, elements, fields, records)?;

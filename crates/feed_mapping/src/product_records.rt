@@ -126,7 +126,8 @@ fn add_below<'a>(
     notes: &mut Vec<Note<'a>>,
 ) -> Result<Option<Reason<'a>>, AllocError>
     ensures reason { IfOk result (λ reason. reason_read reason
-        ≡ supplies_reason opening.now (supply_choices_view choices.now) (supplies_in elements.now)) }
+        ≡ supplies_reason opening.now (supply_choices_view choices.now)
+        (supplies_in elements.now)) }
     ensures records { OnOk result (records.new ≡ records.old
         ++ all_records (supply_in opening.now (supply_choices_view choices.now))
         (supplies_in elements.now)) }

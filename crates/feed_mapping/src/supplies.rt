@@ -149,7 +149,8 @@ fn add_supply<'a>(
         (supply_outcome opening.now (supply_choices_view choices.now) elements.now)) }
     ensures notes { IfOk result (λ kind. kind ≡ None → note_views notes.new.items
         ≡ note_views notes.old.items
-        ++ notes_below (supply_outcome opening.now (supply_choices_view choices.now) elements.now)) }
+        ++ notes_below
+        (supply_outcome opening.now (supply_choices_view choices.now) elements.now)) }
 {
     if next_composite(b"SupplyDetail", elements).is_none() {
         return Ok(Some(no_detail()));

@@ -11,6 +11,7 @@ use program_databases::stored_desks::StoredDesks;
 use program_files::HostFiles;
 use program_lines::fault::{Fault, report};
 use program_run::help::print_wrong;
+use program_run::machine::{Errors, Machine, Streams};
 use program_run::program::run;
 use sqlite::Wary;
 use std::alloc::AllocError;
@@ -34,20 +35,20 @@ fn run_words(rt: &HostRuntime, words: std::env::Args) -> Result<u8, AllocError>
     let words: Vec<&str> = owned.iter().map(|word| word.as_str()).collect(alloc)?;
     let output = rt.stdout();
     let may_show = is_long(words.as_slice()) && !output.is_terminal();
-    let mut output = Watched::new(rt, output, may_show);
-    let (status, left) = run(
-        rt,
-        words.as_slice(),
-        StoredDesks {
-            databases: Paths { start: Wary },
+    let mut machine = Machine {
+        desks: Sockets,
+        files: HostFiles::new(rt),
+        streams: Streams {
+            input: rt.stdin(),
+            output: Watched::new(rt, output, may_show),
+            errors: Errors::new(rt.stderr()),
         },
-        &mut Sockets,
-        &mut HostFiles::new(rt),
-        &mut rt.stdin(),
-        &mut output,
-        &mut rt.stderr(),
-    );
-    output.clear();
+    };
+    let databases = StoredDesks {
+        databases: Paths { start: Wary },
+    };
+    let (status, left) = run(rt, words.as_slice(), databases, &mut machine);
+    machine.streams.output.clear();
     drop(left);
     Ok(status)
 }

@@ -14,10 +14,9 @@ use Rattle.desk_http.specs.declared.exchange.HttpFault.TheVariants as fault
 use Rattle.program_commands.proofs.TalkEnds.{batch_as}
 use Rattle.program_commands.specs.ServedClients.{AreFirst, AreReplied, IsOf, ServesClient}
 use Rattle.program_clients.specs.Clients.{IsNext, IsReplied, MayCome}
-use Rattle.program_commands.specs.Connections.{Connection, MayEnd}
-use Rattle.program_commands.specs.Serving.{Ending, EndsAs, IsBy, ServesConnection, batch, exchange}
+use Rattle.program_commands.specs.Connections.{Connection}
+use Rattle.program_commands.specs.Serving.{Ending, EndsAs, ServesConnection, batch, exchange, protocol_of_ending}
 use Rattle.program_clients.specs.declared.clients.Protocol.{Protocol}
-use Rattle.program_clients.specs.declared.clients.Protocol.TheVariants as protocol
 use Rattle.program_lines.specs.declared.fault.Fault.{Fault}
 
 -- ---- the steps of a batch
@@ -76,17 +75,10 @@ pub unknown_reply : (sent : Option (List ℕ)) (old new : Option (List (List ℕ
 unknown_reply sent old None nobody = tt
 unknown_reply sent old (Some replies) nobody = absurd nobody
 
-may_end : (batches : Bool) (p : Protocol) (ending : Ending) → MayCome batches p → IsBy p ending → MayEnd batches ending
-may_end batches protocol.Exchange (exchange outcome) may is = tt
-may_end batches protocol.Batch (batch text outcome) may is = may
-may_end batches protocol.Exchange (batch text outcome) may is = absurd is
-may_end batches protocol.Batch (exchange outcome) may is = absurd is
-
 -- so it is of that by which it is read
-is_of : {R : Type 0} (speaks : R → Protocol) (reader : R) (p : Protocol) → p ≡ speaks reader → (ending : Ending) → IsBy p ending → IsOf speaks ending
+is_of : {R : Type 0} (speaks : R → Protocol) (reader : R) (p : Protocol) → p ≡ speaks reader → (ending : Ending) → p ≡ protocol_of_ending ending → IsOf speaks ending
 is_of speaks reader p own (exchange outcome) is = tt
-is_of speaks reader protocol.Batch own (batch text outcome) is = (reader, sym own)
-is_of speaks reader protocol.Exchange own (batch text outcome) is = absurd is
+is_of speaks reader p own (batch text outcome) is = (reader, sym own ∙ is)
 
 -- a client was served by its protocol
 pub client_of : {R : Type 0} (asked : List Step → Type 0) (speaks : R → Protocol) (reader : R) (sent held holds : Option (List ℕ)) (batches : Bool) (coming left : Option (List (List ℕ)))
@@ -96,7 +88,7 @@ pub client_of : {R : Type 0} (asked : List Step → Type 0) (speaks : R → Prot
 client_of asked speaks reader sent held holds batches coming left were are written result next replied none p own may it = record {
   connection = record { sent = sent; received = received_by held holds; steps = it.steps; ending = it.ending };
   is_served = (
-    may_end batches p it.ending may it.is_by,
+    subst (MayCome batches) it.is_by may,
     ends_as (Appends held holds) (IsTold (received_by held holds)) (λ text wrote. was_received held holds text none wrote) sent it.steps it.ending it.ends,
   );
   is_of = is_of speaks reader p own it.ending it.is_by;

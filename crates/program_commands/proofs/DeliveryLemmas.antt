@@ -1,5 +1,5 @@
 -- One more file of those that were delivered, and the file at which a fault ended it.
-use Rattle.std.proofs.Common.{◌≡◌, ◌+◌, ◌<◌, ℕ, Bool, true, false, Option, List, [], ◌∷◌, ◌++◌, Err, refl, sym, ap, subst, ◌∙◌, arith, length, length-append, map, cond, nat_eq, not, add-zero, append-nil, inl, inr}
+use Rattle.std.proofs.Common.{◌≡◌, ◌+◌, ◌<◌, ℕ, Bool, true, false, Option, List, [], ◌∷◌, ◌++◌, Err, refl, sym, ap, subst, ◌∙◌, arith, length, map, cond, nat_eq, not, add-zero, append-nil, inl, inr}
 use Rattle.std.specs.Prelude.{◌||◌, All, nat_lt, if◌then◌else◌}
 use Rattle.std.specs.Io.KnownBytes.{Appends}
 use Rattle.std.proofs.KnownBytes.{Appends-trans}
@@ -17,7 +17,7 @@ use Rattle.desk_texts.specs.Requests.{HasRecords}
 use Rattle.desk_batch.specs.Talks.{Stop, Talk, Talks, cut, ended, failed, unsaid}
 use Rattle.desk_batch.specs.declared.batch.RequestFault.{RequestFault}
 use Rattle.desk_batch.specs.declared.batch.RequestFault.TheVariants as request_fault
-use Rattle.program_commands.specs.Deliveries.{Delivers, IsUnasked, ReadFits, TellsTexts, delivery_of}
+use Rattle.program_commands.specs.Deliveries.{AreTexts, Delivers, IsUnasked, ReadFits, delivery_of}
 use Rattle.program_commands.proofs.TalkEnds.{deliveries_end, talk_status}
 use Rattle.program_commands.specs.TaskEnds.{DeliverEnds}
 use Rattle.program_commands.specs.declared.deliver.DeliveryFault.{DeliveryFault}
@@ -84,7 +84,7 @@ module _ {D : Type 0} {k : DeskKind} (seen : D → View k) (rules : List Rule) (
     result_is = result;
   }
 
-  module _ (named : Holdings) (told : Option (List ℕ)) (names : List (List ℕ)) (have : All HasRecords texts) (tells : TellsTexts named told names texts) (less : length texts < length names) (status : ℕ) (three : status ≡ 3) where
+  module _ (named : Holdings) (told : Option (List ℕ)) (names : List (List ℕ)) (have : All HasRecords texts) (tells : AreTexts named told names texts) (less : length texts < length names) (status : ℕ) (three : status ≡ 3) where
     -- at the next file nothing was asked
     unasked : new ≡ mid → Appends before holds [] → DeliverEnds (Asked seen rules old new) (Appends was holds) named told names status
     unasked same nothing =
@@ -98,16 +98,15 @@ module _ {D : Type 0} {k : DeskKind} (seen : D → View k) (rules : List Rule) (
           result_is = three ∙ sym (ap (λ b. if b then 3 else talk_status steps ended) (is_less (length texts) (length names) less));
         } in (
           texts,
-          omega (arith, less),
-          have,
           tells,
+          have,
           ends.0,
           ends.1,
           ends.2,
         )
 
     -- a fault ended it at the next file
-    pub stopped_at : (file : List ℕ) (f : DeliveryFault) → TellsTexts named told names (texts ++ file ∷ []) → Delivers (Asked seen rules mid new) (Appends before holds) file (Err f)
+    pub stopped_at : (file : List ℕ) (f : DeliveryFault) → AreTexts named told names (texts ++ file ∷ []) → Delivers (Asked seen rules mid new) (Appends before holds) file (Err f)
         → DeliverEnds (Asked seen rules old new) (Appends was holds) named told names status
     stopped_at file fault.Unreadable more is = unasked is.0 is.1
     stopped_at file (fault.Records f) more is = unasked is.1 is.2
@@ -116,9 +115,8 @@ module _ {D : Type 0} {k : DeskKind} (seen : D → View k) (rules : List Rule) (
         (one_file file (stop_of f) (RequestGives (Err f)) (λ all stop. status ≡ (if nat_lt (length (texts ++ file ∷ [])) (length names) then 3 else talk_status all stop)) is.1 (stop_is f is.1.steps is.1.stop is.1.result_is)
         (three_by (nat_lt (length (texts ++ file ∷ [])) (length names)) status (talk_status (steps ++ is.1.steps) (stop_of f)) three (stop_status f (steps ++ is.1.steps)))) in (
           texts ++ file ∷ [],
-          omega (arith, less, length-append texts (file ∷ [])),
-          All-push HasRecords texts file have is.0,
           more,
+          All-push HasRecords texts file have is.0,
           ends.0,
           ends.1,
           ends.2,

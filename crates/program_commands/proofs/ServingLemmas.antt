@@ -1,5 +1,5 @@
 -- One more connection of those that were served.
-use Rattle.std.proofs.Common.{◌≡◌, ◌++◌, ◌∷◌, ◌∙◌, [], inl, inr, ℕ, Bool, List, arith, refl, sym, subst, ap, append-nil}
+use Rattle.std.proofs.Common.{◌≡◌, ◌++◌, ◌∷◌, ◌∙◌, [], inl, ℕ, Bool, List, arith, refl, sym, subst, ap, append-nil}
 use Rattle.std.specs.List.{flat_map}
 use Rattle.std.proofs.lemmas.List.Concat.{flat_map-append}
 use Rattle.std.proofs.lemmas.List.Elements.{All-nil}
@@ -27,4 +27,4 @@ one_more_asked seen rules old mid new served c asked one =
 pub unserved_ends : (asked : List Step → Type 0) (written : List ℕ → Type 0) (batches : Bool) (port count status : ℕ) → asked [] → status ≡ 3 → WritesFront written (listening_line port)
     → ServeEnds asked written batches port count status
 unserved_ends asked written batches port count status none three front =
-    ([], (omega arith, All-nil (IsServed batches), none), inl (refl, front), inr three)
+    ([], (omega arith, All-nil (IsServed batches), none), inl (three, refl, front))

@@ -1,8 +1,8 @@
 -- The deliveries of files.
-use Rattle.std.specs.Prelude.{◌≡◌, ◌≢◌, ◌<◌, ◌⊎◌, ◌∷◌, ℕ, Bool, List, [], Option, Some, Result, Ok, Err, ⊤, Vec, codes, slice_get}
+use Rattle.std.specs.Prelude.{◌≡◌, ◌≢◌, ◌+◌, ◌⊎◌, ◌∷◌, ℕ, Bool, List, [], Option, Result, Ok, Err, ⊤, Vec, codes}
 use Rattle.std.specs.declared.alloc.Global.{Global}
-use Rattle.csv_records.specs.RecordTexts.{records_of}
-use Rattle.csv_records.specs.Streams.{IsTold}
+use Rattle.csv_records.specs.RecordTexts.{limit, records_of}
+use Rattle.csv_records.specs.Streams.{IsTold, TakesAtMost}
 use Rattle.csv_records.specs.declared.reading.RecordFault.TheVariants as record_fault
 use Rattle.program_files.specs.Holdings.{Holdings}
 use Rattle.series_rules.specs.Steps.{Step}
@@ -45,17 +45,17 @@ Delivers asked written text (Err (fault.Request f)) =
 Delivers asked written text (Err (fault.Records f)) = RecordsFit text f × asked [] × written []
 Delivers asked written text (Err fault.Unreadable) = asked [] × written []
 
--- the i-th of these names is `-`, which stands for the input, and none before it is
-abbrev pub IsFirstInput : List (List ℕ) → ℕ → Type 0
-IsFirstInput names i =
-    (slice_get names i ≡ Some (codes "-"))
-    × ((j : ℕ) → j < i → slice_get names j ≢ Some (codes "-"))
+-- a text is that of the file of a name: what the name holds; or of `-`, which stands for the input,
+-- what that tells of its bytes, of which no more than a batch may have are taken. Told, left: what
+-- the input tells of its bytes, before and after
+abbrev pub IsTextOf : Holdings → Option (List ℕ) → Option (List ℕ) → List ℕ → List ℕ → Type 0
+IsTextOf holds told left name text =
+    (name ≡ codes "-" → IsTold told text × TakesAtMost (limit + 1) told left)
+    × (name ≢ codes "-" → IsTold (holds name) text × (left ≡ told))
 
--- of the files of these names, in order, each text is what its name holds, and that of the first
--- that is the input what that tells of its bytes
-pub record TellsTexts (holds : Holdings) (told : Option (List ℕ)) (names texts : List (List ℕ))
-    : Type 0 where
-  pub held : (i : ℕ) (name text : List ℕ) → slice_get names i ≡ Some name
-      → name ≢ codes "-" → slice_get texts i ≡ Some text → IsTold (holds name) text
-  pub input : (i : ℕ) (text : List ℕ) → IsFirstInput names i
-      → slice_get texts i ≡ Some text → IsTold told text
+-- these are the texts of the first of the files of these names, in order
+abbrev pub AreTexts : Holdings → Option (List ℕ) → List (List ℕ) → List (List ℕ) → Type 0
+AreTexts holds told names [] = ⊤
+AreTexts holds told [] (text ∷ texts) = ⊥
+AreTexts holds told (name ∷ names) (text ∷ texts) =
+    (left : Option (List ℕ)) × IsTextOf holds told left name text × AreTexts holds left names texts

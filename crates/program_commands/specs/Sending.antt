@@ -23,30 +23,13 @@ unanswered asked [] = asked
 unanswered asked (row ∷ rows) =
     unanswered (if begins_with answer_names row then asked - 1 else asked) rows
 
--- Each request of the batch of a text has an answer among those that came, which were written.
--- Came: what comes of the desk, where that is known. Written: these bytes were written. Refused: an
--- answer is a refusal
-pub record IsAnsweredThere (text : List ℕ) (came : Option (List ℕ))
-    (written : List ℕ → Type 0) (refused : Bool) : Type 0 where
-  pub has_records : HasRecords text
-  pub answers : List ℕ
-  pub are_told : IsTold came answers
-  pub all_answered : unanswered (length (requests_of text)) (records_of answers) ≡ 0
-  pub refused_is : refused ≡ list_any (begins_with ("refused" ∷ [])) (records_of answers)
-  pub all_written : written answers
-
 -- what was written is a first part of what comes of the desk
 abbrev pub WritesCame : Option (List ℕ) → (List ℕ → Type 0) → Type 0
 WritesCame came written = (some rest : List ℕ) × IsTold came (some ++ rest) × written some
 
--- how sending the batch of a text can end: with all answers written, and whether one is a refusal;
--- or with a first part of what came
-abbrev pub SendFits : List ℕ → Option (List ℕ) → (List ℕ → Type 0) → Result Bool Fault
-    → Type 0
-SendFits text came written (Ok refused) = IsAnsweredThere text came written refused
-SendFits text came written (Err f) = WritesCame came written
-
--- how taking the answers to so many requests can end
+-- how taking the answers to so many requests can end: with each there among those that came, which
+-- were written, and whether one is a refusal; or with a first part of what came. Came: what comes
+-- of the desk, where that is known. Written: these bytes were written
 abbrev pub TakesAnswers : ℕ → Option (List ℕ) → (List ℕ → Type 0) → Result Bool Fault
     → Type 0
 TakesAnswers asked came written (Ok refused) =
@@ -54,6 +37,14 @@ TakesAnswers asked came written (Ok refused) =
     × (refused ≡ list_any (begins_with ("refused" ∷ [])) (records_of answers))
     × written answers
 TakesAnswers asked came written (Err f) = WritesCame came written
+
+-- how sending the batch of a text can end: each request has an answer among those that came, which
+-- were written; or a first part of them was
+abbrev pub SendFits : List ℕ → Option (List ℕ) → (List ℕ → Type 0) → Result Bool Fault
+    → Type 0
+SendFits text came written (Ok refused) =
+    HasRecords text × TakesAnswers (length (requests_of text)) came written (Ok refused)
+SendFits text came written (Err f) = WritesCame came written
 
 -- how the command can end with this status: the text of the input was sent as a batch, and all is
 -- answered, with 0, or 1 for a refusal; or a fault ended it, with 3, and a first part of the
@@ -63,6 +54,8 @@ abbrev pub SendEnds : Option (List ℕ) → (List ℕ → List ℕ → Option (L
     → Option (List Message) → Option (List Message) → (List ℕ → Type 0) → List ℕ → ℕ → Type 0
 SendEnds told answers old new written socket status =
     (text : List ℕ) × IsTold told text
-    × (((refused : Bool) × IsAnsweredThere text (answers socket text) written refused
+    × (((refused : Bool)
+    × (HasRecords text
+    × TakesAnswers (length (requests_of text)) (answers socket text) written (Ok refused))
     × SendsWhole (socket, text) old new × (status ≡ (if refused then 1 else 0)))
     ⊎ ((status ≡ 3) × SendsFront (socket, text) old new × WritesCame (answers socket text) written))

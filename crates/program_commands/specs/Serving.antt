@@ -36,12 +36,10 @@ module _ (sent : Option (List ℕ)) (steps : List Step) (replied : List ℕ → 
   EndsAs (batch text outcome) =
       IsTold sent text × RunsBatch (λ all. all ≡ steps) replied text outcome
 
--- it was served by that protocol
-abbrev pub IsBy : Protocol → Ending → Type 0
-IsBy protocol.Exchange (exchange outcome) = ⊤
-IsBy protocol.Batch (batch text outcome) = ⊤
-IsBy protocol.Exchange (batch text outcome) = ⊥
-IsBy protocol.Batch (exchange outcome) = ⊥
+-- by what it was served
+abbrev pub protocol_of_ending : Ending → Protocol
+protocol_of_ending (exchange outcome) = protocol.Exchange
+protocol_of_ending (batch text outcome) = protocol.Batch
 
 -- A connection was served by that protocol, and its line was written. Asked: the desk was asked
 -- these steps. Written: these bytes were written
@@ -50,7 +48,7 @@ pub record ServesConnection (asked : List Step → Type 0) (protocol : Protocol)
     : Type 0 where
   pub steps : List Step
   pub ending : Ending
-  pub is_by : IsBy protocol ending
+  pub is_by : protocol ≡ protocol_of_ending ending
   pub were_asked : asked steps
   pub ends : EndsAs sent steps replied ending
   pub line : WritesWhole written (ending_line ending) result

@@ -13,9 +13,10 @@ use Rattle.desk_batch.specs.Batch.{BatchGives, RunsBatch}
 use Rattle.desk_texts.specs.Requests.{HasRecords}
 use Rattle.desk_batch.specs.Talks.{Talks}
 use Rattle.desk_batch.specs.declared.batch.BatchFault.{BatchFault}
+use Rattle.desk_http.specs.Writing.{WritesFront}
 use Rattle.program_commands.specs.ServedClients.{AreFirst, AreReplied, IsOf}
-use Rattle.program_commands.specs.Connections.{Connection, IsServed, WritesLines, WritesServed, lines_of}
-use Rattle.program_commands.specs.Deliveries.{TellsTexts, delivery_of}
+use Rattle.program_commands.specs.Connections.{Connection, EndsServing, IsServed}
+use Rattle.program_commands.specs.Deliveries.{AreTexts, delivery_of}
 use Rattle.program_lines.specs.Printing.{PrintEnds}
 use Rattle.program_commands.specs.Serving.{listening_line}
 use Rattle.program_clients.specs.declared.clients.Protocol.{Protocol}
@@ -53,8 +54,7 @@ module _ (asked : List Step → Type 0) (written : List ℕ → Type 0) where
   -- asked; where there are other files the status is 3. Holds: what names hold
   abbrev pub DeliverEnds : Holdings → Option (List ℕ) → List (List ℕ) → ℕ → Type 0
   DeliverEnds holds told names status =
-      (texts : List (List ℕ)) × (length texts ≤ length names) × All HasRecords texts
-      × TellsTexts holds told names texts
+      (texts : List (List ℕ)) × AreTexts holds told names texts × All HasRecords texts
       × (own : ℕ) × RequestsEnd (map delivery_of texts) own
       × (status ≡ (if nat_lt (length texts) (length names) then 3 else own))
 
@@ -64,26 +64,24 @@ module _ (asked : List Step → Type 0) (written : List ℕ → Type 0) where
   GapsEnds (Some series) status = RequestsEnd (AskGaps series ∷ []) status
   GapsEnds None status = asked [] × PrintEnds 1 written (text_of UnknownSeries) status
 
-  -- serving so many clients: the lines of those that were served are written; with 0 they are all,
-  -- and else it is 3. Coming: what the clients send, where that is known; old, new: what those that
-  -- were served were sent. Speaks: by what a client is served that is read so
+  -- serving so many clients, and writing the line of each. Coming: what the clients send, where
+  -- that is known; old, new: what those that were served were sent. Speaks: by what a client is
+  -- served that is read so
   abbrev pub ConnectionsServed : {R : Type 0} → (R → Protocol) → Bool
       → Option (List (List ℕ)) → Option (List (List ℕ)) → Option (List (List ℕ)) → ℕ → ℕ → Type 0
   ConnectionsServed speaks batches coming old new count status =
       (served : List Connection) × AreFirst coming served × AreReplied old new served
       × All (λ c. IsOf speaks c.ending) served
-      × ConnectionsEnd asked batches count served
-      × WritesLines written served
-      × (((status ≡ 0) × (length served ≡ count) × written (lines_of served)) ⊎ (status ≡ 3))
+      × ConnectionsEnd asked batches count served × EndsServing written count served status
 
   -- `serve` of so many connections at that port, and at a socket where batches are taken: their
-  -- lines are written, behind the one of the port; with 0 they are all, or else it is 3
+  -- lines are written behind the one of the port; or a first part of that is, with 3, and none was
+  -- served
   abbrev pub ServeEnds : Bool → ℕ → ℕ → ℕ → Type 0
   ServeEnds batches port count status =
       (served : List Connection) × ConnectionsEnd asked batches count served
-      × WritesServed written port served
-      × (((status ≡ 0) × (length served ≡ count)
-      × written (listening_line port ++ lines_of served)) ⊎ (status ≡ 3))
+      × (((status ≡ 3) × (served ≡ []) × WritesFront written (listening_line port))
+      ⊎ EndsServing (λ lines. written (listening_line port ++ lines)) count served status)
 
   -- how a command can end with this status
   abbrev pub TaskEnds : Task → Holdings → Option (List ℕ) → ℕ → Type 0

@@ -9,9 +9,9 @@ ghost use Rattle.desk_batch.specs.Batch.{RunsBatch};
 ghost use Rattle.program_commands.specs.TaskEnds.{BatchEnds};
 
 use crate::faults::fault_of_batch;
-use crate::malformed::{MOST_LINES, tell_refusals};
+use crate::malformed::{tell_refusals, tell_untold};
+use crate::streams::{Errors, Streams};
 use desk_batch::{BatchFault, read_text, run_text};
-use desk_reasons::explaining::{Room, report_untold};
 use price_rules::precedence::Precedence;
 use program_lines::fault::report;
 use series_rules::desk::Desk;
@@ -25,15 +25,13 @@ fn answer_text<D: Desk, W: Write, E: Write>(
     precedence: &Precedence,
     text: &[u8],
     writer: &mut W,
-    room: &mut Room,
-    hint: &str,
-    errors: &mut E,
+    errors: &mut Errors<E>,
 ) -> Result<u64, BatchFault>
     ensures { RunsBatch (Asked D.seen precedence.now desk.old desk.new)
         (Appends (W.contents writer.old) (W.contents writer.new)) text.now result }
 {
     let outcome = run_text(alloc, desk, precedence, text, writer);
-    tell_refusals(alloc, text, &outcome, room, hint, errors);
+    tell_refusals(alloc, text, &outcome, errors);
     outcome
 }
 
@@ -46,9 +44,7 @@ pub(crate) fn answer_batch<D: Desk, R: Read, W: Write, E: Write>(
     precedence: &Precedence,
     reader: &mut R,
     writer: &mut W,
-    room: &mut Room,
-    hint: &str,
-    errors: &mut E,
+    errors: &mut Errors<E>,
 ) -> Result<u64, BatchFault>
     // There is a text, that of the reader where it tells its bytes, whose batch was run.
     ensures { (text : List ℕ) × IsTold (R.remaining reader.old) text
@@ -56,16 +52,7 @@ pub(crate) fn answer_batch<D: Desk, R: Read, W: Write, E: Write>(
         (Appends (W.contents writer.old) (W.contents writer.new)) text result }
 {
     match read_text(alloc, reader) {
-        Ok(text) => answer_text(
-            alloc,
-            desk,
-            precedence,
-            text.as_slice(),
-            writer,
-            room,
-            hint,
-            errors,
-        ),
+        Ok(text) => answer_text(alloc, desk, precedence, text.as_slice(), writer, errors),
         Err(fault) => Err(fault),
     }
 }
@@ -78,24 +65,26 @@ pub fn answer_input<D: Desk, R: Read, W: Write, E: Write>(
     alloc: Global,
     desk: &mut D,
     precedence: &Precedence,
-    hint: &str,
-    input: &mut R,
-    output: &mut W,
-    errors: &mut E,
+    streams: &mut Streams<R, W, E>,
 ) -> u8
     ensures status { result ≤ 3 }
     ensures end { BatchEnds (Asked D.seen precedence.now desk.old desk.new)
-        (Appends (W.contents output.old) (W.contents output.new)) (R.remaining input.old) result }
+        (Appends (W.contents streams.old.output) (W.contents streams.new.output))
+        (R.remaining streams.old.input) result }
 {
-    let mut room = Room::new(MOST_LINES);
     match answer_batch(
-        alloc, desk, precedence, input, output, &mut room, hint, errors,
+        alloc,
+        desk,
+        precedence,
+        &mut streams.input,
+        &mut streams.output,
+        &mut streams.errors,
     ) {
         Ok(0) => 0,
         Ok(_) => {
-            report_untold(&room, errors);
+            tell_untold(&mut streams.errors);
             1
         }
-        Err(fault) => report(&fault_of_batch(fault), errors),
+        Err(fault) => report(&fault_of_batch(fault), &mut streams.errors.writer),
     }
 }

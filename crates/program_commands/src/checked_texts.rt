@@ -2,11 +2,12 @@
 
 ghost use Rattle.std.specs.Prelude.{◌≡◌, ◌≤◌};
 
-use crate::malformed::MOST_LINES;
+use crate::malformed::tell_untold;
+use crate::streams::Errors;
 use crate::unread::report_unread;
 use csv_records::reading::{LIMIT, RecordFault};
 use csv_records::streams::{InputFault, read_input};
-use desk_reasons::explaining::{Room, explain_batch, report_untold};
+use desk_reasons::explaining::explain_batch;
 use program_files::{FileFault, NamedFiles, STANDARD_INPUT};
 use program_lines::fault::{Fault, report};
 use std::alloc::Global;
@@ -22,10 +23,9 @@ enum UnreadFault {
 // Writes a line for each request of the text of a reader that is malformed, and gives their number.
 fn check_reader<R: Read, E: Write>(
     alloc: Global,
-    room: &mut Room,
     name: &str,
     reader: &mut R,
-    errors: &mut E,
+    errors: &mut Errors<E>,
 ) -> Result<u64, UnreadFault> {
     let bytes = match read_input(alloc, reader, LIMIT) {
         Ok(bytes) => bytes,
@@ -33,7 +33,13 @@ fn check_reader<R: Read, E: Write>(
         Err(InputFault::TooLarge) => return Err(UnreadFault::Records(RecordFault::TooLarge)),
         Err(InputFault::Memory) => return Err(UnreadFault::Records(RecordFault::Memory)),
     };
-    match explain_batch(alloc, room, name, bytes.as_slice(), errors) {
+    match explain_batch(
+        alloc,
+        &mut errors.room,
+        name,
+        bytes.as_slice(),
+        &mut errors.writer,
+    ) {
         Ok(count) => Ok(count),
         Err(fault) => Err(UnreadFault::Records(fault)),
     }
@@ -42,17 +48,16 @@ fn check_reader<R: Read, E: Write>(
 // The same of the text that is named: `-` is standard input, each other name a file's.
 fn check_named<F: NamedFiles, R: Read, E: Write>(
     alloc: Global,
-    room: &mut Room,
     files: &F,
     name: &str,
     input: &mut R,
-    errors: &mut E,
+    errors: &mut Errors<E>,
 ) -> Result<u64, UnreadFault> {
     if name == STANDARD_INPUT {
-        return check_reader(alloc, room, name, input, errors);
+        return check_reader(alloc, name, input, errors);
     }
     match files.open(name) {
-        Ok(mut file) => check_reader(alloc, room, name, &mut file, errors),
+        Ok(mut file) => check_reader(alloc, name, &mut file, errors),
         Err(FileFault::Memory) => Err(UnreadFault::Records(RecordFault::Memory)),
         Err(FileFault::File { .. }) => Err(UnreadFault::Unreadable),
     }
@@ -92,21 +97,20 @@ pub fn check_texts<F: NamedFiles, R: Read, E: Write>(
     files: &F,
     names: &[&str],
     input: &mut R,
-    errors: &mut E,
+    errors: &mut Errors<E>,
 ) -> u8
     ensures { result ≤ 3 }
 {
-    let mut room = Room::new(MOST_LINES);
     let mut has_malformed = false;
     for name in names {
-        match check_named(alloc, &mut room, files, name, input, errors) {
+        match check_named(alloc, files, name, input, errors) {
             Ok(count) => has_malformed |= count > 0,
             Err(fault) => {
-                report_untold(&room, errors);
-                return report_text(alloc, fault, files, name, errors);
+                tell_untold(errors);
+                return report_text(alloc, fault, files, name, &mut errors.writer);
             }
         }
     }
-    report_untold(&room, errors);
+    tell_untold(errors);
     checked_status(has_malformed)
 }

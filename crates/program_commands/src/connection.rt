@@ -8,9 +8,9 @@ ghost use Rattle.program_clients.specs.declared.clients.Protocol.{Protocol};
 ghost use Rattle.program_commands.specs.Serving.{ServesConnection, batch, ending_line, exchange};
 
 use crate::batch::answer_batch;
+use crate::streams::Streams;
 use desk_batch::BatchFault;
 use desk_http::{HttpFault, Routes, serve_routed};
-use desk_reasons::explaining::Room;
 use price_rules::precedence::Precedence;
 use program_clients::clients::Protocol;
 use program_lines::fault::Fault;
@@ -18,6 +18,13 @@ use program_lines::printing::{print_number, print_text};
 use series_rules::desk::Desk;
 use std::alloc::Global;
 use std::io::{Read, Write};
+
+/// A client: by what it is served, and the two ways of its connection.
+pub(crate) struct Client<R, W> {
+    pub(crate) protocol: Protocol,
+    pub(crate) reader: R,
+    pub(crate) writer: W,
+}
 
 // Writes the line of a connection that was not served whole.
 fn print_fault<O: Write>(output: &mut O) -> Result<(), Fault>
@@ -61,68 +68,70 @@ fn serve_exchange<D: Desk, R: Read, W: Write, O: Write>(
     routes: &Routes,
     desk: &mut D,
     precedence: &Precedence,
-    reader: &mut R,
-    writer: &mut W,
+    client: &mut Client<R, W>,
     output: &mut O,
 ) -> Result<(), Fault>
     ensures { ServesConnection (Asked D.seen precedence.now desk.old desk.new) Protocol.Exchange
-        (R.remaining reader.old)
-        (Appends (W.contents writer.old) (W.contents writer.new))
+        (R.remaining client.old.reader)
+        (Appends (W.contents client.old.writer) (W.contents client.new.writer))
         (Appends (O.contents output.old) (O.contents output.new)) result }
 {
-    let outcome = serve_routed(alloc, routes, desk, precedence, reader, writer);
+    let outcome = serve_routed(
+        alloc,
+        routes,
+        desk,
+        precedence,
+        &mut client.reader,
+        &mut client.writer,
+    );
     print_line(&outcome, output)
 }
 
 // Serves one connection as a batch, the text to the end of what the client sends, and writes its
 // line; a line on `errors` says of each malformed request why, as far as there is room.
-fn serve_batch<D: Desk, R: Read, W: Write, O: Write, E: Write>(
+fn serve_batch<D: Desk, R: Read, W: Write, I, O: Write, E: Write>(
     alloc: Global,
     desk: &mut D,
     precedence: &Precedence,
-    reader: &mut R,
-    writer: &mut W,
-    output: &mut O,
-    room: &mut Room,
-    errors: &mut E,
+    client: &mut Client<R, W>,
+    streams: &mut Streams<I, O, E>,
 ) -> Result<(), Fault>
     ensures { ServesConnection (Asked D.seen precedence.now desk.old desk.new) Protocol.Batch
-        (R.remaining reader.old)
-        (Appends (W.contents writer.old) (W.contents writer.new))
-        (Appends (O.contents output.old) (O.contents output.new)) result }
+        (R.remaining client.old.reader)
+        (Appends (W.contents client.old.writer) (W.contents client.new.writer))
+        (Appends (O.contents streams.old.output) (O.contents streams.new.output)) result }
 {
-    let outcome = answer_batch(alloc, desk, precedence, reader, writer, room, "", errors);
-    print_batch_line(&outcome, output)
+    let outcome = answer_batch(
+        alloc,
+        desk,
+        precedence,
+        &mut client.reader,
+        &mut client.writer,
+        &mut streams.errors,
+    );
+    print_batch_line(&outcome, &mut streams.output)
 }
 
-/// Serves one connection by the protocol of its client, and writes its line. The routes are those
-/// of all exchanges. Of a batch a line on `errors` says of each malformed request why, as far as
+/// Serves a client by its protocol, and writes the line of its connection. The routes are those of
+/// all exchanges. Of a batch a line on standard error says of each malformed request why, as far as
 /// there is room.
-pub fn serve_connection<D: Desk, R: Read, W: Write, O: Write, E: Write>(
+pub(crate) fn serve_connection<D: Desk, R: Read, W: Write, I, O: Write, E: Write>(
     alloc: Global,
     routes: &Routes,
     desk: &mut D,
     precedence: &Precedence,
-    protocol: Protocol,
-    reader: &mut R,
-    writer: &mut W,
-    output: &mut O,
-    room: &mut Room,
-    errors: &mut E,
+    client: &mut Client<R, W>,
+    streams: &mut Streams<I, O, E>,
 ) -> Result<(), Fault>
-    ensures { ServesConnection (Asked D.seen precedence.now desk.old desk.new) protocol
-        (R.remaining reader.old)
-        (Appends (W.contents writer.old) (W.contents writer.new))
-        (Appends (O.contents output.old) (O.contents output.new)) result }
+    ensures { ServesConnection (Asked D.seen precedence.now desk.old desk.new) client.old.protocol
+        (R.remaining client.old.reader)
+        (Appends (W.contents client.old.writer) (W.contents client.new.writer))
+        (Appends (O.contents streams.old.output) (O.contents streams.new.output)) result }
 {
-    match protocol {
+    match client.protocol {
         Protocol::Exchange => {
-            serve_exchange(alloc, routes, desk, precedence, reader, writer, output)
+            serve_exchange(alloc, routes, desk, precedence, client, &mut streams.output)
         }
-        Protocol::Batch => {
-            serve_batch(
-                alloc, desk, precedence, reader, writer, output, room, errors,
-            )
-        }
+        Protocol::Batch => serve_batch(alloc, desk, precedence, client, streams),
     }
 }

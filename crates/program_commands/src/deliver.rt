@@ -1,19 +1,20 @@
 //! The command `deliver`: one message a file.
 
-ghost use Rattle.std.specs.Prelude.{◌≡◌, ◌≢◌, ◌≤◌, ℕ, List, codes, map, if◌then◌else◌};
+ghost use Rattle.std.specs.Prelude.{◌≡◌, ◌+◌, ◌≤◌, ℕ, List, map, if◌then◌else◌};
 ghost use Rattle.std.specs.Io.KnownBytes.{Appends};
-ghost use Rattle.csv_records.specs.Streams.{IsTold};
+ghost use Rattle.csv_records.specs.RecordTexts.{limit};
+ghost use Rattle.csv_records.specs.Streams.{IsTold, TakesAtMost};
 ghost use Rattle.series_rules.specs.Steps.{Asked};
-ghost use Rattle.program_commands.specs.Deliveries.{Delivers, IsRead, IsUnasked, ReadFits};
+ghost use Rattle.program_commands.specs.Deliveries.{Delivers, IsRead, IsTextOf, IsUnasked, ReadFits};
 ghost use Rattle.program_commands.specs.TaskEnds.{DeliverEnds};
 
 use crate::faults::fault_of_request;
-use crate::malformed::{MOST_LINES, tell_delivery, tell_end};
+use crate::malformed::{tell_delivery, tell_end};
+use crate::streams::{Errors, Streams};
 use crate::unread::report_unread;
 use csv_records::reading::{LIMIT, RecordFault, read_records};
 use csv_records::streams::{InputFault, read_input};
 use desk_batch::{RequestFault, run_request};
-use desk_reasons::explaining::Room;
 use price_rules::precedence::Precedence;
 use program_files::{FileFault, NamedFiles, STANDARD_INPUT};
 use program_lines::fault::{Fault, report};
@@ -45,7 +46,8 @@ fn delivery_of(alloc: Global, bytes: &[u8]) -> Result<Request, DeliveryFault>
 
 // Reads the text of a delivery.
 fn text_from_reader<R: Read>(alloc: Global, reader: &mut R) -> Result<Vec<u8>, DeliveryFault>
-    ensures { (text : List ℕ) × IsTold (R.remaining reader.old) text × IsRead text result }
+    ensures text { (text : List ℕ) × IsTold (R.remaining reader.old) text × IsRead text result }
+    ensures taken { TakesAtMost (limit + 1) (R.remaining reader.old) (R.remaining reader.new) }
 {
     match read_input(alloc, reader, LIMIT) {
         Ok(bytes) => Ok(bytes),
@@ -64,8 +66,7 @@ fn deliver_text<D: Desk, W: Write, E: Write>(
     name: &str,
     text: &[u8],
     writer: &mut W,
-    room: &mut Room,
-    errors: &mut E,
+    errors: &mut Errors<E>,
 ) -> Result<bool, DeliveryFault>
     ensures { Delivers (Asked D.seen precedence.now desk.old desk.new)
         (Appends (W.contents writer.old) (W.contents writer.new)) text.now result }
@@ -75,7 +76,7 @@ fn deliver_text<D: Desk, W: Write, E: Write>(
     drop(request);
     match outcome {
         Ok(is_refused) => {
-            tell_delivery(alloc, is_refused, room, name, text, errors);
+            tell_delivery(alloc, is_refused, name, text, errors);
             Ok(is_refused)
         }
         Err(fault) => Err(DeliveryFault::Request(fault)),
@@ -92,13 +93,13 @@ pub fn deliver_one<D: Desk, R: Read, W: Write, E: Write>(
     name: &str,
     reader: &mut R,
     writer: &mut W,
-    room: &mut Room,
-    errors: &mut E,
+    errors: &mut Errors<E>,
 ) -> Result<bool, DeliveryFault>
     // There is a text, that of the reader where it tells its bytes, that was delivered.
-    ensures { (text : List ℕ) × IsTold (R.remaining reader.old) text
+    ensures run { (text : List ℕ) × IsTold (R.remaining reader.old) text
         × Delivers (Asked D.seen precedence.now desk.old desk.new)
         (Appends (W.contents writer.old) (W.contents writer.new)) text result }
+    ensures taken { TakesAtMost (limit + 1) (R.remaining reader.old) (R.remaining reader.new) }
 {
     match text_from_reader(alloc, reader) {
         Ok(text) => deliver_text(
@@ -108,7 +109,6 @@ pub fn deliver_one<D: Desk, R: Read, W: Write, E: Write>(
             name,
             text.as_slice(),
             writer,
-            room,
             errors,
         ),
         Err(fault) => Err(fault),
@@ -133,17 +133,14 @@ fn deliver_file<D: Desk, F: NamedFiles, W: Write, E: Write>(
     files: &F,
     name: &str,
     writer: &mut W,
-    room: &mut Room,
-    errors: &mut E,
+    errors: &mut Errors<E>,
 ) -> Result<bool, DeliveryFault>
     ensures { (text : List ℕ) × IsTold (F.holds files.now name.now) text
         × Delivers (Asked D.seen precedence.now desk.old desk.new)
         (Appends (W.contents writer.old) (W.contents writer.new)) text result }
 {
     match files.open(name) {
-        Ok(mut file) => deliver_one(
-            alloc, desk, precedence, name, &mut file, writer, room, errors,
-        ),
+        Ok(mut file) => deliver_one(alloc, desk, precedence, name, &mut file, writer, errors),
         Err(fault) => Err(open_fault(fault)),
     }
 }
@@ -155,22 +152,28 @@ fn deliver_named<D: Desk, F: NamedFiles, R: Read, W: Write, E: Write>(
     precedence: &Precedence,
     files: &F,
     name: &str,
-    input: &mut R,
-    writer: &mut W,
-    room: &mut Room,
-    errors: &mut E,
+    streams: &mut Streams<R, W, E>,
 ) -> Result<bool, DeliveryFault>
-    ensures run { (text : List ℕ)
-        × (name.now ≡ codes "-" → IsTold (R.remaining input.old) text)
-        × (name.now ≢ codes "-" → IsTold (F.holds files.now name.now) text)
+    ensures { (text : List ℕ)
+        × IsTextOf (F.holds files.now) (R.remaining streams.old.input)
+        (R.remaining streams.new.input) name.now text
         × Delivers (Asked D.seen precedence.now desk.old desk.new)
-        (Appends (W.contents writer.old) (W.contents writer.new)) text result }
-    ensures untouched { name.now ≢ codes "-" → input.new ≡ input.old }
+        (Appends (W.contents streams.old.output) (W.contents streams.new.output)) text result }
 {
+    let writer = &mut streams.output;
+    let errors = &mut streams.errors;
     if name == STANDARD_INPUT {
-        deliver_one(alloc, desk, precedence, name, input, writer, room, errors)
+        deliver_one(
+            alloc,
+            desk,
+            precedence,
+            name,
+            &mut streams.input,
+            writer,
+            errors,
+        )
     } else {
-        deliver_file(alloc, desk, precedence, files, name, writer, room, errors)
+        deliver_file(alloc, desk, precedence, files, name, writer, errors)
     }
 }
 
@@ -211,30 +214,27 @@ pub fn deliver_files<D: Desk, F: NamedFiles, R: Read, W: Write, E: Write>(
     precedence: &Precedence,
     files: &F,
     names: &[&str],
-    hint: &str,
-    input: &mut R,
-    output: &mut W,
-    errors: &mut E,
+    streams: &mut Streams<R, W, E>,
 ) -> u8
     ensures status { result ≤ 3 }
     ensures end { DeliverEnds (Asked D.seen precedence.now desk.old desk.new)
-        (Appends (W.contents output.old) (W.contents output.new)) (F.holds files.now)
-        (R.remaining input.old) (map (λ name. name.now) names.now) result }
+        (Appends (W.contents streams.old.output) (W.contents streams.new.output))
+        (F.holds files.now) (R.remaining streams.old.input) (map (λ name. name.now) names.now)
+        result }
 {
-    let mut room = Room::new(MOST_LINES);
     let mut refused = 0u64;
     let mut has_refusal = false;
     for name in names {
-        match deliver_named(
-            alloc, desk, precedence, files, name, input, output, &mut room, errors,
-        ) {
+        match deliver_named(alloc, desk, precedence, files, name, streams) {
             Ok(is_refused) => {
                 refused = refused.saturating_add(u64::from(is_refused));
                 has_refusal |= is_refused;
             }
-            Err(fault) => return report_delivery(alloc, fault, files, name, errors),
+            Err(fault) => {
+                return report_delivery(alloc, fault, files, name, &mut streams.errors.writer);
+            }
         }
     }
-    tell_end(&room, refused, hint, errors);
+    tell_end(refused, &mut streams.errors);
     refusal_status(has_refusal)
 }

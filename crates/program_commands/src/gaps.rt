@@ -8,6 +8,7 @@ ghost use Rattle.program_commands.specs.Unknown.{GapsGive, UnknownFits};
 ghost use Rattle.program_commands.specs.TaskEnds.{GapsEnds};
 
 use crate::faults::fault_of_request;
+use crate::streams::Streams;
 use csv_records::streams::{WriteFault, write_whole};
 use desk_batch::{RequestFault, run_request};
 use desk_texts::answer_text::write_answer;
@@ -55,22 +56,21 @@ fn ask<D: Desk, W: Write>(
 /// Asks a desk for the gaps of the series of that name, and writes the answer. A name that no
 /// series can have is answered as one that none has. Gives 0, or 1 for a refusal, or 3 after a
 /// fault, which is reported.
-pub fn ask_gaps<D: Desk, W: Write, E: Write>(
+pub fn ask_gaps<D: Desk, R, W: Write, E: Write>(
     alloc: Global,
     desk: &mut D,
     precedence: &Precedence,
     name: &str,
-    output: &mut W,
-    errors: &mut E,
+    streams: &mut Streams<R, W, E>,
 ) -> u8
     ensures status { result ≤ 3 }
     ensures end { GapsEnds (Asked D.seen precedence.now desk.old desk.new)
-        (Appends (W.contents output.old) (W.contents output.new))
+        (Appends (W.contents streams.old.output) (W.contents streams.new.output))
         (series_name_of name.now) result }
 {
-    match ask(alloc, desk, precedence, name, output) {
+    match ask(alloc, desk, precedence, name, &mut streams.output) {
         Ok(false) => 0,
         Ok(true) => 1,
-        Err(fault) => report(&fault_of_request(fault), errors),
+        Err(fault) => report(&fault_of_request(fault), &mut streams.errors.writer),
     }
 }

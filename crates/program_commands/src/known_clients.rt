@@ -9,6 +9,7 @@ ghost use Rattle.program_commands.specs.ServedClients.{texts_of};
 ghost use Rattle.program_commands.specs.TaskEnds.{ConnectionsServed};
 
 use crate::serve::serve_clients;
+use crate::streams::Streams;
 use desk_http::Routes;
 use price_rules::precedence::Precedence;
 use program_clients::clients::{Clients, Protocol};
@@ -74,17 +75,16 @@ impl<'a> Clients for KnownClients<'a> {
 
 /// Whatever clients send and are sent, there are some of whom that is known, and serving them ends
 /// as is said of such. Gives the status, and the replies, where there was memory for them.
-pub fn serve_known<D: Desk, O: Write, E: Write>(
+pub fn serve_known<D: Desk, I, O: Write, E: Write>(
     rt: &HostRuntime,
     routes: &Routes,
     desk: &mut D,
     precedence: &Precedence,
     sent: &[&[u8]],
-    output: &mut O,
-    errors: &mut E,
+    streams: &mut Streams<I, O, E>,
 ) -> (u8, Option<Vec<Vec<u8>>>)
     ensures { ConnectionsServed (Asked D.seen precedence.now desk.old desk.new)
-        (Appends (O.contents output.old) (O.contents output.new))
+        (Appends (O.contents streams.old.output) (O.contents streams.new.output))
         ⟦<KnownClients<'static> as Clients>⟧.speaks false
         (Some (map (λ bytes. bytes.now) sent.now)) (Some []) (texts_of result.1)
         (length sent.now) result.0 }
@@ -102,8 +102,7 @@ pub fn serve_known<D: Desk, O: Write, E: Write>(
         precedence,
         &mut clients,
         requests,
-        output,
-        errors,
+        streams,
     );
     (status, clients.replies.take())
 }

@@ -4,6 +4,7 @@
 //! open. `checked_texts` reads texts and asks no desk, and `malformed` says behind the answers why
 //! requests were refused so, and `unread` why a file is not read. `front` keeps the first bytes of a
 //! connection. `known_clients` shows that there are clients of whom it is known what they send.
+//! `streams` has what a command reads and writes.
 #![tactic(auto)]
 
 pub mod batch;
@@ -17,5 +18,6 @@ pub mod known_clients;
 mod malformed;
 pub mod sending;
 pub mod serve;
+pub mod streams;
 pub mod task;
 mod unread;

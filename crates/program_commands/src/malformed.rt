@@ -1,9 +1,11 @@
 //! Lines that say why requests were refused, behind their answers: what is malformed in them, and a
 //! hint.
 
+use crate::streams::Errors;
 use desk_batch::BatchFault;
 use desk_reasons::explaining::{Room, explain_batch, explain_delivery, report_untold};
 use desk_reasons::questions::explain_question;
+use program_clients::clients::Protocol;
 use std::alloc::Global;
 use std::io::Write;
 use std::rt::HostRuntime;
@@ -16,9 +18,11 @@ pub(crate) const MOST_LINES: u32 = 100;
 const HOUR_SECONDS: u64 = 3600;
 
 // Writes a hint as a line, where there is one.
-fn tell_hint<E: Write>(hint: &str, errors: &mut E) {
+fn tell_hint<E: Write>(errors: &mut Errors<E>) {
+    let hint = errors.hint;
     if !hint.is_empty() {
-        let _ = write!(errors, "onixdesk: {hint}\n");
+        let writer = &mut errors.writer;
+        let _ = write!(writer, "onixdesk: {hint}\n");
     }
 }
 
@@ -29,9 +33,7 @@ pub(crate) fn tell_refusals<E: Write>(
     alloc: Global,
     text: &[u8],
     outcome: &Result<u64, BatchFault>,
-    room: &mut Room,
-    hint: &str,
-    errors: &mut E,
+    errors: &mut Errors<E>,
 ) {
     let refused = match outcome {
         Ok(refused) => *refused,
@@ -40,18 +42,17 @@ pub(crate) fn tell_refusals<E: Write>(
     if refused == 0 {
         return;
     }
-    match explain_batch(alloc, room, "", text, errors) {
-        Ok(malformed) if malformed < refused => tell_hint(hint, errors),
+    match explain_batch(alloc, &mut errors.room, "", text, &mut errors.writer) {
+        Ok(malformed) if malformed < refused => tell_hint(errors),
         _ => {}
     }
 }
 
 /// Writes a line for each request of a batch that is malformed, 100 at most, and then how many more
 /// there are.
-pub(crate) fn tell_batch<E: Write>(alloc: Global, text: &[u8], errors: &mut E) {
-    let mut room = Room::new(MOST_LINES);
-    let _ = explain_batch(alloc, &mut room, "", text, errors);
-    report_untold(&room, errors);
+pub(crate) fn tell_batch<E: Write>(alloc: Global, text: &[u8], errors: &mut Errors<E>) {
+    let _ = explain_batch(alloc, &mut errors.room, "", text, &mut errors.writer);
+    report_untold(&errors.room, &mut errors.writer);
 }
 
 /// Writes a line where the text of a file is refused, and is no message, as far as there is room.
@@ -59,13 +60,12 @@ pub(crate) fn tell_batch<E: Write>(alloc: Global, text: &[u8], errors: &mut E) {
 pub(crate) fn tell_delivery<E: Write>(
     alloc: Global,
     is_refused: bool,
-    room: &mut Room,
     name: &str,
     text: &[u8],
-    errors: &mut E,
+    errors: &mut Errors<E>,
 ) {
     if is_refused {
-        let _ = explain_delivery(alloc, room, name, text, errors);
+        let _ = explain_delivery(alloc, &mut errors.room, name, text, &mut errors.writer);
     }
 }
 
@@ -73,19 +73,26 @@ pub(crate) fn tell_delivery<E: Write>(
 /// far as there is room. Where memory runs out, it is lost.
 pub(crate) fn tell_question<E: Write>(
     alloc: Global,
-    room: &mut Room,
+    protocol: Protocol,
     request: &[u8],
-    errors: &mut E,
+    errors: &mut Errors<E>,
 ) {
-    let _ = explain_question(alloc, room, request, errors);
+    if let Protocol::Exchange = protocol {
+        let _ = explain_question(alloc, &mut errors.room, request, &mut errors.writer);
+    }
+}
+
+/// Writes how many lines were left out, where some were.
+pub(crate) fn tell_untold<E: Write>(errors: &mut Errors<E>) {
+    report_untold(&errors.room, &mut errors.writer);
 }
 
 /// Writes behind the answers how many lines were left out; and the hint, if so many texts were
 /// refused and others than those that are no message were among them.
-pub(crate) fn tell_end<E: Write>(room: &Room, refused: u64, hint: &str, errors: &mut E) {
-    report_untold(room, errors);
-    if room.malformed() < refused {
-        tell_hint(hint, errors);
+pub(crate) fn tell_end<E: Write>(refused: u64, errors: &mut Errors<E>) {
+    report_untold(&errors.room, &mut errors.writer);
+    if errors.room.malformed() < refused {
+        tell_hint(errors);
     }
 }
 
@@ -94,16 +101,15 @@ pub(crate) fn tell_end<E: Write>(room: &Room, refused: u64, hint: &str, errors: 
 pub(crate) fn renew<E: Write>(
     rt: &HostRuntime,
     since: Option<Instant>,
-    room: &mut Room,
-    errors: &mut E,
+    errors: &mut Errors<E>,
 ) -> Option<Instant> {
     let Some(begun) = since else {
         return Instant::now(rt).ok();
     };
     match begun.elapsed(rt) {
         Ok(passed) if passed >= Duration::from_secs(HOUR_SECONDS) => {
-            report_untold(room, errors);
-            *room = Room::new(MOST_LINES);
+            report_untold(&errors.room, &mut errors.writer);
+            errors.room = Room::new(MOST_LINES);
             Instant::now(rt).ok()
         }
         _ => since,

@@ -13,6 +13,7 @@ ghost use Rattle.program_clients.specs.Sent.{IsSent};
 ghost use Rattle.program_commands.specs.Sending.{SendEnds, SendFits, TakesAnswers, WritesCame, answer_names, report_names, unanswered};
 
 use crate::malformed::tell_batch;
+use crate::streams::Streams;
 use csv::StringRecord;
 use csv_records::reading::{LIMIT, RecordReader};
 use csv_records::streams::{InputFault, WriteFault, read_input, write_whole};
@@ -217,25 +218,24 @@ pub fn send_input<K: OpenDesks, R: Read, W: Write, E: Write>(
     rt: &HostRuntime,
     desks: &mut K,
     socket: &str,
-    input: &mut R,
-    output: &mut W,
-    errors: &mut E,
+    streams: &mut Streams<R, W, E>,
 ) -> u8
     ensures status { result ≤ 3 }
-    ensures end { SendEnds (R.remaining input.old) (K.answers desks.old)
+    ensures end { SendEnds (R.remaining streams.old.input) (K.answers desks.old)
         (K.sent desks.old) (K.sent desks.new)
-        (Appends (W.contents output.old) (W.contents output.new)) socket.now result }
+        (Appends (W.contents streams.old.output) (W.contents streams.new.output))
+        socket.now result }
 {
-    let text = match read_text(rt.alloc(), input) {
+    let text = match read_text(rt.alloc(), &mut streams.input) {
         Ok(text) => text,
-        Err(fault) => return report(&fault, errors),
+        Err(fault) => return report(&fault, &mut streams.errors.writer),
     };
-    match send_batch(rt, desks, socket, text.as_slice(), output) {
+    match send_batch(rt, desks, socket, text.as_slice(), &mut streams.output) {
         Ok(false) => 0,
         Ok(true) => {
-            tell_batch(rt.alloc(), text.as_slice(), errors);
+            tell_batch(rt.alloc(), text.as_slice(), &mut streams.errors);
             1
         }
-        Err(fault) => report_unsent(rt, &fault, socket, errors),
+        Err(fault) => report_unsent(rt, &fault, socket, &mut streams.errors.writer),
     }
 }

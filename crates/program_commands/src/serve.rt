@@ -6,98 +6,74 @@ ghost use Rattle.std.specs.Io.KnownBytes.{Appends};
 ghost use Rattle.program_commands.specs.ServedClients.{ServesNext};
 ghost use Rattle.series_rules.specs.Steps.{Asked};
 ghost use Rattle.program_lines.specs.Printing.{WritesWhole};
-ghost use Rattle.program_commands.specs.Serving.{ServesConnection, listening_line};
+ghost use Rattle.program_commands.specs.Serving.{listening_line};
 ghost use Rattle.program_commands.specs.TaskEnds.{ConnectionsServed, ServeEnds};
 
-use crate::connection::{print_line, serve_connection};
+use crate::connection::{Client, print_line, serve_connection};
 use crate::front::Front;
-use crate::malformed::{MOST_LINES, renew, tell_question};
+use crate::malformed::{renew, tell_question, tell_untold};
+use crate::streams::Streams;
 use desk_http::{HttpFault, Routes};
-use desk_reasons::explaining::{Room, report_untold};
 use price_rules::precedence::Precedence;
-use program_clients::clients::{Clients, Protocol};
+use program_clients::clients::Clients;
 use program_clients::doors::Doors;
 use program_clients::port::{Bound, Port, why_unbound};
 use program_clients::sockets::why_unheard;
 use program_lines::fault::{Fault, report, report_why};
 use program_lines::printing::print_number;
 use series_rules::desk::Desk;
-use std::io::{Read, Write};
+use std::io::Write;
 
-// Serves the connection of a client, whose reader it gives back. Of a question over HTTP whose query
-// is bad a line on `errors` says why, as far as there is room.
-fn serve_client<D: Desk, R: Read + Drop, W: Write, O: Write, E: Write>(
-    rt: &HostRuntime,
-    routes: &Routes,
-    desk: &mut D,
-    precedence: &Precedence,
-    protocol: Protocol,
-    reader: R,
-    writer: &mut W,
-    output: &mut O,
-    room: &mut Room,
-    errors: &mut E,
-) -> (Result<(), Fault>, R)
-    ensures { ServesConnection (Asked D.seen precedence.now desk.old desk.new) protocol
-        (R.remaining reader)
-        (Appends (W.contents writer.old) (W.contents writer.new))
-        (Appends (O.contents output.old) (O.contents output.new)) result.0 }
-{
-    let alloc = rt.alloc();
-    let mut reader = Front::new(alloc, reader);
-    let ended = serve_connection(
-        alloc,
-        routes,
-        desk,
-        precedence,
-        protocol,
-        &mut reader,
-        writer,
-        output,
-        room,
-        errors,
-    );
-    if let Protocol::Exchange = protocol {
-        tell_question(alloc, room, reader.kept(), errors);
-    }
-    (ended, reader.into_reader())
+/// A port to listen at, a socket for batches where one is named, and how many connections are
+/// served.
+#[derive(Clone, Copy)]
+pub struct Place<'a> {
+    pub port: u16,
+    pub batches: Option<&'a str>,
+    pub requests: u64,
 }
 
 // Waits for a client, serves its connection, and writes the line of that. Of a client that was gone
-// before nothing was read, and nothing was asked of the desk.
-fn serve_next<D: Desk, C: Clients, O: Write, E: Write>(
+// before nothing was read, and nothing was asked of the desk. Of a question over HTTP whose query is
+// bad a line on standard error says why, as far as there is room.
+fn serve_next<D: Desk, C: Clients, I, O: Write, E: Write>(
     rt: &HostRuntime,
     routes: &Routes,
     desk: &mut D,
     precedence: &Precedence,
     clients: &mut C,
-    output: &mut O,
-    room: &mut Room,
-    errors: &mut E,
+    streams: &mut Streams<I, O, E>,
 ) -> Result<(), Fault>
     ensures { ServesNext (Asked D.seen precedence.now desk.old desk.new) C.speaks
         C.takes_batches (C.coming clients.old) (C.coming clients.new)
         (C.replied clients.old) (C.replied clients.new)
-        (Appends (O.contents output.old) (O.contents output.new)) result }
+        (Appends (O.contents streams.old.output) (O.contents streams.new.output)) result }
 {
     match clients.accept() {
-        Ok(Some((protocol, reader, mut writer))) => {
-            let (ended, reader) = serve_client(
-                rt,
+        Ok(Some((protocol, reader, writer))) => {
+            let mut client = Client {
+                protocol,
+                reader: Front::new(rt.alloc(), reader),
+                writer,
+            };
+            let ended = serve_connection(
+                rt.alloc(),
                 routes,
                 desk,
                 precedence,
+                &mut client,
+                streams,
+            );
+            let Client {
                 protocol,
                 reader,
-                &mut writer,
-                output,
-                room,
-                errors,
-            );
-            clients.close(reader, writer);
+                writer,
+            } = client;
+            tell_question(rt.alloc(), protocol, reader.kept(), &mut streams.errors);
+            clients.close(reader.into_reader(), writer);
             ended
         }
-        Ok(None) => print_line(&Err(HttpFault::Read), output),
+        Ok(None) => print_line(&Err(HttpFault::Read), &mut streams.output),
         Err(fault) => Err(fault),
     }
 }
@@ -106,15 +82,14 @@ fn serve_next<D: Desk, C: Clients, O: Write, E: Write>(
 /// Gives 0, or 3 where no more clients can be had or a line cannot be written, which is reported. Of
 /// the malformed requests of batches, and of bad queries, a line on `errors` says why, of 100 an hour,
 /// and then how many more there are.
-pub fn serve_clients<D: Desk, C: Clients, O: Write, E: Write>(
+pub fn serve_clients<D: Desk, C: Clients, I, O: Write, E: Write>(
     rt: &HostRuntime,
     routes: &Routes,
     desk: &mut D,
     precedence: &Precedence,
     clients: &mut C,
     requests: u64,
-    output: &mut O,
-    errors: &mut E,
+    streams: &mut Streams<I, O, E>,
 ) -> u8
     ensures status { result ≤ 3 }
     // Each client was replied to or answered as the desk makes it, and what was answered is kept,
@@ -122,22 +97,19 @@ pub fn serve_clients<D: Desk, C: Clients, O: Write, E: Write>(
     // each whole but perhaps the last; with 0 they are all. A batch comes of a reader that speaks
     // batches.
     ensures end { ConnectionsServed (Asked D.seen precedence.now desk.old desk.new)
-        (Appends (O.contents output.old) (O.contents output.new)) C.speaks
+        (Appends (O.contents streams.old.output) (O.contents streams.new.output)) C.speaks
         C.takes_batches (C.coming clients.old) (C.replied clients.old) (C.replied clients.new)
         requests result }
 {
-    let mut room = Room::new(MOST_LINES);
     let mut since = None;
     'serving: for _served in 0..requests {
-        since = renew(rt, since, &mut room, errors);
-        match serve_next(
-            rt, routes, desk, precedence, clients, output, &mut room, errors,
-        ) {
+        since = renew(rt, since, &mut streams.errors);
+        match serve_next(rt, routes, desk, precedence, clients, streams) {
             Ok(()) => {}
-            Err(fault) => return report(&fault, errors),
+            Err(fault) => return report(&fault, &mut streams.errors.writer),
         }
     }
-    report_untold(&room, errors);
+    tell_untold(&mut streams.errors);
     0
 }
 
@@ -150,27 +122,31 @@ fn print_listening<O: Write>(number: u16, output: &mut O) -> Result<(), Fault>
 }
 
 // Says which port is listened at, and serves its clients.
-fn serve_at<D: Desk, C: Clients, O: Write, E: Write>(
+fn serve_at<D: Desk, C: Clients, I, O: Write, E: Write>(
     rt: &HostRuntime,
     routes: &Routes,
     desk: &mut D,
     precedence: &Precedence,
     clients: &mut C,
-    number: u16,
-    requests: u64,
-    output: &mut O,
-    errors: &mut E,
+    place: Place<'_>,
+    streams: &mut Streams<I, O, E>,
 ) -> u8
     ensures status { result ≤ 3 }
     ensures end { ServeEnds (Asked D.seen precedence.now desk.old desk.new)
-        (Appends (O.contents output.old) (O.contents output.new))
-        C.takes_batches number requests result }
+        (Appends (O.contents streams.old.output) (O.contents streams.new.output))
+        C.takes_batches place.entry.port place.entry.requests result }
 {
-    match print_listening(number, output) {
+    match print_listening(place.port, &mut streams.output) {
         Ok(()) => serve_clients(
-            rt, routes, desk, precedence, clients, requests, output, errors,
+            rt,
+            routes,
+            desk,
+            precedence,
+            clients,
+            place.requests,
+            streams,
         ),
-        Err(fault) => report(&fault, errors),
+        Err(fault) => report(&fault, &mut streams.errors.writer),
     }
 }
 
@@ -201,36 +177,23 @@ fn report_unopened<E: Write>(
 }
 
 // What cannot be listened at is reported, and nothing is served.
-fn serve_opened<D: Desk, C: Clients + Drop, O: Write, E: Write>(
+fn serve_opened<D: Desk, C: Clients + Drop, I, O: Write, E: Write>(
     rt: &HostRuntime,
     routes: &Routes,
     desk: &mut D,
     precedence: &Precedence,
     opened: Result<C, Fault>,
-    batches: Option<&str>,
-    number: u16,
-    requests: u64,
-    output: &mut O,
-    errors: &mut E,
+    place: Place<'_>,
+    streams: &mut Streams<I, O, E>,
 ) -> u8
     ensures status { result ≤ 3 }
     ensures end { ServeEnds (Asked D.seen precedence.now desk.old desk.new)
-        (Appends (O.contents output.old) (O.contents output.new))
-        C.takes_batches number requests result }
+        (Appends (O.contents streams.old.output) (O.contents streams.new.output))
+        C.takes_batches place.entry.port place.entry.requests result }
 {
     match opened {
-        Ok(mut clients) => serve_at(
-            rt,
-            routes,
-            desk,
-            precedence,
-            &mut clients,
-            number,
-            requests,
-            output,
-            errors,
-        ),
-        Err(fault) => report_unopened(rt, &fault, batches, errors),
+        Ok(mut clients) => { serve_at(rt, routes, desk, precedence, &mut clients, place, streams) }
+        Err(fault) => report_unopened(rt, &fault, place.batches, &mut streams.errors.writer),
     }
 }
 
@@ -243,32 +206,25 @@ fn bound_port<'a>(rt: &'a HostRuntime, bound: Bound<'a>, number: u16) -> Result<
 }
 
 // Listens, and serves by these routes.
-fn listen<D: Desk, O: Write, E: Write>(
+fn listen<D: Desk, I, O: Write, E: Write>(
     rt: &HostRuntime,
     routes: &Routes,
     desk: &mut D,
     precedence: &Precedence,
     port: Result<Port<'_>, Fault>,
-    number: u16,
-    batches: Option<&str>,
-    requests: u64,
-    output: &mut O,
-    errors: &mut E,
+    place: Place<'_>,
+    streams: &mut Streams<I, O, E>,
 ) -> u8
     ensures status { result ≤ 3 }
     ensures end { ServeEnds (Asked D.seen precedence.now desk.old desk.new)
-        (Appends (O.contents output.old) (O.contents output.new))
-        (is_some batches.entry) number requests result }
+        (Appends (O.contents streams.old.output) (O.contents streams.new.output))
+        (is_some place.entry.batches) place.entry.port place.entry.requests result }
 {
-    match batches {
-        None => serve_opened(
-            rt, routes, desk, precedence, port, batches, number, requests, output, errors,
-        ),
+    match place.batches {
+        None => serve_opened(rt, routes, desk, precedence, port, place, streams),
         Some(socket) => {
             let opened = Doors::open(rt, port, socket);
-            serve_opened(
-                rt, routes, desk, precedence, opened, batches, number, requests, output, errors,
-            )
+            serve_opened(rt, routes, desk, precedence, opened, place, streams)
         }
     }
 }
@@ -278,30 +234,25 @@ fn listen<D: Desk, O: Write, E: Write>(
 /// many connections: an exchange over HTTP at the port, a batch at the socket. Gives 0, or 3 after
 /// a fault of the port, of the socket or of the output, or when out of memory, which is reported.
 /// The routes of HTTP are made before.
-pub fn serve_desk<D: Desk, O: Write, E: Write>(
+pub fn serve_desk<D: Desk, I, O: Write, E: Write>(
     rt: &HostRuntime,
     desk: &mut D,
     precedence: &Precedence,
     bound: Bound<'_>,
-    number: u16,
-    batches: Option<&str>,
-    requests: u64,
-    output: &mut O,
-    errors: &mut E,
+    place: Place<'_>,
+    streams: &mut Streams<I, O, E>,
 ) -> u8
     ensures status { result ≤ 3 }
     // As `serve_clients`, behind the line of the port; with batches only where a socket is named.
     ensures end { ServeEnds (Asked D.seen precedence.now desk.old desk.new)
-        (Appends (O.contents output.old) (O.contents output.new))
-        (is_some batches.entry) number requests result }
+        (Appends (O.contents streams.old.output) (O.contents streams.new.output))
+        (is_some place.entry.batches) place.entry.port place.entry.requests result }
 {
     match Routes::new(rt.alloc()) {
         Ok(routes) => {
-            let port = bound_port(rt, bound, number);
-            listen(
-                rt, &routes, desk, precedence, port, number, batches, requests, output, errors,
-            )
+            let port = bound_port(rt, bound, place.port);
+            listen(rt, &routes, desk, precedence, port, place, streams)
         }
-        Err(_) => report(&Fault::Memory, errors),
+        Err(_) => report(&Fault::Memory, &mut streams.errors.writer),
     }
 }

@@ -8,7 +8,8 @@ ghost use Rattle.program_commands.specs.TaskEnds.{TaskEnds};
 use crate::batch::answer_input;
 use crate::deliver::deliver_files;
 use crate::gaps::ask_gaps;
-use crate::serve::serve_desk;
+use crate::serve::{Place, serve_desk};
+use crate::streams::Streams;
 use price_rules::precedence::Precedence;
 use program_clients::port::{Bound, Port};
 use program_files::NamedFiles;
@@ -26,8 +27,7 @@ pub fn port_of<'a>(rt: &'a HostRuntime, task: &Task<'_>) -> Bound<'a> {
     }
 }
 
-/// Runs a command over a desk, and gives its status. Behind refusals of messages the hint is written
-/// on `errors`, where there is one.
+/// Runs a command over a desk, and gives its status.
 pub fn run_task<D: Desk, F: NamedFiles, R: Read, W: Write, E: Write>(
     rt: &HostRuntime,
     desk: &mut D,
@@ -35,18 +35,15 @@ pub fn run_task<D: Desk, F: NamedFiles, R: Read, W: Write, E: Write>(
     bound: Bound<'_>,
     task: &Task<'_>,
     files: &F,
-    hint: &str,
-    input: &mut R,
-    output: &mut W,
-    errors: &mut E,
+    streams: &mut Streams<R, W, E>,
 ) -> u8
     ensures status { result ≤ 3 }
     ensures end { TaskEnds (Asked D.seen precedence.now desk.old desk.new)
-        (Appends (W.contents output.old) (W.contents output.new))
-        task.now (F.holds files.now) (R.remaining input.old) result }
+        (Appends (W.contents streams.old.output) (W.contents streams.new.output))
+        task.now (F.holds files.now) (R.remaining streams.old.input) result }
 {
     match task {
-        Task::Batch => answer_input(rt.alloc(), desk, precedence, hint, input, output, errors),
+        Task::Batch => answer_input(rt.alloc(), desk, precedence, streams),
         Task::Deliver(names) => {
             deliver_files(
                 rt.alloc(),
@@ -54,19 +51,21 @@ pub fn run_task<D: Desk, F: NamedFiles, R: Read, W: Write, E: Write>(
                 precedence,
                 files,
                 names.as_slice(),
-                hint,
-                input,
-                output,
-                errors,
+                streams,
             )
         }
-        Task::Gaps(name) => ask_gaps(rt.alloc(), desk, precedence, name, output, errors),
+        Task::Gaps(name) => ask_gaps(rt.alloc(), desk, precedence, name, streams),
         Task::Serve {
             port,
             requests,
             batches,
-        } => serve_desk(
-            rt, desk, precedence, bound, *port, *batches, *requests, output, errors,
-        ),
+        } => {
+            let place = Place {
+                port: *port,
+                batches: *batches,
+                requests: *requests,
+            };
+            serve_desk(rt, desk, precedence, bound, place, streams)
+        }
     }
 }

@@ -114,7 +114,8 @@ fn digits_of(alloc: Global, parts: u32) -> Result<usize, AllocError>
 
 // Adds so many zeros.
 fn push_zeros(text: &mut String, count: usize) -> Result<(), AllocError>
-    ensures { OnOk result (string_bytes text.new ≡ string_bytes text.old ++ repeat count (48 ∷ [])) }
+    ensures { OnOk result
+        (string_bytes text.new ≡ string_bytes text.old ++ repeat count (48 ∷ [])) }
 {
     for _ in 0..count {
         text.push_str("0")?;

@@ -88,14 +88,14 @@ requests_as asked asks written f rs status (result, talks, is) = (result, talks_
 pub task_as : (asked asks : List Step → Type 0) (written : List ℕ → Type 0) → ((steps : List Step) → asked steps → asks steps) → (task : Task) (holds : Holdings) (told : Option (List ℕ)) (status : ℕ) → TaskEnds asked written task holds told status → TaskEnds asks written task holds told status
 task_as asked asks written f task.Batch holds told status (text, result, is, ran, same) = (text, result, is, batch_as asked asks written written f (λ t was. was) text result ran, same)
 task_as asked asks written f (task.Deliver names) holds told status ended =
-    (ended.0, ended.1, ended.2, ended.3, ended.4, requests_as asked asks written f _ _ ended.5, ended.6)
+    (ended.0, ended.1, ended.2, ended.3, requests_as asked asks written f _ _ ended.4, ended.5)
 task_as asked asks written f (task.Gaps name) holds told status ended = by (series_name_of name.now) ended
   where
     by : (o : Option (List ℕ)) → GapsEnds asked written o status → GapsEnds asks written o status
     by (Some series) end = requests_as asked asks written f _ _ end
     by None end = (f [] end.0, end.1)
 task_as asked asks written f (task.Serve port requests batches) holds told status ended =
-    (ended.0, (ended.1.0, ended.1.1, f _ ended.1.2), ended.2, ended.3)
+    (ended.0, (ended.1.0, ended.1.1, f _ ended.1.2), ended.2)
 
 -- a command that ended over a desk ended so over its files
 pub task_between : {k : DeskKind} (rules : List Rule) (written : List ℕ → Type 0) (task : Task) (holds : Holdings) (told : Option (List ℕ)) (old first last new : View k) (own : ℕ) → OpensAs old first → LeavesAs last new

@@ -7,6 +7,7 @@ ghost use Rattle.program_run.specs.ConvertEnds.{ConvertEnds, ConvertsBy};
 use feed_conversion::Options;
 use feed_files::{Run, convert_files};
 use feed_terms::table::Terms;
+use program_commands::streams::Streams;
 use program_files::NamedFiles;
 use program_rules::terms::open_terms;
 use program_words::convert_words::Conversion;
@@ -19,13 +20,12 @@ fn run_by<F: NamedFiles, R: Read, W: Write, E: Write>(
     conversion: &Conversion<'_>,
     terms: Option<&Terms>,
     files: &mut F,
-    input: &mut R,
-    output: &mut W,
-    errors: &mut E,
+    streams: &mut Streams<R, W, E>,
 ) -> u8
     ensures status { result ≤ 3 }
     ensures end { ConvertsBy F.is_told (F.holds files.old) (F.holds files.new)
-        (R.remaining input.old) (Appends (W.contents output.old) (W.contents output.new))
+        (R.remaining streams.old.input)
+        (Appends (W.contents streams.old.output) (W.contents streams.new.output))
         conversion.now (option_map (λ t. t.now) terms.entry) result }
 {
     let options = Options {
@@ -39,7 +39,16 @@ fn run_by<F: NamedFiles, R: Read, W: Write, E: Write>(
     };
     let names = conversion.files.as_slice();
     let titles = conversion.titles;
-    convert_files(rt, &run, titles, names, files, input, output, errors)
+    convert_files(
+        rt,
+        &run,
+        titles,
+        names,
+        files,
+        &mut streams.input,
+        &mut streams.output,
+        &mut streams.errors.writer,
+    )
 }
 
 /// Converts FILEs, by the terms of a file where one is named, and writes their titles where they
@@ -48,20 +57,19 @@ pub(crate) fn run<F: NamedFiles, R: Read, W: Write, E: Write>(
     rt: &HostRuntime,
     conversion: &Conversion<'_>,
     files: &mut F,
-    input: &mut R,
-    output: &mut W,
-    errors: &mut E,
+    streams: &mut Streams<R, W, E>,
 ) -> u8
     ensures status { result ≤ 3 }
     ensures end { ConvertEnds F.is_told (F.holds files.old) (F.holds files.new)
-        (R.remaining input.old) (Appends (W.contents output.old) (W.contents output.new))
+        (R.remaining streams.old.input)
+        (Appends (W.contents streams.old.output) (W.contents streams.new.output))
         conversion.now result }
 {
     let Some(name) = conversion.terms else {
-        return run_by(rt, conversion, None, files, input, output, errors);
+        return run_by(rt, conversion, None, files, streams);
     };
-    match open_terms(rt.alloc(), files, name, errors) {
-        Ok(terms) => run_by(rt, conversion, Some(&terms), files, input, output, errors),
+    match open_terms(rt.alloc(), files, name, &mut streams.errors.writer) {
+        Ok(terms) => run_by(rt, conversion, Some(&terms), files, streams),
         Err(status) => status,
     }
 }

@@ -8,6 +8,7 @@ mod closing;
 mod converting;
 pub mod help;
 pub mod listing;
+pub mod machine;
 mod migrating;
 mod opening;
 pub mod program;

@@ -22,6 +22,7 @@ use desk_export::list_text::{Listed, write_list};
 use feed_files::write_fault;
 use onix_terms::number::Number;
 use onix_terms::series_name::SeriesName;
+use program_commands::streams::Streams;
 use program_desks::files_left::FilesLeft;
 use program_desks::kept_desks::{Creation, KeepsDesks};
 use program_files::{FileFault, NamedFiles};
@@ -71,20 +72,20 @@ fn report_export<E: Write>(alloc: Global, fault: ExportFault<FileFault>, errors:
 
 // Writes what a desk lists. Gives 0, or 3 after a fault, which is reported, and behind which a
 // first part of it is written.
-fn write_listing<D: ListedDesk, W: Write, E: Write>(
+fn write_listing<D: ListedDesk, R, W: Write, E: Write>(
     alloc: Global,
     desk: &mut D,
     listed: Listed,
-    output: &mut W,
-    errors: &mut E,
+    streams: &mut Streams<R, W, E>,
 ) -> u8
     ensures status { (result ≡ 0) ⊎ (result ≡ 3) }
     ensures end { IsAsked (D.seen desk.old) (D.seen desk.new) (λ L. PrintEnds 0
-        (Appends (W.contents output.old) (W.contents output.new)) (listed_text listed L) result) }
+        (Appends (W.contents streams.old.output) (W.contents streams.new.output))
+        (listed_text listed L) result) }
 {
-    match write_list(alloc, desk, listed, output) {
+    match write_list(alloc, desk, listed, &mut streams.output) {
         Ok(()) => 0,
-        Err(fault) => report_listing(fault, errors),
+        Err(fault) => report_listing(fault, &mut streams.errors.writer),
     }
 }
 
@@ -111,78 +112,79 @@ fn write_folder<D: ListedDesk, F: NamedFiles, E: Write>(
 }
 
 // Exports a desk, into a folder where one is named. Gives 0, or 3 after a fault, which is reported.
-fn run_export<D: ListedDesk, F: NamedFiles, W: Write, E: Write>(
+fn run_export<D: ListedDesk, F: NamedFiles, R, W: Write, E: Write>(
     alloc: Global,
     desk: &mut D,
     folder: Option<&str>,
     files: &mut F,
-    output: &mut W,
-    errors: &mut E,
+    streams: &mut Streams<R, W, E>,
 ) -> u8
     ensures status { (result ≡ 0) ⊎ (result ≡ 3) }
-    ensures spares { SparesFiles (Appends (W.contents output.old) (W.contents output.new))
+    ensures spares { SparesFiles
+        (Appends (W.contents streams.old.output) (W.contents streams.new.output))
         F.is_told (F.holds files.old) (F.holds files.new) (Listing.Export folder.entry) }
     ensures end { IsAsked (D.seen desk.old) (D.seen desk.new) (λ L. IsListed
-        (Appends (W.contents output.old) (W.contents output.new))
+        (Appends (W.contents streams.old.output) (W.contents streams.new.output))
         F.is_told (F.holds files.old) (F.holds files.new) (Listing.Export folder.entry)
         L result) }
 {
     match folder {
-        None => write_listing(alloc, desk, Listed::Requests, output, errors),
-        Some(folder) => write_folder(alloc, desk, folder, files, errors),
+        None => write_listing(alloc, desk, Listed::Requests, streams),
+        Some(folder) => write_folder(alloc, desk, folder, files, &mut streams.errors.writer),
     }
 }
 
 // Lists what a desk holds. Gives 0, or 3 after a fault, which is reported.
-fn run<D: ListedDesk, F: NamedFiles, W: Write, E: Write>(
+fn run<D: ListedDesk, F: NamedFiles, R, W: Write, E: Write>(
     alloc: Global,
     desk: &mut D,
     listing: Listing<'_>,
     files: &mut F,
-    output: &mut W,
-    errors: &mut E,
+    streams: &mut Streams<R, W, E>,
 ) -> u8
     ensures status { result ≤ 3 }
-    ensures spares { SparesFiles (Appends (W.contents output.old) (W.contents output.new))
+    ensures spares { SparesFiles
+        (Appends (W.contents streams.old.output) (W.contents streams.new.output))
         F.is_told (F.holds files.old) (F.holds files.new) listing.entry }
-    ensures end { ListingEnds (Appends (W.contents output.old) (W.contents output.new))
+    ensures end { ListingEnds
+        (Appends (W.contents streams.old.output) (W.contents streams.new.output))
         F.is_told (F.holds files.old) (F.holds files.new) listing.entry
         (D.seen desk.old) (D.seen desk.new) result }
 {
     match listing {
-        Listing::Agreements => write_listing(alloc, desk, Listed::Agreements, output, errors),
-        Listing::Gaps => write_listing(alloc, desk, Listed::Gaps, output, errors),
-        Listing::Export { folder } => run_export(alloc, desk, folder, files, output, errors),
+        Listing::Agreements => write_listing(alloc, desk, Listed::Agreements, streams),
+        Listing::Gaps => write_listing(alloc, desk, Listed::Gaps, streams),
+        Listing::Export { folder } => run_export(alloc, desk, folder, files, streams),
     }
 }
 
 /// Lists what the desk in the database file of a name holds, which is only asked: to the output, or
 /// into a folder. Gives 0, or 3 after a fault, which is reported; and what is left of the files of
 /// the database.
-pub fn list_file<D: ListedDesk, K: KeepsDesks<D>, F: NamedFiles, W: Write, E: Write>(
+pub fn list_file<D: ListedDesk, K: KeepsDesks<D>, F: NamedFiles, R, W: Write, E: Write>(
     rt: &HostRuntime,
     db: &Database<'_>,
     databases: K,
     listing: Listing<'_>,
     files: &mut F,
-    output: &mut W,
-    errors: &mut E,
+    streams: &mut Streams<R, W, E>,
 ) -> (u8, FilesLeft<K, K::Unopened, K::Unclosed, K::Closed>)
     ensures status { result.0 ≤ 3 }
-    ensures spares { SparesFiles (Appends (W.contents output.old) (W.contents output.new))
+    ensures spares { SparesFiles
+        (Appends (W.contents streams.old.output) (W.contents streams.new.output))
         F.is_told (F.holds files.old) (F.holds files.new) listing.entry }
     ensures end { EndsOverFiles K.files databases db.now.name.now Creation.Never
-        (Appends (W.contents output.old) (W.contents output.new))
-        (ListingEnds (Appends (W.contents output.old) (W.contents output.new))
+        (Appends (W.contents streams.old.output) (W.contents streams.new.output))
+        (ListingEnds (Appends (W.contents streams.old.output) (W.contents streams.new.output))
         F.is_told (F.holds files.old) (F.holds files.new) listing.entry) result.0 result.1 }
 {
-    match databases.open(rt, db.name, Creation::Never, errors) {
+    match databases.open(rt, db.name, Creation::Never, &mut streams.errors.writer) {
         Ok(mut desk) => {
-            let status = run(rt.alloc(), &mut desk, listing, files, output, errors);
-            close_desk(status, desk, errors)
+            let status = run(rt.alloc(), &mut desk, listing, files, streams);
+            close_desk(status, desk, &mut streams.errors.writer)
         }
         Err((fault, left)) => (
-            report_unopened(db.name, fault, errors),
+            report_unopened(db.name, fault, &mut streams.errors.writer),
             FilesLeft::Unopened(left),
         ),
     }

@@ -7,6 +7,7 @@ ghost use Rattle.program_run.specs.OverFiles.{MigrateEnds, creation_by, migratio
 
 use crate::opening::{creation_of, report_unopened};
 use csv_records::streams::{WriteFault, write_whole};
+use program_commands::streams::Streams;
 use program_desks::files_left::FilesLeft;
 use program_desks::kept_desks::{KeepsDesks, Migration};
 use program_lines::fault::{Fault, report};
@@ -39,20 +40,24 @@ fn write_line<W: Write, E: Write>(did: Migration, output: &mut W, errors: &mut E
 /// Brings the desk in the database file of a name to the present version, and writes `migrated`, or
 /// `schema 2` where it is of that version and stays as it is. Gives 0, or 3 after a fault, which is
 /// reported; and what is left of the files.
-pub(crate) fn run<D: ListedDesk, K: KeepsDesks<D>, W: Write, E: Write>(
+pub(crate) fn run<D: ListedDesk, K: KeepsDesks<D>, R, W: Write, E: Write>(
     rt: &HostRuntime,
     db: &Database<'_>,
     databases: K,
-    output: &mut W,
-    errors: &mut E,
+    streams: &mut Streams<R, W, E>,
 ) -> (u8, FilesLeft<K, K::Unopened, K::Unclosed, K::Closed>)
     ensures status { result.0 ≤ 3 }
     ensures end { MigrateEnds K.files databases db.now.name.now
         (creation_by db.now.is_existing)
-        (Appends (W.contents output.old) (W.contents output.new)) result.0 result.1 }
+        (Appends (W.contents streams.old.output) (W.contents streams.new.output))
+        result.0 result.1 }
 {
+    let errors = &mut streams.errors.writer;
     match databases.migrate(rt, db.name, creation_of(db), errors) {
-        Ok((did, files)) => (write_line(did, output, errors), FilesLeft::Closed(files)),
+        Ok((did, files)) => {
+            let status = write_line(did, &mut streams.output, errors);
+            (status, FilesLeft::Closed(files))
+        }
         Err((fault, left)) => (
             report_unopened(db.name, fault, errors),
             FilesLeft::Unopened(left),

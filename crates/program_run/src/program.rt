@@ -7,6 +7,7 @@ ghost use Rattle.program_words.specs.Asked.{Reads};
 ghost use Rattle.program_run.specs.OverFiles.{EndsOverFiles, creation_by};
 
 use crate::closing::close_desk;
+use crate::machine::Machine;
 use crate::opening::{creation_of, report_unopened};
 use crate::{converting, help, listing, migrating};
 use desk_memory::MemoryDesk;
@@ -14,6 +15,7 @@ use price_rules::precedence::Precedence;
 use program_clients::open_desks::OpenDesks;
 use program_commands::checked_texts::check_texts;
 use program_commands::sending::send_input;
+use program_commands::streams::Streams;
 use program_commands::task::{port_of, run_task};
 use program_desks::files_left::FilesLeft;
 use program_desks::kept_desks::KeepsDesks;
@@ -32,26 +34,31 @@ use std::rt::HostRuntime;
 const NO_FILE: &str =
     "without --db a desk has only the agreements of its batch; write --db FILE before the command";
 
+// What is said behind refusals of messages of a desk in memory.
+fn hint_of(task: &Task<'_>) -> &'static str {
+    match task {
+        Task::Serve { .. } => "",
+        _ => NO_FILE,
+    }
+}
+
 // Runs a command over a new desk in memory.
 fn run_in_memory<F: NamedFiles, R: Read, W: Write, E: Write>(
     rt: &HostRuntime,
     precedence: &Precedence,
     task: &Task<'_>,
     files: &F,
-    input: &mut R,
-    output: &mut W,
-    errors: &mut E,
+    streams: &mut Streams<R, W, E>,
 ) -> u8
     ensures status { result ≤ 3 }
     ensures end { NewDeskEnds precedence.now
-        (Appends (W.contents output.old) (W.contents output.new)) task.now (F.holds files.now)
-        (R.remaining input.old) ⟦<MemoryDesk as Desk>⟧.seen result }
+        (Appends (W.contents streams.old.output) (W.contents streams.new.output)) task.now
+        (F.holds files.now) (R.remaining streams.old.input) ⟦<MemoryDesk as Desk>⟧.seen result }
 {
     let mut desk = MemoryDesk::new(rt.alloc());
     let bound = port_of(rt, task);
-    let status = run_task(
-        rt, &mut desk, precedence, bound, task, files, NO_FILE, input, output, errors,
-    );
+    streams.errors.hint = hint_of(task);
+    let status = run_task(rt, &mut desk, precedence, bound, task, files, streams);
     desk.is_always_sound();
     status
 }
@@ -64,29 +71,26 @@ fn run_in_file<D: ListedDesk, K: KeepsDesks<D>, F: NamedFiles, R: Read, W: Write
     precedence: &Precedence,
     task: &Task<'_>,
     files: &F,
-    input: &mut R,
-    output: &mut W,
-    errors: &mut E,
+    streams: &mut Streams<R, W, E>,
 ) -> (u8, FilesLeft<K, K::Unopened, K::Unclosed, K::Closed>)
     ensures status { result.0 ≤ 3 }
     // The command ends as over any desk, whose files are then closed; the status is 3 where they
     // could not be.
     ensures end { EndsOverFiles K.files databases db.now.name.now
         (creation_by db.now.is_existing)
-        (Appends (W.contents output.old) (W.contents output.new))
-        (TaskLeads precedence.now (Appends (W.contents output.old) (W.contents output.new))
-        task.now (F.holds files.now) (R.remaining input.old)) result.0 result.1 }
+        (Appends (W.contents streams.old.output) (W.contents streams.new.output))
+        (TaskLeads precedence.now
+        (Appends (W.contents streams.old.output) (W.contents streams.new.output))
+        task.now (F.holds files.now) (R.remaining streams.old.input)) result.0 result.1 }
 {
     let bound = port_of(rt, task);
-    match databases.open(rt, db.name, creation_of(db), errors) {
+    match databases.open(rt, db.name, creation_of(db), &mut streams.errors.writer) {
         Ok(mut desk) => {
-            let status = run_task(
-                rt, &mut desk, precedence, bound, task, files, "", input, output, errors,
-            );
-            close_desk(status, desk, errors)
+            let status = run_task(rt, &mut desk, precedence, bound, task, files, streams);
+            close_desk(status, desk, &mut streams.errors.writer)
         }
         Err((fault, left)) => (
-            report_unopened(db.name, fault, errors),
+            report_unopened(db.name, fault, &mut streams.errors.writer),
             FilesLeft::Unopened(left),
         ),
     }
@@ -105,52 +109,47 @@ fn run_action<
     rt: &HostRuntime,
     action: &Action<'_>,
     databases: K,
-    desks: &mut O,
-    files: &mut F,
     precedence: &Precedence,
-    input: &mut R,
-    output: &mut W,
-    errors: &mut E,
+    machine: &mut Machine<O, F, R, W, E>,
 ) -> (u8, FilesLeft<K, K::Unopened, K::Unclosed, K::Closed>)
     ensures status { result.0 ≤ 3 }
-    ensures end { ActionEnds ⟦<MemoryDesk as Desk>⟧.seen K.files databases (O.answers desks.old)
-        (O.sent desks.old) (O.sent desks.new) F.is_told (F.holds files.old) (F.holds files.new)
-        (Appends (W.contents output.old) (W.contents output.new))
-        (R.remaining input.old) precedence.now action.now result.0 result.1 }
+    ensures end { ActionEnds ⟦<MemoryDesk as Desk>⟧.seen K.files databases
+        (O.answers machine.old.desks) (O.sent machine.old.desks) (O.sent machine.new.desks)
+        F.is_told (F.holds machine.old.files) (F.holds machine.new.files)
+        (Appends (W.contents machine.old.streams.output) (W.contents machine.new.streams.output))
+        (R.remaining machine.old.streams.input) precedence.now action.now result.0 result.1 }
 {
-    match action {
-        Action::InMemory(task) => {
-            let status = run_in_memory(rt, precedence, task, files, input, output, errors);
-            (status, FilesLeft::Untouched(databases))
+    let alloc = rt.alloc();
+    let Machine {
+        desks,
+        files,
+        streams,
+    } = machine;
+    let status = match action {
+        Action::InFile { db, task } => {
+            return run_in_file(rt, db, databases, precedence, task, files, streams);
         }
-        Action::InFile { db, task } => run_in_file(
-            rt, db, databases, precedence, task, files, input, output, errors,
-        ),
         Action::Listed { db, listing } => {
-            listing::list_file(rt, db, databases, *listing, files, output, errors)
+            return listing::list_file(rt, db, databases, *listing, files, streams);
         }
-        Action::Migrate { db } => migrating::run(rt, db, databases, output, errors),
-        Action::Send { socket } => {
-            let status = send_input(rt, desks, socket, input, output, errors);
-            (status, FilesLeft::Untouched(databases))
-        }
-        Action::Convert(conversion) => {
-            let status = converting::run(rt, conversion, files, input, output, errors);
-            (status, FilesLeft::Untouched(databases))
-        }
+        Action::Migrate { db } => return migrating::run(rt, db, databases, streams),
+        Action::InMemory(task) => run_in_memory(rt, precedence, task, files, streams),
+        Action::Send { socket } => send_input(rt, desks, socket, streams),
+        Action::Convert(conversion) => converting::run(rt, conversion, files, streams),
         Action::CheckRules { file } => {
-            let status = checking::check_rules(rt.alloc(), files, file, output, errors);
-            (status, FilesLeft::Untouched(databases))
+            let errors = &mut streams.errors.writer;
+            checking::check_rules(alloc, files, file, &mut streams.output, errors)
         }
         Action::CheckTerms { file } => {
-            let status = terms_checking::check_terms(rt.alloc(), files, file, output, errors);
-            (status, FilesLeft::Untouched(databases))
+            let errors = &mut streams.errors.writer;
+            terms_checking::check_terms(alloc, files, file, &mut streams.output, errors)
         }
         Action::CheckTexts { files: names } => {
-            let status = check_texts(rt.alloc(), files, names.as_slice(), input, errors);
-            (status, FilesLeft::Untouched(databases))
+            let input = &mut streams.input;
+            check_texts(alloc, files, names.as_slice(), input, &mut streams.errors)
         }
-    }
+    };
+    (status, FilesLeft::Untouched(databases))
 }
 
 // The rules of the file of that name, or none where none is named.
@@ -168,9 +167,9 @@ fn rules_of<F: NamedFiles>(
 }
 
 /// Does what a command line asks, under the rules of a file or under none. `databases` has the
-/// database file that it may name, `desks` the open desk, and `files` opens FILEs and makes those
-/// of `convert` and `export`. Gives the exit status, and what is left of the two files of the
-/// database.
+/// database file that it may name; of the machine `desks` has the open desk, and `files` opens FILEs
+/// and makes those of `convert` and `export`. Gives the exit status, and what is left of the two
+/// files of the database.
 ///
 /// Each list of requests that the files held, with those that took effect, is what they hold then;
 /// what is written is of their answers; and a crash leaves just that.
@@ -186,61 +185,48 @@ pub fn run_invocation<
     rt: &HostRuntime,
     invocation: &Invocation<'_>,
     databases: K,
-    desks: &mut O,
-    files: &mut F,
-    input: &mut R,
-    output: &mut W,
-    errors: &mut E,
+    machine: &mut Machine<O, F, R, W, E>,
 ) -> (u8, FilesLeft<K, K::Unopened, K::Unclosed, K::Closed>)
     ensures status { result.0 ≤ 3 }
     ensures end { InvocationEnds ⟦<MemoryDesk as Desk>⟧.seen K.files databases
-        (O.answers desks.old) (O.sent desks.old) (O.sent desks.new)
-        F.is_told (F.holds files.old) (F.holds files.new)
-        (Appends (W.contents output.old) (W.contents output.new))
-        (R.remaining input.old) invocation.now result.0 result.1 }
+        (O.answers machine.old.desks) (O.sent machine.old.desks) (O.sent machine.new.desks)
+        F.is_told (F.holds machine.old.files) (F.holds machine.new.files)
+        (Appends (W.contents machine.old.streams.output) (W.contents machine.new.streams.output))
+        (R.remaining machine.old.streams.input) invocation.now result.0 result.1 }
 {
-    let precedence = match rules_of(rt.alloc(), files, invocation.rules) {
+    let precedence = match rules_of(rt.alloc(), &machine.files, invocation.rules) {
         Ok(precedence) => precedence,
         Err(fault) => {
             let name = invocation.rules.unwrap_or("");
+            let errors = &mut machine.streams.errors.writer;
             let status = report_rules(&fault, name, errors);
-            checking::tell_cause(rt.alloc(), files, name, errors);
+            checking::tell_cause(rt.alloc(), &machine.files, name, errors);
             return (status, FilesLeft::Untouched(databases));
         }
     };
-    let ended = run_action(
-        rt,
-        &invocation.action,
-        databases,
-        desks,
-        files,
-        &precedence,
-        input,
-        output,
-        errors,
-    );
+    let ended = run_action(rt, &invocation.action, databases, &precedence, machine);
     drop(precedence);
     ended
 }
 
 // The invocation that the words ask for. If they ask for none, help or a fault of the command line
 // is written, and the exit status comes.
-fn read_words<'a, W: Write, E: Write>(
+fn read_words<'a, R, W: Write, E: Write>(
     alloc: Global,
     words: &'a [&'a str],
-    output: &mut W,
-    errors: &mut E,
+    streams: &mut Streams<R, W, E>,
 ) -> Result<Invocation<'a>, u8>
-    ensures ok { IfOk result (λ invocation. (output.new ≡ output.old)
+    ensures ok { IfOk result (λ invocation. (streams.new ≡ streams.old)
         × Reads (map (λ word. word.now) words.entry.now) (Reading.Run invocation)) }
     ensures err { IfErr result (λ status. IsUnread
-        (Appends (W.contents output.old) (W.contents output.new))
+        (Appends (W.contents streams.old.output) (W.contents streams.new.output))
         (map (λ word. word.now) words.entry.now) status) }
     ensures most { IfErr result (λ status. status ≤ 3) }
 {
+    let errors = &mut streams.errors.writer;
     match invocation::read(alloc, words) {
         Reading::Run(invocation) => Ok(invocation),
-        Reading::Help(text) => Err(help::print_help(text.as_str(), output, errors)),
+        Reading::Help(text) => { Err(help::print_help(text.as_str(), &mut streams.output, errors)) }
         Reading::Wrong(text) => Err(help::print_wrong(text.as_str(), errors)),
         Reading::NoDatabase => Err(help::print_wrong("onixdesk: migrate needs --db\n", errors)),
         Reading::NoDesk => Err(help::print_wrong(
@@ -256,9 +242,9 @@ fn read_words<'a, W: Write, E: Write>(
 /// 0, or 1 where an answer was a refusal, 2 for a bad command line, rules file or table of terms, 3
 /// for a fault of storage, a file, input, output, the port or the socket, or when out of memory. The
 /// command line is judged first, then the rules file, then what the command itself meets.
-/// `databases` has the database file that the words may name, `desks` the open desk, and `files`
-/// opens FILEs and makes those of `convert` and `export`; beside the status comes what is left of
-/// the database's files.
+/// `databases` has the database file that the words may name; of the machine `desks` has the open
+/// desk, and `files` opens FILEs and makes those of `convert` and `export`. Beside the status comes
+/// what is left of the database's files.
 pub fn run<
     D: ListedDesk,
     K: KeepsDesks<D>,
@@ -271,31 +257,18 @@ pub fn run<
     rt: &HostRuntime,
     words: &[&str],
     databases: K,
-    desks: &mut O,
-    files: &mut F,
-    input: &mut R,
-    output: &mut W,
-    errors: &mut E,
+    machine: &mut Machine<O, F, R, W, E>,
 ) -> (u8, FilesLeft<K, K::Unopened, K::Unclosed, K::Closed>)
     ensures status { result.0 ≤ 3 }
-    ensures end { RunEnds ⟦<MemoryDesk as Desk>⟧.seen K.files databases (O.answers desks.old)
-        (O.sent desks.old) (O.sent desks.new) F.is_told (F.holds files.old) (F.holds files.new)
-        (Appends (W.contents output.old) (W.contents output.new))
-        (R.remaining input.old) (map (λ word. word.now) words.now) result.0 result.1 }
+    ensures end { RunEnds ⟦<MemoryDesk as Desk>⟧.seen K.files databases
+        (O.answers machine.old.desks) (O.sent machine.old.desks) (O.sent machine.new.desks)
+        F.is_told (F.holds machine.old.files) (F.holds machine.new.files)
+        (Appends (W.contents machine.old.streams.output) (W.contents machine.new.streams.output))
+        (R.remaining machine.old.streams.input) (map (λ word. word.now) words.now)
+        result.0 result.1 }
 {
-    match read_words(rt.alloc(), words, output, errors) {
-        Ok(invocation) => {
-            run_invocation(
-                rt,
-                &invocation,
-                databases,
-                desks,
-                files,
-                input,
-                output,
-                errors,
-            )
-        }
+    match read_words(rt.alloc(), words, &mut machine.streams) {
+        Ok(invocation) => run_invocation(rt, &invocation, databases, machine),
         Err(status) => (status, FilesLeft::Untouched(databases)),
     }
 }

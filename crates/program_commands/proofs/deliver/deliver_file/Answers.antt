@@ -1,4 +1,4 @@
-use Rattle.std.proofs.Common.{◌≡◌, refl, subst}
+use Rattle.std.proofs.Common.{refl, subst}
 use Rattle.std.proofs.KnownBytes.{Appends-nil}
 use Rattle.std.specs.Io.KnownBytes.{Appends}
 use Rattle.csv_records.specs.Streams.{IsTold}
@@ -9,7 +9,7 @@ use Rattle.program_commands.proofs.deliver.deliver_file.Goals as goal
 
 pub returns-in-Ok : goal.returns-in-Ok
 returns-in-Ok g c =
-    let one = c.deliver_one.ensures in
+    let one = c.deliver_one.ensures.run in
     (one.0, subst (λ told. IsTold told one.0) c.in-Ok.ensures one.1, one.2)
 
 pub returns-in-Err : goal.returns-in-Err

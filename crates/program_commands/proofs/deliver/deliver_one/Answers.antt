@@ -6,16 +6,16 @@ use Rattle.program_commands.specs.Deliveries.{Delivers}
 use Rattle.program_commands.proofs.DeliveryLemmas.{unread_delivers}
 use Rattle.program_commands.proofs.deliver.deliver_one.Goals as goal
 
-pub returns-in-Ok : goal.returns-in-Ok
-returns-in-Ok g c =
-    let read = c.in-Ok.ensures in
+pub returns-in-Ok-clause-run : goal.returns-in-Ok-clause-run
+returns-in-Ok-clause-run g c =
+    let read = c.in-Ok.ensures.text in
     let asked = Asked g.D.Desk.seen c.args.precedence.now c.args.desk.now c.deliver_text.new.desk in
     let written = Appends (g.W.Write.contents c.args.writer.now) (g.W.Write.contents c.deliver_text.new.writer) in
     (read.0, read.1, subst (λ text. Delivers asked written text c.deliver_text.result) (c.as_slice.ensures.value ∙ read.2) c.deliver_text.ensures)
 
-pub returns-in-Err : goal.returns-in-Err
-returns-in-Err g c =
-    let read = c.in-Err.ensures in
+pub returns-in-Err-clause-run : goal.returns-in-Err-clause-run
+returns-in-Err-clause-run g c =
+    let read = c.in-Err.ensures.text in
     let asked = Asked g.D.Desk.seen c.args.precedence.now c.args.desk.now c.args.desk.now in
     let written = Appends (g.W.Write.contents c.args.writer.now) (g.W.Write.contents c.args.writer.now) in
     (read.0, read.1, unread_delivers asked written read.0 c.in-Err.fault read.2 refl (Appends-nil (g.W.Write.contents c.args.writer.now)))

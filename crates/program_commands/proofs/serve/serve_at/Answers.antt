@@ -12,15 +12,17 @@ returns-in-Ok-clause-end g c =
     let ended = c.serve_clients.ensures.end in (
       ended.0,
       ended.4,
-      inr (lines_behind _ _ _ (listening_line c.args.number) ended.0 c.in-Ok.ensures ended.5),
-      elim ended.6 [
-        | inl done ↦ inl (done.0, done.1, Appends-trans _ _ _ _ _ c.in-Ok.ensures done.2)
-        | inr three ↦ inr three
-      ],
+      inr (
+        lines_behind _ _ _ (listening_line c.args.place.port) ended.0 c.in-Ok.ensures ended.5.0,
+        elim ended.5.1 [
+          | inl done ↦ inl (done.0, done.1, Appends-trans _ _ _ _ _ c.in-Ok.ensures done.2)
+          | inr three ↦ inr three
+        ],
+      ),
     )
 
 pub returns-in-Err-clause-end : goal.returns-in-Err-clause-end
 returns-in-Err-clause-end g c =
     let asked = Asked g.D.Desk.seen c.args.precedence.now c.args.desk.now c.args.desk.now in
-    let written = Appends (g.O.Write.contents c.args.output.now) (g.O.Write.contents c.print_listening.new.output) in
-    unserved_ends asked written g.C.Clients.takes_batches c.args.number c.args.requests c.report.result refl c.report.ensures c.in-Err.ensures
+    let written = Appends (g.O.Write.contents c.args.streams.now.output) (g.O.Write.contents c.print_listening.new.output) in
+    unserved_ends asked written g.C.Clients.takes_batches c.args.place.port c.args.place.requests c.report.result refl c.report.ensures c.in-Err.ensures

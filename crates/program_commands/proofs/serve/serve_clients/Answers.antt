@@ -23,7 +23,7 @@ serving-init g c = record {
   each = All-nil (λ (d : Connection). IsOf g.C.Clients.speaks d.ending);
   first = none_first (g.C.Clients.coming c.args.clients.now);
   replied = none_replied (g.C.Clients.replied c.args.clients.now);
-  lines = Appends-nil (g.O.Write.contents c.args.output.now);
+  lines = Appends-nil (g.O.Write.contents c.args.streams.now.output);
   asked = refl;
 }
 
@@ -64,8 +64,7 @@ returns-in-Err-clause-end g c =
         All-push (IsServed g.C.Clients.takes_batches) inv.served one inv.all it.is_served,
         one_more_asked seen rules c.args.desk.now c.serving.desk c.serve_next.new.desk inv.served one inv.asked it.were_asked,
       ),
-      cut_line _ _ _ inv.served one inv.lines it.line,
-      inr c.report.ensures,
+      (cut_line _ _ _ inv.served one inv.lines it.line, inr c.report.ensures),
     ))
     (λ nobody. (
       inv.served,
@@ -77,8 +76,7 @@ returns-in-Err-clause-end g c =
         inv.all,
         subst (λ d. Asked seen rules c.args.desk.now d (steps_of inv.served)) (sym nobody.1) inv.asked,
       ),
-      whole_lines _ _ inv.served (subst (Appends _ _) (append-nil (lines_of inv.served)) (Appends-trans _ _ _ _ _ inv.lines nobody.3)),
-      inr c.report.ensures,
+      (whole_lines _ _ inv.served (subst (Appends _ _) (append-nil (lines_of inv.served)) (Appends-trans _ _ _ _ _ inv.lines nobody.3)), inr c.report.ensures),
     ))
     c.in-Err.ensures
 
@@ -91,6 +89,5 @@ returns-clause-end g c =
       inv.replied,
       inv.each,
       (omega (arith, all), inv.all, inv.asked),
-      whole_lines _ _ inv.served inv.lines,
-      inl (refl, all, inv.lines),
+      (whole_lines _ _ inv.served inv.lines, inl (refl, all, inv.lines)),
     )

@@ -17,6 +17,6 @@ invariant-serving g l = record {
   each : All (λ (c : Connection). IsOf g.C.Clients.speaks c.ending) served;
   first : AreFirstOf (g.C.Clients.coming l.fn.clients) (g.C.Clients.coming l.clients) served;
   replied : AreReplied (g.C.Clients.replied l.fn.clients) (g.C.Clients.replied l.clients) served;
-  lines : Appends (g.O.Write.contents l.fn.output) (g.O.Write.contents l.output) (lines_of served);
+  lines : Appends (g.O.Write.contents l.fn.streams.output) (g.O.Write.contents l.streams.output) (lines_of served);
   asked : Asked g.D.Desk.seen l.precedence l.fn.desk l.desk (flat_map (λ (c : Connection). c.steps) served);
 }

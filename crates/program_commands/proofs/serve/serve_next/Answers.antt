@@ -11,14 +11,15 @@ returns-in-Ok-Some g c =
     let accepted = rw c.in-Ok-Some.field-0-is at c.in-Ok-Some.ensures.client in
     let kept = rw c.in-Ok-Some.field-0-is at c.in-Ok-Some.ensures.replied in
     let sent = g.C.Reader.Read.remaining c.in-Ok-Some.reader in
+    let served = rw c.new.ensures at c.serve_connection-ended.ensures in
     inl (client_of _ g.C.Clients.speaks c.in-Ok-Some.reader sent
-    (g.C.Writer.Write.contents c.in-Ok-Some.writer) (g.C.Writer.Write.contents c.serve_client-ended.new.writer)
-    g.C.Clients.takes_batches (g.C.Clients.coming c.args.clients.now) (g.C.Clients.coming c.close.new.self) (g.C.Clients.replied c.args.clients.now) (g.C.Clients.replied c.close.new.self) _ c.serve_client-ended.result.0
+    (g.C.Writer.Write.contents c.in-Ok-Some.writer) (g.C.Writer.Write.contents c.serve_connection-ended.new.client.writer)
+    g.C.Clients.takes_batches (g.C.Clients.coming c.args.clients.now) (g.C.Clients.coming c.close.new.self) (g.C.Clients.replied c.args.clients.now) (g.C.Clients.replied c.close.new.self) _ c.serve_connection-ended.result
     (subst (λ o. IsNext sent (g.C.Clients.coming c.args.clients.now) o) (sym c.close.ensures.coming) accepted.2)
-    (replied_of (g.C.Writer.Write.contents c.in-Ok-Some.writer) (g.C.Writer.Write.contents c.serve_client-ended.new.writer) (g.C.Clients.replied c.args.clients.now) (g.C.Clients.replied c.accept.new.self) (g.C.Clients.replied c.close.new.self)
+    (replied_of (g.C.Writer.Write.contents c.in-Ok-Some.writer) (g.C.Writer.Write.contents c.serve_connection-ended.new.client.writer) (g.C.Clients.replied c.args.clients.now) (g.C.Clients.replied c.accept.new.self) (g.C.Clients.replied c.close.new.self)
     kept.0 kept.1 c.close.ensures.replied)
     accepted.3
-    c.in-Ok-Some.protocol accepted.0 accepted.1 c.serve_client-ended.ensures)
+    c.in-Ok-Some.protocol accepted.0 accepted.1 served)
 
 pub returns-in-Ok-None : goal.returns-in-Ok-None
 returns-in-Ok-None g c = inl (record {
@@ -32,4 +33,4 @@ returns-in-Ok-None g c = inl (record {
 })
 
 pub returns-in-Err : goal.returns-in-Err
-returns-in-Err g c = inr (tt, refl, c.in-Err.ensures.replied, Appends-nil (g.O.Write.contents c.args.output.now))
+returns-in-Err g c = inr (tt, refl, c.in-Err.ensures.replied, Appends-nil (g.O.Write.contents c.args.streams.now.output))

@@ -9,6 +9,6 @@ use Rattle.program_commands.proofs.serve.serve_opened.Goals as goal
 pub returns-in-Err-clause-end : goal.returns-in-Err-clause-end
 returns-in-Err-clause-end g c =
     let asked = Asked g.D.Desk.seen c.args.precedence.now c.args.desk.now c.args.desk.now in
-    let written = Appends (g.O.Write.contents c.args.output.now) (g.O.Write.contents c.args.output.now) in
-    unserved_ends asked written g.C.Clients.takes_batches c.args.number c.args.requests c.report_unopened.result refl c.report_unopened.ensures
-    ([], listening_line c.args.number, refl, Appends-nil (g.O.Write.contents c.args.output.now))
+    let written = Appends (g.O.Write.contents c.args.streams.now.output) (g.O.Write.contents c.args.streams.now.output) in
+    unserved_ends asked written g.C.Clients.takes_batches c.args.place.port c.args.place.requests c.report_unopened.result refl c.report_unopened.ensures
+    ([], listening_line c.args.place.port, refl, Appends-nil (g.O.Write.contents c.args.streams.now.output))

@@ -8,6 +8,6 @@ use Rattle.program_commands.proofs.task.run_task.Goals as goal
 pub returns-in-Deliver-clause-end : goal.returns-in-Deliver-clause-end
 returns-in-Deliver-clause-end g c =
     let asked = Asked g.D.Desk.seen c.args.precedence.now c.args.desk.now c.deliver_files.new.desk in
-    let written = Appends (g.W.Write.contents c.args.output.now) (g.W.Write.contents c.deliver_files.new.output) in
-    subst (λ task. TaskEnds asked written task (g.F.NamedFiles.holds c.args.files.now) (g.R.Read.remaining c.args.input.now) c.deliver_files.result) (sym c.in-Deliver.is)
-    (subst (λ names. DeliverEnds asked written (g.F.NamedFiles.holds c.args.files.now) (g.R.Read.remaining c.args.input.now) (map (λ (name : Bor (List ℕ)). name.now) names) c.deliver_files.result) c.as_slice.ensures.value c.deliver_files.ensures.end)
+    let written = Appends (g.W.Write.contents c.args.streams.now.output) (g.W.Write.contents c.deliver_files.new.streams.output) in
+    subst (λ task. TaskEnds asked written task (g.F.NamedFiles.holds c.args.files.now) (g.R.Read.remaining c.args.streams.now.input) c.deliver_files.result) (sym c.in-Deliver.is)
+    (subst (λ names. DeliverEnds asked written (g.F.NamedFiles.holds c.args.files.now) (g.R.Read.remaining c.args.streams.now.input) (map (λ (name : Bor (List ℕ)). name.now) names) c.deliver_files.result) c.as_slice.ensures.value c.deliver_files.ensures.end)

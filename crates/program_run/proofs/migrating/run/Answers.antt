@@ -13,6 +13,6 @@ returns-in-Ok-clause-end g c = (
 pub returns-in-Err-clause-end : goal.returns-in-Err-clause-end
 returns-in-Err-clause-end g c = (
   c.report_unopened.ensures,
-  Appends-nil (g.W.Write.contents c.args.output.now),
+  Appends-nil (g.W.Write.contents c.args.streams.now.output),
   subst (λ by. g.K.KeepsDesks.files.unmigrated c.args.databases c.args.db.now.name.now by c.in-Err.left) c.creation_of.ensures c.in-Err.ensures.err,
 )

@@ -8,12 +8,14 @@ pub returns-in-Ok-clause-end : goal.returns-in-Ok-clause-end
 returns-in-Ok-clause-end g c =
     let holds = g.F.NamedFiles.holds in
     let sent = g.O.OpenDesks.sent in
+    let before = c.args.machine.now in
+    let after = c.run_invocation.new.machine in
     let ended = c.run_invocation.ensures.end in
     inl (
       c.in-Ok.invocation,
       c.in-Ok.ensures.ok.1,
-      subst (λ o. InvocationEnds ghosts.seen g.K.KeepsDesks.files c.args.databases (g.O.OpenDesks.answers c.args.desks.now) (sent c.args.desks.now) (sent c.run_invocation.new.desks)
-          g.F.NamedFiles.is_told (holds c.args.files.now) (holds c.run_invocation.new.files) (Appends (g.W.Write.contents o) (g.W.Write.contents c.run_invocation.new.output)) (g.R.Read.remaining c.args.input.now)
+      subst (λ s. InvocationEnds ghosts.seen g.K.KeepsDesks.files c.args.databases (g.O.OpenDesks.answers before.desks) (sent before.desks) (sent after.desks)
+          g.F.NamedFiles.is_told (holds before.files) (holds after.files) (Appends (g.W.Write.contents s.output) (g.W.Write.contents after.streams.output)) (g.R.Read.remaining s.input)
           c.in-Ok.invocation c.run_invocation.result.0 c.run_invocation.result.1)
           c.in-Ok.ensures.ok.0 ended,
     )

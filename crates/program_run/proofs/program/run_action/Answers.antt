@@ -1,9 +1,7 @@
 use Rattle.std.proofs.Common.{refl}
 use Rattle.std.proofs.KnownBytes.{Appends-nil}
+use Rattle.program_run.proofs.program.run_action.Goals.{in-CheckRules, in-CheckTerms, in-CheckTexts, in-Convert, in-InMemory, in-Send}
 use Rattle.program_run.proofs.program.run_action.Goals as goal
-
-pub returns-in-InMemory-clause-end : goal.returns-in-InMemory-clause-end
-returns-in-InMemory-clause-end g c = rw c.in-InMemory.is ((refl, refl), tt, c.run_in_memory-status.ensures.end)
 
 pub returns-in-InFile-clause-end : goal.returns-in-InFile-clause-end
 returns-in-InFile-clause-end g c = rw c.in-InFile.is ((refl, refl), c.run_in_file.ensures.end)
@@ -14,17 +12,13 @@ returns-in-Listed-clause-end g c = rw c.in-Listed.is (refl, c.list_file.ensures.
 pub returns-in-Migrate-clause-end : goal.returns-in-Migrate-clause-end
 returns-in-Migrate-clause-end g c = rw c.in-Migrate.is ((refl, refl), c.run.ensures.end)
 
-pub returns-in-Send-clause-end : goal.returns-in-Send-clause-end
-returns-in-Send-clause-end g c = rw c.in-Send.is (refl, tt, c.send_input-status.ensures.end)
-
-pub returns-in-Convert-clause-end : goal.returns-in-Convert-clause-end
-returns-in-Convert-clause-end g c = rw c.in-Convert.is (refl, tt, c.run-status.ensures.end)
-
-pub returns-in-CheckRules-clause-end : goal.returns-in-CheckRules-clause-end
-returns-in-CheckRules-clause-end g c = rw c.in-CheckRules.is ((refl, refl), tt, c.check_rules-status.ensures.end)
-
-pub returns-in-CheckTerms-clause-end : goal.returns-in-CheckTerms-clause-end
-returns-in-CheckTerms-clause-end g c = rw c.in-CheckTerms.is ((refl, refl), tt, c.check_terms-status.ensures.end)
-
-pub returns-in-CheckTexts-clause-end : goal.returns-in-CheckTexts-clause-end
-returns-in-CheckTexts-clause-end g c = rw c.in-CheckTexts.is ((refl, refl), tt, Appends-nil (g.W.Write.contents c.args.output.now))
+pub returns-clause-end : goal.returns-clause-end
+returns-clause-end g c =
+    elim c.match-action.branch [
+      | in-InMemory w ↦ rw (w.in-InMemory.is, w.status-is, w.machine-is) ((refl, refl), tt, w.run_in_memory.ensures.end)
+      | in-Send w ↦ rw (w.in-Send.is, w.status-is, w.machine-is) (refl, tt, w.send_input.ensures.end)
+      | in-Convert w ↦ rw (w.in-Convert.is, w.status-is, w.machine-is) (refl, tt, w.run.ensures.end)
+      | in-CheckRules w ↦ rw (w.in-CheckRules.is, w.status-is, w.machine-is) ((refl, refl), tt, w.check_rules.ensures.end)
+      | in-CheckTerms w ↦ rw (w.in-CheckTerms.is, w.status-is, w.machine-is) ((refl, refl), tt, w.check_terms.ensures.end)
+      | in-CheckTexts w ↦ rw (w.in-CheckTexts.is, w.status-is, w.machine-is) ((refl, refl), tt, Appends-nil (g.W.Write.contents c.args.machine.now.streams.output))
+    ]

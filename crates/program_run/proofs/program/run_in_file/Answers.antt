@@ -17,10 +17,10 @@ returns-in-Ok-clause-end g c =
     let seen = g.K.KeepsDesks.seen in
     let first = c.in-Ok.desk in
     let last = c.run_task-status.new.desk in
-    let written = Appends (g.W.Write.contents c.args.output.now) (g.W.Write.contents c.run_task-status.new.output) in
+    let written = Appends (g.W.Write.contents c.args.streams.now.output) (g.W.Write.contents c.run_task-status.new.streams.output) in
     let task = c.args.task.now in
     let holds = g.F.NamedFiles.holds c.args.files.now in
-    let told = g.R.Read.remaining c.args.input.now in
+    let told = g.R.Read.remaining c.args.streams.now.input in
     let files = g.K.KeepsDesks.files in
     let name = c.args.db.now.name.now in
     let creation = creation_by c.args.db.now.is_existing in
@@ -32,6 +32,6 @@ returns-in-Ok-clause-end g c =
 pub returns-in-Err-clause-end : goal.returns-in-Err-clause-end
 returns-in-Err-clause-end g c = (
   c.report_unopened.ensures,
-  Appends-nil (g.W.Write.contents c.args.output.now),
+  Appends-nil (g.W.Write.contents c.args.streams.now.output),
   subst (λ by. g.K.KeepsDesks.files.spared c.args.databases c.args.db.now.name.now by c.in-Err.left) c.creation_of.ensures c.in-Err.ensures.err,
 )

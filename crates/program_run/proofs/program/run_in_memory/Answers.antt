@@ -14,6 +14,6 @@ returns-clause-end g c =
       last,
       c.new-desk.ensures,
       tt,
-      task_as (Asked ghosts.seen rules new last) (λ steps. Leads rules steps (ghosts.seen new) (ghosts.seen last)) (Appends (g.W.Write.contents c.args.output.now) (g.W.Write.contents c.run_task-status.new.output))
-          (λ steps trace. traces_lead ghosts.seen rules steps new last trace) c.args.task.now (g.F.NamedFiles.holds c.args.files.now) (g.R.Read.remaining c.args.input.now) c.run_task-status.result c.run_task-status.ensures.end,
+      task_as (Asked ghosts.seen rules new last) (λ steps. Leads rules steps (ghosts.seen new) (ghosts.seen last)) (Appends (g.W.Write.contents c.args.streams.now.output) (g.W.Write.contents c.run_task-status.new.streams.output))
+          (λ steps trace. traces_lead ghosts.seen rules steps new last trace) c.args.task.now (g.F.NamedFiles.holds c.args.files.now) (g.R.Read.remaining c.args.streams.now.input) c.run_task-status.result c.run_task-status.ensures.end,
     )

@@ -1,0 +1,12 @@
+//! What the program is given of the machine.
+
+pub use program_commands::streams::{Errors, Streams};
+
+/// What the program is given of the machine beside what opens files of desks: the desks that are
+/// open, FILEs by their names, and its streams.
+#[derive(Drop)]
+pub struct Machine<O, F, R, W, E> {
+    pub desks: O,
+    pub files: F,
+    pub streams: Streams<R, W, E>,
+}

@@ -30,11 +30,12 @@ class Ran(NamedTuple):
 
 # A line on a refusal; and the line of a fault, behind which another one says why.
 MALFORMED = re.compile(
-    rb"onixdesk: (?!rules: )(?:[^\n]*: )?line [0-9]+: |onixdesk: [0-9]+ more are malformed\n|onixdesk: without --db "
+    rb"onixdesk: (?!terms: )(?:[^\n]*: )?line [0-9]+: |onixdesk: [0-9]+ more are malformed\n|onixdesk: without --db "
     rb"|onixdesk: refused,[a-z-]+: |onixdesk: bad-query: "
 )
 FAULT = re.compile(
-    rb"onixdesk: (?:storage|file): |onixdesk: port [0-9]+\n|onixdesk: socket\n|onixdesk: rules: (?!line )"
+    rb"onixdesk: (?:storage|file|rules): |onixdesk: port [0-9]+\n|onixdesk: socket\n|onixdesk: [^\n]*: no folder\n"
+    rb"|onixdesk: [a-zA-Z ]+ needs --db\n|onixdesk: --batches goes with batch\n"
 )
 
 

@@ -1,6 +1,6 @@
 //! Why a record may not stand where it stands, in words.
 
-use crate::fields::{Field, Kind, hint, rule, takes};
+use crate::fields::{Field, push_hint, rule, takes};
 use crate::rows::{Counts, counts_of, fields_of, is_of_message, is_request};
 use csv_records::record::Record;
 use csv_records::records::Records;
@@ -58,7 +58,7 @@ pub(crate) fn push_broken(text: &mut String, field: Field, value: &str) -> Resul
     push_value(text, field.name, value)?;
     text.push_str(" is not ")?;
     text.push_str(rule(field.kind))?;
-    text.push_str(hint(field.kind, value))
+    push_hint(text, field.kind, value)
 }
 
 // Adds that a field has what no field may have, and says whether one has.
@@ -86,20 +86,44 @@ fn push_counts(text: &mut String, counts: Counts) -> Result<(), AllocError> {
     }
 }
 
-// Adds that a record has too many fields, or too few.
+// Adds the names of a record and of its fields, as they are written; in brackets those that may be
+// left out.
+fn push_form(
+    alloc: Global,
+    text: &mut String,
+    name: &str,
+    counts: Counts,
+) -> Result<(), AllocError> {
+    text.push_str(name)?;
+    let fields = fields_of(alloc, name, counts.least)?;
+    for (place, field) in fields.as_slice().iter().enumerate() {
+        if place >= counts.most {
+            return Ok(());
+        }
+        let is_needed = place < counts.least;
+        text.push_str(if is_needed { "," } else { "[," })?;
+        text.push_str(field.name)?;
+        text.push_str(if is_needed { "" } else { "]" })?;
+    }
+    Ok(())
+}
+
+// Adds that a record has too many fields, or too few, and which it has to have.
 fn push_miscounted(
+    alloc: Global,
     text: &mut String,
     record: &Record<'_>,
     counts: Counts,
 ) -> Result<(), AllocError> {
     let count = count_of(record);
-    write!(text, "{count} fields behind its name, not ")?;
+    let fields = if count == 1 { "field" } else { "fields" };
+    write!(text, "{count} {fields} behind its name, not ")?;
     push_counts(text, counts)?;
+    text.push_str(": ")?;
+    push_form(alloc, text, field_at(record, 0), counts)?;
     let has_empty = count.saturating_sub(count_empty(record)) <= counts.most;
     if count > counts.most && has_empty {
         text.push_str("; leave out the empty fields at its end, which a spreadsheet adds")
-    } else if count == 0 && field_at(record, 0).contains(';') {
-        text.push_str("; separate fields by commas, not by semicolons")
     } else {
         Ok(())
     }
@@ -182,7 +206,7 @@ fn push_row(
     let counts = counts_of(field_at(record, 0), has_minimums);
     let count = count_of(record);
     if count < counts.least || count > counts.most {
-        push_miscounted(text, record, counts)?;
+        push_miscounted(alloc, text, record, counts)?;
         return Ok(true);
     }
     if push_first_broken(alloc, text, record)? {
@@ -214,31 +238,40 @@ fn alike(name: &str) -> Option<&'static str> {
         .find(|known| known.eq_ignore_ascii_case(name.trim()))
 }
 
-// Adds what the name of a record that has another looks like.
-fn push_likeness(text: &mut String, name: &str) -> Result<(), AllocError> {
+// Whether a name is that of a record whose fields are separated by semicolons.
+fn has_semicolons(name: &str) -> bool {
+    match name.split_once(';') {
+        Some((front, _)) => alike(front).is_some(),
+        None => false,
+    }
+}
+
+// Adds what a name is that no record has, where it shows that, and says whether it does.
+fn push_likeness(text: &mut String, name: &str) -> Result<bool, AllocError> {
     if name.starts_with('<') {
-        return text.push_str("; this is XML, of which onixdesk convert makes records");
+        text.push_str("this is XML; make records of it first: onixdesk convert FILE > FILE.csv")?;
+        return Ok(true);
     }
-    if name.contains(';') {
-        return text.push_str("; separate fields by commas, not by semicolons");
+    if has_semicolons(name) {
+        text.push_str("separate fields by commas, not by semicolons")?;
+        return Ok(true);
     }
-    match alike(name) {
-        Some(known) => {
-            text.push_str("; write ")?;
-            text.push_str(known)
-        }
-        None => Ok(()),
-    }
+    let Some(known) = alike(name) else {
+        return Ok(false);
+    };
+    text.push_str("write ")?;
+    text.push_str(known)?;
+    Ok(true)
 }
 
 // Adds that a piece begins with no request.
 fn push_no_request(text: &mut String, name: &str) -> Result<(), AllocError> {
     if is_of_message(name) {
         text.push_str("it belongs into a message, behind its Message")
+    } else if push_likeness(text, name)? {
+        Ok(())
     } else {
-        text.push_str("no request has this name")?;
-        push_likeness(text, name)?;
-        text.push_str("; a text of requests has no heading")
+        text.push_str("no request has this name; a text of requests has no heading")
     }
 }
 
@@ -290,7 +323,7 @@ fn push_misplaced(
         push_value(text, "Count", field_at(record, 1))?;
         return write!(
             text,
-            " is not the number of records before it, which is {index}"
+            " is not the number of records before it, which is {index}: one is missing or too many; do not just change Count"
         );
     }
     let header = piece.record(0);
@@ -310,14 +343,25 @@ fn push_in_message(
     }
     let name = field_at(record, 0);
     if !is_of_message(name) {
-        text.push_str("no record of a message has this name")?;
-        return push_likeness(text, name);
+        if push_likeness(text, name)? {
+            return Ok(());
+        }
+        return text.push_str("no record of a message has this name");
     }
     let has_minimums = index < piece.len() && field_at(&piece.record(0), 1) == "2";
     if push_row(alloc, text, record, has_minimums)? {
         return Ok(());
     }
     push_misplaced(text, piece, index, record)
+}
+
+// Why a request of this name, which is right by itself, begins no message.
+fn why_no_message(name: &str) -> &'static str {
+    if name == "Message" {
+        "it is not allowed here"
+    } else {
+        "deliver takes one message; batch takes a text of requests: onixdesk --db FILE batch < FILE"
+    }
 }
 
 // Adds why a record of a piece is wrong.
@@ -341,13 +385,15 @@ fn push_of_record(
         if push_row(alloc, text, record, true)? {
             return Ok(());
         }
-        return text.push_str("it is not allowed here");
+        return text.push_str(why_no_message(name));
     }
     if index < piece.len() && field_at(&piece.record(0), 0) == "Message" {
         return push_in_message(alloc, text, piece, index, record);
     }
-    text.push_str("the request before it is one record, and no request has this name")?;
-    push_likeness(text, name)
+    if push_likeness(text, name)? {
+        return Ok(());
+    }
+    text.push_str("the request before it is one record, and no request has this name")
 }
 
 /// Adds why a piece stops being a request at this row, counted from 1, where its records end at the

@@ -1,5 +1,6 @@
 //! What the fields of a record have to be.
 
+use crate::isbn_of_ten::{has_ten_digits, is_isbn_of_ten, push_thirteen};
 use onix_terms::amount::Amount;
 use onix_terms::code::{Code2, Country, Currency};
 use onix_terms::day::Day;
@@ -8,6 +9,7 @@ use onix_terms::isbn13::Isbn13;
 use onix_terms::number::Number;
 use onix_terms::quantity::Quantity;
 use onix_terms::series_name::SeriesName;
+use std::alloc::AllocError;
 
 /// What a field holds.
 #[derive(Clone, Copy, PartialEq, Eq)]
@@ -17,6 +19,7 @@ pub(crate) enum Kind {
     Filled,
     Anything,
     Number,
+    FirstNumber,
     Digits,
     Isbn,
     Day,
@@ -68,7 +71,7 @@ fn is_right(kind: Kind, text: &str) -> bool {
         Kind::Code => Code2::read(text).is_some(),
         Kind::Filled => !text.is_empty(),
         Kind::Anything => true,
-        Kind::Number => Number::read(text).is_some(),
+        Kind::Number | Kind::FirstNumber => Number::read(text).is_some(),
         Kind::Digits => read_digits(text).is_some(),
         Kind::Isbn => Isbn13::read(text).is_some(),
         Kind::Day => Day::read(text).is_some(),
@@ -98,13 +101,13 @@ pub(crate) fn rule(kind: Kind) -> &'static str {
         Kind::Code => "two digits",
         Kind::Filled => "a text that is not empty",
         Kind::Anything => "a text",
-        Kind::Number => "1 to 9 digits, not all zero",
+        Kind::Number | Kind::FirstNumber => "a number of 1 or more, in at most 9 digits",
         Kind::Digits => "1 to 9 digits",
         Kind::Isbn => "thirteen digits",
         Kind::Day => "a day of the calendar, YYYYMMDD",
         Kind::Country => "two capital letters",
         Kind::Currency => "three capital letters",
-        Kind::Quantity => "1 to 6 digits, not all zero",
+        Kind::Quantity => "a number of 1 or more, in at most 6 digits",
         Kind::Amount => "1 to 9 digits, and at most 3 behind a point",
         Kind::Countries => "countries of two capital letters with spaces between them",
         Kind::World => "WORLD or empty",
@@ -117,8 +120,18 @@ fn count_digits(text: &str) -> usize {
     text.bytes().filter(|byte| byte.is_ascii_digit()).count()
 }
 
-/// What is usual for a field of that kind, and what to do, where the text shows it; else nothing.
-pub(crate) fn hint(kind: Kind, text: &str) -> &'static str {
+/// Adds what is usual for a field of that kind, and what to do, where the text shows it; else
+/// nothing.
+pub(crate) fn push_hint(text: &mut String, kind: Kind, value: &str) -> Result<(), AllocError> {
+    if kind == Kind::Isbn && is_isbn_of_ten(value) {
+        text.push_str("; this is an ISBN of ten digits; that of thirteen is ")?;
+        return push_thirteen(text, value);
+    }
+    text.push_str(hint(kind, value))
+}
+
+// The same, where what to do is not made of the text.
+fn hint(kind: Kind, text: &str) -> &'static str {
     match kind {
         Kind::Isbn => hint_of_isbn(text),
         Kind::Day => hint_of_day(text),
@@ -126,16 +139,16 @@ pub(crate) fn hint(kind: Kind, text: &str) -> &'static str {
         Kind::Code => hint_of_code(text),
         Kind::Amount => hint_of_amount(text),
         Kind::Series => hint_of_series(text),
+        Kind::FirstNumber => "; it is the number of the first message of the series",
         _ => "",
     }
 }
 
 fn hint_of_isbn(text: &str) -> &'static str {
-    let digits = count_digits(text);
-    if digits == 13 {
+    if count_digits(text) == 13 {
         "; leave out hyphens and spaces"
-    } else if digits == 10 || digits == 9 {
-        "; this looks like an ISBN of ten digits, which has to be made one of thirteen"
+    } else if has_ten_digits(text) {
+        "; this looks like an ISBN of ten digits, one of which is wrong; write that of thirteen"
     } else {
         ""
     }

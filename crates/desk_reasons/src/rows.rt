@@ -78,7 +78,7 @@ fn push_product(fields: &mut Items<Field>, count: usize) -> Result<(), AllocErro
 fn push_agreement(fields: &mut Items<Field>) -> Result<(), AllocError> {
     fields.push(needed("Series", Kind::Series))?;
     push_parties(fields)?;
-    fields.push(needed("FirstNumber", Kind::Number))
+    fields.push(needed("FirstNumber", Kind::FirstNumber))
 }
 
 fn push_waiver(fields: &mut Items<Field>) -> Result<(), AllocError> {

@@ -6,10 +6,21 @@ use std::fs::{File, Metadata, metadata};
 use std::io::{ErrorKind, Read};
 use std::rt::HostRuntime;
 
-// What an error of the system says.
-fn cause_of_kind(kind: ErrorKind) -> Cause {
+// What is missing where there is no file of a name: the file alone, or its folder.
+fn missing(rt: &HostRuntime, name: &str) -> Cause {
+    let Some((folder, _)) = name.rsplit_once('/') else {
+        return Cause::Missing;
+    };
+    match metadata(rt, folder) {
+        Err(error) if error.kind() == ErrorKind::NotFound && !folder.is_empty() => Cause::NoFolder,
+        _ => Cause::Missing,
+    }
+}
+
+// What an error of the system says of the file of a name.
+fn cause_of_kind(rt: &HostRuntime, name: &str, kind: ErrorKind) -> Cause {
     match kind {
-        ErrorKind::NotFound => Cause::Missing,
+        ErrorKind::NotFound => missing(rt, name),
         ErrorKind::PermissionDenied => Cause::Denied,
         ErrorKind::IsADirectory => Cause::Folder,
         ErrorKind::NotADirectory => Cause::InFile,
@@ -47,7 +58,7 @@ fn cause_of_file(rt: &HostRuntime, name: &str, found: &Metadata) -> Cause {
 pub(crate) fn cause_of_error(rt: &HostRuntime, name: &str, kind: ErrorKind) -> Cause {
     match metadata(rt, name) {
         Ok(found) if found.is_dir() => Cause::Folder,
-        _ => cause_of_kind(kind),
+        _ => cause_of_kind(rt, name, kind),
     }
 }
 
@@ -55,7 +66,7 @@ pub(crate) fn cause_of_error(rt: &HostRuntime, name: &str, kind: ErrorKind) -> C
 pub(crate) fn cause_of(rt: &HostRuntime, name: &str) -> Cause {
     match metadata(rt, name) {
         Ok(found) => cause_of_file(rt, name, &found),
-        Err(error) => cause_of_kind(error.kind()),
+        Err(error) => cause_of_kind(rt, name, error.kind()),
     }
 }
 

@@ -10,8 +10,10 @@ use std::rt::HostRuntime;
 pub enum Cause {
     /// Nothing, or nothing more than the fault itself.
     Unknown,
-    /// There is no such file, or no folder for it.
+    /// There is no such file.
     Missing,
+    /// There is no such folder as the file is named in.
+    NoFolder,
     /// The file has no byte.
     Empty,
     /// It is a folder.

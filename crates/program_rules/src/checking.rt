@@ -10,24 +10,18 @@ ghost use Rattle.program_rules.specs.declared.rules.RulesFault.{RulesFault};
 
 use crate::rules::{RulesFault, read_text, table_of};
 use crate::rules_faults::write_cause;
+use crate::unread::tell_unread;
 use csv_records::streams::InputFault;
 use price_rules::precedence::PrecedenceFault;
-use program_files::{FileFault, NamedFiles};
-use program_lines::fault::{Fault, report, report_file, report_why};
+use program_files::NamedFiles;
+use program_lines::fault::{Fault, report, report_file};
 use program_lines::printing::print_number;
 use std::alloc::Global;
 use std::io::Write;
 
-// Writes what the system says of a file that is not opened.
-fn tell_unopened<F: NamedFiles, E: Write>(files: &F, name: &str, errors: &mut E) {
-    let opened = files.open(name);
-    if let Err(FileFault::File { why, .. }) = &opened {
-        report_why(name, why.as_str(), errors);
-    }
-}
-
 // Writes why a file was not read, and gives the status.
 fn report_unread<F: NamedFiles, E: Write>(
+    alloc: Global,
     fault: &InputFault,
     files: &F,
     name: &str,
@@ -39,23 +33,30 @@ fn report_unread<F: NamedFiles, E: Write>(
     match fault {
         InputFault::Read => {
             report_file(name, errors);
-            tell_unopened(files, name, errors);
+            tell_unread(alloc, files, name, errors);
         }
         InputFault::TooLarge => {
-            let _ = write!(errors, "onixdesk: rules: more than 4,194,304 bytes\n");
+            let _ = write!(errors, "onixdesk: {name}: more than 4,194,304 bytes\n");
         }
         InputFault::Memory => return report(&Fault::Memory, errors),
     }
     2
 }
 
-// Writes why a text is no precedence table, and in which line, and gives the status.
-fn report_text<E: Write>(alloc: Global, text: &[u8], fault: &RulesFault, errors: &mut E) -> u8
+// Writes why the text of a file of that name is no precedence table, and in which line, and gives
+// the status.
+fn report_text<E: Write>(
+    alloc: Global,
+    name: &str,
+    text: &[u8],
+    fault: &RulesFault,
+    errors: &mut E,
+) -> u8
     ensures { result ≡ status_of fault.now }
 {
     match fault {
         RulesFault::Table(PrecedenceFault::Memory) => return report(&Fault::Memory, errors),
-        RulesFault::Table(fault) => write_cause(alloc, text, fault, errors),
+        RulesFault::Table(fault) => write_cause(alloc, name, text, fault, errors),
         RulesFault::Unreadable => {}
     }
     2
@@ -73,15 +74,17 @@ fn print_count<W: Write, E: Write>(count: usize, output: &mut W, errors: &mut E)
 }
 
 /// Writes in which line of the file of this name the text stops being a precedence table, and why,
-/// where it is read again and is none; or why it is not opened.
+/// where it is read again and is none; or why it is not read.
 pub fn tell_cause<F: NamedFiles, E: Write>(alloc: Global, files: &F, name: &str, errors: &mut E) {
     let Ok(text) = read_text(alloc, files, name) else {
-        return tell_unopened(files, name, errors);
+        return tell_unread(alloc, files, name, errors);
     };
     match table_of(alloc, text.as_slice()) {
         Ok(_) | Err(RulesFault::Unreadable) => {}
         Err(RulesFault::Table(PrecedenceFault::Memory)) => {}
-        Err(RulesFault::Table(fault)) => write_cause(alloc, text.as_slice(), &fault, errors),
+        Err(RulesFault::Table(fault)) => {
+            write_cause(alloc, name, text.as_slice(), &fault, errors);
+        }
     }
 }
 
@@ -101,10 +104,10 @@ pub fn check_rules<F: NamedFiles, W: Write, E: Write>(
 {
     let text = match read_text(alloc, files, name) {
         Ok(text) => text,
-        Err(fault) => return report_unread(&fault, files, name, errors),
+        Err(fault) => return report_unread(alloc, &fault, files, name, errors),
     };
     match table_of(alloc, text.as_slice()) {
         Ok(precedence) => print_count(precedence.rules().len(), output, errors),
-        Err(fault) => report_text(alloc, text.as_slice(), &fault, errors),
+        Err(fault) => report_text(alloc, name, text.as_slice(), &fault, errors),
     }
 }

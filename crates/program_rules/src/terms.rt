@@ -9,6 +9,7 @@ ghost use Rattle.program_rules.specs.TermsRead.{IsUnreadTable, ReadsTerms, terms
 
 use crate::rules::read_text;
 use crate::terms_faults::write_cause;
+use crate::unread::tell_unread;
 use csv_records::streams::InputFault;
 use feed_terms::reading::{ReadFault, terms_of};
 use feed_terms::table::Terms;
@@ -19,12 +20,21 @@ use std::alloc::Global;
 use std::io::Write;
 
 // Writes why a file was not read, and gives the status.
-fn report_unread<E: Write>(fault: &InputFault, name: &str, errors: &mut E) -> u8
+fn report_unread<F: NamedFiles, E: Write>(
+    alloc: Global,
+    fault: &InputFault,
+    files: &F,
+    name: &str,
+    errors: &mut E,
+) -> u8
     ensures { (text : List ℕ) → InputFits limit text fault.now
         → (f : ReadFault) × TermsFit text (Err f) × (result ≡ terms_status f) }
 {
     match fault {
-        InputFault::Read => report_file(name, errors),
+        InputFault::Read => {
+            report_file(name, errors);
+            tell_unread(alloc, files, name, errors);
+        }
         InputFault::TooLarge => {
             let _ = write!(
                 errors,
@@ -61,7 +71,7 @@ pub fn open_terms<F: NamedFiles, E: Write>(
 {
     let text = match read_text(alloc, files, name) {
         Ok(text) => text,
-        Err(fault) => return Err(report_unread(&fault, name, errors)),
+        Err(fault) => return Err(report_unread(alloc, &fault, files, name, errors)),
     };
     match terms_of(alloc, text.as_slice()) {
         Ok(terms) => Ok(terms),

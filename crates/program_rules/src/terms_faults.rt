@@ -1,7 +1,9 @@
 //! Why a text is no table of terms. What is told here is text alone, of which no clause says
 //! anything.
 
-use crate::rules_faults::line_at;
+use crate::places::{
+    Cause, cause_at, line_at, line_of_cause, line_of_key, write_key, write_line, write_said,
+};
 use feed_terms::percent::Percent;
 use feed_terms::term::TermsFault;
 use onix_records::fields::is_clean;
@@ -156,80 +158,109 @@ fn is_key(key: &str) -> bool {
     }
 }
 
-// Why the prices are not said that a term is for.
-fn asked_cause(table: &Table) -> Option<&'static str> {
-    match types_cause(table) {
-        Some(cause) => Some(cause),
-        None => match codes_cause(table) {
-            Some(cause) => Some(cause),
-            None => match supplier_cause(table) {
-                Some(cause) => Some(cause),
-                None => currency_cause(table),
-            },
-        },
+// The first key of a term that none has.
+fn other_key(table: &Table) -> Option<&str> {
+    for key in table.keys() {
+        if !is_key(key.as_str()) {
+            return Some(key.as_str());
+        }
     }
+    None
+}
+
+// Why the prices are not said that a term is for.
+fn asked_cause(table: &Table) -> Option<Cause<'static>> {
+    if let Some(said) = types_cause(table) {
+        return Some(cause_at(table, "types", said));
+    }
+    if let Some(said) = codes_cause(table) {
+        return Some(cause_at(table, "codes", said));
+    }
+    if let Some(said) = supplier_cause(table) {
+        return Some(cause_at(table, "supplier", said));
+    }
+    let said = currency_cause(table)?;
+    Some(cause_at(table, "currency", said))
 }
 
 // Why the prices are not said that a term computes.
-fn computed_cause(table: &Table) -> Option<&'static str> {
-    match net_cause(table) {
-        Some(cause) => Some(cause),
-        None => match percent_cause(table) {
-            Some(cause) => Some(cause),
-            None => tax_cause(table),
-        },
+fn computed_cause(table: &Table) -> Option<Cause<'static>> {
+    if let Some(said) = net_cause(table) {
+        return Some(cause_at(table, "net", said));
     }
+    if let Some(said) = percent_cause(table) {
+        return Some(cause_at(table, "percent", said));
+    }
+    let said = tax_cause(table)?;
+    Some(cause_at(table, "tax", said))
 }
 
 // Why an item is no term.
-fn term_cause(value: &Value) -> &'static str {
+fn term_cause(value: &Value) -> Cause<'_> {
     let Some(table) = value.as_table() else {
-        return "is no table";
+        return Cause::Item("is no table");
     };
-    if !table.keys().all(|key| is_key(key.as_str())) {
-        return "has another key than types, codes, supplier, currency, net, percent and tax";
+    if let Some(key) = other_key(table) {
+        let said = "has another key than types, codes, supplier, currency, net, percent and tax";
+        return Cause::Other(key, said);
     }
-    match asked_cause(table) {
+    if let Some(cause) = asked_cause(table) {
+        return cause;
+    }
+    match computed_cause(table) {
         Some(cause) => cause,
-        None => match computed_cause(table) {
-            Some(cause) => cause,
-            None => "is past number 1000",
-        },
+        None => Cause::Item("is past number 1000"),
     }
 }
 
-// The item at a number of the array `term`, counted from 1.
-fn item(table: &Table, number: usize) -> Option<&Value> {
-    let items = table.get("term")?.as_array()?;
-    items.get(number.checked_sub(1)?)
+// The items of the array `term`.
+fn items(table: &Table) -> &[Value] {
+    match table.get("term").and_then(Value::as_array) {
+        Some(items) => items,
+        None => &[],
+    }
 }
 
-// Writes the line of an item that is no term.
-fn write_term<E: Write>(table: &Table, number: usize, errors: &mut E) {
-    let cause = match item(table, number) {
+// Writes the line of an item that is no term, by its number, counted from 1.
+fn write_term<E: Write>(text: &str, table: &Table, number: usize, errors: &mut E) {
+    let items = items(table);
+    let cause = match items.get(number.saturating_sub(1)) {
         Some(value) => term_cause(value),
-        None => "is missing",
+        None => Cause::Item("is missing"),
     };
-    let _ = write!(errors, "onixdesk: terms: bad term {number}: {cause}\n");
+    let _ = write!(errors, "onixdesk: terms: bad term {number}: ");
+    let line = line_of_cause(text, "term", items.len(), number, cause);
+    write_line(line, errors);
+    write_said(cause, errors);
 }
 
 // Writes the line of a table that is no table of terms.
-fn write_top<E: Write>(table: &Table, errors: &mut E) {
-    let cause = if table.keys().all(|key| key.as_str() == "term") {
-        "term is no array"
-    } else {
-        "another key than term"
-    };
-    let _ = write!(errors, "onixdesk: terms: not TOML: {cause}\n");
+fn write_top<E: Write>(text: &str, table: &Table, errors: &mut E) {
+    let _ = write!(errors, "onixdesk: terms: not TOML: ");
+    for key in table.keys() {
+        if key.as_str() != "term" {
+            write_line(line_of_key(text, key.as_str()), errors);
+            let _ = write!(errors, "another key than term");
+            return write_key(key.as_str(), errors);
+        }
+    }
+    write_line(line_of_key(text, "term"), errors);
+    let _ = write!(errors, "term is no array\n");
 }
 
-/// Writes the line of a fault of this text, with the cause.
+/// Writes the line of a fault of this text: in which line of the text it is, unless that is not
+/// known, and the cause.
 pub fn write_cause<E: Write>(alloc: Global, text: &[u8], fault: &TermsFault, errors: &mut E) {
     match toml::table_from_slice(alloc, text) {
-        Ok(table) => match fault {
-            TermsFault::BadTerm { index } => write_term(&table, *index as usize, errors),
-            _ => write_top(&table, errors),
-        },
+        Ok(table) => {
+            let text = std::str::from_utf8(text).unwrap_or("");
+            match fault {
+                TermsFault::BadTerm { index } => {
+                    write_term(text, &table, *index as usize, errors);
+                }
+                _ => write_top(text, &table, errors),
+            }
+        }
         Err(error) => {
             let place = match error.span() {
                 Some(span) => span.start,

@@ -4,6 +4,7 @@ ghost use Rattle.std.specs.Prelude.{◌≤◌, option_map};
 ghost use Rattle.std.specs.Io.KnownBytes.{Appends};
 ghost use Rattle.program_run.specs.ConvertEnds.{ConvertEnds, ConvertsBy};
 
+use crate::folders::tell_folder;
 use feed_conversion::Options;
 use feed_files::{Run, convert_files};
 use feed_terms::table::Terms;
@@ -39,16 +40,20 @@ fn run_by<F: NamedFiles, R: Read, W: Write, E: Write>(
     };
     let names = conversion.files.as_slice();
     let titles = conversion.titles;
-    convert_files(
+    let output = &mut streams.output;
+    let errors = &mut streams.errors.writer;
+    let status = convert_files(
         rt,
         &run,
         titles,
         names,
         files,
         &mut streams.input,
-        &mut streams.output,
-        &mut streams.errors.writer,
-    )
+        output,
+        errors,
+    );
+    tell_folder(files, conversion.run.folder, errors);
+    status
 }
 
 /// Converts FILEs, by the terms of a file where one is named, and writes their titles where they

@@ -27,3 +27,11 @@ pub fn print_wrong<E: Write>(text: &str, errors: &mut E) -> u8
     let _ = errors.write_all(text.as_bytes());
     2
 }
+
+/// Writes a fault of the command line and behind it what to write, and gives the status.
+pub(crate) fn print_hinted<E: Write>(text: &str, hint: &str, errors: &mut E) -> u8
+    ensures { result ≡ 2 }
+{
+    print_wrong(text, errors);
+    print_wrong(hint, errors)
+}

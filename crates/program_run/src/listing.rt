@@ -14,6 +14,7 @@ ghost use Rattle.program_run.specs.ListingEnds.{IsListed, ListingEnds, SparesFil
 ghost use Rattle.program_run.specs.OverFiles.{EndsOverFiles};
 
 use crate::closing::close_desk;
+use crate::folders::tell_folder;
 use crate::opening::report_unopened;
 use csv_records::streams::WriteFault;
 use desk_export::export::ExportFault;
@@ -107,7 +108,11 @@ fn write_folder<D: ListedDesk, F: NamedFiles, E: Write>(
 {
     match export_into(alloc, desk, files, folder) {
         Ok(()) => 0,
-        Err(fault) => report_export(alloc, fault, errors),
+        Err(fault) => {
+            let status = report_export(alloc, fault, errors);
+            tell_folder(files, Some(folder), errors);
+            status
+        }
     }
 }
 

@@ -24,7 +24,10 @@ pub(crate) fn creation_of(db: &Database<'_>) -> Creation
 fn text_of(cause: Cause) -> &'static str {
     match cause {
         Cause::Unknown => "docs/RELIABILITY.md, Faults, says how to tell why",
-        Cause::Missing => "no such file or folder",
+        Cause::Missing => {
+            "no such file; correct the name behind --db, or have batch make a new desk, without --existing"
+        }
+        Cause::NoFolder => "its folder is not there; make it, or correct the name behind --db",
         Cause::Empty => "an empty file, which has no desk",
         Cause::Folder => "a folder",
         Cause::InFile => "a folder of its path is a file",

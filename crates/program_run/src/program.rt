@@ -23,6 +23,7 @@ use program_files::NamedFiles;
 use program_lines::fault::{Fault, report};
 use program_rules::rules::{RulesFault, open_table, report_rules};
 use program_rules::{checking, terms_checking};
+use program_words::hints::{hint_of_file, hint_of_socket, lack_of_file};
 use program_words::invocation::{self, Action, Database, Invocation, Reading, Task};
 use series_rules::desk::Desk;
 use series_rules::listing::ListedDesk;
@@ -228,12 +229,21 @@ fn read_words<'a, R, W: Write, E: Write>(
         Reading::Run(invocation) => Ok(invocation),
         Reading::Help(text) => { Err(help::print_help(text.as_str(), &mut streams.output, errors)) }
         Reading::Wrong(text) => Err(help::print_wrong(text.as_str(), errors)),
-        Reading::NoDatabase => Err(help::print_wrong("onixdesk: migrate needs --db\n", errors)),
-        Reading::NoDesk => Err(help::print_wrong(
-            "onixdesk: agreements, export and gaps without a NAME need --db\n",
+        Reading::NoDatabase => Err(help::print_hinted(
+            "onixdesk: migrate needs --db\n",
+            hint_of_file(words),
             errors,
         )),
-        Reading::NoBatch => Err(help::print_wrong("onixdesk: --batches goes with batch\n", errors)),
+        Reading::NoDesk => Err(help::print_hinted(
+            lack_of_file(words),
+            hint_of_file(words),
+            errors,
+        )),
+        Reading::NoBatch => Err(help::print_hinted(
+            "onixdesk: --batches goes with batch\n",
+            hint_of_socket(words),
+            errors,
+        )),
         Reading::Memory => Err(report(&Fault::Memory, errors)),
     }
 }

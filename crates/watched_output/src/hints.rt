@@ -3,7 +3,7 @@
 use std::io::Write;
 
 // How many kinds of refusals have a hint.
-const KINDS: usize = 5;
+const KINDS: usize = 6;
 
 // The front of an answer of that kind without its comma, and what to do.
 fn hint_of(kind: usize) -> (&'static str, &'static str) {
@@ -18,11 +18,15 @@ fn hint_of(kind: usize) -> (&'static str, &'static str) {
         ),
         2 => (
             "refused,before-first",
-            "the number is below the first number of the agreement, the last in the answer; if that is wrong: docs/MISTAKES.md, An agreement was mistyped",
+            "the number is below the first number of the agreement, the last in the answer: leave the message out, or agree on a lower first number in a new desk; in one that has messages: MISTAKES.md, An agreement was mistyped (in docs, or in /usr/share/doc/onixdesk)",
         ),
         3 => (
             "refused,other-contents",
-            "the number has a message with other contents; a correction needs a new number",
+            "the number, the last in the answer, has a message with other contents; a correction needs a new one: MessageNumber, the sixth field behind Message",
+        ),
+        4 => (
+            "refused,bad-range",
+            "a calendar has at most 3660 days, and its last day is not before its first",
         ),
         _ => (
             "refused,unnumbered",

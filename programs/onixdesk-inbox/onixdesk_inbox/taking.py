@@ -25,6 +25,9 @@ from onixdesk_inbox.verdicts import Refusal, Taken, Unconverted
 NOTHING_TAKEN = "nothing of it is taken"
 WAITING = f"{NOTHING_TAKEN}, and the messages behind its number wait"
 
+# What is said of bytes that were taken before.
+HAD = "had it already"
+
 # How often a number is asked for that somebody else is quicker with.
 TRIES = 20
 
@@ -95,7 +98,7 @@ class Taker:
         if not before.is_all:
             return None
         stood = before.had.values()
-        said = f"had it already: {numbers([each.place for each in stood])}"
+        said = f"{HAD}: {numbers([each.place for each in stood])}"
         self.state.work.say(f"{shown(copied.name)}: {said}")
         with self.state.work.answer.open("a", encoding="utf-8", errors="backslashreplace") as answer:
             answer.writelines(each.reply for each in stood)
@@ -153,15 +156,21 @@ class Taker:
         elif contents:
             self.state.memory.keep_last(contents)
         taken = posted.taken(self.series)
+        has_come = not (came_before or taken.is_amiss) and self.has_come(copied)
         more = ["these bytes had that number before"] if came_before else []
         more += [f"notes: {'; '.join(lines.summary)}"] if lines.summary else []
         return replace(
             taken,
-            said="; ".join([taken.said, *more]),
+            said="; ".join([f"{HAD}: {taken.said}" if has_come else taken.said, *more]),
             wrong_products=lines.wrong_products,
             is_late=came_before and copied.answered is None and self.is_late(copied, posted),
             new_terms=new_terms,
         )
+
+    def has_come(self, copied: Copied) -> bool:
+        """Whether these bytes were taken before, and came in again."""
+        size = copied.source.stat().st_size
+        return copied.answered is None and self.state.done.same(copied.name, size, copied.digest) is not None
 
     def post(self, copied: Copied, converted: Converted, is_new: bool) -> tuple[Posted, str]:
         """Posts the messages, and keeps by which terms the desk took their numbers. What there is to say of these."""

@@ -73,8 +73,10 @@ def empty_desks(room: Room) -> Iterator[Outcome]:
     batch(room, b"")
     for command in LISTS:
         yield Outcome(f"an empty desk: {command}", listed(room, command), Ran(0))
-        wanted = Ran(2, b"", b"onixdesk: agreements, export and gaps without a NAME need --db\n")
-        yield Outcome(f"no desk: {command}", room.run(command, given=UNREADABLE), wanted)
+        lacks = command.replace("gaps", "gaps without a NAME")
+        why = f"write the database file before the command, as in: onixdesk --db FILE {command}"
+        wanted = Ran(2, b"", f"onixdesk: {lacks} needs --db\nonixdesk: {why}\n".encode())
+        yield Outcome(f"no desk: {command}", room.told(command, given=UNREADABLE), wanted)
 
 
 def faults(room: Room) -> Iterator[Outcome]:
@@ -225,7 +227,7 @@ def folders(room: Room) -> Iterator[Outcome]:
     came = room.call([room.program, "--db", f"../{DATABASE}", "export", "-o", "."], UNREADABLE, folder="empty")
     yield Outcome("a folder: .", came, Ran(3, b"", b"onixdesk: 1.csv: already exists, with different content\n"))
     yield Outcome("a folder: the rows behind it", all_rows(room), rows)
-    wanted = Ran(2, b"", b"onixdesk: agreements, export and gaps without a NAME need --db\n")
+    wanted = Ran(2, b"", b"onixdesk: export needs --db\n")
     yield Outcome("a folder: no desk", room.run("export", "-o", "out", given=UNREADABLE), wanted)
 
 

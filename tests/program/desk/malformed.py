@@ -44,7 +44,7 @@ def right_texts(room: Room) -> Iterator[Outcome]:
     room.write("right.csv", RIGHT)
     room.write("wrong.csv", RIGHT + b"AskGaps\n")
     room.write("empty.csv", b"")
-    wrong = "line 3: AskGaps: 0 fields behind its name, not 1"
+    wrong = "line 3: AskGaps: 0 fields behind its name, not 1: AskGaps,Series"
     yield Outcome("checked: what is right", room.told("check", "right.csv"), Ran(0))
     yield Outcome("checked: nothing", room.told("check", "empty.csv"), Ran(0))
     yield Outcome("checked: standard input", room.told("check", "-", given=RIGHT), Ran(0))
@@ -66,7 +66,9 @@ def unread_texts(room: Room) -> Iterator[Outcome]:
 def many_mistakes(room: Room) -> Iterator[Outcome]:
     """Of more than 100 the others are counted."""
     given = b"AskGaps\n" * (MOST + 7)
-    lines = [line(f"line {row}: AskGaps: 0 fields behind its name, not 1") for row in range(1, MOST + 1)]
+    lines = [
+        line(f"line {row}: AskGaps: 0 fields behind its name, not 1: AskGaps,Series") for row in range(1, MOST + 1)
+    ]
     wanted = b"".join(lines) + b"onixdesk: 7 more are malformed\n"
     yield Outcome("answered: 107 mistakes", room.told("batch", given=given).errors, wanted)
     room.write("many.csv", given)

@@ -10,10 +10,14 @@ from tests.program.serving import HOST, serving
 from tests.running import Outcome
 
 OTHERS = "a database of another program, or a damaged one; docs/RELIABILITY.md, Faults"
-NO_FILE = "no such file or folder"
+NO_FILE = "no such file; correct the name behind --db, or have batch make a new desk, without --existing"
+NO_FOLDER = "its folder is not there; make it, or correct the name behind --db"
 OPEN_ELSEWHERE = (
     "another program has it open; if a desk is served, send it the batch (--batches), or list a copy of it (desk-copy)"
 )
+
+
+NO_SOCKET = "no such socket; name that of a desk that is served, or serve one: onixdesk --db FILE serve --port N --batches SOCKET"
 
 
 def fault(line: str, *why: str, status: int = 3) -> Ran:
@@ -34,7 +38,10 @@ def storage(room: Room) -> Iterator[Outcome]:
     cases = [
         ("missing.db", ["--existing", "batch"], NO_FILE),
         ("missing.db", ["agreements"], NO_FILE),
-        ("none/shop.db", ["batch"], NO_FILE),
+        ("none/shop.db", ["batch"], NO_FOLDER),
+        ("none/shop.db", ["agreements"], NO_FOLDER),
+        ("folder/none/shop.db", ["--existing", "batch"], NO_FOLDER),
+        ("folder/missing.db", ["gaps"], NO_FILE),
         ("file/shop.db", ["batch"], "a folder of its path is a file"),
         ("folder", ["batch"], "a folder"),
         ("folder", ["migrate"], "a folder"),
@@ -68,6 +75,28 @@ def versions(room: Room) -> Iterator[Outcome]:
         yield Outcome(f"why: version {version}", came, fault(f"storage: other version {version}", f"{name}: {why}"))
 
 
+def in_deliver(room: Room) -> Iterator[Outcome]:
+    """A text of requests that is given to `deliver`, and a message that is not the one of its file."""
+    message = bare(1)
+    other = message.decode().count("\n") + 1
+    for name, text, why in (
+        (
+            "batch.csv",
+            AGREEMENT + message,
+            "line 1: Agree: deliver takes one message; batch takes a text of requests: onixdesk --db FILE batch < FILE",
+        ),
+        (
+            "two.csv",
+            message * 2,
+            f"line {other}: Message: the message has ended before it, by its EndMessage",
+        ),
+    ):
+        room.write(name, text)
+        came = room.told("deliver", name)
+        line = f"onixdesk: {name}: {why}\n".encode()
+        yield Outcome(f"why: deliver {name}", (came.status, came.errors), (1, line))
+
+
 def files(room: Room) -> Iterator[Outcome]:
     """A file of `deliver` and of `check`."""
     room.path("folder").mkdir()
@@ -93,20 +122,23 @@ def ports_and_sockets(room: Room) -> Iterator[Outcome]:
     yield Outcome("why: a socket to serve at", came, fault("socket", "file: a file that is not a socket"))
     for name, why in (
         ("file", "a file that is not a socket"),
-        ("none", "no such socket; onixdesk serve --batches makes it"),
+        ("none", NO_SOCKET),
     ):
         came = room.told("--batches", name, "batch")
         yield Outcome(f"why: a batch to {name}", came, fault("socket", f"{name}: {why}"))
 
 
 def of_a_socket(room: Room) -> Iterator[Outcome]:
-    """Of a batch at a socket both who sends it and the desk say what is malformed."""
-    line = b"onixdesk: line 1: AskGaps: 0 fields behind its name, not 1\n"
-    with serving(room, ["--db", DATABASE], 1, ["--batches", "desk.socket"]) as desk:
-        came = room.told("--batches", "desk.socket", "batch", given=b"AskGaps\n")
-        yield Outcome("why: a batch to a socket", came, Ran(1, b"refused,malformed,1\n", line))
-        ended = desk.told()
-        yield Outcome("why: the line of the desk", (ended.status, ended.errors), (0, line))
+    """Of a batch at a socket both who sends it and the desk say what is malformed: of 107 requests the first 100, and
+    how many more there are."""
+    why = "AskGaps: 0 fields behind its name, not 1: AskGaps,Series"
+    for count, more in (1, b""), (107, b"onixdesk: 7 more are malformed\n"):
+        lines = "".join(f"onixdesk: line {row}: {why}\n" for row in range(1, min(count, 100) + 1)).encode() + more
+        with serving(room, ["--db", DATABASE], 1, ["--batches", "desk.socket"]) as desk:
+            came = room.told("--batches", "desk.socket", "batch", given=b"AskGaps\n" * count)
+            yield Outcome(f"why: {count} to a socket", came, Ran(1, b"refused,malformed,1\n" * count, lines))
+            ended = desk.told()
+            yield Outcome(f"why: {count} to a socket: the desk", (ended.status, ended.errors), (0, lines))
 
 
 NO_DATABASE = (
@@ -146,7 +178,16 @@ def hints(room: Room) -> Iterator[Outcome]:
         ),
         (AGREEMENT + other * 2, "series-taken", "this sender and addressee have an agreement already"),
         (AGREEMENT.replace(b",1\n", b",2\n") + bare(1) * 2, "before-first", "the number is below the first number"),
-        (AGREEMENT + bare(1) + OTHER, "other-contents", "the number has a message with other contents"),
+        (
+            AGREEMENT + bare(1) + OTHER,
+            "other-contents",
+            "the number, the last in the answer, has a message with other contents; a correction needs a new one",
+        ),
+        (
+            b"AskCalendar,9781234567897,20250402,20250401,GB,GBP,02\n",
+            "bad-range",
+            "a calendar has at most 3660 days, and its last day is not before its first",
+        ),
         (AGREEMENT + UNNUMBERED, "unnumbered", "the message has no MessageNumber"),
     ]
     for text, kind, hint in given:
@@ -178,7 +219,7 @@ QUESTIONS = {
     "/articles/9781234567897/price?day=20250301&country=GB&currency=GBP": "type is missing",
     "/articles/9781234567897/price?day=20250301&country=GB&country=IE&currency=GBP&type=02": "country is given 2 times",
     "/articles/9781234567897/price?day=20250301&country=GB&currency=GBP&type=02&quantity=": (
-        "quantity is empty; it has to be 1 to 6 digits, not all zero"
+        "quantity is empty; it has to be a number of 1 or more, in at most 6 digits"
     ),
     "/articles/9781234567897/price?day=20250301&country=G%42&currency=%E2%82%AC&type=02": (
         "currency € is not three capital letters"
@@ -225,7 +266,8 @@ def rules(room: Room) -> Iterator[Outcome]:
     why = room.told("rules", "rules.toml").errors.decode().removeprefix("onixdesk: ").removesuffix("\n")
     came = room.told("--rules", "rules.toml", "batch")
     yield Outcome("why: a rules file", came, fault("rules: bad rule 1", why, status=2))
-    yield Outcome("why: a rules file has its line", why.startswith("rules: line "), True)
-    wanted = fault("file: none.toml", "none.toml: No such file or directory", status=2)
-    for words in (["--rules", "none.toml", "batch"], ["rules", "none.toml"]):
-        yield Outcome(f"why: no rules file: {' '.join(words)}", room.told(*words), wanted)
+    yield Outcome("why: a rules file has its line", why.startswith("rules.toml: line 2: rule 1 "), True)
+    for name, why in (("none.toml", "No such file or directory"), (".", "Is a directory")):
+        wanted = fault(f"file: {name}", f"{name}: {why}", status=2)
+        for words in (["--rules", name, "batch"], ["rules", name]):
+            yield Outcome(f"why: no rules file: {' '.join(words)}", room.told(*words), wanted)

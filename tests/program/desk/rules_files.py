@@ -44,8 +44,8 @@ def tried(room: Room) -> Iterator[Outcome]:
     for name, text, line in files("rules"):
         room.write("rules.toml", text)
         is_read = line.startswith("rules ")
-        wanted = Ran(0, f"{line}\n".encode()) if is_read else Ran(2, b"", said_by_desk(f"rules: {line}"))
-        yield Outcome(f"rules: {name}", room.run("rules", "rules.toml", given=UNREADABLE), wanted)
+        wanted = Ran(0, f"{line}\n".encode()) if is_read else Ran(2, b"", said_by_desk(f"rules.toml: {line}"))
+        yield Outcome(f"rules: {name}", room.told("rules", "rules.toml", given=UNREADABLE), wanted)
         status = room.run("--rules", "rules.toml", "batch").status
         yield Outcome(f"rules: {name}: as a desk reads it", status, wanted.status)
 
@@ -54,9 +54,9 @@ def is_no_toml(room: Room) -> Iterator[Outcome]:
     """The cause is the parser's own words."""
     for name, text, line in UNREAD:
         room.write("rules.toml", text)
-        came = room.run("rules", "rules.toml", given=UNREADABLE)
+        came = room.told("rules", "rules.toml", given=UNREADABLE)
         place, _, cause = came.errors.removesuffix(b"\n").rpartition(b": ")
-        wanted = 2, b"", b"onixdesk: rules: line %d" % line
+        wanted = 2, b"", b"onixdesk: rules.toml: line %d" % line
         yield Outcome(f"rules: {name}", (came.status, came.output, place), wanted)
         yield Outcome(f"rules: {name}: the cause", (cause != b"", b"\n" in cause), (True, False))
 

@@ -55,9 +55,10 @@ def tables_that_are_no_toml(room: Room) -> Iterator[Outcome]:
 
 
 def tables_that_cannot_be_read(room: Room) -> Iterator[Outcome]:
-    for file in "absent.toml", ".":
-        line = f"onixdesk: file: {file}\n".encode()
-        yield Outcome(f"terms: {file}", room.run("terms", file), Ran(2, b"", line))
+    for file, why in ("absent.toml", "No such file or directory"), (".", "Is a directory"):
+        lines = f"onixdesk: file: {file}\nonixdesk: {file}: {why}\n".encode()
+        yield Outcome(f"terms: {file}", room.told("terms", file), Ran(2, b"", lines))
+        yield Outcome(f"convert by terms: {file}", room.told("convert", "--terms", file), Ran(2, b"", lines))
     room.write("north.toml", TERM)
     full = room.run("terms", "north.toml", is_full=True)
     yield Outcome("terms: a full output", full, Ran(3, b"", b"onixdesk: output\n"))

@@ -289,6 +289,7 @@ def gaps_by_night(room: Room) -> Iterator[Outcome]:
     room.run("--db", "shop.db", "batch", given=bare(1))
     yield Outcome("gaps.sh: no number lacks", gaps_script(room, "shop.db", "north"), Ran(0))
     found = gaps_script(room, "other.db", "west")
-    line = b"onixdesk: storage: unusable\nonixdesk: other.db: no such file or folder\n"
+    why = "no such file; correct the name behind --db, or have batch make a new desk, without --existing"
+    line = f"onixdesk: storage: unusable\nonixdesk: other.db: {why}\n".encode()
     yield Outcome("gaps.sh: a mistyped file", found, Ran(2, b"", line + no_report))
     yield Outcome("gaps.sh: the mistyped file then", room.path("other.db").exists(), False)

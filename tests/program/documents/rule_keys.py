@@ -1,4 +1,5 @@
-"""The keys of a rule: as the table of docs/FORMATS.md has them, and as each program that reads a rules file does."""
+"""The keys of a rule, as the table of docs/FORMATS.md has them, and those of a term, as the example of docs/ONIX.md does:
+each program that reads such a file has the same."""
 
 import re
 from collections.abc import Iterator
@@ -15,6 +16,14 @@ READERS = {
     "the desk": ("crates/price_rules/src/toml_rules.rt", r'key == "([a-z]+)"'),
     "the line of a fault": ("crates/program_rules/src/rules_faults.rt", r'(?:&str\||\|\|) key == "([a-z]+)"'),
     "the page": ("page/rules.js", r'valueOf\(lines, "([a-z]+)"'),
+}
+
+
+# A line of the example of a term, and whether it may be left out; and where the keys of a term are named.
+TERM_LINE = re.compile(r"^    ([a-z]+) = ([^#]*[^# ]) +# (optional: )?", re.MULTILINE)
+TERM_READERS = {
+    "the converter": ("crates/feed_terms/src/toml_terms.rt", r'key == "([a-z]+)"'),
+    "the line of a fault": ("crates/program_rules/src/terms_faults.rt", r'"([a-z]+)" (?:\||=>)'),
 }
 
 
@@ -41,3 +50,20 @@ def each_alone(room: Room) -> Iterator[Outcome]:
         yield Outcome(f"keys of a rule, without one: {left_out}", came, status)
     room.write("rules.toml", b'[[rule]]\nseries = "*"\ncodes = ["20"]\nmin = "1"\n')
     yield Outcome("keys of a rule: another one", room.run("rules", "rules.toml").status, 2)
+
+
+def example_term() -> tuple[dict[str, str], set[str]]:
+    """The keys of the example with what stands behind them, and those that are needed."""
+    found = TERM_LINE.findall(text_of("docs/ONIX.md").partition("[[term]]")[2].partition("\n\n")[0])
+    return {key: value for key, value, _ in found}, {key for key, _, optional in found if not optional}
+
+
+def keys_of_a_term(room: Room) -> Iterator[Outcome]:
+    term, needed = example_term()
+    for reader, (file, pattern) in TERM_READERS.items():
+        yield Outcome(f"keys of a term: {reader}", set(re.findall(pattern, text_of(file))), term.keys())
+    for left_out in ("", *term):
+        text = "".join(f"{key} = {value}\n" for key, value in term.items() if key != left_out)
+        room.write("terms.toml", f"[[term]]\n{text}".encode())
+        status = 2 if left_out in needed else 0
+        yield Outcome(f"keys of a term, without one: {left_out}", room.run("terms", "terms.toml").status, status)

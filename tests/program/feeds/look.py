@@ -367,5 +367,5 @@ def with_terms(room: Room) -> Iterator[Outcome]:
     yield Outcome("look: what no term fits", found["Notes by reason"], {"Price that no term fits": "1"})
     room.write("shop.toml", b"shop = 1")
     came = look(room, "--terms", "shop.toml", "north-7.xml")
-    said = b"onixdesk-look: onixdesk: terms: not TOML: another key than term\n"
+    said = b"onixdesk-look: onixdesk: terms: not TOML: line 1: another key than term: shop\n"
     yield Outcome("look: no terms", came, Ran(2, b"", said))

@@ -173,7 +173,8 @@ def a_mistyped_database(room: Room) -> Iterator[Outcome]:
     words = [places.get(word, word) for word in sought("^ExecStart=(.+)$", unit).split()]
     # A desk that it makes would be served until it is stopped.
     came = room.call(["timeout", "60", *words])
-    said = f"onixdesk: storage: unusable\nonixdesk: {DATABASE}: no such file or folder\n"
+    why = "no such file; correct the name behind --db, or have batch make a new desk, without --existing"
+    said = f"onixdesk: storage: unusable\nonixdesk: {DATABASE}: {why}\n"
     yield Outcome("a mistyped database: the unit's command", came, Ran(3, b"", said.encode()))
     yield Outcome("a mistyped database: no desk is made", [path.name for path in room.folder.iterdir()], ["rules.toml"])
 

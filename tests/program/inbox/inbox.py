@@ -59,7 +59,7 @@ def each_kind_of_file(room: Room) -> Iterator[Outcome]:
             "e.csv: refused: no series of its sender and addressee is agreed",
             "f.Csv: refused: row 1 of its records is malformed",
             "j.csv: refused: its records are no UTF-8",
-            "k.onix: done: number 1 applied; kept as z.XML",
+            "k.onix: done: had it already: number 1 applied; kept as z.XML",
         ]
         yield Outcome("inbox: each kind of file", came, said(*lines, status=1))
         wanted = {
@@ -165,7 +165,7 @@ def names_that_come_again(room: Room) -> Iterator[Outcome]:
         inbox = Inbox(room, desk.port)
         for data, line in [
             (one, "a.xml: done: number 1 applied"),
-            (one, "a.xml: done: number 1 applied"),
+            (one, "a.xml: done: had it already: number 1 applied"),
             (two, "a.xml: done: number 2 applied; kept as a.2.xml"),
             (other, refusal),
         ]:

@@ -77,10 +77,10 @@ def bytes_that_are_done(room: Room) -> Iterator[Outcome]:
         inbox = Inbox(room, desk.port)
         names = [f"{number}.csv" for number in range(1, 41)]
         inbox.put({name: one for name in names})
-        again = [f"{name}: done: number 1 applied; kept as 1.csv" for name in names[1:]]
+        again = [f"{name}: done: had it already: number 1 applied; kept as 1.csv" for name in names[1:]]
         yield Outcome("inbox: the same bytes", inbox.run(), said("1.csv: done: number 1 applied", *again))
         inbox.put({"again.csv": one, "other.csv": two})
-        lines = "again.csv: done: number 1 applied; kept as 1.csv", "other.csv: done: number 2 applied"
+        lines = "again.csv: done: had it already: number 1 applied; kept as 1.csv", "other.csv: done: number 2 applied"
         yield Outcome("inbox: the same bytes later", inbox.run(), said(*lines))
     kept = {
         **taken("done", "1.csv", one, of_series(1, replaced=1)),

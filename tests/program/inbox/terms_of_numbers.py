@@ -116,8 +116,8 @@ def new_terms_and_none(room: Room) -> Iterator[Outcome]:
 BAD = [
     ("absent", None, "No such file or directory"),
     ("no TOML", "term = ", None),
-    ("another key", "shop = 1\n", "terms: not TOML: another key than term"),
-    ("a bad term", FORTY.replace("net", "nett"), "terms: bad term 1: has another key than"),
+    ("another key", "shop = 1\n", "terms: not TOML: line 1: another key than term: shop"),
+    ("a bad term", FORTY.replace("net", "nett"), "terms: bad term 1: line 3: has another key than"),
     ("too long", "#" * 4_194_305, "more than 4194304 bytes"),
 ]
 

@@ -137,7 +137,7 @@ def through_an_inbox(dialect: str, room: Room) -> Iterator[Outcome]:
         yield Outcome(f"titles in {dialect}: a deletion", intake.kept(), (Ran(0), OF_NORTH_43))
 
         came = intake.take("north", "again.xml", first)
-        again = said(f"again.xml: done: number 42 applied; {NOTED}; kept as first.xml")
+        again = said(f"again.xml: done: had it already: number 42 applied; {NOTED}; kept as first.xml")
         yield Outcome(f"titles in {dialect}: a repeat", (came, intake.kept()), (again, (Ran(0), OF_NORTH_43)))
     yield from made_anew(f"titles in {dialect}", intake.shop)
 

@@ -26,13 +26,13 @@ pub returns-in-Wrong-clause-err : goal.returns-in-Wrong-clause-err
 returns-in-Wrong-clause-err g c = (reading.Wrong c.in-Wrong.text, subst (Reads (words_of c.args.words.now)) c.in-Wrong.is c.read.ensures, (c.print_wrong.ensures, Appends-nil (g.W.Write.contents c.args.streams.now.output)))
 
 pub returns-in-NoDatabase-clause-err : goal.returns-in-NoDatabase-clause-err
-returns-in-NoDatabase-clause-err g c = (reading.NoDatabase, subst (Reads (words_of c.args.words.now)) c.in-NoDatabase.is c.read.ensures, (c.print_wrong-in-NoDatabase.ensures, Appends-nil (g.W.Write.contents c.args.streams.now.output)))
+returns-in-NoDatabase-clause-err g c = (reading.NoDatabase, subst (Reads (words_of c.args.words.now)) c.in-NoDatabase.is c.read.ensures, (c.print_hinted.ensures, Appends-nil (g.W.Write.contents c.args.streams.now.output)))
 
 pub returns-in-NoDesk-clause-err : goal.returns-in-NoDesk-clause-err
-returns-in-NoDesk-clause-err g c = (reading.NoDesk, subst (Reads (words_of c.args.words.now)) c.in-NoDesk.is c.read.ensures, (c.print_wrong-in-NoDesk.ensures, Appends-nil (g.W.Write.contents c.args.streams.now.output)))
+returns-in-NoDesk-clause-err g c = (reading.NoDesk, subst (Reads (words_of c.args.words.now)) c.in-NoDesk.is c.read.ensures, (c.print_hinted-in-NoDesk.ensures, Appends-nil (g.W.Write.contents c.args.streams.now.output)))
 
 pub returns-in-NoBatch-clause-err : goal.returns-in-NoBatch-clause-err
-returns-in-NoBatch-clause-err g c = (reading.NoBatch, subst (Reads (words_of c.args.words.now)) c.in-NoBatch.is c.read.ensures, (c.print_wrong-in-NoBatch.ensures, Appends-nil (g.W.Write.contents c.args.streams.now.output)))
+returns-in-NoBatch-clause-err g c = (reading.NoBatch, subst (Reads (words_of c.args.words.now)) c.in-NoBatch.is c.read.ensures, (c.print_hinted-in-NoBatch.ensures, Appends-nil (g.W.Write.contents c.args.streams.now.output)))
 
 pub returns-in-Memory-clause-err : goal.returns-in-Memory-clause-err
 returns-in-Memory-clause-err g c = (reading.Memory, subst (Reads (words_of c.args.words.now)) c.in-Memory.is c.read.ensures, (c.report.ensures, Appends-nil (g.W.Write.contents c.args.streams.now.output)))

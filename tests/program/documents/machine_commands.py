@@ -123,7 +123,8 @@ def a_removed_inbox(room: Room) -> Iterator[Outcome]:
         yield Outcome("an inbox without settings: a restore", (status, told), (1, [agree, gone]))
         yield Outcome("an inbox without settings: prices behind it", desk.prices(A, B), {**both, B: []})
         settings.rename(room.path("etc/onixdesk/inbox/north.conf"))
-        begin, _, command = last.partition("; then: ")
+        # The machine's place is put before those of the page.
+        begin, _, command = last.replace(f"{room.folder}/var/", "/var/").partition("; then: ")
         wanted = "desk-restore: the inbox of north has not taken all again", 0
         yield Outcome("an inbox without settings: once they are back", (begin, desk.run([command]).status), wanted)
         yield Outcome("an inbox without settings: prices then", desk.prices(A, B), both)

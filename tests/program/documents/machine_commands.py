@@ -62,8 +62,10 @@ def gaps_by_cron(room: Room) -> Iterator[Outcome]:
 
 
 def other_machine(room: Room, desk: Machine) -> None:
-    """The inbox and the copy are there, and the desk is not. Nobody is a user of this machine by the page's names."""
+    """The inbox and the copy are there, and neither the desk nor the wholesaler's folder. Nobody is a user of this machine
+    by the page's names."""
     desk.run(["systemctl stop onixdesk.service"])
+    room.path("var/lib/onixdesk-incoming/north").rmdir()
     for name in ("", "-wal"):
         room.path(f"{DESK}{name}").unlink(missing_ok=True)
     script(room, "bin/chown", f'echo "$*" >>"{room.path("chowned")}"')

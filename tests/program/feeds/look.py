@@ -335,7 +335,10 @@ def on_a_terminal(room: Room) -> Iterator[Outcome]:
     ran = subprocess.run(command, stdout=subprocess.DEVNULL, stderr=theirs)
     os.close(theirs)
     shown = all_of(ours)
-    steps = [step in shown for step in (b" MB read", b"a.xml: being converted", b"a desk is asked for 1 articles")]
+    steps = [
+        step in shown
+        for step in (b"a.xml: read: 0.0 MB of 0.0 MB", b"a.xml: being converted", b"a desk is asked for 1 articles")
+    ]
     yield Outcome("look: on a terminal", (ran.returncode, steps, shown.endswith(b"\r\x1b[K")), (0, [True] * 3, True))
     came = room.call(command)
     yield Outcome("look: elsewhere", (came.status, came.errors), (0, b""))

@@ -88,9 +88,9 @@ def write_page(options: argparse.Namespace, feed: Feed, folder: Path) -> None:
         for product in products_of(message):
             counts.add(product, options.question)
     if options.notes:
-        options.notes.write_text(letter.table(feed.said, counts.isbns), encoding="utf-8")
+        options.notes.write_text(letter.table(feed.said.of_feed(), counts.isbns), encoding="utf-8")
     if options.mail:
-        print(letter.letter(options.mail, feed.file.name, feed.said, counts.isbns), end="")
+        print(letter.letter(options.mail, feed.file.name, feed.said.of_feed(), counts.isbns), end="")
     else:
         sections = page.of_feed(feed) | sections_of(options, feed, counts, folder)
         options.progress.end()

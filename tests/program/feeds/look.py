@@ -357,7 +357,7 @@ def without_the_terms(room: Room) -> Iterator[Outcome]:
     left = {reason: number for reason, number in found["Notes by reason"].items() if reason not in reasons}
     yield Outcome("look: what the terms come to", (status, found["Notes by reason"]), (0, reasons | left))
     letters = [look(room, *words, "--mail", "en", "sold.xml").output for words in ([], ["--terms", "all.toml"])]
-    yield Outcome("look: a letter by terms", (letters[1], b"1 remarks" in letters[0]), (letters[0], True))
+    yield Outcome("look: a letter by terms", (letters[1], b"Remarks on it: 1. " in letters[0]), (letters[0], True))
     rows = [row[-1] for row in csv.reader(room.path("notes.csv").read_text(encoding="utf-8").splitlines())]
     yield Outcome("look: the notes by terms", (len(rows), "ECZ" in rows[-1]), (2, True))
 

@@ -4,8 +4,8 @@ from collections.abc import Iterator
 from typing import NamedTuple
 
 # The picture, and the part of it that the axes enclose.
-WIDTH, HEIGHT, LEFT, TOP, RIGHT, BOTTOM = 900, 420, 70, 20, 880, 330
-COLOURS = ["#0072b2", "#c44e00", "#00694d"]
+WIDTH, HEIGHT, LEFT, TOP, RIGHT, BOTTOM = 900, 435, 70, 20, 880, 330
+COLOURS = ["#0072b2", "#7a3b96", "#c44e00", "#00694d"]
 
 
 class Line(NamedTuple):

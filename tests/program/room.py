@@ -30,7 +30,7 @@ class Ran(NamedTuple):
 
 # A line on a refusal; and the line of a fault, behind which another one says why.
 MALFORMED = re.compile(
-    rb"onixdesk: (?!terms: )(?:[^\n]*: )?line [0-9]+: |onixdesk: [0-9]+ more are malformed\n|onixdesk: without --db "
+    rb"onixdesk: (?!rules: |terms: )(?:[^\n]*: )?line [0-9]+: |onixdesk: [0-9]+ more are malformed\n|onixdesk: without --db "
     rb"|onixdesk: refused,[a-z-]+: |onixdesk: bad-query: "
 )
 FAULT = re.compile(

@@ -16,7 +16,7 @@ from onixdesk_inbox.names import kept_name
 from onixdesk_inbox.numbers import digest_of
 from onixdesk_inbox.running import Run
 from onixdesk_inbox.series import INCOMING, SETTINGS, STATE, series
-from onixdesk_inbox.settings import Settings, read_settings
+from onixdesk_inbox.settings import BadSettings, Settings, read_settings
 from onixdesk_inbox.state import State
 from onixdesk_inbox.taking import Taker
 from onixdesk_inbox.telling import ERROR, NOTICE, PROGRAM, Voice
@@ -122,6 +122,8 @@ def run(options: argparse.Namespace, folder: Path, programs: Path, voice: Voice)
     incoming = (options.incoming or Path(INCOMING.format(name))).resolve()
     converter = (options.converter or programs / "onix-to-csv").resolve()
     file = options.settings or Path(SETTINGS.format(name))
+    if options.again is not None and not file.exists():
+        raise BadSettings(f"{file}: it is missing, and without its settings nothing is taken again")
     settings = read_settings(file)
     if options.check:
         check_words(settings.words, converter, file)

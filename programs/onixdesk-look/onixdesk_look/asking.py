@@ -1,11 +1,12 @@
 """A desk in a file of its own, which takes the messages of a feed and is asked for the prices of its articles."""
 
 import tempfile
-from collections.abc import Callable, Iterator
+from collections.abc import Iterator
 from dataclasses import dataclass
 from pathlib import Path
 
 from command_lines.ending import Fault
+from command_lines.progress import Progress
 from desk_batches.asking import Answer, answers_of_program, batches
 from message_records.offers import Question
 from message_records.products import Header
@@ -16,7 +17,7 @@ from message_records.rows import agreement, text_of
 class Desk:
     program: Path
     file: Path
-    show: Callable[[str], None]
+    progress: Progress
 
     def answers(self, *words: str | Path, given: str = "") -> Iterator[Answer]:
         """What the desk answers, one after the other. Fault where it cannot."""
@@ -27,7 +28,7 @@ class Desk:
 
     def take(self, header: Header, messages: list[Path]) -> None:
         """Agrees the series and takes the messages. Fault where the desk refuses one."""
-        self.show("a desk takes the messages")
+        self.progress.show("a desk takes the messages")
         agreed = self.answers("batch", given=agreement("look", header, int(header.number)))
         for answer in [*agreed, *self.answers("deliver", *messages)]:
             if answer[0][0] == "refused":
@@ -35,7 +36,7 @@ class Desk:
 
     def priced(self, articles: list[str], question: Question) -> set[str]:
         """The articles of which it gives a price."""
-        self.show(f"a desk is asked for {len(articles)} articles")
+        self.progress.show(f"a desk is asked for {len(articles)} articles")
         asked = batches(text_of(("AskPrice", article, *question)) for article in articles)
         answers = (answer for batch in asked for answer in self.answers("batch", given=batch))
         return {answer[0][1] for answer in answers if any(offer[-1] for offer in answer[1:])}

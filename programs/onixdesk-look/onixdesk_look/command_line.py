@@ -2,15 +2,14 @@
 
 import argparse
 import json
-import sys
 import tempfile
 import time
 from collections import Counter
-from functools import partial
 from pathlib import Path
 
 from command_lines.ending import FAULT, BadCall, end_orderly, status_of, teller
 from command_lines.parsing import day, parser_of
+from command_lines.progress import Progress
 from message_records.offers import Question
 from message_records.products import products_of, read_header
 from onixdesk_inbox.series import series
@@ -43,25 +42,13 @@ def command_line() -> argparse.ArgumentParser:
     add("--day", metavar="DAY", type=day, help="the day of the prices, as 20261127; today without it")
     add("--series", metavar="NAME", type=series, help="the name for the agreement; after the FILE's name without it")
     add("--words", metavar="WORDS", type=words, default=(), help="words for onixdesk convert, as in WORDS of an inbox")
-    add(
-        "--terms",
-        metavar="FILE",
-        type=Path,
-        help="the shop's terms with the wholesaler, by which net prices are computed",
-    )
+    add("--terms", metavar="FILE", type=Path, help="the shop's terms, by which net prices are computed")
     add("--csv", action="store_true", help="write the page as a table: FILE, section, item, value")
     add("--notes", metavar="CSV", type=Path, help="write the converter's notes into this file; for a single FILE")
     add("--mail", choices=letter.LANGUAGES, help="write a text to the wholesaler in place of the page; for one FILE")
     add("--program", metavar="PROGRAM", type=Path, help="onixdesk beside this program without it")
     add("files", metavar="FILE", type=Path, nargs="+", help="a feed in XML")
     return parser
-
-
-def show(text: str) -> None:
-    """Puts a text into the line of a terminal, in place of the one before."""
-    if sys.stderr.isatty():
-        sys.stderr.write(f"\r\x1b[K{text}")
-        sys.stderr.flush()
 
 
 def question_of(options: argparse.Namespace, programs: Path) -> Question:
@@ -75,55 +62,47 @@ def question_of(options: argparse.Namespace, programs: Path) -> Question:
         raise BadCall(f"{file}: no settings of a page: {error!r}") from None
 
 
-def answer(feed: Feed, counts: Counts, desk: Desk, question: Question) -> page.Sections:
-    """Of how many articles a desk gives a price, and why of none of the others."""
-    desk.take(read_header(feed.messages[0]), feed.messages)
-    priced = desk.priced(list(counts.why), question)
-    why_none = Counter(why or "the desk gives none" for article, why in counts.why.items() if article not in priced)
-    return page.of_answer(question, len(counts.why), len(priced), why_none)
-
-
-def sections_of(
-    options: argparse.Namespace, feed: Feed, counts: Counts, question: Question, folder: Path
-) -> page.Sections:
-    """What is said of a feed that was converted."""
+def sections_of(options: argparse.Namespace, feed: Feed, counts: Counts, folder: Path) -> page.Sections:
+    """What is said of a feed that was converted: also of how many articles a desk gives a price, and why of no other."""
     if not feed.messages:
         return {}
     header = read_header(feed.messages[0])
-    answers = answer(feed, counts, Desk(options.program, folder / "desk.db", show), question)
+    desk = Desk(options.program, folder / "desk.db", options.progress)
+    desk.take(header, feed.messages)
+    priced = desk.priced(list(counts.why), options.question)
+    why_none = Counter(why or "the desk gives none" for article, why in counts.why.items() if article not in priced)
+    answers = page.of_answer(options.question, len(counts.why), len(priced), why_none)
     lines = lines_to_paste(options.series or series_of(feed.file.name), header, feed, options.words)
     # A sample is seldom the first message that the desk gets, and what comes behind a number that never comes is held.
     number = f"the number of the first message that the desk gets; {lines[0].rpartition(',')[2]} is that of this file"
-    terms = [f"TERMS={options.terms}"] if options.terms else []
+    terms = [f"TERMS={file}" for file in options.terms[1:]]
     pasted = {"To paste": lines + terms, "Last field of Agree": [number] if "NUMBER=own" in lines else []}
     to_paste = {section: [(line, "") for line in said] for section, said in pasted.items()}
     return page.of_records(feed, header, counts) | answers | to_paste
 
 
-def write_page(options: argparse.Namespace, feed: Feed, question: Question, folder: Path) -> None:
+def write_page(options: argparse.Namespace, feed: Feed, folder: Path) -> None:
     """Writes what is asked for of a feed that was converted or refused."""
     counts = Counts({note.reference for note in feed.said.notes})
     for message in feed.messages:
         for product in products_of(message):
-            counts.add(product, question)
+            counts.add(product, options.question)
     if options.notes:
-        options.notes.write_text(letter.table(feed.said, counts.isbns), encoding="utf-8")
+        options.notes.write_text(letter.table(feed.said.of_feed(), counts.isbns), encoding="utf-8")
     if options.mail:
-        sys.stdout.write(letter.letter(options.mail, feed.file.name, feed.said, counts.isbns))
+        print(letter.letter(options.mail, feed.file.name, feed.said.of_feed(), counts.isbns), end="")
     else:
-        sections = page.of_feed(feed) | sections_of(options, feed, counts, question, folder)
-        show("")
-        sys.stdout.write((page.table if options.csv else page.text)(feed.file.name, sections))
+        sections = page.of_feed(feed) | sections_of(options, feed, counts, folder)
+        options.progress.end()
+        print((page.table if options.csv else page.text)(feed.file.name, sections), end="")
 
 
-def look(options: argparse.Namespace, question: Question, file: Path) -> int:
+def look(options: argparse.Namespace, file: Path) -> int:
     """Looks at a file, and gives its status."""
     with tempfile.TemporaryDirectory(prefix=f"{PROGRAM}-") as folder:
-        messages = Path(folder, "messages")
-        messages.mkdir()
-        terms = ("--terms", str(options.terms)) if options.terms else ()
-        feed = Converter(options.program, (*options.words, *terms), show).convert(file, messages)
-        write_page(options, feed, question, Path(folder))
+        words = *options.words, *options.terms
+        feed = Converter(options.program, words, options.progress).convert(file, Path(folder))
+        write_page(options, feed, Path(folder))
     return feed.status
 
 
@@ -131,14 +110,14 @@ def run(options: argparse.Namespace, programs: Path) -> int:
     if len(options.files) > 1 and (options.notes or options.mail):
         raise BadCall("--notes and --mail are for a single FILE")
     options.program = (options.program or programs / "onixdesk").resolve()
-    options.terms = options.terms and options.terms.resolve()
-    question = question_of(options, programs)
+    options.terms = ["--terms", str(options.terms.resolve())] if options.terms else []
+    options.question, options.progress = question_of(options, programs), Progress(PROGRAM)
     # A file that cannot be read keeps none of the others from being looked at.
-    found = [status_of(partial(look, options, question, file), teller(PROGRAM), file) for file in options.files]
+    found = [status_of(lambda: look(options, file), teller(PROGRAM), file) for file in options.files]
     return FAULT if FAULT in found else max(found)
 
 
 def main(programs: Path) -> int:
     """Looks at the files, and gives the status. `programs` is the folder of this one."""
     end_orderly()
-    return status_of(partial(run, command_line().parse_args(), programs), teller(PROGRAM), Path())
+    return status_of(lambda: run(command_line().parse_args(), programs), teller(PROGRAM), Path())

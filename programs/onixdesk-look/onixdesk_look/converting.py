@@ -3,11 +3,11 @@
 import re
 import subprocess
 import tempfile
-from collections.abc import Callable
 from dataclasses import dataclass
 from pathlib import Path
 
 from command_lines.ending import BAD_CALL, DONE, FAILED, BadCall, Fault
+from command_lines.progress import Progress
 from message_records.notes import Said, read_said
 from onixdesk_look.tags import Tags
 
@@ -33,15 +33,14 @@ class Converter:
 
     program: Path
     words: tuple[str, ...]
-    show: Callable[[str], None]
+    progress: Progress
 
     def convert(self, file: Path, folder: Path) -> Feed:
         """Converts a feed into an empty folder. Where it has no number it gets 1, and where one message is too small as
         many parts as it needs. Fault where it cannot be read or the words are wrong."""
         parts, has_number, tags = 1, True, None
         while True:
-            more = [] if has_number else ["--number", "1"]
-            more += ["--parts", str(parts)] if parts > 1 else []
+            more = ([] if has_number else ["--number", "1"]) + (["--parts", str(parts)] if parts > 1 else [])
             status, said, tags = self.run(file, folder, more, tags)
             if has_number and "--number" in said.refusal:
                 has_number = False
@@ -55,14 +54,14 @@ class Converter:
         words = [str(self.program), "convert", "--wrong", "all", *self.words, *more, "-o", str(folder), file.name]
         with tempfile.TemporaryFile("w+", encoding="utf-8", errors="backslashreplace") as errors:
             with subprocess.Popen(words, cwd=file.parent, stdin=subprocess.DEVNULL, stderr=errors) as process:
-                tags = tags or Tags(file, self.show)
-                self.show(f"{file.name}: being converted")
+                tags = tags or Tags(file, self.progress)
+                self.progress.show(f"{file.name}: being converted")
             errors.seek(0)
-            if process.returncode == BAD_CALL:
-                raise BadCall(errors.readline().strip())
-            said = read_said(errors, file.name)
-            errors.seek(0)
-            *_, last = ["", *map(str.strip, errors)]
+            lines = errors.read().removesuffix("\n").split("\n")
+        if process.returncode == BAD_CALL:
+            raise BadCall(lines[0])
+        said = read_said(lines, file.name)
         if process.returncode not in (DONE, FAILED):
-            raise Fault(f"{file}: {said.refusal or f'the converter ends with status {process.returncode}: {last}'}")
+            why = said.refusal or f"the converter ends with status {process.returncode}: {lines[-1]}"
+            raise Fault(f"{file}: {why}")
         return process.returncode, said, tags

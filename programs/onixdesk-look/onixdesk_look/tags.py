@@ -2,9 +2,10 @@
 discounts. It is read by expat, which passes over entities that it does not know."""
 
 from collections import Counter
-from collections.abc import Callable
 from pathlib import Path
 from xml.parsers import expat
+
+from command_lines.progress import Progress
 
 PIECE = 1 << 20
 
@@ -12,21 +13,17 @@ PIECE = 1 << 20
 NAMES = {"ONIXMessage": "reference names", "ONIXmessage": "short tags"}
 
 # What is read of a DiscountCoded; its type is before its code.
-DISCOUNT_CODED, CODE_TYPE, CODE = (
-    {"DiscountCoded", "discountcoded"},
-    {"DiscountCodeType", "j363"},
-    {"DiscountCode", "j364"},
-)
+DISCOUNT_CODED = {"DiscountCoded", "discountcoded"}
+CODE_TYPE, CODE = {"DiscountCodeType", "j363"}, {"DiscountCode", "j364"}
 
 
 class Tags:
     """The tags of a file. `fault` says why it was not read to its end."""
 
-    def __init__(self, feed: Path, show: Callable[[str], None]) -> None:
-        self.release = self.names = self.fault = ""
+    def __init__(self, feed: Path, progress: Progress) -> None:
+        self.release = self.names = self.fault = self.code_type = ""
         # By their types, TYPE,CODE, as a table of the shop's terms has them.
         self.discount_codes: Counter[str] = Counter()
-        self.code_type = ""
         self.text: list[str] = []
         self.parser = expat.ParserCreate()
         # With it a name of HTML that no DTD declares is passed over.
@@ -38,7 +35,7 @@ class Tags:
             with feed.open("rb") as file:
                 while piece := file.read(PIECE):
                     self.parser.Parse(piece, False)
-                    show(f"{feed.name}: {file.tell() / 1e6:.0f} of {feed.stat().st_size / 1e6:.0f} MB read")
+                    progress.bytes(f"{feed.name}: read", file.tell(), feed.stat().st_size)
                 self.parser.Parse(b"", True)
         except (expat.ExpatError, LookupError, ValueError) as error:
             self.fault = str(error)

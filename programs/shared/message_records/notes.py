@@ -14,6 +14,9 @@ REFUSAL = re.compile(r"(?:([0-9]+):([0-9]+): )?refused: (.*)")
 COUNT = re.compile(r"(.*): ([0-9]+)")
 TOTAL = re.compile(r"([0-9]+) notes?(?:, ([0-9]+) products? wrong)?")
 
+# How reasons and notes begin that are of the shop's own terms, and of no element of the feed.
+OF_TERMS = "computed price", "Price that no term fits"
+
 # The element by which a feed says that it has no product, in both kinds of names.
 ENCODINGS = "ascii", "utf-16-le", "utf-16-be"
 NO_PRODUCT = [name.encode(encoding) for name in ("NoProduct", "noproduct") for encoding in ENCODINGS]
@@ -56,6 +59,14 @@ class Said:
             self.count, self.wrong = int(total[1]), int(total[2] or 0)
         elif counted := COUNT.fullmatch(text):
             self.reasons[counted[1]] += int(counted[2])
+
+    def of_feed(self) -> "Said":
+        """The same without what is of the shop's own terms."""
+        reasons = {reason: number for reason, number in self.reasons.items() if not reason.startswith(OF_TERMS)}
+        notes = [note for note in self.notes if not note.text.startswith(OF_TERMS)]
+        # What is held back, and what no term fits, is counted without a note.
+        own = sum(number for reason, number in (self.reasons - Counter(reasons)).items() if " left out" in reason)
+        return Said(notes, Counter(reasons), self.count - own, self.wrong, self.refusal)
 
 
 def read_said(lines: Iterable[str], file: str) -> Said:

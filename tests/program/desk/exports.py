@@ -1,5 +1,6 @@
 """What the commands write that list what a desk in a file holds: `export`, `agreements`, and `gaps` of all series."""
 
+import fcntl
 import shlex
 from collections.abc import Iterator
 
@@ -244,6 +245,21 @@ def folders_that_take_nothing(room: Room) -> Iterator[Outcome]:
         if folder is not None:
             yield Outcome("a full disk", into(room, "disk"), Ran(3, b"", b"onixdesk: disk: No space left on device\n"))
             yield Outcome("a full disk: its files", held(room, "disk"), {})
+
+
+def beside_another_run(room: Room) -> Iterator[Outcome]:
+    """An export into a folder into which another run makes one ends with its line, and leaves what is there."""
+    batch(room, AGREED)
+    room.path("out").mkdir()
+    room.write("out/.export.onixdesk.0.1", b"the other's")
+    with room.path("out/.export.onixdesk.0").open("wb") as file:
+        fcntl.flock(file, fcntl.LOCK_EX)
+        line = b"onixdesk: out/.export.onixdesk.0: another run makes files of this NAME\n"
+        yield Outcome("beside another export", into(room, "out"), Ran(3, b"", line))
+    hidden = {".export.onixdesk.0": b"", ".export.onixdesk.0.1": b"the other's"}
+    yield Outcome("beside another export: its files", held(room, "out"), hidden)
+    yield Outcome("behind another export, which was killed", into(room, "out"), Ran(0))
+    yield Outcome("behind another export: the files", held(room, "out"), {"1.csv": AGREED})
 
 
 def shell(room: Room, lines: list[str]) -> Ran:

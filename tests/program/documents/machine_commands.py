@@ -13,6 +13,7 @@ from tools.root import ROOT
 
 PRICES = "docs/PRICES.md"
 HTTP = "docs/HTTP.md"
+INBOX = "docs/INBOX.md"
 RELIABILITY = "docs/RELIABILITY.md"
 TILL = "/srv/till"
 
@@ -61,8 +62,10 @@ def gaps_by_cron(room: Room) -> Iterator[Outcome]:
 
 
 def other_machine(room: Room, desk: Machine) -> None:
-    """The inbox and the copy are there, and the desk is not. Nobody is a user of this machine by the page's names."""
+    """The inbox and the copy are there, and neither the desk nor the wholesaler's folder. Nobody is a user of this machine
+    by the page's names."""
     desk.run(["systemctl stop onixdesk.service"])
+    room.path("var/lib/onixdesk-incoming/north").rmdir()
     for name in ("", "-wal"):
         room.path(f"{DESK}{name}").unlink(missing_ok=True)
     script(room, "bin/chown", f'echo "$*" >>"{room.path("chowned")}"')
@@ -87,3 +90,43 @@ def moved_to_another(room: Room) -> Iterator[Outcome]:
         yield Outcome(
             f"{RELIABILITY}: the prices there", desk.prices(A, B), {A: ["north R897 8.000"], B: ["north R880 9.000"]}
         )
+
+
+def restored(desk: Machine) -> tuple[int, list[str]]:
+    """Restores the one copy: the status, and what is said behind the line that it is in place."""
+    ran = desk.run(["desk-restore /var/lib/onixdesk-copies/*"])
+    lines = ran.errors.decode().splitlines()
+    behind = [place for place, line in enumerate(lines, 1) if " is in place as " in line]
+    return ran.status, lines[behind[0] :] if behind else lines
+
+
+def a_removed_inbox(room: Room) -> Iterator[Outcome]:
+    """What it took since the copy is taken again, and it is not started. Without its settings that is told, with the
+    command that goes on once they are back."""
+    with machine(room, agreed(), SENDER="any") as desk:
+        desk.take({"w1.csv": message(1, (A, "8.00"))})
+        desk.run(["desk-copy --keep 7 /var/lib/onixdesk/shop.db /var/lib/onixdesk-copies"])
+        desk.take({"w2.csv": message(2, (B, "9.00"))})
+        own = room.path("bin/systemctl").rename(room.path("bin/own-systemctl"))
+        script(room, "bin/systemctl", f'echo "$*" >>"{room.path("units")}"\nexec "{own}" "$@"')
+        lines = block(INBOX, "systemctl disable --now onixdesk-inbox@")
+        yield Outcome(f"{INBOX}: {lines[0]}", desk.run(lines).status, 0)
+        agree = "desk-restore: agreements and waivers that were made since have to be made again"
+        both = {A: ["north R897 8.000"], B: ["north R880 9.000"]}
+        told = [agree, "onixdesk-inbox: w2.csv: done: number 2 applied"]
+        yield Outcome("a removed inbox: a restore", restored(desk), (0, told))
+        yield Outcome("a removed inbox: prices behind it", desk.prices(A, B), both)
+        units = [line for line in room.path("units").read_text().splitlines() if "inbox@" in line]
+        yield Outcome("a removed inbox: its units", units, lines[0].split(" ", 1)[1:])
+        settings = room.path("etc/onixdesk/inbox/north.conf").rename(room.path("north.conf"))
+        gone = f"onixdesk-inbox: {room.path('etc/onixdesk/inbox/north.conf')}: it is missing"
+        gone += ", and without its settings nothing is taken again"
+        status, (*told, last) = restored(desk)
+        yield Outcome("an inbox without settings: a restore", (status, told), (1, [agree, gone]))
+        yield Outcome("an inbox without settings: prices behind it", desk.prices(A, B), {**both, B: []})
+        settings.rename(room.path("etc/onixdesk/inbox/north.conf"))
+        # The machine's place is put before those of the page.
+        begin, _, command = last.replace(f"{room.folder}/var/", "/var/").partition("; then: ")
+        wanted = "desk-restore: the inbox of north has not taken all again", 0
+        yield Outcome("an inbox without settings: once they are back", (begin, desk.run([command]).status), wanted)
+        yield Outcome("an inbox without settings: prices then", desk.prices(A, B), both)

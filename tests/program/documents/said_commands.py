@@ -87,10 +87,11 @@ ELSEWHERE = {
 
 
 def of_readme(room: Room) -> Iterator[Outcome]:
-    """The commands of the table, one after the other, over a feed, a batch and rules of the examples."""
+    """The commands of the table, one after the other, over a feed, a batch, rules and terms of the examples."""
     like_the_repository(room)
     room.write("feed.xml", example("examples/shop/onix/north-1.xml"))
     room.write("rules.toml", example("examples/shop/rules.toml"))
+    room.write("terms.toml", example("examples/shop/onix/west/terms.toml"))
     room.write("batch.csv", example("examples/shop/monday.csv"))
     for folder in ("parts", "FOLDER"):
         room.path(folder).mkdir()

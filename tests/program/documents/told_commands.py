@@ -52,6 +52,7 @@ TOLD: dict[str, dict[str, str]] = {
         "runuser -u onixdesk-inbox -- /usr/share/onixdesk/bin/onixdesk-titles rebuild": f"{SYSTEMD}: try_titles",
         "addgroup --system onixdesk-north": f"{DEBIAN}: set_up_inbox",
         "adduser --system --group --no-create-home --home /nonexistent onixdesk-inbox": OF_PACKAGE,
+        "systemctl disable --now onixdesk-inbox@": f"{MACHINE}: a_removed_inbox",
         "install -d -m 700 /etc/onixdesk/fetch/north.secrets": "packaging/feeds-under-systemd: try_fetches",
         "adduser --system --group --no-create-home --home /nonexistent onixdesk-fetch": OF_PACKAGE,
     },

@@ -16,6 +16,7 @@ from tests.program.feeds.convert.case_files import SHORT_TAGS
 from tests.program.feeds.feed_prices import DISCOUNTS
 from tests.program.feeds.feed_trees import (
     Detail,
+    Discount,
     Identifier,
     Market,
     Message,
@@ -26,7 +27,7 @@ from tests.program.feeds.feed_trees import (
     Supply,
     Territory,
 )
-from tests.program.feeds.feed_writing import COUNTED, COUNTED_ALONE, Place
+from tests.program.feeds.feed_writing import COUNTED, COUNTED_ALONE, COUNTED_WITH_TERMS, Place
 
 DECLARED = re.compile(r"""<\?xml\s+version\s*=\s*["']1\.0["'](?:\s+encoding\s*=\s*["']([A-Za-z][\w.-]*)["'])?""")
 
@@ -50,8 +51,11 @@ OLD = [
 ]
 OLD_OF_DETAIL = ["SupplyToCountry", "SupplyToRegion", "SupplyToCountryExcluded", "SupplyToTerritory"]
 
+# What the terms of the shop read in a Price: what is wrong there is of no other consequence.
+OF_TERMS = [*DISCOUNTS, "Tax"]
+
 # What repeats in a Price, or is counted alone.
-REPEATABLE = ["PriceCondition", "PriceConstraint", "PriceDate", *DISCOUNTS]
+REPEATABLE = ["PriceCondition", "PriceConstraint", "PriceDate", *OF_TERMS]
 
 OF_XML = "http://www.w3.org/XML/1998/namespace"
 
@@ -114,21 +118,33 @@ class Element:
         return next(filter(None, (each.own_text() for each in self.all(name))), "")
 
     def again(self) -> str:
-        """The name of an element that does not repeat and comes again, but in a PriceDate; empty where there is none."""
+        """The name of an element that does not repeat and comes again, but in a PriceDate and in what terms read; empty
+        where there is none."""
         names = [each.name for each in self.below if each.name not in REPEATABLE]
         again = [name for name in names if names.count(name) > 1]
-        return next(
-            iter(again + [each.again() for each in self.below if each.name != "PriceDate" and each.again()]), ""
-        )
+        below = [each for each in self.below if each.name not in ("PriceDate", *OF_TERMS)]
+        return next(iter(again + [each.again() for each in below if each.again()]), "")
 
     def all_strangers(self) -> list[Stranger]:
-        return self.strangers + [stranger for each in self.below for stranger in each.all_strangers()]
+        """Those in it, but in what terms read."""
+        own = [each for each in self.strangers if each.name not in OF_TERMS]
+        below = [each for each in self.below if each.name not in OF_TERMS]
+        return own + [stranger for each in below for stranger in each.all_strangers()]
+
+    def garbled_for_terms(self) -> str:
+        """The name of an element of a Price that terms would read, and that does not count, or comes again and does not
+        repeat; empty where there is none, or only in Discounts."""
+        read = [each for each in self.below if each.name in OF_TERMS]
+        strangers = [each for each in self.strangers if each.name in OF_TERMS]
+        names = [each.name for each in strangers + [each for one in read for each in one.strangers]]
+        return next(filter(None, names + [each.again() for each in read if each.name != "Discount"]), "")
 
 
 class Elements:
-    """Reads the elements of a document, those that count by their namespace."""
+    """Reads the elements of a document, those that count by their namespace; with terms of the shop more do."""
 
-    def __init__(self) -> None:
+    def __init__(self, has_terms: bool) -> None:
+        self.has_terms = has_terms
         self.root: Element | None = None
         self.address = ""
         self.around: list[Element] = []
@@ -192,12 +208,13 @@ class Elements:
         if not self.around:
             return "ONIXMessage"
         parent = self.around[-1]
-        counted = COUNTED.get(parent.name, "").split()
+        counted = (COUNTED_WITH_TERMS if self.has_terms else COUNTED).get(parent.name, "").split()
         name = REFERENCE_NAMES.get(local, "") if self.is_short else local
         if name in counted and address == self.address:
             return name
         called = [each for each in counted if local.lower() in (each.lower(), SHORT_TAGS[each].lower())]
-        parent.strangers += [Stranger(parent.name, each) for each in called if each not in COUNTED_ALONE]
+        alone = [each for each in COUNTED_ALONE if not self.has_terms or each not in OF_TERMS]
+        parent.strangers += [Stranger(parent.name, each) for each in called if each not in alone]
         return ""
 
     def end(self) -> None:
@@ -244,6 +261,11 @@ class Trees:
         price.again = of.again()
         price.old = {name.strip("()"): of.text(name) for name in OLD if of.text(name)}
         price.discounts = [name for name in DISCOUNTS for _ in of.all(name)]
+        # Without terms nothing of these counts.
+        price.codes = [(each.text("DiscountCodeType"), each.text("DiscountCode")) for each in of.all("DiscountCoded")]
+        price.percents = [discount_of(each) for each in of.all("Discount")]
+        price.taxes = [each.text("TaxRatePercent") for each in of.all("Tax")]
+        price.stranger = of.garbled_for_terms()
         return self.at(of, price)
 
     def detail(self, of: Element) -> Detail:
@@ -302,7 +324,13 @@ def date_of(element: Element) -> PriceDate:
     )
 
 
-def read(data: bytes) -> Read:
-    """The message of a feed. Malformed, or NoMessage, where it is none."""
+def discount_of(element: Element) -> Discount:
+    names = "DiscountPercent", "Quantity", "DiscountType"
+    return Discount(*map(element.text, names), again=element.again())
+
+
+def read(data: bytes, has_terms: bool = False) -> Read:
+    """The message of a feed, with what terms of the shop read if there are any. Malformed, or NoMessage, where it is
+    none."""
     trees = Trees(data)
-    return Read(trees.message(Elements().read(data)), trees.starts)
+    return Read(trees.message(Elements(has_terms).read(data)), trees.starts)

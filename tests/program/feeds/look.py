@@ -335,10 +335,31 @@ def on_a_terminal(room: Room) -> Iterator[Outcome]:
     ran = subprocess.run(command, stdout=subprocess.DEVNULL, stderr=theirs)
     os.close(theirs)
     shown = all_of(ours)
-    steps = [step in shown for step in (b" MB read", b"a.xml: being converted", b"a desk is asked for 1 articles")]
+    steps = [
+        step in shown
+        for step in (b"a.xml: read: 0.0 MB of 0.0 MB", b"a.xml: being converted", b"a desk is asked for 1 articles")
+    ]
     yield Outcome("look: on a terminal", (ran.returncode, steps, shown.endswith(b"\r\x1b[K")), (0, [True] * 3, True))
     came = room.call(command)
     yield Outcome("look: elsewhere", (came.status, came.errors), (0, b""))
+
+
+def without_the_terms(room: Room) -> Iterator[Outcome]:
+    """What goes to the wholesaler has nothing of the shop's terms: neither what no term fits, nor what is held back, nor
+    a computed price that comes to nothing."""
+    room.write("all.toml", b'[[term]]\ntypes = ["02"]\nnet = "05"\npercent = "100"\n')
+    region = "<Territory><RegionsIncluded>ECZ</RegionsIncluded></Territory>"
+    given = "<Price><PriceType>05</PriceType><PriceAmount>6</PriceAmount></Price>"
+    supplies = [PRICE, PRICE + given, PRICE.replace("</Price>", f"{region}</Price>")]
+    room.write("sold.xml", feed([product(place, Article(supplied(each), "")) for place, each in enumerate(supplies)]))
+    status, found = table(room, "--terms", "all.toml", "--notes", "notes.csv", "sold.xml")
+    reasons = {"computed price left out: an amount of 0": "1", "computed price held back": "1"}
+    left = {reason: number for reason, number in found["Notes by reason"].items() if reason not in reasons}
+    yield Outcome("look: what the terms come to", (status, found["Notes by reason"]), (0, reasons | left))
+    letters = [look(room, *words, "--mail", "en", "sold.xml").output for words in ([], ["--terms", "all.toml"])]
+    yield Outcome("look: a letter by terms", (letters[1], b"Remarks on it: 1. " in letters[0]), (letters[0], True))
+    rows = [row[-1] for row in csv.reader(room.path("notes.csv").read_text(encoding="utf-8").splitlines())]
+    yield Outcome("look: the notes by terms", (len(rows), "ECZ" in rows[-1]), (2, True))
 
 
 def with_terms(room: Room) -> Iterator[Outcome]:
@@ -365,6 +386,7 @@ def with_terms(room: Room) -> Iterator[Outcome]:
         yield Outcome(f"{name}: what to paste", line in found["To paste"], bool(words))
     yield Outcome("look: discount codes", found["Discount codes"], {"01,A": "2"})
     yield Outcome("look: what no term fits", found["Notes by reason"], {"Price that no term fits": "1"})
+    yield from without_the_terms(room)
     room.write("shop.toml", b"shop = 1")
     came = look(room, "--terms", "shop.toml", "north-7.xml")
     said = b"onixdesk-look: onixdesk: terms: not TOML: line 1: another key than term: shop\n"

@@ -2,6 +2,7 @@
 refused, and of each other one comes what `feed_oracle` says of the tree that expat reads (`feed_reading`)."""
 
 import re
+import tomllib
 from collections.abc import Iterator
 from functools import partial
 from pathlib import Path
@@ -14,7 +15,7 @@ from tests.program.feeds.feed_mutations import mutated
 from tests.program.feeds.feed_notes import Errors, compared, read_errors
 from tests.program.feeds.feed_oracle import Verdict, judge
 from tests.program.feeds.feed_reading import Malformed, NoMessage, Read, is_read, read
-from tests.program.feeds.feed_trees import Words
+from tests.program.feeds.feed_trees import TERMS, Term, Words
 from tests.program.room import Group, Ran, Room
 from tests.running import Outcome
 
@@ -25,6 +26,7 @@ WORDS = [
     Words(),
     Words(parts=2, sender=("06", "S")),
     Words(addressee=("06", "5012345678900"), offset="7", id_type="01", wrong="none"),
+    Words(wrong="all", terms=(Term(("02", "42"), "05", "feed", tax="feed"), Term(("02",), "05", "42.5"))),
 ]
 
 # So many are converted in one run.
@@ -54,9 +56,9 @@ def small_feeds() -> list[bytes]:
     return feeds + few * (len(feeds) // len(few))
 
 
-def read_or_none(data: bytes) -> Read | None:
+def read_or_none(data: bytes, words: Words) -> Read | None:
     try:
-        return read(data)
+        return read(data, words.terms is not None)
     except (Malformed, NoMessage):
         return None
 
@@ -64,7 +66,7 @@ def read_or_none(data: bytes) -> Read | None:
 def mutations(share: int) -> list[Feed]:
     feeds = small_feeds()
     found = [(seed, mutated(seed, feeds)) for seed in range(share * EACH, (share + 1) * EACH)]
-    return [Feed(f"mutation {seed}", data, read_or_none(data)) for seed, data in found if is_read(data)]
+    return [Feed(f"mutation {seed}", data, read_or_none(data, WORDS[share])) for seed, data in found if is_read(data)]
 
 
 def check(share: int, room: Room) -> Iterator[Outcome]:
@@ -78,6 +80,7 @@ def check(share: int, room: Room) -> Iterator[Outcome]:
 
 def converted(folder: str, feeds: list[Feed], words: Words, room: Room) -> Iterator[Outcome]:
     room.path(folder).mkdir()
+    room.write(TERMS, "".join(term.toml() for term in words.terms or ()).encode())
     names = [f"{folder}-{number}.xml" for number in range(len(feeds))]
     for name, feed in zip(names, feeds, strict=True):
         room.write(name, feed.data)
@@ -127,17 +130,26 @@ def judged(case: case_files.Case, feed: case_files.Feed) -> tuple[object, object
     lines = [(line, False) for line in wanted.notes] + [(line, True) for line in wanted.wrong]
     places = sorted((*map(int, re.findall("^([0-9]+):([0-9]+)", line)[0]), is_wrong) for line, is_wrong in lines)
     hoped = wanted.records or b"", places, wanted.refused != ""
-    found = read_or_none(feed.data)
+    words = words_of(case.words, case.table)
+    found = read_or_none(feed.data, words)
     if found is None:
         return (b"", [], True), hoped
-    verdict = judge(found.message, words_of(case.words))
+    verdict = judge(found.message, words)
     notes = verdict.refusal.notes if verdict.refusal else verdict.notes
     told = sorted((*found.starts[note.about], note.is_wrong) for note in notes)
     return (b"".join(part.text() for part in verdict.parts), told, verdict.refusal is not None), hoped
 
 
-def words_of(line: list[str]) -> Words:
-    """The words of a command line, by their names."""
+def terms_of(table: str) -> tuple[Term, ...] | None:
+    """Those of an array in TOML, of which each is as the desk wants it; none, if there is no array."""
+    lists = "types", "codes"
+    tables = tomllib.loads(f"term = {table}")["term"] if table else None
+    made = (Term(**each | {name: tuple(each.get(name, ())) for name in lists}) for each in tables or ())
+    return None if tables is None else tuple(made)
+
+
+def words_of(line: list[str], table: str) -> Words:
+    """The words of a command line, by their names, and the terms of a table."""
     given = dict(zip(line[::2], line[1::2], strict=True))
 
     def pair(name: str) -> tuple[str, str] | None:
@@ -152,6 +164,7 @@ def words_of(line: list[str]) -> Words:
         pair("--addressee"),
         given.get("--id-type", ""),
         given.get("--wrong", ""),
+        terms_of(table),
     )
 
 

@@ -219,6 +219,10 @@ def from_each_server(room: Room) -> Iterator[Outcome]:
             )
             os.utime(fetch.files / "b b.xml", (1_000_000_000, 1_000_000_000))
             yield Outcome(f"fetch: {kind}, the same bytes of another time", fetch.run(), said())
+            fetch.incoming.joinpath("a.xml").unlink()
+            fetch.files.joinpath("b b.xml").write_bytes(b"TWO")
+            wanted = said("1 fetched"), {"b b.xml": b"TWO"}
+            yield Outcome(f"fetch: {kind}, as many other bytes", (fetch.run(), fetch.came()), wanted)
             yield Outcome(f"fetch: {kind}, the server's files", len(list(fetch.files.iterdir())), 4)
 
 

@@ -223,6 +223,35 @@ def what_is_stopped(room: Room) -> Iterator[Outcome]:
         yield Outcome(f"stopped: {case.name}", found, (int(bool(case.why)), begins, int(not case.why), lies))
 
 
+# Articles of which a feed has a price, more than are compared; and the types of these prices.
+MANY, TYPES = 2_100, ("02", "04", "42")
+
+
+def many(kinds: int) -> bytes:
+    """A message with a product of each article, with a price of each of so many types."""
+    prices = [f"Price,{price_type},10,GBP,,WORLD,,," for price_type in TYPES[:kinds]]
+    lines = ["Message,2,06,S,,,5,1,,,"]
+    for place in range(MANY):
+        lines += [f"Product,R{place},03,15,97800{place:08}", "ProductSupply,GB,,", "SupplyDetail,04,,,North,21,", *prices]
+    return "\n".join([*lines, f"EndMessage,{len(lines)}", ""]).encode()
+
+
+def how_much_is_asked(room: Room) -> Iterator[Outcome]:
+    """Of a file the desk is asked 4,000 questions at most, of 2,000 of its articles at most, each for every type,
+    currency and minimum; and some of what the file before had, where it offers nothing of that."""
+    inbox = Inbox(room, 1)
+    for kinds in 1, 3:
+        desk = desk_at()
+        with standing_in(desk) as port:
+            fresh(inbox)
+            inbox.set(DESK=f"http://127.0.0.1:{port}", STOP_UNKNOWN="no")
+            inbox.put({"a.csv": many(kinds)})
+            came = inbox.run()
+        articles = min(2_000, 4_000 // kinds)
+        found = came.status, desk.asked - articles * kinds in range(21)
+        yield Outcome(f"stopped: questions about {kinds} kinds of prices: {desk.asked}", found, (0, True))
+
+
 def what_the_line_has(room: Room) -> Iterator[Outcome]:
     """Three examples with the old and the new price, and what somebody can do."""
     inbox = Inbox(room, 1)

@@ -12,7 +12,7 @@ from functools import partial
 from pathlib import Path
 from typing import NamedTuple
 
-from tests.program.feeds.convert.case_files import in_short_tags
+from tests.program.feeds.convert.case_files import in_short_tags, said
 from tests.program.feeds.convert.words_and_statuses import LARGE, large_part
 from tests.program.feeds.convert.running import FEED
 from tests.program.feeds.convert.wanted_runs import FRAME, ONE, PRODUCT, TWO, message_of
@@ -286,15 +286,28 @@ def stopped(number: signal.Signals, room: Room) -> Iterator[Outcome]:
 
 
 def together(room: Room) -> Iterator[Outcome]:
-    """A run takes nothing of another one that lives, and both come to their end."""
+    """Of two runs of one NAME the second ends with its line, whatever it converts, and takes nothing of the first, which
+    comes to its end. One of another NAME, or into another folder, is none of its business."""
     process = started(room)
     living = contents(room.path("out"))
-    came = room.run(*INTO, given=LARGE)
+    room.write("message.xml", ONE)
+    room.write("other.xml", ONE)
+    room.path("elsewhere").mkdir()
+    line = said(["out/.message.onixdesk.0: another run makes files of this NAME"])
+    for words, given in (INTO, LARGE), (["convert", "-o", "out", "message.xml"], b""):
+        came = room.run(*words, given=given)
+        found = came, contents(room.path("out"))
+        yield Outcome(f"convert: beside a run that lives: {' '.join(words)}", found, (Ran(3, b"", line), living))
+    came = room.run("convert", "-o", "out", "other.xml", "message.xml")
     found = came, contents(room.path("out"))
-    yield Outcome("convert: beside a run that lives", found, (Ran(0), living | PARTS))
+    other = {"other.csv": message_of("R1")}
+    yield Outcome("convert: beside a run that lives: two FILEs", found, (Ran(3, b"", line), living | other))
+    came = room.run("convert", "-o", "elsewhere", "message.xml")
+    yield Outcome("convert: beside a run that lives: another folder", came, Ran(0))
     _, errors = process.communicate(REST, timeout=SECONDS)
     found_then = process.returncode, errors, contents(room.path("out"))
-    yield Outcome("convert: a run beside which another one was", found_then, (0, b"", PARTS))
+    yield Outcome("convert: a run beside which another one was", found_then, (0, b"", PARTS | other))
+    yield Outcome("convert: behind both", room.run(*INTO, given=LARGE), Ran(0))
 
 
 def strangers(room: Room) -> Iterator[Outcome]:

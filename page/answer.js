@@ -17,7 +17,7 @@ import { farInWords, farOf } from "./retail.js";
 import { wholesalerOf } from "./settings.js";
 import { keep, recall } from "./storage.js";
 import { titleSaid, titlesOfOffers } from "./titles.js";
-import { formatter, say } from "./wording.js";
+import { formatter, say, sayCount } from "./wording.js";
 
 const KEY = "onixdesk-order";
 
@@ -116,6 +116,7 @@ export class Answer {
     found("verdict").className = "verdict";
     found("article-status").replaceChildren(words);
     found("answer-time").textContent = "";
+    found("to-list").hidden = true;
     found("answer").hidden = true;
     for (const id of ["title", "notes", "offers", "references-table"]) found(id).replaceChildren();
   }
@@ -128,6 +129,7 @@ export class Answer {
       answer.changed = say("article.changed", { time, sentence: before });
     }
     this.#drawSentence();
+    found("in-list").textContent = "";
     this.noteTime(answer.time);
     this.#draw();
     found("answer").hidden = answer.offers.length === 0;
@@ -183,8 +185,15 @@ export class Answer {
     return element("div", { class: "details" }, line, why);
   }
 
+  /** The button that puts what the sentence says to buy on the order list. */
+  #drawToList() {
+    found("to-list").hidden = kindOfAnswer(this.#shown) !== "net";
+    found("add-to-list").textContent = sayCount("article.toList", Number(this.#shown.question.quantity));
+  }
+
   #drawSentence() {
     const { settings } = this.#place;
+    this.#drawToList();
     const conditions = conditionsOf(this.#shown.question, settings);
     const sum = sumInWords(this.#shown);
     const parts = [

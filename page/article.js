@@ -14,7 +14,7 @@ import { keyOf } from "./offers.js";
 import { changesOf, firstQuantities } from "./quantities.js";
 import { holdsUntil, laterThan } from "./spans.js";
 import { titlesOf } from "./titles.js";
-import { say } from "./wording.js";
+import { say, sayCount } from "./wording.js";
 
 const MINUTE = 60_000;
 
@@ -56,7 +56,8 @@ export class Article {
   #lastAsked;
   #isAsking = false;
 
-  constructor(settings, reports, watch) {
+  /** `order` gets what a buyer puts on its list, and says how many lines that has then. */
+  constructor(settings, reports, watch, order) {
     this.#settings = settings;
     this.#watch = watch;
     this.#form = new Form(settings);
@@ -72,6 +73,10 @@ export class Article {
       found("question").addEventListener(kind, (event) => this.#edited(event));
     }
     found("as-usual").addEventListener("click", () => this.#asUsual());
+    found("add-to-list").addEventListener("click", () => {
+      const { isbn, quantity } = this.#answered.question;
+      found("in-list").textContent = sayCount("article.inList", order.take(isbn, Number(quantity)));
+    });
     found("ask-anyway").addEventListener("click", () => this.#askAnyway());
     document.addEventListener("visibilitychange", () => this.#look());
   }

@@ -16,14 +16,19 @@ export function copiesInWords(quantity) {
   return sayCount("article.copies", Number(quantity));
 }
 
-/** Which other numbers of copies are better than one, by the changes of an offer's price: a sentence for each. */
-export function betterInWords(changes, quantity, currency) {
-  const better = betterQuantities(changes, quantity);
-  return ["fewer", "more"].filter((name) => better[name] !== undefined).map((name) => {
-    const { quantity: copies, amount } = better[name];
-    const [each, sum] = [amount, times(amount, copies)].map((found) => money(found, currency));
-    return say(`article.${name}`, { copies: copiesInWords(copies), amount: each, sum });
+/** Which other numbers of copies are better than one, by the changes of an offer's price: each with its `words`. */
+export function betterOf(changes, quantity, currency) {
+  const found = betterQuantities(changes, quantity);
+  return ["fewer", "more"].filter((name) => found[name] !== undefined).map((name) => {
+    const { quantity: copies, amount } = found[name];
+    const [each, sum] = [amount, times(amount, copies)].map((cost) => money(cost, currency));
+    return { better: found[name], words: say(`article.${name}`, { copies: copiesInWords(copies), amount: each, sum }) };
   });
+}
+
+/** The same in words alone. */
+export function betterInWords(changes, quantity, currency) {
+  return betterOf(changes, quantity, currency).map(({ words }) => words);
 }
 
 /** What of a question is not as the shop asks mostly, in words that the sentence begins with. */

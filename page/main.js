@@ -106,8 +106,8 @@ async function start() {
   showProblems("desk.json", problems);
   showProblems("words.json", words.problems);
   const reports = new Reports(settings);
-  const article = new Article(settings, reports, watch);
   const order = new Order(settings, reports, watch);
+  const article = new Article(settings, reports, watch, order);
   const views = { article, order, missing: new Missing(settings, reports, watch) };
   reports.subscribe(() => countMissing(settings, reports));
   new Scanner(scanIn(article, order));

@@ -71,10 +71,21 @@ function mailLink(text, series) {
   return [" ", element("a", { href, class: "button" }, say("missing.mail", { mail: series.mail }))];
 }
 
+// How many ranges a button names: more make it longer than anybody reads.
+const MOST_RANGES = 3;
+
+/** What a button asks for, in the wholesaler's own numbers. */
+function askedInWords(report, series) {
+  const ranges = rangesOfSender(report.missing, series);
+  return ranges.length > MOST_RANGES ? sayCount("missing.messages", allOf(ranges)) : rangesInShort(ranges);
+}
+
 function missingPart(report, series, settings) {
   const items = report.missing.map((range) => element("li", {}, rangeInWords(range)));
   const done = element("div", { class: "copied", role: "status" });
-  const button = element("button", { type: "button" }, say("missing.copy"));
+  const wholesaler = series.words;
+  const copyWords = say("missing.copy", { wholesaler, ranges: askedInWords(report, series) });
+  const button = element("button", { type: "button", class: "main" }, copyWords);
   const text = requestFor(report, series, settings);
   // The day of the request is that on which it is copied.
   button.addEventListener("click", () => copy(requestFor(report, series, settings), series, done));
@@ -83,6 +94,7 @@ function missingPart(report, series, settings) {
     element("ul", { class: "ranges" }, ...items),
     element("div", { class: "strip-place" }),
     stripLegend(),
+    element("p", {}, say("missing.ask", { wholesaler })),
     element("p", { class: "buttons" }, button, ...mailLink(text, series)),
     done,
   ];

@@ -12,16 +12,19 @@ import { wholesalerOf } from "./settings.js";
 import { codeInWords, formatter, say, sayCount, wordsOfCode } from "./wording.js";
 
 const number = (count) => formatter(Intl.NumberFormat).format(count);
-const tag = (className, words) => element("span", { class: `tag ${className}` }, words);
+const tag = (className, words, title) => element("span", { class: `tag ${className}`, title }, words);
 
-/** What a wholesaler's messages lack, as marks behind its name; of what they are is said where there is room for it. */
+/**
+ * What a wholesaler's messages lack, as marks behind its name: how many, where those are counted, or else what that means
+ * for its prices, since a number in the row of a book is read as one of copies.
+ */
 export function marksOf(series, reports, isWhole = false) {
   const found = reports.stateOf(series);
   if (!found.isWatched) return [tag("quiet", say("article.unwatchedTag"))];
-  const words = isWhole ? sayCount("missing.atTab", found.count) : say("article.missingTag", { count: number(found.count) });
-  const missing = found.count > 0 ? [words] : [];
-  const silent = found.isSilent ? [sayCount("article.silentTag", found.days)] : [];
-  return [...missing, ...silent].map((text) => tag("unusual", text));
+  const counted = sayCount("missing.atTab", found.count);
+  const missing = found.count > 0 ? [isWhole ? tag("unusual", counted) : tag("unusual", say("article.oldTag"), counted)] : [];
+  const silent = found.isSilent ? [tag("unusual", sayCount("article.silentTag", found.days))] : [];
+  return [...missing, ...silent];
 }
 
 function nameCell(offer, answer, { settings, reports }) {
@@ -34,9 +37,11 @@ function nameCell(offer, answer, { settings, reports }) {
   return parts;
 }
 
-function availabilityCell({ availability }) {
-  const words = wordsOfCode("availabilities", availability) ?? say("article.unknownCode");
-  return [words, " ", element("small", { class: "code" }, availability)];
+/** How an offer can be had, in words alone: a code beside "in stock" is read as copies. */
+function availabilityCell({ availability: code }) {
+  const words = wordsOfCode("availabilities", code);
+  if (words === undefined) return [say("article.wordsOfCode", { words: say("article.unknownCode"), code })];
+  return [element("span", { title: say("article.onixCode", { code }) }, words)];
 }
 
 /** The price of an offer, or that it has none of the type for so few copies, in the currency. */

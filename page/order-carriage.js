@@ -1,6 +1,13 @@
 // What a step it is to where a wholesaler's carriage is free: the books that cost least to order there instead.
 
 import { compareAmounts, difference, sumOf, times } from "./amounts.js";
+import { kindOf } from "./price-types.js";
+
+/** Whether desk.json says from what sum on carriage is free: it does so of the shop's own net prices alone. */
+export function hasCarriage({ country, currency, type }, settings) {
+  const isOwn = country === settings.country && currency === settings.currency && type === settings.type;
+  return isOwn && kindOf(type) === "net" && settings.series.some(({ freeFrom }) => freeFrom !== undefined);
+}
 
 /** What an order of a book costs at an offer. */
 const costOf = ({ amount }, { copies }) => times(amount, copies);

@@ -2,8 +2,9 @@
 // change; what was chosen is kept for tables with the same heading.
 
 import { element, found, table } from "./elements.js";
+import { isFigure } from "./order-lines.js";
 import { keep, recall } from "./storage.js";
-import { say } from "./wording.js";
+import { formatter, say } from "./wording.js";
 
 const KEY = "onixdesk-columns";
 
@@ -34,11 +35,19 @@ function optionsOf(columns, chosen, others) {
   return [...choose, ...all.map((at) => element("option", { value: String(at) }, columnInWords(at, columns)))];
 }
 
+/** Whether a column has figures alone of which its heading says what they are, so that the list has none of them. */
+const isFigures = ({ kinds, samples }, at) => samples.every((fields) => isFigure(fields[at] ?? "", kinds[at]));
+
 /** The first rows of a table, in which the columns that are taken stand out. */
 function sampleTable(columns) {
-  const { width, names, samples, isbn, copies } = columns;
+  const { width, names, samples, isbn, copies, isOpen } = columns;
   const places = [...Array(width).keys()];
-  const taken = (at) => (at === isbn ? say("order.columns.isbn") : at === copies ? say("order.columns.copies") : "");
+  const taken = (at) => {
+    if (at === isbn) return say("order.columns.isbn");
+    if (at === copies) return say("order.columns.copies");
+    if (isOpen) return "";
+    return isFigures(columns, at) ? say("order.notUsed") : say("order.columns.note");
+  };
   const partsOf = (at) => new Set([String(at + 1), names?.[at] ?? "", taken(at)].filter((text) => text !== ""));
   const heads = places.map((at) => ({
     name: [...partsOf(at)].join(" · "),
@@ -48,6 +57,12 @@ function sampleTable(columns) {
     cells: places.map((at) => [element("bdi", {}, fields[at] ?? "")]),
   }));
   return table("columns-heading", heads, rows);
+}
+
+/** That the rows which are shown are not all, where they are not. */
+function headingInWords({ samples: { length } }, count) {
+  const [shown, all] = [length, count].map((number) => formatter(Intl.NumberFormat).format(number));
+  return length < count ? say("order.tableRows", { shown, all }) : say("order.table");
 }
 
 /** The fields of the columns; `changed` hears that a buyer chose another one. */
@@ -89,14 +104,15 @@ export class Columns {
     return names.length === 0 ? undefined : kept().find(([other]) => other === heading)?.[1];
   }
 
-  /** Shows the columns of a table, or that there is none. */
-  show(columns) {
+  /** Shows the columns of a table of so many lines, or that there is none. */
+  show(columns, count) {
     found("columns").hidden = columns === undefined;
-    if (JSON.stringify(columns) === this.#shown) return;
-    this.#shown = JSON.stringify(columns);
+    if (JSON.stringify([columns, count]) === this.#shown) return;
+    this.#shown = JSON.stringify([columns, count]);
     found("columns-wrong").textContent = "";
     if (columns === undefined) return;
     const { isbn, copies, names = [] } = columns;
+    found("columns-heading").textContent = headingInWords(columns, count);
     this.#heading = headingOf(names);
     found("isbn-column").replaceChildren(...optionsOf(columns, isbn, undefined));
     found("isbn-column").value = isbn === undefined ? OPEN : String(isbn);

@@ -66,7 +66,8 @@ export class OrderInput {
       const list = readList(text, (names) => this.#columns.chosenFor(names));
       this.#last = { text, choices, list };
     }
-    this.#columns.show(this.#last.list.columns);
+    const { columns, count } = this.#last.list;
+    this.#columns.show(columns, count);
     return this.#last.list;
   }
 

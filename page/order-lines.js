@@ -112,7 +112,7 @@ function mayBeCopies(field, at, { isbn, kinds, isChosen }) {
 }
 
 /** Whether a field is a number of which its heading says what it is, such as the stock: nobody needs it in an order. */
-const isFigure = (field, kind) => kind === "other" && NUMBER.test(plain(field).trim());
+export const isFigure = (field, kind) => kind === "other" && NUMBER.test(plain(field).trim());
 
 /** A row of a table: its ISBN and copies from their columns; all others are its note, but for figures. */
 function pieceOfRow(fields, columns) {

@@ -59,7 +59,7 @@ function stepParts(series, lacking, { settings, currency, rows, move }) {
 function carriageCell({ series, amount }, context) {
   const { settings, currency } = context;
   const { freeFrom } = settings.series.find(({ name }) => name === series) ?? {};
-  if (freeFrom === undefined) return [];
+  if (freeFrom === undefined) return [say("order.carriageUnknown")];
   const lacking = lackingTo(amount, freeFrom);
   if (lacking === undefined) return [say("order.carriageFree", { least: money(freeFrom, currency) })];
   const words = { lacking: money(lacking, currency), least: money(freeFrom, currency) };
@@ -82,6 +82,17 @@ function sumCell(amount, series, { currency, budget }) {
   return [words, " ", element("strong", { class: "need" }, above)];
 }
 
+// So many lines are named in the row of the total.
+const MOST_NAMED = 4;
+
+/** What the total is of: without the books of which nothing is ordered. */
+function totalInWords(without) {
+  const lines = without.flatMap((book) => book.lines).sort((one, other) => one - other);
+  if (lines.length === 0) return say("order.total");
+  if (lines.length > MOST_NAMED) return sayCount("order.totalWithoutMany", without.length);
+  return sayCount("order.totalWithout", lines.length, { lines: linesInWords({ lines }) });
+}
+
 function sumRow(name, { lines, copies, amount, series }, context) {
   const { currency, reports, save } = context;
   const marks = series === undefined ? [] : marksOf(series, reports, true);
@@ -90,16 +101,16 @@ function sumRow(name, { lines, copies, amount, series }, context) {
     [counted(lines)],
     [counted(copies)],
     sumCell(amount, series, context),
-    ...(context.hasCarriage ? [carriageCell({ series, amount }, context)] : []),
-    [...buttonsFor(name, series, save), ...savedMarks(context.savedOf(series))],
+    ...(context.hasCarriage ? [series === undefined ? [] : carriageCell({ series, amount }, context)] : []),
+    [...buttonsFor(series === undefined ? say("order.all") : name, series, save), ...savedMarks(context.savedOf(series))],
   ];
   return { cells, className: series === undefined ? "all" : undefined };
 }
 
 /**
  * The table of sums, named by the heading with that id. The context has the `settings`, the `currency`,
- * `hasCarriage` where desk.json says from what sum on carriage is free, the `reports` on messages, and
- * `save`, which hears of a way and of a series, or of none for all.
+ * `hasCarriage` where desk.json says from what sum on carriage is free, the `reports` on messages, the books `without` an
+ * order, and `save`, which hears of a way and of a series, or of none for all.
  */
 export function sumsTable(heading, { bySeries, all }, context) {
   const { settings, hasCarriage } = context;
@@ -109,7 +120,7 @@ export function sumsTable(heading, { bySeries, all }, context) {
     name: say(`order.columns.${column}`),
     className: AMOUNTS.includes(column) ? "amount" : column === "save" ? "ways" : undefined,
   }));
-  const made = table(heading, columns, [...rows, sumRow(say("order.all"), all, context)]);
+  const made = table(heading, columns, [...rows, sumRow(totalInWords(context.without), all, context)]);
   bySeries.forEach(({ series }, at) => {
     made.tBodies[0].rows[at].dataset.series = series;
   });

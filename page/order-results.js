@@ -1,6 +1,7 @@
 // What an order list shows of its answers: how far it is, the books that need a person, sums, and rows.
 
 import { found } from "./elements.js";
+import { hasCarriage } from "./order-carriage.js";
 import { needsList, sumsTable } from "./order-parts.js";
 import { sumsOf } from "./order-sums.js";
 import { drawTable, laterRows, noteSame, otherCopies, redraw } from "./order-table.js";
@@ -17,11 +18,20 @@ function progressInWords(list) {
   return say("order.progress", { done: counted(all - list.open().length), all: counted(all) });
 }
 
-/** How far a list is, and how many of its books need a person. */
+/** How many books of a list are ready to order, not looked up, left out by hand, and in need of a person. */
 export function summaryOf(list) {
-  const needs = list.rows().filter(({ state }) => state.need !== undefined).length;
+  const rows = list.rows();
+  const countOf = (holds) => rows.filter(({ state, book }) => state.need === undefined && holds(state, book)).length;
+  const counts = {
+    ready: countOf(({ offer }) => offer !== undefined),
+    openOf: countOf(({ offer }, { answer }) => offer === undefined && answer === undefined),
+    leftOutOf: countOf(({ offer }, { answer }) => offer === undefined && answer !== undefined),
+  };
+  const told = Object.entries(counts).filter(([name, count]) => name === "ready" || count > 0);
+  const parts = told.map(([name, count]) => say(`order.${name}`, { count: counted(count) })).join(", ");
+  const needs = rows.filter(({ state }) => state.need !== undefined).length;
   const words = needs === 0 ? say("order.noneNeedsYou") : sayCount("order.needYou", needs);
-  return `${progressInWords(list)}. ${words}`;
+  return `${sayCount("order.summary", rows.length, { parts })} ${words}`;
 }
 
 /** Shows how far a list is, and when its answers came. */
@@ -129,9 +139,7 @@ export class OrderResults {
   }
 
   #context(list) {
-    const { country, currency, type } = this.#settings;
     const { question, isAsking } = list;
-    const isOwn = question.country === country && question.currency === currency && question.type === type;
     return {
       settings: this.#settings,
       ...question,
@@ -141,8 +149,7 @@ export class OrderResults {
       reports: this.#reports,
       isAsking,
       isRetail: kindOf(question.type) === "retail",
-      hasCarriage: isOwn && kindOf(type) === "net"
-        && this.#settings.series.some(({ freeFrom }) => freeFrom !== undefined),
+      hasCarriage: hasCarriage(question, this.#settings),
       ...this.#acts,
     };
   }
@@ -205,7 +212,7 @@ export class OrderResults {
     found("sums-part").hidden = ordered.length === 0 || list.isAsking;
     const { id } = document.activeElement;
     const isHeld = found("sums").contains(document.activeElement);
-    const context = { ...this.#context(list), rows };
+    const context = { ...this.#context(list), rows, without: list.rest().books };
     found("sums").replaceChildren(sumsTable("sums-heading", sumsOf(ordered), context));
     if (isHeld) found(id)?.focus();
   }
@@ -223,7 +230,8 @@ export class OrderResults {
     const state = list.stateOf(book);
     const context = this.#context(list);
     const { others = [] } = book.answer;
-    const isBetter = state.offer !== undefined && otherCopies(book, state.offer, context).length > 0;
+    const found = state.offer === undefined ? [] : Object.values(otherCopies(book, state.offer, context)).flat();
+    const isBetter = found.length > 0;
     const row = this.#rowOf(book);
     if (others.length > 0 || isBetter) redraw(row, book, state, context);
     else noteSame(row, book, context);

@@ -3,13 +3,13 @@
 import { money, sumOf, times } from "./amounts.js";
 import { ABOVE, fileNameOf, formOf } from "./csv-form.js";
 import { inWords, today } from "./days.js";
-import { copiesInWords } from "./decision.js";
 import { element, found, table } from "./elements.js";
 import { cellsOf, remarkOf } from "./order-cells.js";
 import { csvOf, linesToPaste } from "./order-file.js";
+import { lackingTo } from "./order-sums.js";
 import { kindOf } from "./price-types.js";
 import { wholesalerOf } from "./settings.js";
-import { say } from "./wording.js";
+import { formatter, say, wordsOfCode } from "./wording.js";
 
 const UNPRINTED = "unprinted";
 const ON_PAPER = "order-on-paper";
@@ -98,13 +98,16 @@ export function printList(rows) {
   print("", [...left, ...sums]);
 }
 
-/** What stands once above the order of a wholesaler: each with what it is. */
-function paperHead(series, { settings, order }) {
+/** What stands once above the order of a wholesaler: to whom and from whom it goes, and what its prices are. */
+function paperHead(series, { settings, currency, type }) {
   const { account = "" } = settings.series.find(({ name }) => name === series) ?? {};
-  const texts = { order, date: inWords(today()), shop: settings.shop, address: settings.address, account };
-  return Object.entries(texts).filter(([, text]) => text !== "").map(([name, text]) => (
-    element("p", {}, say("order.onPaper", { name: say(`order.columns.${name}`), text }))
+  const { shop, address } = settings;
+  const texts = { to: wholesalerOf(settings, series), account, shop, address, date: inWords(today()) };
+  const lines = Object.entries(texts).filter(([, text]) => text !== "").map(([name, text]) => (
+    say(`order.onPaper.${name}`, { text })
   ));
+  const prices = say("order.onPaper.prices", { currency, type: wordsOfCode("priceTypes", type) ?? type });
+  return [...lines, prices].map((line) => element("p", {}, line));
 }
 
 /** The columns of a paper: those of the form that are not above it, and the remark where a price may be old. */
@@ -113,25 +116,51 @@ function columnsOnPaper(rows, series, { settings, isOld }) {
   return rows.some((row) => remarkOf(row, isOld) !== "") ? [...columns, "remark"] : columns;
 }
 
+// What a wholesaler reads otherwise than the shop does.
+const OF_THE_READER = ["price", "sum", "reference"];
+
+/** The heads of the columns on paper, as the wholesaler reads them. */
+function headsOnPaper(columns, { currency, type }) {
+  const isRetail = kindOf(type) === "retail";
+  return headsOf(columns, type).map((name, at) => {
+    const column = columns[at];
+    const isOfReader = OF_THE_READER.includes(column) && !(column === "price" && isRetail);
+    const className = AMOUNTS.includes(column) ? "amount" : undefined;
+    return { name: isOfReader ? say(`order.onPaper.${column}`, { currency }) : name, className };
+  });
+}
+
+/** The row of the total: the copies and the sum, each in its column. */
+function totalRow(columns, copies, sum, currency) {
+  const cells = { copies: formatter(Intl.NumberFormat).format(copies), sum: money(sum, currency) };
+  const texts = columns.map((name) => cells[name] ?? "");
+  if (texts[0] === "") texts[0] = say("order.onPaper.total");
+  return { cells: texts.map((text) => [text]), className: "sum" };
+}
+
+/** That the carriage of an order is free, where desk.json says so. */
+function carriageOnPaper(series, sum, { settings, currency, hasCarriage }) {
+  const { freeFrom } = settings.series.find(({ name }) => name === series) ?? {};
+  if (!hasCarriage || freeFrom === undefined || lackingTo(sum, freeFrom) !== undefined) return [];
+  return [element("p", { class: "carriage" }, say("order.onPaper.carriage", { least: money(freeFrom, currency) }))];
+}
+
 /** Prints the order of a wholesaler: what its form has, and nothing of another one. */
 export function printOrder(rows, series, context) {
-  const { settings, currency, type } = context;
+  const { currency, order } = context;
   const columns = columnsOnPaper(rows, series, context);
-  const heads = headsOf(columns, type).map((name, at) => ({
-    name, className: AMOUNTS.includes(columns[at]) ? "amount" : undefined,
-  }));
   const lines = rows.map((row) => {
     const cells = cellsOf(row, context);
     return { cells: columns.map((name) => [element("bdi", {}, cells[name])]) };
   });
   const sum = sumOf(rows.map(({ book, state: { offer } }) => times(offer.amount, book.copies)));
   const copies = rows.reduce((count, { book }) => count + book.copies, 0);
-  const heading = element("h1", { id: "paper-order" }, say("order.paper", { name: wholesalerOf(settings, series) }));
+  const total = totalRow(columns, copies, sum, currency);
   found("paper").replaceChildren(
-    heading,
+    element("h1", { id: "paper-order" }, say("order.onPaper.heading", { order }).trim()),
     ...paperHead(series, context),
-    table("paper-order", heads, lines),
-    element("p", { class: "sum" }, say("order.paperSum", { sum: money(sum, currency), copies: copiesInWords(copies) })),
+    table("paper-order", headsOnPaper(columns, context), [...lines, total]),
+    ...carriageOnPaper(series, sum, context),
   );
   print(ON_PAPER, []);
 }

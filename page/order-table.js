@@ -5,14 +5,14 @@ import { difference, money, signedMoney, times } from "./amounts.js";
 import { catalogueLink } from "./catalogue.js";
 import { dayInShort } from "./days.js";
 import { elsewhereInWords, fallsInWords, onlyMoreInWords } from "./better.js";
-import { betterInWords, copiesInWords } from "./decision.js";
+import { betterOf, copiesInWords } from "./decision.js";
 import { element, table, tableRow } from "./elements.js";
 import { isBook } from "./isbn.js";
 import { keyOf } from "./offers.js";
 import { marksOf } from "./offers-table.js";
 import { LEFT_OUT, unpricedBeside } from "./order-answers.js";
 import { changesOf } from "./quantities.js";
-import { farInWords, farOf, retailInWords } from "./retail.js";
+import { farInWords, farOf, retailTexts } from "./retail.js";
 import { wholesalerOf } from "./settings.js";
 import { titleNodes, titlesOfOffers } from "./titles.js";
 import { codeInWords, formatter, say, sayCount, wordsOfCode } from "./wording.js";
@@ -138,16 +138,18 @@ function addedUp({ lines, parts }) {
   return [say("order.addedUp", { lines: linesInWords({ lines }), copies: parts.join(" + ") })];
 }
 
-/** Which other numbers of copies are better, at any offer, where the desk has been asked for the ordered one's. */
+/**
+ * Which other numbers of copies are better, where the desk has been asked for the ordered one's: at what is ordered
+ * (`own`, each with its `words`), and at the other offers, in words.
+ */
 export function otherCopies({ answer, copies }, offer, { currency, settings }) {
   const isAsked = answer.ordered !== undefined && keyOf(answer.ordered) === keyOf(offer);
-  if (!isAsked || answer.copies === undefined) return [];
+  if (!isAsked || answer.copies === undefined) return { own: [], elsewhere: [] };
   const asked = { answers: answer.copies, quantity: copies, ordered: offer, currency };
-  return [
-    ...betterInWords(changesOf(offer, answer.copies), copies, currency),
-    ...elsewhereInWords(answer.offers, asked, settings),
-    ...onlyMoreInWords(answer.offers, asked, settings),
-  ];
+  return {
+    own: betterOf(changesOf(offer, answer.copies), copies, currency),
+    elsewhere: [...elsewhereInWords(answer.offers, asked, settings), ...onlyMoreInWords(answer.offers, asked, settings)],
+  };
 }
 
 /** A price by another type, or in another currency. */
@@ -194,6 +196,21 @@ function rightButton(book, need, context) {
   return [" ", button];
 }
 
+/** Another number of copies at what is ordered that is better, with the button that takes it. */
+function takePart(words, { quantity }, book, context) {
+  const copies = copiesInWords(quantity);
+  const button = element("button", { type: "button", class: "small take" }, say("order.take", { copies }));
+  button.setAttribute("aria-label", say("order.takeOf", { copies, isbn: book.isbn }));
+  button.addEventListener("click", () => context.edit(book, { copies: String(quantity) }, true));
+  return element("span", {}, words, " ", button);
+}
+
+/** The same of all offers: what can be taken at once first. */
+function otherCopiesParts(book, offer, context) {
+  const { own, elsewhere } = otherCopies(book, offer, context);
+  return [...own.map(({ words, better }) => takePart(words, better, book, context)), ...elsewhere];
+}
+
 function noteCell(book, state, context) {
   const { offer, isByHand, need } = state;
   const words = [...addedUp(book)];
@@ -205,7 +222,7 @@ function noteCell(book, state, context) {
     if (isByHand) words.push(say("order.byHand"));
     if (offer.change !== undefined) words.push(changeAhead(offer.change, context.currency));
     words.push(...fallsInWords(book.answer.offers, { ordered: offer, ...context }, context.settings));
-    words.push(...otherCopies(book, offer, context));
+    words.push(...otherCopiesParts(book, offer, context));
     words.push(...unpricedNotes(book, offer, context));
   }
   for (const { file, copies } of context.beforeOf(book.isbn)) {
@@ -315,11 +332,17 @@ function removeButton(book, context) {
   return button;
 }
 
-/** What a copy costs, behind the recommended price and the margin, where there are these. */
-function priceCell({ answer }, offer, context) {
-  const retail = retailInWords(answer.retail, offer, context, "order.retail");
-  const before = retail === "" ? [] : [element("small", {}, retail), " "];
-  return [...before, money(offer.amount, context.currency)];
+/** An amount, behind something smaller, where there is that. */
+function amountCell(amount, path, text) {
+  const before = text === undefined ? [] : [element("small", {}, say(path, { text })), " "];
+  return [...before, amount];
+}
+
+/** What a copy costs, with the recommended price, and what all do, with the margin. */
+function amountCells({ answer, copies }, offer, context) {
+  const { retail, margin } = retailTexts(answer.retail, offer, context);
+  const [price, sum] = [offer.amount, times(offer.amount, copies)].map((amount) => money(amount, context.currency));
+  return [amountCell(price, "order.retail", retail), amountCell(sum, "order.margin", margin)];
 }
 
 /** The title of a book, once it is known who offers it. */
@@ -330,14 +353,9 @@ function titleCell({ titles, answer }, offer, { settings }) {
 
 function rowOf(book, state, context) {
   const { offer } = state;
-  const { currency } = context;
   const amounts = offer === undefined
     ? [[], [], []]
-    : [
-        [inPlainWords(offer.availability)],
-        priceCell(book, offer, context),
-        [money(times(offer.amount, book.copies), currency)],
-      ];
+    : [[inPlainWords(offer.availability)], ...amountCells(book, offer, context)];
   return {
     className: state.need === undefined ? undefined : "needs",
     cells: [

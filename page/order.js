@@ -5,6 +5,7 @@ import { found } from "./elements.js";
 import { isbnsIn } from "./isbn-in-text.js";
 import { eachOf, OrderAsking } from "./order-asking.js";
 import { FormerOrders } from "./order-before.js";
+import { hasCarriage } from "./order-carriage.js";
 import { OrderInput } from "./order-input.js";
 import { OrderList } from "./order-list.js";
 import { edited, withOneMore } from "./order-text.js";
@@ -126,6 +127,16 @@ export class Order {
     tell(say("order.scanned", { code }));
   }
 
+  /** Puts a book of an article on the list, which is looked up once its view is shown; gives how many lines it has. */
+  take(isbn, copies) {
+    const isLookedUp = this.#isLookedUp();
+    // What a buyer is still writing there is looked up where the buyer wants it.
+    this.#isTaken ||= isLookedUp || this.#input.text.trim() === "";
+    if (isLookedUp) this.#input.rewrite(withOneMore(this.#list.books, isbn, copies));
+    else this.#input.add(`${isbn} ${copies}`);
+    return this.#input.read().count;
+  }
+
   /** Whether the lines are those that were looked up, so that a row may be changed by itself. */
   #isLookedUp() {
     return this.#list.books.length > 0 && this.#input.text === this.#list.text;
@@ -174,7 +185,10 @@ export class Order {
     found("list-asked").replaceChildren(...this.#question.inWords());
     const { books, question, text } = this.#list;
     const isOld = text !== this.#input.text || this.#columnsOf(columns) !== this.#list.columns;
-    showAge(books.length > 0 && (isOld || !this.#question.is(question)));
+    const isLookedUp = books.length > 0 && !isOld && this.#question.is(question);
+    showAge(books.length > 0 && !isLookedUp);
+    // What is done already is no longer what to do.
+    found("look-up").classList.toggle("main", !isLookedUp);
   }
 
   /** What the columns of a list are, as a text, by which another choice is known. */
@@ -400,7 +414,8 @@ export class Order {
     const told = restInWords(rest.count);
     const isOld = (wholesaler) => this.#reports.stateOf(wholesaler).count > 0;
     const order = found("order-reference").value.trim();
-    const context = { settings: this.#settings, isOld, day, currency, type, order };
+    const settings = this.#settings;
+    const context = { settings, isOld, day, currency, type, order, hasCarriage: hasCarriage(list.question, settings) };
     if (way === "csv") {
       const file = download(rows, { ...context, series });
       tellSaved(say("order.saved", { file, lines }) + told);

@@ -23,12 +23,17 @@ export function marginOf(amount, retail) {
 /** A share as whole percents in the page's language. */
 export const inPercent = (share) => formatter(Intl.NumberFormat, { style: "percent" }).format(share);
 
-/** The recommended price and the margin of an offer in words; empty where there is none, or the price is no net one. */
-export function retailInWords(retail, offer, { type, currency }, path = "article.retail") {
+/** The recommended price (`retail`) and the `margin` of an offer as texts; empty where there is none, or no net price. */
+export function retailTexts(retail, offer, { type, currency }) {
   const found = kindOf(type) === "net" ? retailOf(retail, offer) : undefined;
   const margin = found === undefined ? undefined : marginOf(offer.amount, found);
-  if (margin === undefined) return "";
-  return say(path, { retail: money(found, currency), margin: inPercent(margin) });
+  return margin === undefined ? {} : { retail: money(found, currency), margin: inPercent(margin) };
+}
+
+/** Both in words; empty where there is none. */
+export function retailInWords(retail, offer, question) {
+  const texts = retailTexts(retail, offer, question);
+  return texts.retail === undefined ? "" : say("article.retail", texts);
 }
 
 // A fifth of a recommended price, or of the next offer's, is less than any wholesaler takes.

@@ -25,12 +25,25 @@ function piecesOf({ first, next, greatest, missing }) {
   return pieces;
 }
 
-function pieceShape({ kind, from, to }, at, whole) {
+// Each picture has its own hatching, by a number.
+let hatchings = 0;
+
+/** What has come and waits is hatched: an empty piece is read as one that has not come. */
+function hatching() {
+  hatchings += 1;
+  const id = `hatching-${hatchings}`;
+  const size = { width: 6, height: 6 };
+  const line = drawn("path", { class: "hatching", d: "M-1 1L1 -1M0 6L6 0M5 7L7 5" });
+  return { fill: `url(#${id})`, pattern: drawn("pattern", { id, patternUnits: "userSpaceOnUse", ...size }, line) };
+}
+
+function pieceShape({ kind, from, to }, at, whole, fill) {
   const isMissing = kind === "missing";
   const length = Math.max(at(to + 1) - at(from), isMissing ? LEAST : 0);
   const inset = isMissing ? 0 : INSET;
   const shape = drawn("rect", {
     class: kind,
+    fill: kind === "waiting" ? fill : undefined,
     x: Math.min(at(from), whole - length),
     y: TOP + inset,
     width: length,
@@ -68,6 +81,7 @@ export function strip(report, ranges, whole) {
   const at = (number) => ((number - from) / (until - from + 1)) * whole;
   // What is missing is drawn last, over what may lie under its least width.
   const order = [...pieces].sort((one, other) => (one.kind === "missing") - (other.kind === "missing"));
+  const { fill, pattern } = hatching();
   return drawn(
     "svg",
     {
@@ -78,7 +92,8 @@ export function strip(report, ranges, whole) {
       role: "img",
       "aria-label": say("missing.strip", { from, until, ranges }),
     },
-    ...order.map((piece) => pieceShape(piece, at, whole)),
+    pattern,
+    ...order.map((piece) => pieceShape(piece, at, whole, fill)),
     ...edgeTexts(pieces, at, whole, [from, until]),
     drawn("text", { class: "end", x: 0, y: HEIGHT - 4 }, String(from)),
     drawn("text", { class: "end", x: whole, y: HEIGHT - 4, "text-anchor": "end" }, String(until)),
@@ -90,13 +105,16 @@ export function stripLegend() {
   const kinds = [["applied", "applied"], ["missing", "lost"], ["waiting", "waiting"]];
   const items = kinds.map(([kind, text]) => {
     const inset = kind === "missing" ? 0 : 3;
-    const sample = { class: kind, x: 0, y: inset, width: 18, height: 14 - 2 * inset };
+    const { fill, pattern } = hatching();
+    const size = { x: 0, y: inset, width: 18, height: 14 - 2 * inset };
+    const sample = { class: kind, fill: kind === "waiting" ? fill : undefined, ...size };
     return element(
       "li",
       {},
       drawn(
         "svg",
         { viewBox: "0 0 18 14", width: 18, height: 14, class: "strip", "aria-hidden": "true" },
+        pattern,
         drawn("rect", sample),
       ),
       " ",

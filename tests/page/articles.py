@@ -8,9 +8,9 @@ from tests.page.site import Site
 from tests.page.week import ISBN, OTHER_ISBN, article
 from tests.running import Outcome
 
-NORTH = ["North Books", "in stock 21"]
-SOUTH = ["South Books", "in stock 21"]
-WEST = ["Western Wholesale", "out of stock 31"]
+NORTH = ["North Books", "in stock"]
+SOUTH = ["South Books", "in stock"]
+WEST = ["Western Wholesale", "out of stock"]
 SAME = "same for more"
 SAME_FOR_TEN = "same for more"
 BREAK = "1: £11.8010: £9.95"
@@ -81,6 +81,10 @@ def chosen_rows(browser: Browser) -> list[list[str]]:
 
 def one_copy(site: Site, browser: Browser) -> Iterator[Outcome]:
     yield Outcome("one copy: the offers", ask(browser, article()), ONE_COPY)
+    codes = browser.run("return [...document.querySelectorAll('#offers [title^=ONIX]')].map(({ title }) => title)")
+    yield Outcome("one copy: codes are beside no number", codes, ["ONIX code 21", "ONIX code 21", "ONIX code 31"])
+    heads = ["Wholesaler", "Availability", "Retail price", "Dearer than chosen, a copy", "By copies", "Price valid"]
+    yield Outcome("one copy: the columns", browser.texts("#offers thead th"), heads)
     sentence = "On 10 April 2025: North Books: retail price £11.50"
     details = f"ISBN {ISBN} · in stock"
     yield Outcome("one copy: the answer", browser.text("#article-status"), f"{sentence}\n{details}\nwhy")
@@ -123,7 +127,7 @@ def another_country(site: Site, browser: Browser) -> Iterator[Outcome]:
 
 
 def no_rule(site: Site, browser: Browser) -> Iterator[Outcome]:
-    rows = [["North Books", "not available 40", "£25.00", SAME, ON]]
+    rows = [["North Books", "not available", "£25.00", SAME, ON]]
     yield Outcome("no rule: the offer", ask_on(browser, article(OTHER_ISBN)), rows)
     words = "No rule of the shop takes one of these offers, so none is chosen"
     yield Outcome("no rule: it is said", said(browser, words), True)

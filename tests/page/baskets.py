@@ -78,7 +78,7 @@ def from_a_till(site: Site, browser: Browser) -> Iterator[Outcome]:
     keys = Keyboard(browser)
     keys.paste()
     keys.press(Keys.TAB, Keys.ENTER)
-    status(browser, "28 of 28 looked up")
+    status(browser, "28 ready to order. 2 books need you.")
     focus = browser.run("return document.activeElement.getAttribute('aria-label')")
     yield Outcome("till: the focus is at what needs somebody", focus, "To line 3")
     keys.press(Keys.ENTER)
@@ -86,14 +86,14 @@ def from_a_till(site: Site, browser: Browser) -> Iterator[Outcome]:
     yield Outcome("till: it leads to the field", row, "row-isbn")
     keys.type(isbn_of(1))
     keys.press(Keys.ENTER)
-    status(browser, "29 of 29 looked up")
+    status(browser, "29 ready to order. 1 book needs you.")
     asked = len(site.requests())
     label = "return document.activeElement.getAttribute('aria-label')"
     browser.wait(lambda: browser.run(label) == f"Copies of {isbn_of(2)}")
     written = browser.run("return document.activeElement.value")
     yield Outcome("till: the row has what the till wrote", written, "0")
     keys.press("3", Keys.ENTER)
-    status(browser, "30 of 30 looked up. No book needs you.")
+    status(browser, "30 books: 30 ready to order. No book needs you.")
     desk = {line.split("/")[3] for line in site.requests()[asked:] if "/choice?" in line}
     yield Outcome("till: only that book is asked for", desk, {isbn_of(2)})
     keys.tab_back_to("order-reference")
@@ -156,7 +156,7 @@ def rows_change(site: Site, browser: Browser) -> Iterator[Outcome]:
     text = f"{isbn_of(0)}\t2\tAnna\n{isbn_of(3)}\t4\tCid\n"
     yield Outcome("rows: one is taken out", browser.run(lines), text)
     browser.one("#add-isbn").send_keys(isbn_of(4), Keys.ENTER)
-    status(browser, "3 of 3 looked up")
+    status(browser, "3 books: 3 ready to order")
     yield Outcome("rows: one more", [row[1:3] for row in browser.rows("#list")][-1], [isbn_of(4), "1"])
     browser.run("document.getElementById('to-order').focus()")
     scan(browser, isbn_of(4))
@@ -177,7 +177,7 @@ def said_day(day: date) -> str:
 def beside(site: Site, browser: Browser) -> Iterator[Outcome]:
     """What is better at another offer soon, or in another currency, is told in the list and in the article."""
     site.write_settings(order_desk.settings(currencies=["EUR"]))
-    falls = f"From {said_day(order_desk.fall(date.today()))} on Beta & Sons takes {money(order_desk.FALLEN)} a copy."
+    falls = f"From {said_day(order_desk.fall(date.today()))} on Beta & Sons charges {money(order_desk.FALLEN)} a copy."
     abroad = "Beta & Sons: no price of type 05 for 1 copy in GBP; \u20ac6.10 (not compared)"
     open_list(browser)
     look_up(browser, f"{FALLING} 2\n{order_desk.ABROAD}\n{order_desk.PENNY}")
@@ -212,6 +212,35 @@ def beside(site: Site, browser: Browser) -> Iterator[Outcome]:
     site.write_settings(order_desk.settings())
 
 
+def from_an_article(site: Site, browser: Browser) -> Iterator[Outcome]:
+    """What an article says to buy goes on the list by a button, and is looked up once the list is shown."""
+    open_list(browser)
+    for isbn, copies, lines in ((isbn_of(1), 3, "1 line"), (isbn_of(2), 1, "2 lines")):
+        browser.go(f"#article?isbn={isbn}&quantity={copies}")
+        browser.wait_for_text("#article-status", f"ISBN {isbn}")
+        button = browser.one("#add-to-list")
+        words = f"Add {copies} {'copy' if copies == 1 else 'copies'} to the order list"
+        yield Outcome(f"from an article: {words}", button.text, words)
+        button.click()
+        told = browser.wait_for_text("#in-list", "Added")
+        yield Outcome(f"from an article: {lines}", told, f"Added. The order list has {lines}.")
+    browser.go("#order")
+    status(browser, "2 books: 2 ready to order")
+    rows = [row[1:3] for row in browser.rows("#list")]
+    yield Outcome("from an article: the list", rows, [[isbn_of(1), "3"], [isbn_of(2), "1"]])
+    browser.go(f"#article?isbn={isbn_of(1)}&quantity=2")
+    browser.wait_for_text("#article-status", isbn_of(1))
+    yield Outcome("from an article: nothing is told of the one before", browser.text("#in-list"), "")
+    browser.one("#add-to-list").click()
+    browser.go("#order")
+    browser.wait(lambda: row_of(browser, isbn_of(1))[2] == "5")
+    rows = [row[1:3] for row in browser.rows("#list")]
+    yield Outcome("from an article: more copies", rows, [[isbn_of(1), "5"], [isbn_of(2), "1"]])
+    browser.open(f"#article?isbn={order_desk.NOT_ADMITTED}&quantity=1")
+    browser.wait_for_text("#article-status", "No rule")
+    yield Outcome("from an article: not what nobody says to buy", browser.one("#to-list").is_displayed(), False)
+
+
 def margins(site: Site, browser: Browser) -> Iterator[Outcome]:
     """The recommended price and the margin stand in the article, the list and the shop's own file."""
     folder = site.room.path("margins")
@@ -221,7 +250,8 @@ def margins(site: Site, browser: Browser) -> Iterator[Outcome]:
     yield Outcome("margins: in the article", said(browser, "RRP \u00a312.00 \u00b7 margin 40%"), True)
     open_list(browser)
     look_up(browser, f"{RECOMMENDED} 2")
-    yield Outcome("margins: in the list", row_of(browser, RECOMMENDED)[5], "RRP \u00a312.00 \u00b7 40% \u00a37.20")
+    in_list = ["RRP \u00a312.00 \u00a37.20", "margin 40% \u00a314.40"]
+    yield Outcome("margins: in the list", row_of(browser, RECOMMENDED)[5:7], in_list)
     browser.one("#csv-all").click()
     saved_status(browser, "Saved")
     head, row = file_rows(saved(browser, folder))
@@ -272,4 +302,4 @@ def in_pieces(site: Site, browser: Browser) -> Iterator[Outcome]:
     yield Outcome("pieces: the last", (came, browser.one("#take-piece").is_displayed()), (True, False))
 
 
-CASES = [with_wholesalers, from_a_till, rows_change, beside, margins, budget_and_carriage, in_pieces]
+CASES = [with_wholesalers, from_a_till, rows_change, beside, from_an_article, margins, budget_and_carriage, in_pieces]

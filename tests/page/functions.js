@@ -218,7 +218,7 @@ function refuseTwice() {
 
 // What changes from run to run has no place in a picture that is kept.
 function standStill() {
-  document.getElementById('as-of').textContent = 'As of 09:30:00; asked again each minute.';
+  document.getElementById('as-of').textContent = 'As of 09:30:00; the page refreshes this every minute.';
   document.getElementById('answer-time').textContent = 'as of 09:30:00';
   document.getElementById('list-as-of').textContent = 'As of 09:30:00 to 09:30:01.';
 }

@@ -90,7 +90,7 @@ def missing(site: Site, browser: Browser) -> Iterator[Outcome]:
     tab_to(browser, has_id("to-missing"), is_back=True)
     press(browser, Keys.ENTER)
     browser.wait_for_text("#as-of", "As of")
-    tab_to(browser, lambda focus: focus["text"] == "Copy a request to send them again")
+    tab_to(browser, lambda focus: focus["text"] == "Copy a letter asking North Books to resend 3 to 4, 6 to 8")
     press(browser, Keys.ENTER)
     told = browser.wait_for_text("#report-north .copied", "copied")
     yield Outcome("copied by the keyboard", bool(told), True)
@@ -103,7 +103,7 @@ def skipped(site: Site, browser: Browser) -> Iterator[Outcome]:
     press(browser, Keys.ENTER)
     press(browser, Keys.TAB)
     text = browser.call("focus")["text"]
-    yield Outcome("behind the link past the head", text, "Copy a request to send them again")
+    yield Outcome("behind the link past the head", text, "Copy a letter asking North Books to resend 3 to 4, 6 to 8")
     address = browser.run("return location.hash")
     yield Outcome("the link past the head keeps the view", address, "#missing")
 

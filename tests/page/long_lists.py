@@ -122,7 +122,9 @@ def whole_list(site: Site, browser: Browser) -> Iterator[Outcome]:
     while not browser.run(state).startswith("500 of 500") and time.monotonic() < end:
         colleague.append(site.fetch("/desk/series/alpha/gaps")[0])
         time.sleep(0.2)
-    yield Outcome("five hundred lines", browser.text("#list-status"), "500 of 500 looked up. No book needs you.")
+    yield Outcome(
+        "five hundred lines", browser.text("#list-status"), "500 books: 500 ready to order. No book needs you."
+    )
     yield from timed(browser, site.requests()[asked:])
     yield Outcome("a colleague is answered", set(colleague), {200})
     wanted = ordered(WHOLE)
@@ -144,8 +146,8 @@ def stopped(site: Site, browser: Browser) -> Iterator[Outcome]:
     browser.one("#look-up").click()
     browser.wait(lambda: browser.run("return document.getElementById('list-progress').value") > 0)
     browser.one("#stop").click()
-    told = status(browser, "of 500 looked up")
-    done = int(told.split(" ")[0])
+    told = status(browser, "not looked up")
+    done = int(told.split(" ")[2])
     yield Outcome(f"stopped after {done} books", 0 < done < 500, True)
     go_on = browser.text("#go-on")
     yield Outcome("the others are counted", go_on, f"Go on with the other {500 - done} books")
@@ -155,7 +157,7 @@ def stopped(site: Site, browser: Browser) -> Iterator[Outcome]:
     words = "The desk is not running, or is just being started. The page asks again by itself every 5 seconds."
     yield Outcome("a desk that is away", browser.wait_for_text("#down", "not running"), words)
     site.start_desk()
-    yield Outcome("it is asked again", status(browser, "20 of 20").startswith("20 of 20 looked up."), True)
+    yield Outcome("it is asked again", status(browser, "20 books").startswith("20 books: 20 ready to order."), True)
     yield Outcome("the note is gone", browser.one("#down").is_displayed(), False)
 
 

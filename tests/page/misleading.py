@@ -237,9 +237,12 @@ def marked_wholesalers(site: Site, browser: Browser) -> Iterator[Outcome]:
     name = browser.one("#to-missing").accessible_name
     yield Outcome(f"at the tab: in words, {name}", "5 messages missing" in name, True)
     tags = browser.call("unusualTags")
-    yield Outcome("in the rows", tags, [["5 missing"], ["silent for 8 days"], []])
+    yield Outcome("in the rows", tags, [["prices may be old"], ["silent for 8 days"], []])
+    titles = browser.run("return [...document.querySelectorAll('#offers .tag.unusual')].map((tag) => tag.title)")
+    yield Outcome("in the rows: how many, no copies", titles, ["5 messages missing", ""])
     notes = browser.text("#notes")
-    words = "Messages of North Books are missing: 3 to 4, 6 to 8. 2 later messages wait for what is missing. Its prices may be"
+    words = "Messages of North Books are missing: 3 to 4, 6 to 8. 2 later messages have come, and wait for what is missing. "
+    words += "Its prices may be"
     yield Outcome("below the answer", words in notes, True)
     yield Outcome("below the answer: silence", "South Books: no new message for 8 days." in notes, True)
     browser.run("localStorage.clear()")
@@ -260,7 +263,7 @@ def breaks(site: Site, browser: Browser) -> Iterator[Outcome]:
         )
         yield Outcome("from five on only: the row", browser.call("offerCells")[0][3], "1: no price5: £5.00")
         ask_on(browser, article(DEARER_ISBN, quantity="10", type="05"))
-        told = "Fewer copies cost less each: 9 copies at £8.66 each, £77.94 in all."
+        told = "Unusual, please check: fewer copies cost less each, 9 copies at £8.66 each, £77.94 in all."
         yield Outcome("ten cost more than nine", noted(browser, told), True)
         ask_on(browser, article(BREAKS_ISBN, quantity="48", type="05"))
         told = "More copies cost less in all: 50 copies at £3.76 each, £188.00 in all."
@@ -270,7 +273,7 @@ def breaks(site: Site, browser: Browser) -> Iterator[Outcome]:
 def until(site: Site, browser: Browser) -> Iterator[Outcome]:
     """Until when the price holds stands below the answer and in its row."""
     rows = ask(browser, article(BREAKS_ISBN, type="05"))
-    told = "Until 30 April 2025. From 1 May 2025 on net takes £4.58 a copy."
+    told = "Until 30 April 2025. From 1 May 2025 on net charges £4.58 a copy."
     yield Outcome("until when the price holds", noted(browser, told), True)
     yield Outcome("until when the price holds: the row", rows[0][5], "until 30 Apr 2025, then £4.58")
     browser.open(article(BREAKS_ISBN, type="05", **{"from": "2025-03-01", "until": "2025-03-31"}))

@@ -82,7 +82,7 @@ def look_up(browser: Browser, text: str) -> None:
     browser.call("putLines", text)
     browser.one("#look-up").click()
     browser.wait(lambda: not browser.shows("#list-running") and text_in(browser, "list-status"))
-    status(browser, "looked up")
+    status(browser, "ready to order")
 
 
 def sums(browser: Browser) -> list[list[str]]:
@@ -204,8 +204,8 @@ def thirty_books(site: Site, browser: Browser) -> Iterator[Outcome]:
     )
     keys = Keyboard(browser)
     keys.paste()
-    told = status(browser, "30 of 30 looked up")
-    yield Outcome("thirty lines are looked up", told, "30 of 30 looked up. No book needs you.")
+    told = status(browser, "30 books")
+    yield Outcome("thirty lines are looked up", told, "30 books: 30 ready to order. No book needs you.")
     yield Outcome("they lead to the order list", browser.run("return location.hash"), "#order")
     wanted = ordered(numbers)
     rows = [
@@ -213,7 +213,7 @@ def thirty_books(site: Site, browser: Browser) -> Iterator[Outcome]:
         for name, books in sorted(wanted.items())
     ]
     everything = [book for books in wanted.values() for book in books]
-    rows.append(["All", "30", str(sum(copies for _, copies, _ in everything)), money(sum_of(everything))])
+    rows.append(["Total", "30", str(sum(copies for _, copies, _ in everything)), money(sum_of(everything))])
     came = sorted([row[0].split(" 2 ")[0], *row[1:]] for row in sums(browser))
     yield Outcome("the sums", came, sorted(rows))
     for name in WHOLESALERS:
@@ -321,14 +321,17 @@ def by_hand(site: Site, browser: Browser) -> Iterator[Outcome]:
     carriage = browser.rows("#sums")[0][4]
     short = money(order_desk.FREE_FROM - 2 * dear - 21)
     yield Outcome("what is short of free carriage", carriage, f"{short} short of free carriage (£50.00)")
+    yield Outcome("where nothing is known of it", browser.rows("#sums")[1][4], "not known")
+    filled = browser.run("return document.getElementById('look-up').matches('.main')")
+    yield Outcome("what is looked up is no longer what to do", filled, False)
     order_five_of_last(browser)
-    status(browser, "3 of 3 looked up")
+    status(browser, "3 books: 3 ready to order")
     row = row_of(browser, isbn_of(1))
     yield Outcome("the edited list keeps it", [row[2], row[5], row[-1]], ["2", money(dear), "chosen by hand"])
     yield Outcome("which is told", browser.text("#hands-words"), "2 choices by hand were kept.")
     Select(browser.one(f"select[aria-label='Wholesaler of {isbn_of(1)}']")).select_by_visible_text("not ordered")
     wanted = money(3 * Decimal("7.00") + 5 * chosen_of(2).amount)
-    yield Outcome("a book that is left out", sums(browser)[-1], ["All", "2", "8", wanted])
+    yield Outcome("a book that is left out", sums(browser)[-1], ["Total, without line 1", "2", "8", wanted])
     yield Outcome("its row has no sum any longer", money(2 * dear) in row_of(browser, isbn_of(1)), False)
     look_up(browser, f"{isbn_of(1)} 20\n{order_desk.NOT_ADMITTED} 3\n{isbn_of(2)}")
     cheap = chosen_of(1).amount
@@ -345,11 +348,11 @@ def forgotten_hands(site: Site, browser: Browser) -> Iterator[Outcome]:
     look_up(browser, f"{isbn} 3\n{isbn_of(2)}")
     Select(browser.one(f"select[aria-label='Wholesaler of {isbn}']")).select_by_index(1)
     order_five_of_last(browser)
-    status(browser, "2 of 2 looked up")
+    status(browser, "2 books: 2 ready to order")
     yield Outcome("a choice that was kept", row_of(browser, isbn)[-1], "chosen by hand")
     browser.one("#forget-hands").click()
     yield Outcome("forgotten: its row", row_of(browser, isbn)[3].startswith("No rule"), True)
-    yield Outcome("forgotten: the order", sums(browser)[-1][:3], ["All", "1", "5"])
+    yield Outcome("forgotten: the order", sums(browser)[-1][:3], ["Total, without line 1", "1", "5"])
 
 
 BROKEN, DEARER = order_desk.BROKEN, order_desk.DEARER
@@ -365,14 +368,17 @@ def other_copies(site: Site, browser: Browser) -> Iterator[Outcome]:
     """Other numbers of copies that cost less are told in the row, of the wholesaler that the book is ordered from."""
     open_list(browser)
     look_up(browser, f"{BROKEN} 9\n{DEARER} 12")
-    more = "More copies cost less in all: 10 copies at £4.00 each, £40.00 in all."
+    more = "More copies cost less in all: 10 copies at £4.00 each, £40.00 in all. Take 10 copies"
     beta = "More copies from Beta & Sons cost less in all: 10 copies at £3.00 each, £30.00 in all."
-    fewer = "Fewer copies cost less each: 9 copies at £8.66 each, £77.94 in all."
+    fewer = "Unusual, please check: fewer copies cost less each, 9 copies at £8.66 each, £77.94 in all. Take 9 copies"
     told = notes_of(browser, BROKEN, DEARER)
     yield Outcome("ten cost less than nine, nine less each than twelve", told, [f"{more} · {beta}", fewer])
+    browser.one(f"button[aria-label='Take 9 copies of {DEARER}']").click()
+    browser.wait(lambda: row_of(browser, DEARER)[2] == "9")
+    yield Outcome("nine are taken by a button", notes_of(browser, DEARER), [""])
     field = Select(browser.one(f"select[aria-label='Wholesaler of {BROKEN}']"))
     field.select_by_visible_text("Beta & Sons, £5.50 (+£0.50), in stock")
-    told = "chosen by hand · More copies cost less in all: 10 copies at £3.00 each, £30.00 in all."
+    told = "chosen by hand · More copies cost less in all: 10 copies at £3.00 each, £30.00 in all. Take 10 copies"
     told += " · More copies from Alpha Books cost less in all: 10 copies at £4.00 each, £40.00 in all."
     came = browser.wait(lambda: notes_of(browser, BROKEN) == [told])
     yield Outcome("of a wholesaler by hand too", came, True)
@@ -386,7 +392,8 @@ def other_copies(site: Site, browser: Browser) -> Iterator[Outcome]:
     yield Outcome("ten cost more than nine", notes_of(browser, DEARER), [fewer])
     browser.open(f"#article?isbn={BROKEN}&quantity=9")
     browser.wait(lambda: beta in browser.texts("#notes li"))
-    yield Outcome("in the article too", [note in browser.texts("#notes li") for note in (more, beta)], [True, True])
+    told = [more.removesuffix(" Take 10 copies"), beta]
+    yield Outcome("in the article too", [note in browser.texts("#notes li") for note in told], [True, True])
 
 
 AS_OF = re.compile(r"As of (\d\d:\d\d:\d\d)(?: to (\d\d:\d\d:\d\d))?\.")
@@ -481,7 +488,9 @@ def copied(site: Site, browser: Browser) -> Iterator[Outcome]:
     open_list(browser)
     look_up(browser, f"{isbn_of(0)};2;Anna\n{isbn_of(1)};3")
     browser.one("#copy-all").click()
-    yield Outcome("an order is copied", saved_status(browser, "Copied"), "Copied for All, ISBN and copies: 2 books.")
+    yield Outcome(
+        "an order is copied", saved_status(browser, "Copied"), "Copied for all wholesalers, ISBN and copies: 2 books."
+    )
     text = browser.driver.execute_async_script("navigator.clipboard.readText().then(arguments[0])")
     yield Outcome("what is copied", text, f"{isbn_of(0)}\t2\n{isbn_of(1)}\t3\n")
     allow_clipboard(site, browser, "denied")
@@ -510,17 +519,18 @@ def printed(site: Site, browser: Browser) -> Iterator[Outcome]:
     browser.wait(lambda: browser.run("return window.isPrinted"))
     browser.driver.execute_cdp_cmd("Emulation.setEmulatedMedia", {"media": "print"})
     wanted = [isbn_of(number) for number, _, _ in ordered(range(6))["beta"]]
-    yield Outcome("the rows on paper", seen_texts(browser, "#paper tbody th"), wanted)
+    yield Outcome("the rows on paper", seen_texts(browser, "#paper tbody th"), [*wanted, "Total"])
     total = money(sum_of(ordered(range(6))["beta"]))
     copies = sum(copies for _, copies, _ in ordered(range(6))["beta"])
-    yield Outcome("its sum alone", browser.text("#paper .sum"), f"Sum: {total}, {copies} copies")
-    yield Outcome("whose order it is", browser.text("#paper h1"), "Order: Beta & Sons")
+    sum_row = browser.rows("#paper")[-1]
+    yield Outcome("its total, in the columns that it is of", sum_row, ["Total", str(copies), "", total, ""])
+    yield Outcome("that it is an order", browser.text("#paper h1"), "Purchase order 2026-118")
     day = browser.run("return new Date().toLocaleDateString('en-GB', { dateStyle: 'long' })")
-    above = ["Order reference: 2026-118", f"Date: {day}", "Shop: High Street Books", "Address: 12 High Street, York"]
-    above.append("Account: B-7")
-    heads = ["ISBN", "Copies", "Price", "Sum", "Reference"]
+    above = ["To: Beta & Sons", "Our account: B-7", "From: High Street Books", "Deliver to: 12 High Street, York"]
+    above += [f"Date: {day}", "Prices: GBP, supplier's net price, without tax"]
+    heads = ["ISBN", "Copies", "Unit price, GBP", "Sum, GBP", "Your item no."]
     yield Outcome("its columns", browser.texts("#paper thead th"), heads)
-    yield Outcome("what stands above it", browser.texts("#paper p")[:-1], above)
+    yield Outcome("what stands above it", browser.texts("#paper p"), above)
     seen = browser.run("return document.body.innerText")
     others = [word for word in ("Alpha", "Gamma", "customer") if word in seen]
     yield Outcome("nothing of others, and of customers", others, [])
@@ -532,7 +542,7 @@ def printed(site: Site, browser: Browser) -> Iterator[Outcome]:
     browser.wait(lambda: browser.shows("#save-question"))
     browser.one("#save-all").click()
     browser.wait(lambda: "Gamma" in browser.run("return document.getElementById('paper').textContent"))
-    marked = browser.run("return document.querySelectorAll('#paper tbody tr').length")
+    marked = browser.run("return document.querySelectorAll('#paper tbody tr:not(.sum)').length")
     remarks = browser.run("return document.getElementById('paper').textContent").count(OLD)
     yield Outcome("what may be old is marked on paper", (remarks, remarks > 0), (marked, True))
     browser.driver.execute_cdp_cmd("Emulation.setEmulatedMedia", {"media": ""})
@@ -573,7 +583,7 @@ def without_reply(site: Site, browser: Browser) -> Iterator[Outcome]:
     browser.call("loseReplies", isbn_of(1))
     look_up(browser, lines_of(range(6)))
     yield Outcome("no reply: asked for twice", browser.run("return window.lost"), 2)
-    yield Outcome("no reply: the others", browser.text("#list-status"), "6 of 6 looked up. 1 book needs you.")
+    yield Outcome("no reply: the others", browser.text("#list-status"), "6 books: 5 ready to order. 1 book needs you.")
     yield Outcome("no reply: it needs a person", browser.texts("#list-needs li"), ["Not answered (1): line 2"])
     told = (
         "The desk has left this question without an answer twice, though it answers others. "
@@ -585,7 +595,7 @@ def without_reply(site: Site, browser: Browser) -> Iterator[Outcome]:
     browser.run("window.isLosing = false")
     browser.one("#go-on").click()
     told = status(browser, "No book needs you")
-    yield Outcome("no reply: answered then", told, "6 of 6 looked up. No book needs you.")
+    yield Outcome("no reply: answered then", told, "6 books: 6 ready to order. No book needs you.")
     yield Outcome("no reply: no button then", browser.one("#go-on").is_displayed(), False)
 
 
@@ -597,7 +607,9 @@ def cut(site: Site, browser: Browser) -> Iterator[Outcome]:
     look_up(browser, lines_of(range(20)))
     count = browser.run("return window.cut")
     yield Outcome(f"cut: {count} questions", count >= 4, True)
-    yield Outcome("cut: all are answered", browser.text("#list-status"), "20 of 20 looked up. No book needs you.")
+    yield Outcome(
+        "cut: all are answered", browser.text("#list-status"), "20 books: 20 ready to order. No book needs you."
+    )
     yield Outcome("cut: nobody is told", browser.run("return window.told"), [])
     there = [line for line in site.requests()[asked:] if "is-the-desk-there" in line]
     yield Outcome("cut: the desk is not asked whether it is there", there, [])
@@ -614,7 +626,7 @@ def refused(site: Site, browser: Browser) -> Iterator[Outcome]:
     yield Outcome("asked too often", browser.wait_for_text("#down", "too often"), often)
     fault = f"The desk has a fault of its storage. Its disk has failed; somebody should look at it. {again}"
     yield Outcome("a fault of the desk", browser.wait_for_text("#down", "fault"), fault)
-    yield Outcome("then it is answered", status(browser, "1 of 1").startswith("1 of 1 looked up."), True)
+    yield Outcome("then it is answered", status(browser, "1 book").startswith("1 book: 1 ready to order."), True)
 
 
 def kept(site: Site, browser: Browser) -> Iterator[Outcome]:
@@ -647,16 +659,22 @@ def columns(site: Site, browser: Browser) -> Iterator[Outcome]:
     rows = [row[:3] for row in browser.rows("#columns-sample")]
     wanted = [[isbn_of(0), "12", "3"], [isbn_of(1), "4", "1"], [isbn_of(2), "5", "2"]]
     yield Outcome("columns: three rows of the table", rows, wanted)
+    told = browser.text("#columns-heading")
+    yield Outcome("columns: which rows", told, "How the table is read: the first 3 of 4 lines")
     desk = [line for line in site.requests()[asked:] if "/desk/articles/" in line]
     yield Outcome("columns: nothing is looked up", desk, [])
     browser.run("document.activeElement.focus()")
     ActionChains(browser.driver).send_keys("3").perform()
-    status(browser, "4 of 4 looked up")
+    status(browser, "4 books: 4 ready to order")
     yield Outcome("columns: a key chooses", [row[2] for row in browser.rows("#list")], ["3", "1", "2", "1"])
     look_up(browser, text.replace(";12;3", ";12;7"))
     yield Outcome("columns: the heading is known", row_of(browser, isbn_of(0))[2], "7")
     look_up(browser, f"ISBN;Stock;Order\n{isbn_of(0)};12;3")
     yield Outcome("columns: the stock is not ordered", row_of(browser, isbn_of(0))[2], "3")
+    heads = browser.texts("#columns-sample th[role=columnheader]")
+    wanted_heads = ["1 · ISBN", "2 · Stock · not used", "3 · Order · Copies"]
+    yield Outcome("columns: what becomes of each", heads, wanted_heads)
+    yield Outcome("columns: all rows", browser.text("#columns-heading"), "How the table is read")
     Select(browser.one("#copies-column")).select_by_visible_text("2 · Stock")
     came = browser.wait(lambda: row_of(browser, isbn_of(0))[2] == "12")
     yield Outcome("columns: another one by hand", came, True)
@@ -672,7 +690,7 @@ def asked_before(site: Site, browser: Browser) -> Iterator[Outcome]:
     lines = [f"{isbn_of(0)} 2", f"{isbn_of(1)} 1984 George Orwell", f"{isbn_of(4)} 60", f"{order_desk.NOBODYS} 3", "x"]
     look_up(browser, "\n".join(lines))
     told = browser.text("#list-status")
-    yield Outcome("four of five need a person", told, "4 of 4 looked up. 4 books need you.")
+    yield Outcome("four of five need a person", told, "5 books: 1 ready to order. 4 books need you.")
     reasons = ["Unsure how many copies", "Many copies or much money", "Nobody offers it", "No ISBN"]
     came = [item.split(" (")[0] for item in browser.texts("#list-needs li")]
     yield Outcome("each with its reason", sorted(came), sorted(reasons))
@@ -706,7 +724,7 @@ def asked_before(site: Site, browser: Browser) -> Iterator[Outcome]:
     right = f"button[aria-label='What is ordered of {isbn_of(1)} is right']"
     browser.one(right).click()
     told = browser.wait_for_text("#list-status", "3 books need")
-    yield Outcome("a person says that it is right", told, "4 of 4 looked up. 3 books need you.")
+    yield Outcome("a person says that it is right", told, "5 books: 2 ready to order. 3 books need you.")
     Select(browser.one(f"select[aria-label='Wholesaler of {isbn_of(1)}']")).select_by_visible_text("not ordered")
     yield Outcome("a change takes the mark away", browser.texts("#sums .mark"), [])
     yield Outcome("then leaving asks", browser.run(asks), True)
@@ -734,7 +752,7 @@ def another_question(site: Site, browser: Browser) -> Iterator[Outcome]:
     wanted = f"€{3 * order_desk.EUROS:.2f}"
     came = browser.wait(lambda: [row[3] for row in sums(browser)][-1:] == [wanted])
     yield Outcome("in euros", came, True)
-    status(browser, "1 of 1 looked up")
+    status(browser, "1 book: 1 ready to order")
     yield Outcome("free carriage is in pounds alone", "Carriage" in browser.texts("#sums thead th"), False)
     rows = order_desk.product("s-11", order_desk.IN_EUROS, order_desk.gln_of("alpha"), "21", "Price,,8.90,EUR,,,,,")
     site.tell_desk(order_desk.message("alpha", 3, rows))
@@ -749,7 +767,7 @@ def missing_marks(site: Site, browser: Browser) -> Iterator[Outcome]:
     open_list(browser)
     look_up(browser, f"{isbn_of(2)}\n{isbn_of(3)}")
     marked = [row.text for row in browser.all("#list tr[data-series] .tag")]
-    yield Outcome("the book of a wholesaler with missing messages", marked, ["2 missing"])
+    yield Outcome("the book of a wholesaler with missing messages", marked, ["prices may be old"])
     yield Outcome("its sum", browser.texts("#sums .tag"), ["2 messages missing"])
     allow_clipboard(site, browser, "granted")
     browser.one("#copy-all").click()

@@ -26,14 +26,19 @@ def reported(site: Site, browser: Browser) -> Iterator[Outcome]:
     yield Outcome("missing: in all", browser.text("#missing-status"), said)
     heads = ["North Books", "South Books", "Western Wholesale"]
     yield Outcome("missing: the series of desk.json", browser.texts("#series h2"), heads)
-    north = "Messages 1 to 2 are applied; the next one is 3. 2 later messages wait for what is missing."
+    north = "Messages 1 to 2 are in use; the next one is 3. 2 later messages have come, and wait for what is missing."
     yield Outcome("missing: where north stands", browser.text(f"{NORTH} p"), north)
     ranges = ["3 to 4 (2 messages)", "6 to 8 (3 messages)"]
     yield Outcome("missing: north's ranges", browser.texts(f"{NORTH} .ranges li"), ranges)
-    south = "Messages 1 to 3 are applied; the next one is 4. No message waits."
-    yield Outcome("missing: south", browser.texts(f"{SOUTH} p"), [south, SEEN, "No number is missing."])
-    west = "Message 40 is applied; the next one is 41. No message waits."
-    yield Outcome("missing: west", browser.texts(f"{WEST} p"), [west, SEEN, "No number is missing."])
+    whose = (
+        "Until they come, prices of North Books may be old. This page asks no wholesaler: copy the letter, paste it "
+        "into a mail and send it yourself."
+    )
+    yield Outcome("missing: whose move it is", whose in browser.text(NORTH), True)
+    south = "Messages 1 to 3 are in use; the next one is 4. No message waits."
+    yield Outcome("missing: south", browser.texts(f"{SOUTH} p"), [south, SEEN, "Nothing missing."])
+    west = "Message 40 is in use; the next one is 41. No message waits."
+    yield Outcome("missing: west", browser.texts(f"{WEST} p"), [west, SEEN, "Nothing missing."])
 
 
 def ordered(site: Site, browser: Browser) -> Iterator[Outcome]:
@@ -64,6 +69,11 @@ def strip(site: Site, browser: Browser) -> Iterator[Outcome]:
     yield Outcome("strip: missing to scale", missing, MISSING)
     others = sorted(piece for piece in came if piece[0] != "missing")
     yield Outcome("strip: the others", others, [["applied", 1, 2], ["waiting", 5, 5], ["waiting", 9, 9]])
+    fills = browser.run(
+        """return [...document.querySelectorAll('#report-north .strip-place .waiting')].map((piece) =>
+          document.querySelector(getComputedStyle(piece).fill.replace(/^url\\("(.+)"\\)$/, '$1'))?.tagName)"""
+    )
+    yield Outcome("strip: what waits is hatched, not empty", fills, ["pattern", "pattern"])
     label = browser.one(f"{NORTH} svg.strip").accessible_name
     wanted = "Numbers 1 to 9. Missing: 3 to 4 (2 messages), 6 to 8 (3 messages)."
     yield Outcome("strip: its name", label, wanted)
@@ -112,7 +122,7 @@ def copied(site: Site, browser: Browser) -> Iterator[Outcome]:
     open_missing(browser)
     browser.one(f"{NORTH} button").click()
     told = browser.wait_for_text(f"{NORTH} .copied", "copied")
-    words = "The request is copied: paste it into a mail to North Books."
+    words = "The letter is copied: paste it into a mail to North Books, and send it."
     yield Outcome("the request is copied", told, words)
     text = browser.driver.execute_async_script("navigator.clipboard.readText().then(arguments[0])")
     yield Outcome("the copied request", text, REQUEST)
@@ -136,7 +146,7 @@ def kept_in_hand(site: Site, browser: Browser) -> Iterator[Outcome]:
         fits = browser.wait(lambda: browser.call("fits", "#report-north .strip-place"))
         yield Outcome(f"the strip in a window of {width}", fits, True)
         told = browser.text(f"{NORTH} .copied")
-        yield Outcome(f"copied, in a window of {width}", told.startswith("The request is copied"), True)
+        yield Outcome(f"copied, in a window of {width}", told.startswith("The letter is copied"), True)
 
 
 def days_ago(count: int) -> str:
@@ -224,8 +234,8 @@ def minutes(site: Site, browser: Browser) -> Iterator[Outcome]:
     asked = len([line for line in site.requests() if "/desk/series/north/gaps" in line])
     for number in (3, 4):
         site.tell_desk(empty_message(number))
-    stands = browser.wait_for_text(f"{NORTH} p", "1 to 5 are applied")
-    wanted = "Messages 1 to 5 are applied; the next one is 6. 1 later message waits for what is missing."
+    stands = browser.wait_for_text(f"{NORTH} p", "1 to 5 are in use")
+    wanted = "Messages 1 to 5 are in use; the next one is 6. 1 later message has come, and waits for what is missing."
     yield Outcome("after a minute: where north stands", stands, wanted)
     asked_now = len([line for line in site.requests() if "/desk/series/north/gaps" in line])
     yield Outcome("after a minute: it was asked once", asked_now - asked, 1)
@@ -234,11 +244,11 @@ def minutes(site: Site, browser: Browser) -> Iterator[Outcome]:
     kept = browser.run("return document.querySelector(arguments[0]).firstChild.isKept", SOUTH)
     yield Outcome("after a minute: what is the same stays", kept, True)
     focus = browser.run("return document.activeElement.textContent")
-    yield Outcome("after a minute: the focus", focus, "Copy a request to send them again")
+    yield Outcome("after a minute: the focus", focus, "Copy a letter asking North Books to resend 6 to 8")
     for number in (6, 7, 8):
         site.tell_desk(empty_message(number))
-    said = browser.wait_for_text("#missing-status", "No number")
-    wanted = "No number is missing from the 3 wholesalers that this page watches."
+    said = browser.wait_for_text("#missing-status", "Nothing is missing")
+    wanted = "Nothing is missing from the 3 wholesalers that this page watches."
     yield Outcome("after two minutes", said, wanted)
     browser.run("location.hash = '#article'")
     yield Outcome("no red where nothing is missing", browser.call("redParts"), [])
@@ -257,8 +267,8 @@ def late_start(site: Site, browser: Browser) -> Iterator[Outcome]:
     site.start_desk()
     site.write_settings(series=[{"name": "late", "words": "Late Books"}])
     open_missing(browser)
-    begins = "Nothing has come that could be applied; it begins with message 9000000."
-    words = f"{begins} 1 later message waits for what is missing."
+    begins = "Nothing is in use yet; it begins with message 9000000."
+    words = f"{begins} 1 later message has come, and waits for what is missing."
     yield Outcome("a late start: where it stands", browser.text("#report-late p"), words)
     came = browser.call("stripPieces", "#report-late")
     wanted = [["waiting", 9000003, 9000003], ["missing", 9000000, 9000002]]

@@ -126,11 +126,11 @@ def missing_view(site: Site, browser: Browser) -> Iterator[Outcome]:
 MEMORY = 503, '{"answer":"fault","reason":"memory"}'
 LACKING = (
     "The desk has a fault of its storage. It has too little memory at the moment. The page does not ask "
-    "again by itself: “Ask” does."
+    "again by itself: “Find price” does."
 )
 LOST = (
     "The desk has left this question without an answer twice, though it answers others. The page does not ask "
-    "again by itself: “Ask” does."
+    "again by itself: “Find price” does."
 )
 
 

@@ -47,7 +47,7 @@ test("what is dearer than a rule takes is told where it falls, or from more copi
   assert.deepEqual(elsewhereInWords([north, south], question, SETTINGS), [
     "More copies from South Books cost less in all: 10 copies at £15.00 each, £150.00 in all.",
   ]);
-  const falls = ["From 5 December 2026 on South Books takes £18.00 a copy."];
+  const falls = ["From 5 December 2026 on South Books charges £18.00 a copy."];
   assert.deepEqual(fallsInWords([north, south], question, SETTINGS), falls);
   assert.deepEqual(fallsInWords([south], QUESTION, SETTINGS), falls);
 });
@@ -72,7 +72,7 @@ test("another wholesaler's price that falls within thirty days is told", () => {
     const south = offer("south", "10.400", { later: [{ from, amount }] });
     return fallsInWords([north, south], { ...QUESTION, ordered: north }, SETTINGS);
   };
-  assert.deepEqual(falls("2026-11-29", "7.100"), ["From 29 November 2026 on South Books takes £7.10 a copy."]);
+  assert.deepEqual(falls("2026-11-29", "7.100"), ["From 29 November 2026 on South Books charges £7.10 a copy."]);
   assert.equal(falls("2026-12-28", "7.100").length, 1);
   for (const [from, amount] of [["2026-12-29", "7.100"], ["2026-11-29", "9.900"], ["2026-11-29", null]]) {
     assert.deepEqual(falls(from, amount), [], `${from} ${amount}`);
@@ -170,7 +170,7 @@ test("a price that ends without another one is told", () => {
     return untilNotes({ ...answerOf([north], north), ahead }, SETTINGS);
   };
   assert.deepEqual(until(null), ["Until 30 November 2026. From 1 December 2026 on North Books has no price."]);
-  assert.deepEqual(until("7.000"), ["Until 30 November 2026. From 1 December 2026 on North Books takes £7.00 a copy."]);
+  assert.deepEqual(until("7.000"), ["Until 30 November 2026. From 1 December 2026 on North Books charges £7.00 a copy."]);
 });
 
 test("where the desk and rules.toml differ no rule's words are quoted", () => {

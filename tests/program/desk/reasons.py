@@ -1,17 +1,20 @@
 """The second line of a fault, which says why: of the storage, of a file, of the port, of a socket, of a rules file."""
 
+import os
 import socket
 from collections.abc import Iterator
 
 from tests.program.databases import DATABASE, META, batch, execute
+from tests.program.feeds.convert.failing_files import small_disk
 from tests.program.messages import AGREEMENT, bare, priced
 from tests.program.room import Ran, Room
 from tests.program.serving import HOST, serving
-from tests.running import Outcome
+from tests.running import Outcome, left_out
 
 OTHERS = "a database of another program, or a damaged one; docs/RELIABILITY.md, Faults"
 NO_FILE = "no such file; correct the name behind --db, or have batch make a new desk, without --existing"
 NO_FOLDER = "its folder is not there; make it, or correct the name behind --db"
+FAILED_DISK = "the disk is full or failed, or a page of the file is damaged; docs/RELIABILITY.md, Faults"
 OPEN_ELSEWHERE = (
     "another program has it open; if a desk is served, send it the batch (--batches), or list a copy of it (desk-copy)"
 )
@@ -56,11 +59,38 @@ def storage(room: Room) -> Iterator[Outcome]:
     for name, words, why in cases:
         came = room.told("--db", name, *words)
         yield Outcome(f"why: {name}: {' '.join(words)}", came, fault("storage: unusable", f"{name}: {why}"))
-    why = "cut.db: the disk is full or failed, or a page of the file is damaged; docs/RELIABILITY.md, Faults"
-    yield Outcome("why: cut.db", room.told("--db", "cut.db", "batch"), fault("storage: disk", why))
+    came = room.told("--db", "cut.db", "batch")
+    yield Outcome("why: cut.db", came, fault("storage: disk", f"cut.db: {FAILED_DISK}"))
     with serving(room, ["--db", DATABASE], None):
         why = f"{DATABASE}: {OPEN_ELSEWHERE}"
         yield Outcome("why: open elsewhere", room.told("--db", DATABASE, "batch"), fault("storage: unusable", why))
+
+
+def denied(room: Room) -> Iterator[Outcome]:
+    """To another user, who may neither read a file of root nor make one beside it."""
+    if os.geteuid() != 0:
+        yield left_out("a desk that is denied, since another user cannot be become")
+        return
+    room.folder.chmod(0o755)
+    room.write("onixdesk", room.program.read_bytes())
+    room.path("onixdesk").chmod(0o755)
+    room.write("theirs.db", b"")
+    room.path("theirs.db").chmod(0o600)
+    for name in "theirs.db", "new.db":
+        words = ["setpriv", "--reuid=65534", "--regid=65534", "--clear-groups", "./onixdesk", "--db", name, "batch"]
+        wanted = fault("storage: unusable", f"{name}: permission denied")
+        yield Outcome(f"why: {name} of root", room.call(words), wanted)
+
+
+def on_a_full_disk(room: Room) -> Iterator[Outcome]:
+    """Also while a desk is made, whose tables have no room there."""
+    with small_disk(room) as folder:
+        if folder is None:
+            yield left_out("a desk on a full disk, since no file system can be mounted")
+            return
+        why = f"disk/shop.db: {FAILED_DISK}"
+        came = room.told("--db", "disk/shop.db", "batch", given=AGREEMENT)
+        yield Outcome("why: a full disk", came, fault("storage: disk", why))
 
 
 def versions(room: Room) -> Iterator[Outcome]:

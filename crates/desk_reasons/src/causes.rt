@@ -108,6 +108,15 @@ fn push_form(
     Ok(())
 }
 
+// What the names of the fields of a record leave open.
+fn hint_of_form(name: &str) -> &'static str {
+    if name == "Waive" {
+        "; the Number is that of a message that is missing and will not come, and onixdesk --db FILE gaps NAME shows which are missing"
+    } else {
+        ""
+    }
+}
+
 // Adds that a record has too many fields, or too few, and which it has to have.
 fn push_miscounted(
     alloc: Global,
@@ -121,6 +130,7 @@ fn push_miscounted(
     push_counts(text, counts)?;
     text.push_str(": ")?;
     push_form(alloc, text, field_at(record, 0), counts)?;
+    text.push_str(hint_of_form(field_at(record, 0)))?;
     let has_empty = count.saturating_sub(count_empty(record)) <= counts.most;
     if count > counts.most && has_empty {
         text.push_str("; leave out the empty fields at its end, which a spreadsheet adds")

@@ -139,7 +139,8 @@ fn hint(kind: Kind, text: &str) -> &'static str {
         Kind::Code => hint_of_code(text),
         Kind::Amount => hint_of_amount(text),
         Kind::Series => hint_of_series(text),
-        Kind::FirstNumber => "; it is the number of the first message of the series",
+        Kind::FirstNumber =>
+            "; it is the MessageNumber of the first message that the sender sends, 1 as a rule",
         _ => "",
     }
 }

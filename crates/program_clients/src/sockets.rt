@@ -66,7 +66,7 @@ pub fn why_unanswered(rt: &HostRuntime, path: &str) -> &'static str {
         }
         Ok(_) => "a file that is not a socket",
         Err(error) if error.kind() == ErrorKind::NotFound => {
-            "no such socket; name that of a desk that is served, or serve one: onixdesk --db FILE serve --port N --batches SOCKET"
+            "no such socket, so no desk is served there: ask the file itself, onixdesk --db FILE batch, or serve it first and leave that running, onixdesk --db FILE serve --port N --batches SOCKET"
         }
         Err(_) => "its folder is not to be used by this user",
     }

@@ -33,7 +33,7 @@ use std::rt::HostRuntime;
 
 // What is said behind refusals of a desk in memory.
 const NO_FILE: &str =
-    "without --db a desk has only the agreements of its batch; write --db FILE before the command";
+    "without --db a desk has only the agreements of its batch: if the desk in a file is meant, write --db FILE before the command";
 
 // What is said behind refusals of messages of a desk in memory.
 fn hint_of(task: &Task<'_>) -> &'static str {

@@ -10,19 +10,19 @@ fn hint_of(kind: usize) -> (&'static str, &'static str) {
     match kind {
         0 => (
             "refused,name-taken",
-            "the name has an agreement with another sender, addressee or first number; onixdesk --db FILE agreements shows it",
+            "the name has an agreement with another sender, addressee or first number, which onixdesk --db FILE agreements shows: leave the line out to keep that one, or give this one another name",
         ),
         1 => (
             "refused,series-taken",
-            "this sender and addressee have an agreement already, under the name in the answer",
+            "this sender and addressee have an agreement already, under the name in the answer: leave the line out and use that name, or correct the sender or the addressee",
         ),
         2 => (
             "refused,before-first",
-            "the number is below the first number of the agreement, the last in the answer: leave the message out, or agree on a lower first number in a new desk; in one that has messages: MISTAKES.md, An agreement was mistyped (in docs, or in /usr/share/doc/onixdesk)",
+            "the number is below the FirstNumber of the agreement, the last in the answer: leave the message out, or write its number as FirstNumber in the line Agree; where the desk in a file has that agreement: MISTAKES.md, An agreement was mistyped (in docs, or in /usr/share/doc/onixdesk)",
         ),
         3 => (
             "refused,other-contents",
-            "the number, the last in the answer, has a message with other contents; a correction needs a new one: MessageNumber, the sixth field behind Message",
+            "a message with other contents had this number, the last in the answer: a correction needs the next number of the series (MessageNumber, the sixth field behind Message; onixdesk --db FILE gaps NAME shows what is next), and its sender gives it; else leave the message out",
         ),
         4 => (
             "refused,bad-range",

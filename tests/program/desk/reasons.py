@@ -20,7 +20,7 @@ OPEN_ELSEWHERE = (
 )
 
 
-NO_SOCKET = "no such socket; name that of a desk that is served, or serve one: onixdesk --db FILE serve --port N --batches SOCKET"
+NO_SOCKET = "no such socket, so no desk is served there: ask the file itself, onixdesk --db FILE batch, or serve it first and leave that running, onixdesk --db FILE serve --port N --batches SOCKET"
 
 
 def fault(line: str, *why: str, status: int = 3) -> Ran:
@@ -172,7 +172,7 @@ def of_a_socket(room: Room) -> Iterator[Outcome]:
 
 
 NO_DATABASE = (
-    b"onixdesk: without --db a desk has only the agreements of its batch; write --db FILE before the command\n"
+    b"onixdesk: without --db a desk has only the agreements of its batch: if the desk in a file is meant, write --db FILE before the command\n"
 )
 
 

@@ -15,10 +15,10 @@ returns-in-Migrate-clause-end g c = rw c.in-Migrate.is ((refl, refl), c.run.ensu
 pub returns-clause-end : goal.returns-clause-end
 returns-clause-end g c =
     elim c.match-action.branch [
-      | in-InMemory w ↦ rw (w.in-InMemory.is, w.status-is, w.machine-is) ((refl, refl), tt, w.run_in_memory.ensures.end)
-      | in-Send w ↦ rw (w.in-Send.is, w.status-is, w.machine-is) (refl, tt, w.send_input.ensures.end)
-      | in-Convert w ↦ rw (w.in-Convert.is, w.status-is, w.machine-is) (refl, tt, w.run.ensures.end)
-      | in-CheckRules w ↦ rw (w.in-CheckRules.is, w.status-is, w.machine-is) ((refl, refl), tt, w.check_rules.ensures.end)
-      | in-CheckTerms w ↦ rw (w.in-CheckTerms.is, w.status-is, w.machine-is) ((refl, refl), tt, w.check_terms.ensures.end)
+      | in-InMemory w ↦ rw (w.in-InMemory.is, w.status-is, w.machine-is) ((refl, refl), tt, w.run_in_memory-status.ensures.end)
+      | in-Send w ↦ rw (w.in-Send.is, w.status-is, w.machine-is) (refl, tt, w.send_input-status.ensures.end)
+      | in-Convert w ↦ rw (w.in-Convert.is, w.status-is, w.machine-is) (refl, tt, w.run-status.ensures.end)
+      | in-CheckRules w ↦ rw (w.in-CheckRules.is, w.status-is, w.machine-is) ((refl, refl), tt, w.check_rules-status.ensures.end)
+      | in-CheckTerms w ↦ rw (w.in-CheckTerms.is, w.status-is, w.machine-is) ((refl, refl), tt, w.check_terms-status.ensures.end)
       | in-CheckTexts w ↦ rw (w.in-CheckTexts.is, w.status-is, w.machine-is) ((refl, refl), tt, Appends-nil (g.W.Write.contents c.args.machine.now.streams.output))
     ]

@@ -43,10 +43,11 @@ def in_order(name: str, found: list[str], above: tuple[str, ...] = ()) -> list[s
     """The modules that are needed for one, each behind those that it needs itself."""
     if name in above:
         raise Unreadable(f"{name} needs itself: {' '.join(above)}")
+    if name in found:
+        return found
     for path in IMPORT.findall(text_of(name)):
         in_order(beside(name, path[1]), found, (*above, name))
-    if name not in found:
-        found.append(name)
+    found.append(name)
     return found
 
 

@@ -101,7 +101,7 @@ export const texts = {
     wholesaler: "Lieferant",
     availability: "Lieferbarkeit",
     price: { net: "Netto, {copies}", retail: "Ladenpreis", other: "Preis, {copies}" },
-    difference: "Teurer als gewählt, je Exemplar",
+    difference: "Teurer als gewählt",
     cheaper: { one: "Regel 1 nimmt es nicht", other: "die Regeln 1 bis {count} nehmen es nicht" },
     byCopies: "Nach Menge",
     askingCopies: "…",

@@ -101,7 +101,7 @@ export const texts = {
     wholesaler: "Wholesaler",
     availability: "Availability",
     price: { net: "Net, {copies}", retail: "Retail price", other: "Price, {copies}" },
-    difference: "Dearer than chosen, a copy",
+    difference: "Dearer than chosen",
     cheaper: { one: "rule 1 does not take it", other: "rules 1 to {count} do not take it" },
     byCopies: "By copies",
     askingCopies: "…",

@@ -1,10 +1,10 @@
-"""Tests the buyers' page: a real nginx, the real program over a file, and a headless Chromium.
+"""Tests the buyers' page: a real nginx, the real program over a file, and Chromium without a window.
 
     tests/page/run [-k PATTERN].. [--case TEXT] [--pictures] [PROGRAM]
     tests/page/run --list
 
-It needs Debian's packages nginx, openssl, chromium, chromium-driver and python3-selenium, and Debian's own
-Python. PROGRAM is crates/onixdesk/out/onixdesk where none is named. With -k only the groups are run that have the
+It needs Debian's packages nginx, openssl, chromium, chromium-headless-shell, chromium-driver and python3-selenium,
+and Debian's own Python. Where only the page itself counts it is opened in Chromium's shell. PROGRAM is crates/onixdesk/out/onixdesk where none is named. With -k only the groups are run that have the
 text in their name, which --list tells, and with --case only those of their cases are counted. For each case that
 failed a line is written, and at the end `page: N cases, M failed`; no file of the repository changes. With --pictures
 no case is tried but those that take the pictures of docs/ anew. Status 0; 1 where a case failed; 2 where no case was
@@ -19,7 +19,13 @@ import sys
 from tests.running import PROGRAM, choice, command_line, run_side_by_side, why_not
 
 # Debian's packages, each with a command that it brings.
-COMMANDS = {"nginx": "nginx", "openssl": "openssl", "chromium": "chromium", "chromium-driver": "chromedriver"}
+COMMANDS = {
+    "nginx": "nginx",
+    "openssl": "openssl",
+    "chromium": "chromium",
+    "chromium-headless-shell": "chromium-headless-shell",
+    "chromium-driver": "chromedriver",
+}
 
 
 def missing_packages() -> list[str]:

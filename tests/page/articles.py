@@ -59,8 +59,7 @@ def ask(browser: Browser, address: str) -> list[list[str]]:
 
 def ask_on(browser: Browser, address: str) -> list[list[str]]:
     """The same in the page that is open, which has the settings already; opens one if none is."""
-    is_open = browser.run("return document.getElementById('isbn') !== null")
-    (browser.go if is_open else browser.open)(address)
+    browser.go(address)
     return answered(browser)
 
 
@@ -83,7 +82,7 @@ def one_copy(site: Site, browser: Browser) -> Iterator[Outcome]:
     yield Outcome("one copy: the offers", ask(browser, article()), ONE_COPY)
     codes = browser.run("return [...document.querySelectorAll('#offers [title^=ONIX]')].map(({ title }) => title)")
     yield Outcome("one copy: codes are beside no number", codes, ["ONIX code 21", "ONIX code 21", "ONIX code 31"])
-    heads = ["Wholesaler", "Availability", "Retail price", "Dearer than chosen, a copy", "By copies", "Price valid"]
+    heads = ["Wholesaler", "Availability", "Retail price", "Dearer than chosen", "By copies", "Price valid"]
     yield Outcome("one copy: the columns", browser.texts("#offers thead th"), heads)
     sentence = "On 10 April 2025: North Books: retail price £11.50"
     details = f"ISBN {ISBN} · in stock"

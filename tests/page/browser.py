@@ -20,7 +20,9 @@ from tests.page.site import NAME, PASSWORD, USER, Site
 from tests.program.room import SECONDS
 from tests.program.serving import HOST
 
+# Chromium whole, and its shell without windows, whose pages are the same: to open one takes it half the processor.
 CHROMIUM = "/usr/bin/chromium"
+SHELL = "/usr/bin/chromium-headless-shell"
 DRIVER = "/usr/bin/chromedriver"
 
 STRANGER = "stranger.example.net"
@@ -42,12 +44,12 @@ def load() -> str:
     return f"on a machine with {os.getloadavg()[0] / (os.cpu_count() or 1):.1f} processes a core"
 
 
-def options(is_recorded: bool, key: str = "") -> Options:
+def options(is_recorded: bool, key: str = "", is_whole: bool = True) -> Options:
     """`key` is the digest of a certificate's key, that alone is trusted then; of a site that is not trusted a browser
     keeps no file."""
     trust = f"--ignore-certificate-errors-spki-list={key}" if key else "--ignore-certificate-errors"
     chosen = Options()
-    chosen.binary_location = CHROMIUM
+    chosen.binary_location = CHROMIUM if is_whole else SHELL
     names = f"MAP {NAME} {HOST}, MAP {STRANGER} {HOST}, MAP * ~NOTFOUND, EXCLUDE {HOST}"
     for word in [
         "--headless=new",
@@ -73,12 +75,12 @@ def options(is_recorded: bool, key: str = "") -> Options:
 
 class Browser:
     """`is_recorded` keeps what pages ask for, which costs the browser much; `is_trusting` takes the site for one
-    whose files may be kept."""
+    whose files may be kept; `is_whole` is Chromium with all that stands around a page."""
 
-    def __init__(self, site: Site, is_recorded: bool = False, is_trusting: bool = False) -> None:
+    def __init__(self, site: Site, is_recorded: bool = False, is_trusting: bool = False, is_whole: bool = True) -> None:
         self.site = site
         key = site.key_digest() if is_trusting else ""
-        self.driver = webdriver.Chrome(options=options(is_recorded, key), service=Service(DRIVER))
+        self.driver = webdriver.Chrome(options=options(is_recorded, key, is_whole), service=Service(DRIVER))
         self.size(*WIDE)
         # The browser asks for the name and the password once; from then on it knows them. There is nothing to be kept.
         self.driver.get(site.address("/nothing", user=f"{USER}:{PASSWORD}@"))
@@ -100,7 +102,11 @@ class Browser:
         self.wait(lambda: self.run("return document.getElementById('day').value"))
 
     def go(self, address: str) -> None:
-        """Goes to another address of the page that is open, whose view has left what it said by then."""
+        """Goes to another address of the page that is open, whose view has left what it said by then; opens it where
+        the page is there already, or none is open."""
+        if self.run("return document.getElementById('isbn') === null || location.hash === arguments[0]", address):
+            self.open(address)
+            return
         come = "window.addEventListener('hashchange', () => setTimeout(arguments[1]), { once: true });"
         self.driver.execute_async_script(f"{come} location.hash = arguments[0];", address)
 
@@ -191,8 +197,10 @@ class Browser:
 
 
 @contextlib.contextmanager
-def browsing(site: Site, is_recorded: bool = False, is_trusting: bool = False) -> Iterator[Browser]:
-    browser = Browser(site, is_recorded, is_trusting)
+def browsing(
+    site: Site, is_recorded: bool = False, is_trusting: bool = False, is_whole: bool = True
+) -> Iterator[Browser]:
+    browser = Browser(site, is_recorded, is_trusting, is_whole)
     try:
         yield browser
     finally:

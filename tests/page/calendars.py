@@ -58,7 +58,10 @@ def unfold(browser: Browser) -> None:
 
 
 def open_calendar(browser: Browser, isbn: str, first: date, last: date, **given: str) -> None:
-    browser.open(article(isbn, **{"from": first.isoformat(), "until": last.isoformat()}, **given))
+    """Goes there from a view without a question, so that nothing of another calendar is left."""
+    browser.go("#article")
+    browser.wait(lambda: not has_calendar(browser))
+    browser.go(article(isbn, **{"from": first.isoformat(), "until": last.isoformat()}, **given))
     unfold(browser)
 
 
@@ -128,7 +131,9 @@ def gaps(site: Site, browser: Browser) -> Iterator[Outcome]:
 
 def year(site: Site, browser: Browser) -> Iterator[Outcome]:
     """A year at once, as the view begins and by its button."""
-    browser.open(article())
+    browser.go("#article")
+    browser.wait(lambda: not has_calendar(browser))
+    browser.go(article())
     unfold(browser)
     heading = "Calendar of prices, 10 March 2025 to 9 March 2026"
     yield Outcome("its heading says from when to when", browser.text("#calendar-heading"), heading)

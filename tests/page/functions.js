@@ -169,7 +169,7 @@ function noteLookUp() {
   document.getElementById('look-up').addEventListener(
     'click', () => { window.pressedAt = performance.now(); }, { capture: true, once: true });
   new MutationObserver(() => {
-    if (status.textContent.startsWith('500 of 500')) window.lookedUpAt ??= performance.now();
+    if (status.textContent.startsWith('500 books')) window.lookedUpAt ??= performance.now();
   }).observe(status, { childList: true, characterData: true, subtree: true });
 }
 

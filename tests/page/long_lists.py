@@ -119,7 +119,7 @@ def whole_list(site: Site, browser: Browser) -> Iterator[Outcome]:
     colleague = []
     # As it stands in the page: to ask what is seen of it would lay the page out.
     state = "return document.getElementById('list-status').textContent"
-    while not browser.run(state).startswith("500 of 500") and time.monotonic() < end:
+    while not browser.run(state).startswith("500 books") and time.monotonic() < end:
         colleague.append(site.fetch("/desk/series/alpha/gaps")[0])
         time.sleep(0.2)
     yield Outcome(

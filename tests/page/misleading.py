@@ -159,7 +159,7 @@ def whole_sentence(site: Site, browser: Browser) -> Iterator[Outcome]:
         yield Outcome("copies above one are marked", quantity, "unusual")
         sizes = browser.call("sizes")
         yield Outcome(f"the largest thing of the page, {sizes}", sizes[0] > sizes[1], True)
-        ask(browser, article(NET_ISBN, type="05", currency="EUR", country="DE"))
+        ask_on(browser, article(NET_ISBN, type="05", currency="EUR", country="DE"))
         sentence = "On 10 April 2025, in DE, in EUR: Buy 1 from net (\u2068K-2\u2069) at €24.00 a copy"
         yield Outcome("country and currency in the sentence", browser.text("#article-status .sentence"), sentence)
         marked = browser.texts("#question span.unusual")
@@ -276,7 +276,7 @@ def until(site: Site, browser: Browser) -> Iterator[Outcome]:
     told = "Until 30 April 2025. From 1 May 2025 on net charges £4.58 a copy."
     yield Outcome("until when the price holds", noted(browser, told), True)
     yield Outcome("until when the price holds: the row", rows[0][5], "until 30 Apr 2025, then £4.58")
-    browser.open(article(BREAKS_ISBN, type="05", **{"from": "2025-03-01", "until": "2025-03-31"}))
+    browser.go(article(BREAKS_ISBN, type="05", **{"from": "2025-03-01", "until": "2025-03-31"}))
     yield Outcome("whatever range the calendar has", noted(browser, told), True)
     yield Outcome("whatever range the calendar has: the row", answered(browser)[0][5], "until 30 Apr 2025, then £4.58")
 
@@ -288,17 +288,17 @@ PEN = "4006381333931"
 
 def wrong_numbers(site: Site, browser: Browser) -> Iterator[Outcome]:
     """What is not looked for stands above no answer, and another article's bar code is no book's."""
-    browser.open(article())
+    browser.go(article())
     said(browser, ISBN)
     browser.run("location.hash = arguments[0]", article(TEN_WRONG))
     browser.wait(lambda: browser.shows("#not-looked-for"))
     yield Outcome("a wrong ISBN of ten: no answer below", browser.text("#article-status"), "")
-    browser.open(article(PEN))
+    browser.go(article(PEN))
     told = browser.wait_for_text("#isbn-wrong", "978")
     words = "This is no book's number, since it begins with neither 978 nor 979: scan the other bar code."
     yield Outcome("the number of a pen", told, words)
     yield Outcome("the number of a pen: no answer", browser.text("#article-status"), "")
-    ask(browser, article())
+    ask_on(browser, article())
     browser.run("document.getElementById('order').focus()")
     ActionChains(browser.driver).send_keys(OTHER_ISBN[0]).perform()
     time.sleep(0.1)

@@ -77,6 +77,12 @@ def open_list(browser: Browser) -> None:
     browser.wait(lambda: text_in(browser, "look-up"))
 
 
+def go_to_list(browser: Browser) -> None:
+    """The view of the page that is open, whatever list it has: another one takes its place."""
+    if not browser.run("return location.hash === '#order' && document.getElementById('lines') !== null"):
+        browser.go("#order")
+
+
 def look_up(browser: Browser, text: str) -> None:
     """Looks lines up, and waits until all are answered."""
     browser.call("putLines", text)
@@ -251,7 +257,7 @@ nothing here
 
 def needs(site: Site, browser: Browser) -> Iterator[Outcome]:
     """What a person has to look at comes first, and what is wrong is not asked for."""
-    open_list(browser)
+    go_to_list(browser)
     asked = len(site.requests())
     look_up(browser, NEEDS)
     reasons = [item.split(" (")[0] for item in browser.texts("#list-needs li")]
@@ -301,7 +307,7 @@ def order_five_of_last(browser: Browser) -> None:
 def by_hand(site: Site, browser: Browser) -> Iterator[Outcome]:
     """Another wholesaler by hand, which the list keeps where it is edited, and no other one; and a book that is left
     out."""
-    open_list(browser)
+    go_to_list(browser)
     # Beta has the first for less; the second is no rule's.
     look_up(browser, f"{isbn_of(1)} 2\n{order_desk.NOT_ADMITTED} 3\n{isbn_of(2)}")
     dear = offers_of(1)[0].amount
@@ -344,7 +350,7 @@ def by_hand(site: Site, browser: Browser) -> Iterator[Outcome]:
 def forgotten_hands(site: Site, browser: Browser) -> Iterator[Outcome]:
     """Choices by hand that were kept are forgotten at once: a book that no rule takes is no longer ordered."""
     isbn = order_desk.NOT_ADMITTED
-    open_list(browser)
+    go_to_list(browser)
     look_up(browser, f"{isbn} 3\n{isbn_of(2)}")
     Select(browser.one(f"select[aria-label='Wholesaler of {isbn}']")).select_by_index(1)
     order_five_of_last(browser)
@@ -366,7 +372,7 @@ def notes_of(browser: Browser, *isbns: str) -> list[str]:
 
 def other_copies(site: Site, browser: Browser) -> Iterator[Outcome]:
     """Other numbers of copies that cost less are told in the row, of the wholesaler that the book is ordered from."""
-    open_list(browser)
+    go_to_list(browser)
     look_up(browser, f"{BROKEN} 9\n{DEARER} 12")
     more = "More copies cost less in all: 10 copies at £4.00 each, £40.00 in all. Take 10 copies"
     beta = "More copies from Beta & Sons cost less in all: 10 copies at £3.00 each, £30.00 in all."
@@ -445,7 +451,7 @@ def changed(site: Site, browser: Browser) -> Iterator[Outcome]:
 
 def older(site: Site, browser: Browser) -> Iterator[Outcome]:
     """What was looked up of other lines can no longer be ordered."""
-    open_list(browser)
+    go_to_list(browser)
     look_up(browser, isbn_of(15))
     yield Outcome("lines that are no table have no columns", browser.one("#columns").is_displayed(), False)
     yield Outcome(
@@ -468,7 +474,7 @@ def in_german(site: Site, browser: Browser) -> Iterator[Outcome]:
     yield Outcome("the view in German", browser.text("#to-order"), "Bestellliste")
     browser.call("putLines", f"{order_desk.BESIDE};2;=1+1\n{isbn_of(1)};1;für Jürgen; groß")
     browser.one("#look-up").click()
-    status(browser, "2 von 2 nachgesehen")
+    status(browser, "2 Bücher: 2 bestellbereit")
     browser.one("#csv-all").click()
     saved_status(browser, "bestellung-")
     text = saved(browser, folder)
@@ -494,7 +500,6 @@ def copied(site: Site, browser: Browser) -> Iterator[Outcome]:
     text = browser.driver.execute_async_script("navigator.clipboard.readText().then(arguments[0])")
     yield Outcome("what is copied", text, f"{isbn_of(0)}\t2\n{isbn_of(1)}\t3\n")
     allow_clipboard(site, browser, "denied")
-    open_list(browser)
     look_up(browser, f"{isbn_of(0)};2;Anna")
     browser.one("#copy-alpha").click()
     browser.wait(lambda: browser.all("#order-by-hand"))
@@ -648,7 +653,7 @@ def kept(site: Site, browser: Browser) -> Iterator[Outcome]:
 def columns(site: Site, browser: Browser) -> Iterator[Outcome]:
     """A table whose copies may be in two columns is not looked up before one is chosen, which its heading remembers."""
     text = f"ISBN;Stand;Bitte\n{isbn_of(0)};12;3\n{isbn_of(1)};4;1\n{isbn_of(2)};5;2\n{isbn_of(4)};6;1"
-    open_list(browser)
+    go_to_list(browser)
     asked = len(site.requests())
     browser.call("putLines", text)
     browser.one("#look-up").click()
@@ -686,7 +691,7 @@ def asked_before(site: Site, browser: Browser) -> Iterator[Outcome]:
     folder = site.room.path("asked")
     save_to(browser, folder)
     allow_clipboard(site, browser, "granted")
-    open_list(browser)
+    go_to_list(browser)
     lines = [f"{isbn_of(0)} 2", f"{isbn_of(1)} 1984 George Orwell", f"{isbn_of(4)} 60", f"{order_desk.NOBODYS} 3", "x"]
     look_up(browser, "\n".join(lines))
     told = browser.text("#list-status")

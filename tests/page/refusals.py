@@ -3,7 +3,7 @@
 import shutil
 from collections.abc import Iterator
 
-from tests.page.articles import answered, ask
+from tests.page.articles import answered, ask, ask_on
 from tests.page.browser import Browser
 from tests.page.site import RULES, Site
 from tests.page.week import ISBN, article
@@ -64,8 +64,8 @@ def fields(site: Site, browser: Browser) -> Iterator[Outcome]:
 
 
 def mended(site: Site, browser: Browser) -> Iterator[Outcome]:
-    browser.open(article("12"))
-    browser.wait(lambda: told(browser))
+    browser.go(article("12"))
+    browser.wait(lambda: list(told(browser)) == ["isbn"])
     browser.one("#isbn").clear()
     browser.one("#isbn").send_keys(f"{ISBN}\n")
     answered(browser)
@@ -75,9 +75,10 @@ def mended(site: Site, browser: Browser) -> Iterator[Outcome]:
 def ranges(site: Site, browser: Browser) -> Iterator[Outcome]:
     """The desk itself refuses a bad range; the offers stay."""
     for given, name in RANGES:
-        browser.open("")
+        browser.go("#article")
+        browser.wait(lambda: not told(browser))
         before = site.mark()
-        browser.open(article(**given))
+        browser.go(article(**given))
         browser.wait(lambda: told(browser))
         yield Outcome(f"a bad range, {given}", told(browser), {name: RANGE_WORDS})
         answered(browser)
@@ -85,11 +86,15 @@ def ranges(site: Site, browser: Browser) -> Iterator[Outcome]:
         yield Outcome(f"a bad range, {given}: the offers", len(browser.rows("#offers")), 3)
         yield Outcome(f"a bad range, {given}: its fields are seen", browser.one("#until").is_displayed(), True)
         yield Outcome(f"a bad range, {given}: no picture", browser.all("#picture svg"), [])
-    browser.open(article(**{**GIVEN, "until": "2025-04-31"}))
+    browser.go("#article")
+    browser.wait(lambda: not told(browser))
+    browser.go(article(**{**GIVEN, "until": "2025-04-31"}))
     browser.wait(lambda: told(browser))
     yield Outcome("no day", told(browser), {"until": DAY})
     # 3,660 days are the most.
-    ask(browser, article(**{"from": "2020-01-01", "until": "2030-01-07"}))
+    browser.go("#article")
+    browser.wait(lambda: not told(browser))
+    ask_on(browser, article(**{"from": "2020-01-01", "until": "2030-01-07"}))
     yield Outcome("3,660 days", told(browser), {})
 
 
@@ -116,7 +121,8 @@ REPLIES = [
 
 def replies(site: Site, browser: Browser) -> Iterator[Outcome]:
     for body, status, words in REPLIES:
-        browser.open("")
+        browser.go("#article")
+        browser.wait(lambda: browser.text("#question-wrong") == "")
         browser.call("replyWith", body, status, article())
         came = browser.wait_for_text("#question-wrong", words)
         yield Outcome(f"a reply of {status}, {body}", came, words)

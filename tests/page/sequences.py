@@ -40,32 +40,35 @@ Check = Callable[[Site, Browser], Iterator[Outcome]]
 
 
 class Sequence(NamedTuple):
-    """Cases at one site, by their functions."""
+    """Cases at one site, by their functions; `is_whole` where what stands around a page in a browser counts too, such
+    as keys, passwords and files that are kept."""
 
     name: str
     cases: abc.Sequence[Check]
+    is_whole: bool = False
 
 
 SEQUENCES = [
     Sequence("stops", stops.CASES),
-    Sequence("minutes", [*reports.OVER_TIME, *passwords.CASES, *origins.AT_THE_END]),
+    Sequence("minutes", [*reports.OVER_TIME, *passwords.CASES, *origins.AT_THE_END], is_whole=True),
     Sequence("questions", [*articles.CASES, *isbns.CASES, *days.CASES, *prices.CASES]),
     Sequence("views", [*calendars.CASES, *reports.CASES, *hostile.CASES, *refusals.CASES]),
     Sequence("orders", orders.CASES),
     Sequence("long lists", long_lists.CASES),
-    Sequence("baskets", [*baskets.CASES, *order_screens.CASES, *titles.CASES]),
+    Sequence("baskets", [*baskets.CASES, *order_screens.CASES, *titles.CASES], is_whole=True),
     Sequence("misleading", misleading.CASES),
-    Sequence("screens", [*keyboard.CASES, *screens.CASES, *origins.CASES]),
+    Sequence("screens", [*keyboard.CASES, *screens.CASES, *origins.CASES], is_whole=True),
 ]
-PICTURES = Sequence("pictures", pictures.CASES)
+PICTURES = Sequence("pictures", pictures.CASES, is_whole=True)
 
 
 class Group(Cases):
     """Cases at the site of their sequence, which is put up before."""
 
-    def __init__(self, check: Check) -> None:
+    def __init__(self, check: Check, is_whole: bool) -> None:
         super().__init__(check.__name__, check.__module__)
         self.check = check
+        self.is_whole = is_whole
         self.place: tuple[Site, Browser] | None = None
 
     def outcomes(self) -> Iterator[Outcome]:
@@ -80,7 +83,8 @@ def try_at_a_site(program: Path, groups: list[Group], case: str) -> Counted:
         os.chmod(folder, 0o755)
         room = Room(program, Path(folder))
         fill(room)
-        with running(room) as site, browsing(site) as browser:
+        is_whole = any(group.is_whole for group in groups)
+        with running(room) as site, browsing(site, is_whole=is_whole) as browser:
             for group in groups:
                 group.place = site, browser
             return count_all(groups, case)
@@ -88,8 +92,9 @@ def try_at_a_site(program: Path, groups: list[Group], case: str) -> Counted:
 
 def chosen_groups(sequences: list[Sequence], chosen: Chosen) -> list[list[Group]]:
     """The groups of each sequence that are chosen, without sequences of none."""
-    found = [[group for group in map(Group, sequence.cases) if chosen.has(group)] for sequence in sequences]
-    return [groups for groups in found if groups]
+    found = [[Group(check, sequence.is_whole) for check in sequence.cases] for sequence in sequences]
+    kept = [[group for group in groups if chosen.has(group)] for groups in found]
+    return [groups for groups in kept if groups]
 
 
 def lanes(program: Path, sequences: list[list[Group]], case: str) -> list[Callable[[], Counted]]:

@@ -71,7 +71,7 @@ def not_kept(site: Site, browser: Browser) -> Iterator[Outcome]:
     browser.open(article(ISBN))
     browser.wait_for_text("#article-status", "Buy 1 from")
     yield Outcome("no titles are kept: the answer", browser.text("#title"), "")
-    open_list(browser)
+    browser.go("#order")
     look_up(browser, ISBN)
     heads = browser.texts("#list thead th")
     yield Outcome("no titles are kept: the columns", COLUMN in heads, False)
@@ -89,6 +89,7 @@ def of_an_article(site: Site, browser: Browser) -> Iterator[Outcome]:
     since = len(site.requests())
     browser.open(article(ISBN))
     yield Outcome("a title", browser.wait_for_text("#title", "Almanac"), f"Title: {WHOLE} · {DIFFERS} · {SAID}")
+    yield Outcome("a title is inside the box", len(browser.all("#verdict #title")), 1)
     paths = asked(site, since)
     answers = [paths.index(f"/desk/articles/{ISBN}/{what}") for what in ("price", "choice")]
     title = paths.index(f"/titles/{ISBN[:5]}/{ISBN[:8]}.json")
@@ -99,13 +100,13 @@ def of_an_article(site: Site, browser: Browser) -> Iterator[Outcome]:
         (HOSTILE_ISBN, f"Title: {HOSTILE}: onetwo · \u05d0\u05d1 (author) · {{isbn}} · {SAID}"),
         (order_desk.NOBODYS, UNKNOWN),
     ]:
-        browser.open(article(isbn))
+        browser.go(article(isbn))
         browser.wait_for_text("#title", wanted[:16])
         came = browser.run("return document.getElementById('title').textContent")
         yield Outcome(f"the title of {isbn}", came, wanted)
         yield Outcome(f"no element of the title of {isbn}", browser.all("main img, main script"), [])
     yield Outcome("no complaint of the browser", browser.complaints(), [])
-    browser.open(article(ISBN))
+    browser.go(article(ISBN))
     browser.wait_for_text("#title", "Almanac")
     site.freeze_desk()
     browser.run("location.hash = arguments[0]", article(OTHER))
@@ -121,7 +122,7 @@ def of_an_article(site: Site, browser: Browser) -> Iterator[Outcome]:
 def of_many_letters(site: Site, browser: Browser) -> Iterator[Outcome]:
     """A long title is cut, and pushes out of sight neither who said it nor what others say."""
     browser.size(400, 900)
-    browser.open(article(LONG_ISBN))
+    browser.go(article(LONG_ISBN))
     came = browser.wait_for_text("#title", "says")
     said = f"Title: {LONG[:119]}… · Alpha Books says: {LONG[1:120]}… · {SAID}"
     yield Outcome("a long title", came, said)
@@ -140,7 +141,7 @@ def that_cannot_be_read(site: Site, browser: Browser) -> Iterator[Outcome]:
     path = file_of(site, "97899999")
     with open(path, "w", encoding="utf-8") as file:
         file.write("{")
-    browser.open(article("9789999900003"))
+    browser.go(article("9789999900003"))
     none = "No wholesaler offers this book"
     yield Outcome("a damaged file: the answer", none in browser.wait_for_text("#article-status", none), True)
     was_asked = browser.wait(lambda: any("/titles/97899/" in path for path in asked(site, 0)))
@@ -154,7 +155,7 @@ def of_a_list(site: Site, browser: Browser) -> Iterator[Outcome]:
     folder = site.room.path("titles-of-orders")
     save_to(browser, folder)
     since = len(site.requests())
-    open_list(browser)
+    browser.go("#order")
     look_up(browser, f"{ISBN} 2\n{OTHER}\n{HOSTILE_ISBN}\n{UNTITLED}\n{order_desk.NOBODYS}")
     came = browser.wait(lambda: row_of(browser, UNTITLED)[2])
     yield Outcome("a book without a title", came, UNKNOWN_HERE)

@@ -85,10 +85,8 @@ class KeptTerms:
         self.fixed: dict[Place, Fixed] = {}
         # The table of the feed that the desk took last.
         self.latest = NONE
-        for first, _last, table, step, parties in map(
-            re.Match.groups, filter(None, map(LINE.fullmatch, self.lines.found))
-        ):
-            self.note(Place(parties, int(first)), Fixed(table, step))
+        for found in filter(None, map(LINE.fullmatch, self.lines.found)):
+            self.note(Place(found[5], int(found[1])), Fixed(found[3], found[4]))
 
     def note(self, place: Place, fixed: Fixed) -> None:
         if fixed.step == STANDS:

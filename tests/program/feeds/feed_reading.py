@@ -325,8 +325,8 @@ def date_of(element: Element) -> PriceDate:
 
 
 def discount_of(element: Element) -> Discount:
-    names = "DiscountPercent", "Quantity", "DiscountType"
-    return Discount(*map(element.text, names), again=element.again())
+    percent, quantity, kind = map(element.text, ("DiscountPercent", "Quantity", "DiscountType"))
+    return Discount(percent, quantity, kind, element.again())
 
 
 def read(data: bytes, has_terms: bool = False) -> Read:

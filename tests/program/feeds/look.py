@@ -356,7 +356,8 @@ def without_the_terms(room: Room) -> Iterator[Outcome]:
     reasons = {"computed price left out: an amount of 0": "1", "computed price held back": "1"}
     left = {reason: number for reason, number in found["Notes by reason"].items() if reason not in reasons}
     yield Outcome("look: what the terms come to", (status, found["Notes by reason"]), (0, reasons | left))
-    letters = [look(room, *words, "--mail", "en", "sold.xml").output for words in ([], ["--terms", "all.toml"])]
+    words_of: list[list[str]] = [[], ["--terms", "all.toml"]]
+    letters = [look(room, *words, "--mail", "en", "sold.xml").output for words in words_of]
     yield Outcome("look: a letter by terms", (letters[1], b"Remarks on it: 1. " in letters[0]), (letters[0], True))
     rows = [row[-1] for row in csv.reader(room.path("notes.csv").read_text(encoding="utf-8").splitlines())]
     yield Outcome("look: the notes by terms", (len(rows), "ECZ" in rows[-1]), (2, True))
@@ -373,10 +374,11 @@ def with_terms(room: Room) -> Iterator[Outcome]:
     room.write("north-7.xml", feed([product(place, article) for place, article in enumerate(articles)]))
     room.write("net.json", json.dumps(LIKE | {"price_type": "05"}).encode())
     section = f"Price of type 05 in GBP for GB on {DAY}"
-    for words, priced, prices in [
+    cases: list[tuple[list[str], str, dict[str, str]]] = [
         ([], "0", {"02 GBP": "3"}),
         (["--terms", "shop.toml"], "2", {"02 GBP": "3", "05 GBP": "2"}),
-    ]:
+    ]
+    for words, priced, prices in cases:
         status, found = table(room, "--like", "net.json", *words, "north-7.xml")
         name = f"look: {' '.join(words) or 'no terms'}"
         yield Outcome(

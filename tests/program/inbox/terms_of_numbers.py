@@ -122,6 +122,10 @@ BAD = [
 ]
 
 
+# Words of a run.
+WAYS: list[list[str]] = [[], ["--check"]]
+
+
 def terms_that_are_none(room: Room) -> Iterator[Outcome]:
     """They stop the inbox with a line, whatever came in, which waits."""
     inbox = Inbox(room, 1)
@@ -133,7 +137,7 @@ def terms_that_are_none(room: Room) -> Iterator[Outcome]:
             room.path("north.toml").unlink(missing_ok=True)
             if table is not None:
                 put_terms(room, table)
-            for words in [], ["--check"]:
+            for words in WAYS:
                 came = inbox.run(*words)
                 line = came.errors.decode()
                 before = f"onixdesk-inbox: settings.conf: TERMS: {why or 'terms: not TOML'}"
@@ -224,6 +228,7 @@ class Tiring(Failing):
     """A desk that fails behind its first message, and says then that it has that."""
 
     posts = 0
+    first = b""
 
     def do_GET(self) -> None:
         has = b'"first":1,"greatest":%d,"missing":[],' % type(self).posts if type(self).posts else b""
@@ -242,12 +247,13 @@ class Tiring(Failing):
 def parts_of_a_file(room: Room) -> Iterator[Outcome]:
     """The second part of a feed is by the terms of the first, also where that was posted by an earlier run; so for a
     number that the inbox gave."""
-    for settings in {}, {"NUMBER": "next"}:
+    cases: list[dict[str, str]] = [{}, {"NUMBER": "next"}]
+    for settings in cases:
         name = f"terms: parts {settings}"
         shutil.rmtree(room.path("state-north"), ignore_errors=True)
         file = put_terms(room, FORTY)
         inbox = Inbox(room, 1, SENDER=SENDER, TERMS=file, WORDS="--parts 2", **settings)
-        tiring = type("Handler", (Tiring,), {"posts": 0})
+        tiring: type[Tiring] = type("Handler", (Tiring,), {"posts": 0})
         with standing_in(tiring) as port:
             inbox.set(SENDER=SENDER, TERMS=file, WORDS="--parts 2", DESK=f"http://127.0.0.1:{port}", **settings)
             inbox.put({"1.xml": priced(1, "R1", "R2")})

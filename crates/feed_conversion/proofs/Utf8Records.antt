@@ -15,7 +15,7 @@ use Rattle.feed_mapping.specs.Header.{Choices, Heading, ◌>>=◌, addressee_pai
 use Rattle.feed_mapping.specs.declared.header.HeaderRefusal.{HeaderRefusal}
 use Rattle.feed_mapping.specs.declared.header.HeaderRefusal.TheVariants as denied
 use Rattle.feed_mapping.proofs.PartLaws.{number-within}
-use Rattle.feed_mapping.proofs.RowLaws.{cond-then}
+use Rattle.feed_mapping.proofs.PriceRows.{cond-then}
 use Rattle.feed_conversion.specs.Conversion.{first_record}
 use Rattle.feed_conversion.specs.Messages.{end_record, message}
 use Rattle.feed_conversion.proofs.PartLaws.{value}

@@ -26,3 +26,9 @@ others-tried k most is old mid new c records notes fs e f others =
 pub on-ok : {A E P Q : Type 0} (r : Result A E) → (P → Q) → OnOk r P → OnOk r Q
 on-ok (Ok x) f p = f p
 on-ok (Err e) f p = tt
+
+-- the first of the forms was kept
+pub first-kept : {P N : Type 0} (k : Keeping P N) (most : ℕ) (is : Bool) (old new : Stored P N) (c : Composite) (records : List (List (List ℕ))) (notes : List Note) (fs : List Variant)
+    → is ≡ true → IsKept is old new (with_variant k most old c records notes) → new ≡ with_variants k most old c (variant records notes ∷ fs)
+first-kept k most true old new c records notes fs e f = sym (ap (λ x. unwrap_or x (with_variants k most old c fs)) f)
+first-kept k most false old new c records notes fs e f = cc e

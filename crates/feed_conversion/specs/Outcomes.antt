@@ -3,7 +3,6 @@ use Rattle.std.specs.Prelude.{◌≡◌, ℕ, List, [], Option, Result, Err}
 use Rattle.feed_xml.specs.declared.position.Position.{Position}
 use Rattle.feed_xml.specs.EncodingNames.{IsTextOf}
 use Rattle.feed_xml.specs.Tree.{Content}
-use Rattle.feed_outline.specs.declared.message_reading.Fault.{Fault as Unread}
 use Rattle.feed_outline.specs.Dialect.{Dialect}
 use Rattle.feed_outline.specs.Faults.{Explains}
 use Rattle.feed_outline.specs.Message.{IsMessage}

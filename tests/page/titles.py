@@ -7,7 +7,7 @@ from collections.abc import Iterator
 from tests.page import order_desk
 from tests.page.browser import Browser
 from tests.page.order_desk import isbn_of
-from tests.page.orders import file_rows, look_up, open_list, row_of, save_to, saved
+from tests.page.orders import file_rows, look_up, row_of, save_to, saved
 from tests.page.site import Site
 from tests.page.week import HOSTILE
 from tests.running import Outcome

@@ -16,10 +16,10 @@ use std::io::{Read, Write};
 use std::rt::HostRuntime;
 
 // Converts FILEs by these terms or by none, and writes their titles where they are asked for.
-fn run_by<F: NamedFiles, R: Read, W: Write, E: Write>(
+fn run_by<'a, F: NamedFiles, R: Read, W: Write, E: Write>(
     rt: &HostRuntime,
-    conversion: &Conversion<'_>,
-    terms: Option<&Terms>,
+    conversion: &Conversion<'a>,
+    terms: Option<&'a Terms>,
     files: &mut F,
     streams: &mut Streams<R, W, E>,
 ) -> u8

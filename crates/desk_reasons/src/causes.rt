@@ -333,7 +333,7 @@ fn push_misplaced(
         push_value(text, "Count", field_at(record, 1))?;
         return write!(
             text,
-            " is not the number of records before it, which is {index}: one is missing or too many; do not just change Count"
+            " is not the number of records before it, which is {index}: a record is missing or one too many; take the file from its sender again, and do not just change Count"
         );
     }
     let header = piece.record(0);

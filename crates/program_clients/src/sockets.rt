@@ -66,7 +66,7 @@ pub fn why_unanswered(rt: &HostRuntime, path: &str) -> &'static str {
         }
         Ok(_) => "a file that is not a socket",
         Err(error) if error.kind() == ErrorKind::NotFound => {
-            "no such socket, so no desk is served there: ask the file itself, onixdesk --db FILE batch, or serve it first and leave that running, onixdesk --db FILE serve --port N --batches SOCKET"
+            "no such socket; correct the name behind --batches, or, if no desk is served, ask the file itself: onixdesk --db FILE batch"
         }
         Err(_) => "its folder is not to be used by this user",
     }

@@ -27,7 +27,8 @@ fn text_of(cause: Cause) -> &'static str {
         Cause::Missing => {
             "no such file; correct the name behind --db, or have batch make a new desk, without --existing"
         }
-        Cause::NoFolder => "its folder is not there; make it, or correct the name behind --db",
+        Cause::NoFolder =>
+            "its folder is not there; correct the name behind --db, or make the folder for a new desk with nothing in it",
         Cause::Empty => "an empty file, which has no desk",
         Cause::Folder => "a folder",
         Cause::InFile => "a folder of its path is a file",

@@ -10,7 +10,7 @@ fn hint_of(kind: usize) -> (&'static str, &'static str) {
     match kind {
         0 => (
             "refused,name-taken",
-            "the name has an agreement with another sender, addressee or first number, which onixdesk --db FILE agreements shows: leave the line out to keep that one, or give this one another name",
+            "the name has an agreement with another sender, addressee or first number, which onixdesk --db FILE agreements shows: leave the line out if that one is right; another sender or addressee needs another name; a wrong agreement: MISTAKES.md, An agreement was mistyped (in docs, or in /usr/share/doc/onixdesk)",
         ),
         1 => (
             "refused,series-taken",

@@ -13,14 +13,14 @@ from tests.running import Outcome, left_out
 
 OTHERS = "a database of another program, or a damaged one; docs/RELIABILITY.md, Faults"
 NO_FILE = "no such file; correct the name behind --db, or have batch make a new desk, without --existing"
-NO_FOLDER = "its folder is not there; make it, or correct the name behind --db"
+NO_FOLDER = "its folder is not there; correct the name behind --db, or make the folder for a new desk with nothing in it"
 FAILED_DISK = "the disk is full or failed, or a page of the file is damaged; docs/RELIABILITY.md, Faults"
 OPEN_ELSEWHERE = (
     "another program has it open; if a desk is served, send it the batch (--batches), or list a copy of it (desk-copy)"
 )
 
 
-NO_SOCKET = "no such socket, so no desk is served there: ask the file itself, onixdesk --db FILE batch, or serve it first and leave that running, onixdesk --db FILE serve --port N --batches SOCKET"
+NO_SOCKET = "no such socket; correct the name behind --batches, or, if no desk is served, ask the file itself: onixdesk --db FILE batch"
 
 
 def fault(line: str, *why: str, status: int = 3) -> Ran:

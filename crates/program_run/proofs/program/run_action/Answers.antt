@@ -20,5 +20,5 @@ returns-clause-end g c =
       | in-Convert w ↦ rw (w.in-Convert.is, w.status-is, w.machine-is) (refl, tt, w.run-status.ensures.end)
       | in-CheckRules w ↦ rw (w.in-CheckRules.is, w.status-is, w.machine-is) ((refl, refl), tt, w.check_rules-status.ensures.end)
       | in-CheckTerms w ↦ rw (w.in-CheckTerms.is, w.status-is, w.machine-is) ((refl, refl), tt, w.check_terms-status.ensures.end)
-      | in-CheckTexts w ↦ rw (w.in-CheckTexts.is, w.status-is, w.machine-is) ((refl, refl), tt, Appends-nil (g.W.Write.contents c.args.machine.now.streams.output))
+      | in-CheckTexts w ↦ rw (w.in-CheckTexts.is, w.machine-is) ((refl, refl), tt, Appends-nil (g.W.Write.contents c.args.machine.now.streams.output))
     ]

@@ -7,4 +7,4 @@ returns-in-Ok-clause-end g c = asked_as c.in-Ok.ensures.ok (λ L placed told. le
 
 pub returns-in-Err-clause-end : goal.returns-in-Err-clause-end
 returns-in-Err-clause-end g c =
-    asked_as c.in-Err.ensures.err (λ L may told. (λ zero. absurd (omega (arith, zero, c.report_export.ensures)), may told))
+    asked_as c.in-Err.ensures.err (λ L may told. (λ zero. absurd (omega (arith, zero, c.report_export-status.ensures)), may told))

@@ -7,7 +7,7 @@ pub returns-in-Ok-clause-end : goal.returns-in-Ok-clause-end
 returns-in-Ok-clause-end g c = (
   c.in-Ok.did,
   subst (λ by. IsMigrated g.K.KeepsDesks.files c.args.databases c.args.db.now.name.now by c.in-Ok.did c.in-Ok.files) c.creation_of.ensures c.in-Ok.ensures.ok,
-  c.write_line.ensures,
+  c.write_line-status.ensures,
 )
 
 pub returns-in-Err-clause-end : goal.returns-in-Err-clause-end

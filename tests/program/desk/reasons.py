@@ -13,7 +13,9 @@ from tests.running import Outcome, left_out
 
 OTHERS = "a database of another program, or a damaged one; docs/RELIABILITY.md, Faults"
 NO_FILE = "no such file; correct the name behind --db, or have batch make a new desk, without --existing"
-NO_FOLDER = "its folder is not there; correct the name behind --db, or make the folder for a new desk with nothing in it"
+NO_FOLDER = (
+    "its folder is not there; correct the name behind --db, or make the folder for a new desk with nothing in it"
+)
 FAILED_DISK = "the disk is full or failed, or a page of the file is damaged; docs/RELIABILITY.md, Faults"
 OPEN_ELSEWHERE = (
     "another program has it open; if a desk is served, send it the batch (--batches), or list a copy of it (desk-copy)"
@@ -171,9 +173,7 @@ def of_a_socket(room: Room) -> Iterator[Outcome]:
             yield Outcome(f"why: {count} to a socket: the desk", (ended.status, ended.errors), (0, lines))
 
 
-NO_DATABASE = (
-    b"onixdesk: without --db a desk has only the agreements of its batch: if the desk in a file is meant, write --db FILE before the command\n"
-)
+NO_DATABASE = b"onixdesk: without --db a desk has only the agreements of its batch: if the desk in a file is meant, write --db FILE before the command\n"
 
 
 def no_database(room: Room) -> Iterator[Outcome]:

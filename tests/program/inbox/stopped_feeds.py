@@ -232,7 +232,12 @@ def many(kinds: int) -> bytes:
     prices = [f"Price,{price_type},10,GBP,,WORLD,,," for price_type in TYPES[:kinds]]
     lines = ["Message,2,06,S,,,5,1,,,"]
     for place in range(MANY):
-        lines += [f"Product,R{place},03,15,97800{place:08}", "ProductSupply,GB,,", "SupplyDetail,04,,,North,21,", *prices]
+        lines += [
+            f"Product,R{place},03,15,97800{place:08}",
+            "ProductSupply,GB,,",
+            "SupplyDetail,04,,,North,21,",
+            *prices,
+        ]
     return "\n".join([*lines, f"EndMessage,{len(lines)}", ""]).encode()
 
 

@@ -207,11 +207,11 @@ def hints(room: Room) -> Iterator[Outcome]:
             "the name has an agreement with another sender",
         ),
         (AGREEMENT + other * 2, "series-taken", "this sender and addressee have an agreement already"),
-        (AGREEMENT.replace(b",1\n", b",2\n") + bare(1) * 2, "before-first", "the number is below the first number"),
+        (AGREEMENT.replace(b",1\n", b",2\n") + bare(1) * 2, "before-first", "the number is below the FirstNumber"),
         (
             AGREEMENT + bare(1) + OTHER,
             "other-contents",
-            "the number, the last in the answer, has a message with other contents; a correction needs a new one",
+            "a message with other contents had this number, the last in the answer: a correction needs the next number",
         ),
         (
             b"AskCalendar,9781234567897,20250402,20250401,GB,GBP,02\n",

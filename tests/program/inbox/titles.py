@@ -233,15 +233,18 @@ def faults(room: Room) -> Iterator[Outcome]:
     """None of them holds up or refuses a feed."""
     shop = Shop(room)
 
-    def told(what: str, name: str, data: bytes, why: str, before: str = "") -> Outcome:
+    def told(what: str, name: str, data: bytes, why: str, before: str = "", again: str = "") -> Outcome:
         came = shop.feed({name: data}, before=before)
-        return Outcome(f"titles: {what}", came, said(f"{name}: done: number 1 applied", f"{name}: no titles: {why}"))
+        lines = said(f"{name}: done: {again}number 1 applied", f"{name}: no titles: {why}")
+        return Outcome(f"titles: {what}", came, lines)
 
+    again = ""
     for end, why in FAULTS.items():
         of_titles = f'case "$*" in *--titles*) echo "onixdesk: feed.xml: refused: why" >&2; {end} ;; esac'
         script(room, "converter", f"{of_titles}\n{CONVERTER}")
         before = HARDLY_ANY_TIME if "sleep" in end else ""
-        yield told(f"a converter that ends by {end}", "a.xml", feed(1), why, before)
+        yield told(f"a converter that ends by {end}", "a.xml", feed(1), why, before, again)
+        again = "had it already: "
     script(room, "converter", CONVERTER)
     large = zipped({"a": feed(1, row(ONE, "A" * 60))})
     bound = "from onixdesk_inbox import handing; handing.MOST_UNPACKED = 60"

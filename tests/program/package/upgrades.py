@@ -64,7 +64,7 @@ def upgraded(room: Room) -> Iterator[Outcome]:
     yield Outcome("an upgrade: what is started", told, "start onixdesk-copy.timer onixdesk-inbox@north.timer\n")
     rules.write_text("[[rule]]\nserie = 'north'\n")
     came = configured(room, "0.2.0")
-    begins = came.output.decode().startswith(f"onixdesk: {rules}: line 1: ")
+    begins = came.output.decode().startswith(f"onixdesk: {rules}: line 2: ")
     yield Outcome("an upgrade: the rules", (came.status, begins), (0, True))
     came = configured(room, "")
     yield Outcome("the first time no settings are read", (came.status, came.output + came.errors), (0, b""))

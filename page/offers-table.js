@@ -15,14 +15,15 @@ const number = (count) => formatter(Intl.NumberFormat).format(count);
 const tag = (className, words, title) => element("span", { class: `tag ${className}`, title }, words);
 
 /**
- * What a wholesaler's messages lack, as marks behind its name: how many, where those are counted, or else what that means
- * for its prices, since a number in the row of a book is read as one of copies.
+ * What a wholesaler's messages lack, as marks behind its name: how many at its `sum`, or else what that means for its
+ * prices, since a number in the row of a book is read as one of copies; in a `row` of a list there is room for two words.
  */
-export function marksOf(series, reports, isWhole = false) {
+export function marksOf(series, reports, place = "offer") {
   const found = reports.stateOf(series);
   if (!found.isWatched) return [tag("quiet", say("article.unwatchedTag"))];
   const counted = sayCount("missing.atTab", found.count);
-  const missing = found.count > 0 ? [isWhole ? tag("unusual", counted) : tag("unusual", say("article.oldTag"), counted)] : [];
+  const words = { sum: counted, row: say("order.oldTag"), offer: say("article.oldTag") }[place];
+  const missing = found.count > 0 ? [tag("unusual", words, place === "sum" ? undefined : counted)] : [];
   const silent = found.isSilent ? [tag("unusual", sayCount("article.silentTag", found.days))] : [];
   return [...missing, ...silent];
 }

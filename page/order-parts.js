@@ -95,7 +95,7 @@ function totalInWords(without) {
 
 function sumRow(name, { lines, copies, amount, series }, context) {
   const { currency, reports, save } = context;
-  const marks = series === undefined ? [] : marksOf(series, reports, true);
+  const marks = series === undefined ? [] : marksOf(series, reports, "sum");
   const cells = [
     [name, ...marks.flatMap((mark) => [" ", mark])],
     [counted(lines)],

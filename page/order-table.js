@@ -276,7 +276,7 @@ function wholesalerCell(book, state, context) {
   const field = isOpen ? [handField(book, state, context.handOf(book), context)] : [];
   if (state.offer === undefined) return [...withoutOffer(book, state, context), " ", ...field];
   const name = element("span", { class: "on-paper" }, wholesalerOf(context.settings, state.offer.series));
-  return [...field, name, " ", ...marksOf(state.offer.series, context.reports)];
+  return [...field, name, " ", ...marksOf(state.offer.series, context.reports, "row")];
 }
 
 /** A field of a row, by which a buyer changes the list; `change` hears of a value, and whether it came by Enter. */

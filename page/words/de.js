@@ -270,6 +270,7 @@ export const texts = {
     untilThen: "bis {day}, dann {price}",
     untilThenNone: "bis {day}, dann kein Preis",
     addedUp: "Zeilen {lines}: {copies} Exemplare",
+    oldTag: "alter Preis?",
     byHand: "von Hand gewählt",
     take: "{copies} nehmen",
     takeOf: "{copies} von {isbn} nehmen",

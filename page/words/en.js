@@ -270,6 +270,7 @@ export const texts = {
     untilThen: "until {day}, then {price}",
     untilThenNone: "until {day}, then no price",
     addedUp: "lines {lines}: {copies} copies",
+    oldTag: "old price?",
     byHand: "chosen by hand",
     take: "Take {copies}",
     takeOf: "Take {copies} of {isbn}",

@@ -302,4 +302,5 @@ def in_pieces(site: Site, browser: Browser) -> Iterator[Outcome]:
     yield Outcome("pieces: the last", (came, browser.one("#take-piece").is_displayed()), (True, False))
 
 
-CASES = [with_wholesalers, from_a_till, rows_change, beside, from_an_article, margins, budget_and_carriage, in_pieces]
+CASES = [with_wholesalers, rows_change, beside, from_an_article, margins, budget_and_carriage, in_pieces]
+OF_A_TILL = [with_wholesalers, from_a_till]

@@ -772,7 +772,7 @@ def missing_marks(site: Site, browser: Browser) -> Iterator[Outcome]:
     open_list(browser)
     look_up(browser, f"{isbn_of(2)}\n{isbn_of(3)}")
     marked = [row.text for row in browser.all("#list tr[data-series] .tag")]
-    yield Outcome("the book of a wholesaler with missing messages", marked, ["prices may be old"])
+    yield Outcome("the book of a wholesaler with missing messages", marked, ["old price?"])
     yield Outcome("its sum", browser.texts("#sums .tag"), ["2 messages missing"])
     allow_clipboard(site, browser, "granted")
     browser.one("#copy-all").click()

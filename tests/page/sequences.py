@@ -50,14 +50,19 @@ class Sequence(NamedTuple):
 
 SEQUENCES = [
     Sequence("stops", stops.CASES),
-    Sequence("minutes", [*reports.OVER_TIME, *passwords.CASES, *origins.AT_THE_END], is_whole=True),
+    Sequence("minutes", [*reports.OVER_TIME, *titles.CASES]),
     Sequence("questions", [*articles.CASES, *isbns.CASES, *days.CASES, *prices.CASES]),
     Sequence("views", [*calendars.CASES, *reports.CASES, *hostile.CASES, *refusals.CASES]),
     Sequence("orders", orders.CASES),
     Sequence("long lists", long_lists.CASES),
-    Sequence("baskets", [*baskets.CASES, *order_screens.CASES, *titles.CASES], is_whole=True),
+    Sequence("baskets", [*baskets.CASES, *order_screens.CASES]),
     Sequence("misleading", misleading.CASES),
-    Sequence("screens", [*keyboard.CASES, *screens.CASES, *origins.CASES], is_whole=True),
+    Sequence("screens", screens.CASES),
+    Sequence(
+        "browsers",
+        [*keyboard.CASES, *origins.CASES, *baskets.OF_A_TILL, *passwords.CASES, *origins.AT_THE_END],
+        is_whole=True,
+    ),
 ]
 PICTURES = Sequence("pictures", pictures.CASES, is_whole=True)
 

@@ -70,7 +70,7 @@ fn serve_next<D: Desk, C: Clients, I, O: Write, E: Write>(
                 writer,
             } = client;
             tell_question(rt.alloc(), protocol, reader.kept(), &mut streams.errors);
-            clients.close(reader.into_reader(), writer);
+            clients.disconnect(reader.into_reader(), writer);
             ended
         }
         Ok(None) => print_line(&Err(HttpFault::Read), &mut streams.output),

@@ -17,7 +17,7 @@ use Rattle.program_desks.specs.declared.files_left.FilesLeft.{FilesLeft}
 use Rattle.program_desks.specs.declared.kept_desks.Creation.{Creation}
 use Rattle.program_desks.specs.declared.files_left.FilesLeft.TheVariants.{Closed, Unclosed, Unopened, Untouched}
 use Rattle.program_run.specs.FileEnds.{TaskLeads}
-use Rattle.program_run.specs.OverFiles.{Closes, EndsOverFiles}
+use Rattle.program_run.specs.OverFiles.{Closes, EndsOverFiles, IsUnserved}
 use Rattle.program_commands.proofs.TalkEnds.{batch_as, talks_as}
 use Rattle.program_commands.specs.TaskEnds.{GapsEnds, RequestsEnd, TaskEnds}
 use Rattle.program_words.specs.declared.invocation.Task.{Task}
@@ -122,3 +122,10 @@ over_files files databases name creation written ends between first last own sta
     (three, own, between (files.found databases name creation) first last (files.unclosed left) own opens leaves ended)
 over_files files databases name creation written ends between first last own status (Unopened left) opens closes ended = absurd closes
 over_files files databases name creation written ends between first last own status (Untouched left) opens closes ended = absurd closes
+
+-- what is closed was opened
+pub after_opening : {K : Type 0} {k : DeskKind} {C U N : Type 0} (files : DeskFiles K k C U N) (desk : View k) (own status : ℕ) (were are : ClientTexts) (left : FilesLeft K N U C) → Closes files desk own status left → IsUnserved were are left
+after_opening files desk own status were are (Closed closed) closes = tt
+after_opening files desk own status were are (Unclosed left) closes = tt
+after_opening files desk own status were are (Unopened left) closes = absurd closes
+after_opening files desk own status were are (Untouched databases) closes = tt

@@ -11,7 +11,7 @@ use Rattle.program_desks.specs.declared.kept_desks.Creation.TheVariants.{Never}
 use Rattle.program_words.specs.Asked.{Reads}
 use Rattle.program_run.specs.ConvertEnds.{ConvertEnds}
 use Rattle.program_run.specs.ListingEnds.{ListingEnds, SparesFiles}
-use Rattle.program_run.specs.OverFiles.{EndsOverFiles, IsUntouched, MigrateEnds, creation_by}
+use Rattle.program_run.specs.OverFiles.{EndsOverFiles, IsUnserved, IsUntouched, MigrateEnds, creation_by}
 use Rattle.program_lines.specs.Printing.{PrintEnds}
 use Rattle.program_clients.specs.Clients.{ClientTexts}
 use Rattle.program_clients.specs.Sent.{Message}
@@ -69,9 +69,8 @@ IsUnread written words status =
 -- Seen: what is seen of a desk in memory. Files: what is seen of the files that `databases` opens.
 -- Answers: what comes from the desk at the socket of a name once it was sent a text, where that is
 -- known; was sent, sent: what was sent to such desks, before and after. Coming, were, are: as of a
--- command. Is told: whether it is told
--- what files hold; before, after: what names hold. Written: these bytes were written. Told: what
--- the input tells of its bytes
+-- command. Is told: whether it is told what files hold; before, after: what names hold. Written:
+-- these bytes were written. Told: what the input tells of its bytes
 module _ {M : Type 0} {m : DeskKind} (seen : M → View m) {K : Type 0} {k : DeskKind}
     {C U N : Type 0} (files : DeskFiles K k C U N) (databases : K)
     (answers : List ℕ → List ℕ → Option (List ℕ)) (was_sent sent : Option (List Message))
@@ -99,8 +98,8 @@ module _ {M : Type 0} {m : DeskKind} (seen : M → View m) {K : Type 0} {k : Des
       IsApart × IsUntouched left
       × NewDeskEnds rules written task before told coming were are seen status
   ActionEnds rules (InFile db task) status left =
-      IsApart × EndsOverFiles files databases db.name.now
-      (creation_by db.is_existing) written
+      IsApart × IsUnserved were are left
+      × EndsOverFiles files databases db.name.now (creation_by db.is_existing) written
       (TaskLeads rules written task before told coming were are) status left
   ActionEnds rules (Listed db listing) status left =
       (sent ≡ was_sent) × (are ≡ were) × SparesFiles written is_told before after listing

@@ -4,7 +4,7 @@ ghost use Rattle.std.specs.Prelude.{◌≡◌, ◌≤◌, IfErr, IfOk, map};
 ghost use Rattle.std.specs.Io.KnownBytes.{Appends};
 ghost use Rattle.program_run.specs.FileEnds.{ActionEnds, InvocationEnds, IsUnread, NewDeskEnds, ReadsRules, RunEnds, TaskLeads};
 ghost use Rattle.program_words.specs.Asked.{Reads};
-ghost use Rattle.program_run.specs.OverFiles.{EndsOverFiles, creation_by};
+ghost use Rattle.program_run.specs.OverFiles.{EndsOverFiles, IsUnserved, creation_by};
 
 use crate::closing::close_desk;
 use crate::machine::Machine;
@@ -97,6 +97,7 @@ fn run_in_file<
         (Appends (W.contents streams.old.output) (W.contents streams.new.output))
         task.now (F.holds files.now) (R.remaining streams.old.input) (N.coming entrances.old)
         (N.replied entrances.old) (N.replied entrances.new)) result.0 result.1 }
+    ensures unserved { IsUnserved (N.replied entrances.old) (N.replied entrances.new) result.1 }
 {
     bind_port(entrances, task);
     match databases.open(rt, db.name, creation_of(db), &mut streams.errors.writer) {
@@ -153,10 +154,10 @@ fn run_action<
         Action::Listed { db, listing } => {
             return listing::list_file(rt, db, databases, *listing, files, streams);
         }
-        Action::Migrate { db } => return migrating::run(rt, db, databases, streams),
+        Action::Migrate { db } => return migrating::migrate_file(rt, db, databases, streams),
         Action::InMemory(task) => run_in_memory(rt, precedence, task, files, entrances, streams),
         Action::Send { socket } => send_input(rt, desks, socket, streams),
-        Action::Convert(conversion) => converting::run(rt, conversion, files, streams),
+        Action::Convert(conversion) => converting::convert(rt, conversion, files, streams),
         Action::CheckRules { file } => {
             let errors = &mut streams.errors.writer;
             checking::check_rules(alloc, files, file, &mut streams.output, errors)

@@ -4,7 +4,7 @@ use Rattle.std.specs.Io.KnownBytes.{Appends}
 use Rattle.series_rules.proofs.StepLemmas.{traces_lead}
 use Rattle.program_desks.proofs.SeenLemmas.{leads_as}
 use Rattle.program_desks.specs.DeskFiles.{OpensAs}
-use Rattle.program_run.proofs.EndLemmas.{over_files, task_as, task_between, task_of}
+use Rattle.program_run.proofs.EndLemmas.{after_opening, over_files, task_as, task_between, task_of}
 use Rattle.program_run.specs.FileEnds.{TaskLeads}
 use Rattle.program_run.specs.OverFiles.{creation_by}
 use Rattle.series_rules.specs.Steps.{Asked, Leads}
@@ -39,3 +39,11 @@ returns-in-Err-clause-end g c = (
   Appends-nil (g.W.Write.contents c.args.streams.now.output),
   subst (λ by. g.K.KeepsDesks.files.spared c.args.databases c.args.db.now.name.now by c.in-Err.left) c.creation_of.ensures c.in-Err.ensures.err,
 )
+
+pub returns-in-Ok-clause-unserved : goal.returns-in-Ok-clause-unserved
+returns-in-Ok-clause-unserved g c =
+    let replied = g.N.Entrances.replied in
+    after_opening g.K.KeepsDesks.files (g.K.KeepsDesks.seen c.run_task-status.new.desk) c.run_task-status.result c.close_desk.result.0 (replied c.args.entrances.now) (replied c.run_task-status.new.entrances) c.close_desk.result.1 c.close_desk.ensures.end
+
+pub returns-in-Err-clause-unserved : goal.returns-in-Err-clause-unserved
+returns-in-Err-clause-unserved g c = c.bind_port.ensures.replied

@@ -1,4 +1,4 @@
-use Rattle.std.proofs.Common.{List, map, refl, subst, sym, ℕ}
+use Rattle.std.proofs.Common.{List, map, refl, subst, ℕ}
 use Rattle.std.specs.Borrow.{Bor}
 use Rattle.std.specs.Io.KnownBytes.{Appends}
 use Rattle.series_rules.specs.Steps.{Asked}

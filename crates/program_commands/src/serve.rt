@@ -259,10 +259,10 @@ fn listen<D: Desk, N: Entrances, I, O: Write, E: Write>(
 }
 
 /// Listens at a port, the one that was bound where there is one, and at a socket for batches where
-/// one is named, writes `listening` and the number of the port, and serves so
-/// many connections: an exchange over HTTP at the port, a batch at the socket. Gives 0, or 3 after
-/// a fault of the port, of the socket or of the output, or when out of memory, which is reported.
-/// The routes of HTTP are made before.
+/// one is named, writes `listening` and the number of the port, and serves so many connections: an
+/// exchange over HTTP at the port, a batch at the socket. Gives 0, or 3 after a fault of the port,
+/// of the socket or of the output, or when out of memory, which is reported. The routes of HTTP are
+/// made before.
 pub fn serve_desk<D: Desk, N: Entrances, I, O: Write, E: Write>(
     rt: &HostRuntime,
     desk: &mut D,

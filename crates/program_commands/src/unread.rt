@@ -1,7 +1,7 @@
 //! Why a file is not read.
 
 use program_files::{FileFault, NamedFiles, STANDARD_INPUT};
-use program_lines::fault::{report_file, report_why};
+use program_lines::fault::{report_cause, report_file};
 use std::alloc::Global;
 use std::io::{Read, Write};
 
@@ -31,6 +31,6 @@ pub(crate) fn report_unread<F: NamedFiles, E: Write>(
     }
     let fault = fault_of(alloc, files, name);
     if let Some(FileFault::File { why, .. }) = &fault {
-        report_why(name, why.as_str(), errors);
+        report_cause(name, why.as_str(), errors);
     }
 }

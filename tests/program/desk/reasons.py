@@ -67,7 +67,9 @@ def storage(room: Room) -> Iterator[Outcome]:
     yield Outcome("why: cut.db", came, fault("storage: disk", f"cut.db: {FAILED_DISK}"))
     with serving(room, ["--db", DATABASE], None):
         why = f"{DATABASE}: {OPEN_ELSEWHERE}"
-        yield Outcome("why: open elsewhere", room.told("--db", DATABASE, "batch"), fault("storage: unusable", why))
+        for command in "batch", "agreements", "gaps", "export":
+            came = room.told("--db", DATABASE, command)
+            yield Outcome(f"why: open elsewhere: {command}", came, fault("storage: unusable", why))
 
 
 def without_a_log(room: Room) -> Iterator[Outcome]:

@@ -51,6 +51,9 @@ fn run_words(rt: &HostRuntime, words: std::env::Args) -> Result<u8, AllocError>
     };
     let (status, left) = run(rt, words.as_slice(), databases, &mut machine);
     machine.streams.output.clear();
+    if status == 3 {
+        machine.streams.output.tell_fault();
+    }
     drop(left);
     Ok(status)
 }

@@ -51,6 +51,7 @@ fn serve_next<D: Desk, C: Clients, I, O: Write, E: Write>(
 {
     match clients.accept() {
         Ok(Some((protocol, reader, writer))) => {
+            renew(rt, &mut streams.errors);
             let mut client = Client {
                 protocol,
                 reader: Front::new(rt.alloc(), reader),
@@ -101,9 +102,7 @@ pub fn serve_clients<D: Desk, C: Clients, I, O: Write, E: Write>(
         C.takes_batches (C.coming clients.old) (C.replied clients.old) (C.replied clients.new)
         requests result }
 {
-    let mut since = None;
     'serving: for _served in 0..requests {
-        since = renew(rt, since, &mut streams.errors);
         match serve_next(rt, routes, desk, precedence, clients, streams) {
             Ok(()) => {}
             Err(fault) => return report(&fault, &mut streams.errors.writer),

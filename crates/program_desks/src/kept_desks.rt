@@ -30,6 +30,8 @@ pub enum Cause {
     Full,
     /// Another program has it open.
     Busy,
+    /// Its log cannot be made beside it.
+    NoLog,
     /// It does not begin as a database does.
     NoDatabase,
     /// It is a database, but not a desk's, or one that is damaged.

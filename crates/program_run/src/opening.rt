@@ -39,6 +39,7 @@ fn text_of(cause: Cause) -> &'static str {
         Cause::Busy => {
             "another program has it open; if a desk is served, send it the batch (--batches), or list a copy of it (desk-copy)"
         }
+        Cause::NoLog => "no log can be made beside it",
         Cause::NoDatabase => "not a database; correct the name behind --db, or restore a copy",
         Cause::NoDesk => {
             "a database of another program, or a damaged one; docs/RELIABILITY.md, Faults"

@@ -12,6 +12,8 @@ from tools.root import ROOT
 
 SCRIPT = ROOT / "packaging/debian/onixdesk.postinst"
 SETTINGS = "SENDER=06,S\n"
+# Of before the version that a script compares with.
+EARLY = "0.1.0"
 FOLDERS = ["bin", "etc/onixdesk/inbox", "etc/systemd/system/timers.target.wants", "run/systemd/system"]
 
 
@@ -23,13 +25,14 @@ def configured(room: Room, version: str) -> Ran:
         text = text.replace(place, f"{room.folder}{place}")
     words = f'--settings "{room.folder}/etc/onixdesk/inbox/$series.conf" --converter "{room.folder}/bin/converter"'
     programs = {
-        "dpkg": "exit 1",
+        "dpkg": f"exit {int(version != EARLY)}",
         "sendmail": "",
         "runuser": 'shift 3; exec "$@"',
         "onixdesk": f'exec "{room.program}" "$@"',
         "converter": f'exec "{room.program}" convert "$@"',
         "onixdesk-inbox": f'for series; do :; done; exec "{PROGRAM}" {words} "$@"',
         "deb-systemd-invoke": f'echo "$@" >>"{room.path("told")}"',
+        "usermod": f'echo "$@" >>"{room.path("users")}"',
     }
     for name, lines in programs.items():
         script(room, f"bin/{name}", lines)
@@ -51,7 +54,7 @@ def upgraded(room: Room) -> Iterator[Outcome]:
         ("west", f"{SETTINGS}WORDS=--leave-out-wrong\n"),
     ]:
         settings.joinpath(f"{name}.conf").write_text(text)
-    for name in ("onixdesk-copy.timer", "onixdesk-inbox@north.timer"):
+    for name in ("onixdesk-copy.timer", "onixdesk-inbox@north.timer", "onixdesk-inbox@west.path"):
         room.path(f"etc/systemd/system/timers.target.wants/{name}").symlink_to("/dev/null")
     came = configured(room, "0.2.0")
     lines = came.errors.decode().replace(f"{settings}/", "").splitlines()
@@ -61,10 +64,25 @@ def upgraded(room: Room) -> Iterator[Outcome]:
     ]
     yield Outcome("an upgrade: the settings", (came.status, came.output, lines), (0, b"", wanted))
     told = room.path("told").read_text()
-    yield Outcome("an upgrade: what is started", told, "start onixdesk-copy.timer onixdesk-inbox@north.timer\n")
+    yield Outcome(
+        "an upgrade: what is started",
+        told,
+        "start onixdesk-copy.timer onixdesk-inbox@north.timer onixdesk-inbox@west.path\n",
+    )
     rules.write_text("[[rule]]\nserie = 'north'\n")
     came = configured(room, "0.2.0")
     begins = came.output.decode().startswith(f"onixdesk: {rules}: line 2: ")
     yield Outcome("an upgrade: the rules", (came.status, begins), (0, True))
     came = configured(room, "")
     yield Outcome("the first time no settings are read", (came.status, came.output + came.errors), (0, b""))
+
+
+def from_an_early_package(room: Room) -> Iterator[Outcome]:
+    """The inbox gets a home that nobody can write, once: a later upgrade and a first installation change none."""
+    for folder in FOLDERS:
+        room.path(folder).mkdir(parents=True)
+    for version, wanted in (EARLY, "--home /nonexistent onixdesk-inbox\n"), ("0.2.0", ""), ("", ""):
+        room.path("users").write_text("")
+        came = configured(room, version)
+        name = f"an upgrade from {version or 'nothing'}: the home of the inbox"
+        yield Outcome(name, (came.status, room.path("users").read_text()), (0, wanted))

@@ -1,4 +1,4 @@
-"""The questions about articles, put to a copy of a desk by its own program, or to an open desk at its socket."""
+"""The questions about articles, and their answers, also of an open desk at its socket."""
 
 import itertools
 import time
@@ -7,7 +7,7 @@ from datetime import date, timedelta
 from pathlib import Path
 
 from command_lines.ending import Fault
-from desk_batches.asking import Answer, answers_of_desk, answers_to
+from desk_batches.asking import Answer, answers_of_desk
 from shop_files.desk_json import Shop
 
 # An open desk answers nobody else during a batch, so one shall take no longer.
@@ -50,10 +50,6 @@ class Questions:
             if len(found) < len(self.lines) or any(isbn not in answer[0] for answer in found):
                 raise Fault(f"the desk does not answer about {isbn}: {found[-1:]}")
             yield isbn, found
-
-    def of_copy(self, isbns: list[str], words: list[str | Path], folder: Path) -> Iterator[Asked]:
-        """Asks a copy by a program and its words; the batches lie in the folder meanwhile."""
-        return self.told(isbns, answers_to(map(self.about, isbns), words, folder))
 
     def of_socket(self, isbns: list[str], path: Path) -> Iterator[Asked]:
         """Asks an open desk, in batches that take so little of its time that others hardly wait."""

@@ -15,6 +15,7 @@ from command_lines.files import put_whole
 from command_lines.mailing import mail
 from command_lines.parsing import count, day, parser_of
 from command_lines.progress import Progress
+from desk_batches.asking import answers_to
 from desk_copy.command_line import add_room, add_source, copied
 from desk_follow.source import opened
 from desk_prices.asking import ARTICLES, Asked, Questions
@@ -54,6 +55,7 @@ def command_line() -> argparse.ArgumentParser:
     add("--watch", metavar="FILE", type=Path, help="of the articles of this list only")
     add("--mail", metavar="ADDRESS", default="", help="and mail it, if something changed")
     add("--outbox", metavar="FOLDER", type=Path, help="put the mail there in place of sending it")
+    add("--check", action="store_true", help="only read desk.json; status 2 if it is wrong")
     add_room(parser)
     add_source(parser)
     add("folder", metavar="FOLDER", type=Path, help="where the file is put")
@@ -73,8 +75,8 @@ def asked(options: argparse.Namespace, shop: Shop, program: Path, progress: Prog
     with copied(options, progress) as (copy, _):
         with opened(copy) as source:
             isbns = [isbn for (isbn,) in source.ask(ARTICLES)] if listed is None else listed
-        rules = ["--rules", options.rules] if options.rules else []
-        yield questions.of_copy(isbns, [program, *rules, "--db", copy, "--existing", "batch"], copy.parent)
+        words = [program, *(["--rules", options.rules] if options.rules else []), "--db", copy, "--existing", "batch"]
+        yield questions.told(isbns, answers_to(map(questions.about, isbns), words, copy.parent))
 
 
 def compared(options: argparse.Namespace, form: Form) -> Comparison | None:
@@ -99,6 +101,8 @@ def tell_changes(changes: list[Change], options: argparse.Namespace) -> None:
 def write(options: argparse.Namespace, program: Path) -> int:
     """Writes the file. What changed is mailed before it has its name: who is killed between mails it once more."""
     shop, form = read_settings(options.settings)
+    if options.check:
+        return DONE
     comparison, titles, progress = compared(options, form), Titles(options.titles), Progress(PROGRAM)
     file = options.folder / form.file_name(options.day)
     with progress, asked(options, shop, program, progress) as answers, put_whole(file) as new:

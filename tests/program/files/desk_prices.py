@@ -327,6 +327,16 @@ def bad_settings(room: Room) -> Iterator[Outcome]:
     yield Outcome("prices: a day that is none", prices(room, day="20250230").status, 2)
 
 
+def checked(room: Room) -> Iterator[Outcome]:
+    """The settings alone are read, as at an upgrade, where there may be no desk."""
+    line = b"desk-prices: desk.json: price_file: isbn\n"
+    for name, isbn, wanted in [("right", "text", Ran(0)), ("wrong", "number", Ran(2, b"", line))]:
+        form = {"columns": ["isbn"], "isbn": isbn}
+        room.write("desk.json", json.dumps(SETTINGS | {"price_file": form}).encode())
+        yield Outcome(f"prices: {name} settings are checked", prices(room, "--check"), wanted)
+    yield Outcome("prices: nothing is made by it", [each.name for each in room.folder.iterdir()], ["desk.json"])
+
+
 def changed(ran: Ran) -> list[list[str]]:
     """The changes that were written: what, ISBN, wholesalers and prices before and now, and the day."""
     rows = [*csv.reader(io.StringIO(ran.output.decode()))]
@@ -370,6 +380,19 @@ def since(room: Room) -> Iterator[Outcome]:
     yield Outcome("since: thirty days ahead", changed(came), [rises])
     came = prices(room, "--since", "out/prices.csv", day="20250303")
     yield Outcome("since: what is ahead is told once", changed(came), [])
+
+
+def formulas(room: Room) -> Iterator[Outcome]:
+    """What a feed calls a book is no formula where the changes are opened as a table."""
+    make_shop(room)
+    room.path("titles/titles/97812").mkdir(parents=True)
+    entries = [["north", 1, 10, "=1+1", "", "", ""]]
+    room.path("titles/titles/97812/97812345.json").write_text(json.dumps({TWO: entries}))
+    room.write("none.csv", HEAD.encode())
+    room.write("watch.csv", f"{TWO}\n".encode())
+    came = prices(room, "--titles", "titles", "--since", "none.csv", "--watch", "watch.csv")
+    wanted = f"new,{TWO},,,North Books,8.000,GBP,,'=1+1"
+    yield Outcome("since: a title is no formula", came.output.decode().splitlines()[1], wanted)
 
 
 MAILED = [

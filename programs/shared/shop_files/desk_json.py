@@ -6,15 +6,12 @@ from dataclasses import dataclass
 from pathlib import Path
 from typing import Any
 
-from command_lines.ending import BAD_CALL, Fault
+from command_lines.ending import BadCall
+
+# That of the buyers' page in the package.
+DESK_JSON = Path("/etc/onixdesk/page/desk.json")
 
 PATTERNS = {"country": "[A-Z]{2}", "currency": "[A-Z]{3}", "price_type": "[0-9]{2}", "recommended_type": "([0-9]{2})?"}
-
-
-class BadSettings(Fault):
-    """Says what is wrong with desk.json."""
-
-    status = BAD_CALL
 
 
 @dataclass(frozen=True)
@@ -36,25 +33,25 @@ def is_quantity(value: object) -> bool:
 
 
 def shop_of(given: Any) -> Shop:
-    """The shop that the object of desk.json has; BadSettings, which names a key, if that is wrong."""
+    """The shop that the object of desk.json has; ValueError, which names a key, if that is wrong."""
     if not isinstance(given, dict):
-        raise BadSettings("it is no object")
+        raise ValueError("it is no object")
     texts = {key: given.get(key, "") for key in PATTERNS}
     for key, text in texts.items():
         if not isinstance(text, str) or not re.fullmatch(PATTERNS[key], text):
-            raise BadSettings(key)
+            raise ValueError(key)
     quantities = given.get("quantities") or [1]
     if not isinstance(quantities, list) or not all(map(is_quantity, quantities)):
-        raise BadSettings("quantities")
+        raise ValueError("quantities")
     try:
         wholesalers = {item["name"]: item["words"] for item in given.get("series", [])}
     except (TypeError, KeyError):
-        raise BadSettings("series") from None
+        raise ValueError("series") from None
     return Shop(**texts, quantities=quantities, wholesalers=wholesalers, given=given)
 
 
 def read_shop(file: Path) -> Shop:
     try:
         return shop_of(json.loads(file.read_bytes()))
-    except (ValueError, BadSettings) as error:
-        raise BadSettings(f"{file}: {error}") from None
+    except ValueError as error:
+        raise BadCall(f"{file}: {error}") from None

@@ -6,7 +6,7 @@ from collections import Counter, defaultdict
 from pathlib import Path
 from typing import NamedTuple
 
-from tools.drawing.crates import LAYERS
+from tools.drawing.crates import LAYERS, read_lines
 from tools.root import ROOT
 
 CRATE = re.compile(r"== (\w+)$")
@@ -15,7 +15,7 @@ LOADED = re.compile(r"statements \w+: modules loaded=(\d+) ")
 KEPT = re.compile(r"rt: (\w+) is kept: ")
 
 # What bench/weight prints at the end: what the parts of a kind weigh, what all weigh, and the minutes of the whole.
-WEIGHTS = re.compile(r"(?:proofs|edits|tests|compiling): [\d.]+ = (.+)$")
+WEIGHTS = re.compile(r"(proofs|edits|tests|compiling): [\d.]+ = (.+)$")
 WEIGHT = re.compile(r"(\w+) ([\d.]+)")
 ALL = re.compile(r"all: ([\d.]+) times the proofs of ")
 WHOLE = re.compile(r"processor time of the whole: ([\d.]+) min$")
@@ -34,14 +34,17 @@ class Log:
         self.modules = Counter[str]()
         self.kept: set[str] = set()
         self.weights: dict[str, float] = defaultdict(float)
+        # Of these what its proof weighs alone.
+        self.proofs: dict[str, float] = defaultdict(float)
         self.weight_of_all = 0.0
         self.minutes_of_all = 0.0
 
     def take(self, line: str) -> None:
         """A crate's lines stand together. Those of its tests come later, below its name again, and are not counted."""
         if found := WEIGHTS.match(line):
-            for crate, weight in WEIGHT.findall(found[1]):
+            for crate, weight in WEIGHT.findall(found[2]):
                 self.weights[crate] += float(weight)
+                self.proofs[crate] += float(weight) * (found[1] in {"proofs", "tests"})
         elif found := ALL.match(line):
             self.weight_of_all = float(found[1])
         elif found := WHOLE.match(line):
@@ -100,11 +103,23 @@ def rows(log: Log) -> list[Row]:
     return [*found, row_of("all", found)]
 
 
+def longest_chain(log: Log, below: dict[str, list[str]]) -> tuple[float, list[str]]:
+    """The crates, each of which stands on the one before it, whose proofs weigh most together, and what they weigh.
+    The libraries below each crate are told lowest first."""
+    chains: dict[str, tuple[float, list[str]]] = {}
+    for crate, libraries in below.items():
+        weight, chain = max((chains[it] for it in libraries if it in chains), default=(0.0, []))
+        chains[crate] = weight + log.proofs[crate], [*chain, crate]
+    return max(chains.values(), default=(0.0, []))
+
+
 def table(log: Log) -> list[str]:
-    """The rows of layers and those of crates as lines of Markdown, and how many crates were kept, of which a log has
-    no counts."""
+    """The rows of layers and those of crates as lines of Markdown, the longest chain of crates, and how many were kept,
+    of which a log has no counts."""
     lines = []
     for name, found in (("Layer", rows(log)), ("Crate", crate_rows(log))):
         lines += [f"| {name} | Functions | Goals answered by hand | Modules read | Minutes |", "|---|---|---|---|---|"]
         lines += [*(row.line() for row in found), ""]
+    weight, chain = longest_chain(log, read_lines(ROOT.joinpath("crates.txt").read_text(encoding="utf-8")))
+    lines.append(f"the longest chain: {weight:.2f} times the proofs of csv_records and onix_terms: {', '.join(chain)}")
     return [*lines, f"{len(log.functions)} crates were proved; {len(log.kept)} were kept, and are not counted."]

@@ -3,7 +3,7 @@
 from collections.abc import Iterator
 
 from bench.commands.weight import part_named
-from bench.figures.proved import Log, crate_rows, rows, table
+from bench.figures.proved import Log, crate_rows, longest_chain, rows, table
 from tests.program.room import Room
 from tests.running import Outcome
 from tools.root import ROOT
@@ -55,6 +55,9 @@ def counts(room: Room) -> Iterator[Outcome]:
     (row,) = crate_rows(log)
     yield Outcome("bench/weight: no crate but that one", (row.name, row.functions, row.modules), ("csv_records", 3, 37))
     yield Outcome("bench/weight: a row of it", row.line() in table(log), True)
+    below = {"onix_terms": [], "csv_records": [], "feed_xml": ["onix_terms"], "desk_http": ["csv_records", "feed_xml"]}
+    chain = ["csv_records", "desk_http"]
+    yield Outcome("bench/weight: the longest chain", longest_chain(log, below), (2.0, chain))
     room.write("log", LOG.encode())
     came = room.call([ROOT / "bench/weight", "--log", "log"])
     yield Outcome("bench/weight --log", (came.status, came.output.decode().splitlines()), (0, table(log)))

@@ -7,9 +7,10 @@ It runs COMMAND ('make test') and looks at the processes below it twice a second
 time, as a multiple of what the proofs of csv_records and onix_terms took in the same run: a line for each kind of part
 (the proofs of crates, their must-fail edits, their tests with the builds, what the two compilers make of programs, and
 all else), and all together; the processor time of the whole; the most memory that a part took; and tables of what was
-proved, of each layer and of each crate, by the log of `rt ci`, which are the same on every machine. Machines differ, and so do runs beside other work:
-multiples of one run compare, if nothing ran beside it. With --ends csv_records is proved from nothing before and after
-COMMAND: where the two differ much, something did. With --log only these tables are printed, of a log that was kept.
+proved, of each layer and of each crate, by the log of `rt ci`: the counts are the same on every machine, the minutes
+are shares of the whole. Machines differ, and so do runs beside other work: multiples of one run compare, if nothing ran
+beside it. With --ends csv_records is proved before and after COMMAND, for which nothing is kept: where the two differ
+much, something ran beside it. With --log only these tables are printed, of a log that was kept, of COMMAND or of this.
 With --file what there is so far is written there every half minute. The status is that of COMMAND.
 """
 
@@ -119,11 +120,11 @@ def processor_minutes() -> float:
 
 
 def prove_unit() -> str:
-    """Proves csv_records from nothing, and says how long that took."""
+    """Proves csv_records, and says how long that took. What `rt ci` proves it would keep, and so leave out of COMMAND."""
     before, began = processor_minutes(), time.monotonic()
-    subprocess.run(["rt", "ci", "--anew", "csv_records"], cwd=ROOT, stdout=subprocess.DEVNULL, check=True)
+    subprocess.run([ROOT / "bench/check", "csv_records"], stdout=subprocess.DEVNULL, check=True)
     passed = (time.monotonic() - began) / 60
-    return f"csv_records from nothing: {processor_minutes() - before:.1f} processor min, {passed:.1f} on the clock"
+    return f"csv_records alone: {processor_minutes() - before:.1f} processor min, {passed:.1f} on the clock"
 
 
 def copy_lines(run: subprocess.Popen[str], log: Log) -> None:
@@ -151,6 +152,8 @@ def weigh(command: list[str], file: Path | None) -> tuple[int, list[str]]:
     copying.join()
     lines = sampler.report(time.monotonic() - began).splitlines()
     lines.append(f"processor time of the whole: {processor_minutes() - before:.1f} min")
+    for line in lines:
+        log.take(line)
     return run.returncode, [*lines, *(table(log) if log.functions else [])]
 
 

@@ -1,11 +1,12 @@
-"""What a run of `rt ci` proved, by the log that it writes: counts that are the same on every machine."""
+"""What a run of `rt ci` proved, by the log that it writes: counts that are the same on every machine, and the minutes of
+the processor that `bench/weight` has seen."""
 
 import re
-from collections import Counter
+from collections import Counter, defaultdict
 from pathlib import Path
 from typing import NamedTuple
 
-from tools.drawing.crates import LAYERS
+from tools.drawing.crates import LAYERS, read_lines
 from tools.root import ROOT
 
 CRATE = re.compile(r"== (\w+)$")
@@ -13,22 +14,42 @@ FUNCTIONS = re.compile(r"logic=proved functions=(\d+) ")
 LOADED = re.compile(r"statements \w+: modules loaded=(\d+) ")
 KEPT = re.compile(r"rt: (\w+) is kept: ")
 
+# What bench/weight prints at the end: what the parts of a kind weigh, what all weigh, and the minutes of the whole.
+WEIGHTS = re.compile(r"(proofs|edits|tests|compiling): [\d.]+ = (.+)$")
+WEIGHT = re.compile(r"(\w+) ([\d.]+)")
+ALL = re.compile(r"all: ([\d.]+) times the proofs of ")
+WHOLE = re.compile(r"processor time of the whole: ([\d.]+) min$")
+
 # A goal that is answered by hand, in a proof's file Answers.antt.
 GOAL = re.compile(r"^pub \S+ : goal\.", re.MULTILINE)
 
 
 class Log:
-    """The functions that were proved and the modules of libraries that were read, by crate, of the lines so far."""
+    """The functions that were proved, the modules of libraries that were read, and what a crate weighs with its mutants,
+    its tests and its programs, by crate, of the lines so far."""
 
     def __init__(self) -> None:
         self.crate = ""
         self.functions = Counter[str]()
         self.modules = Counter[str]()
         self.kept: set[str] = set()
+        self.weights: dict[str, float] = defaultdict(float)
+        # Of these what its proof weighs alone.
+        self.proofs: dict[str, float] = defaultdict(float)
+        self.weight_of_all = 0.0
+        self.minutes_of_all = 0.0
 
     def take(self, line: str) -> None:
         """A crate's lines stand together. Those of its tests come later, below its name again, and are not counted."""
-        if found := CRATE.match(line):
+        if found := WEIGHTS.match(line):
+            for crate, weight in WEIGHT.findall(found[2]):
+                self.weights[crate] += float(weight)
+                self.proofs[crate] += float(weight) * (found[1] in {"proofs", "tests"})
+        elif found := ALL.match(line):
+            self.weight_of_all = float(found[1])
+        elif found := WHOLE.match(line):
+            self.minutes_of_all = float(found[1])
+        elif found := CRATE.match(line):
             self.crate = "" if found[1] in self.functions else found[1]
         elif found := KEPT.match(line):
             self.kept.add(found[1])
@@ -38,6 +59,10 @@ class Log:
             self.functions[self.crate] = int(found[1])
             self.crate = ""
 
+    def minutes(self, crate: str) -> float:
+        """Of the processor; 0 where bench/weight has said none."""
+        return self.weights[crate] * self.minutes_of_all / self.weight_of_all if self.weight_of_all else 0.0
+
 
 def answered_goals(crate: Path) -> int:
     """How many goals the proofs of a crate answer by hand."""
@@ -45,38 +70,56 @@ def answered_goals(crate: Path) -> int:
 
 
 class Row(NamedTuple):
-    """What was proved of a layer or of a crate, and how many modules of libraries were read for it."""
+    """What was proved of a layer or of a crate, how many modules of libraries were read for it, and what it took."""
 
     name: str
     functions: int
     goals: int
     modules: int
+    minutes: float
 
     def line(self) -> str:
-        return f"| {self.name} | {self.functions:,} | {self.goals:,} | {self.modules:,} |"
+        return f"| {self.name} | {self.functions:,} | {self.goals:,} | {self.modules:,} | {self.minutes:.1f} |"
+
+
+def row_of(name: str, summed: list[Row]) -> Row:
+    return Row(name, *(sum(each) for each in zip((0, 0, 0, 0.0), *(row[1:] for row in summed))))
 
 
 def crate_rows(log: Log) -> list[Row]:
     """A row for each crate that was proved, of the highest layer first."""
     crates = [crate for _, of_layer in LAYERS.values() for crate in of_layer if crate in log.functions]
-    return [Row(it, log.functions[it], answered_goals(ROOT / "crates" / it), log.modules[it]) for it in crates]
+    return [
+        Row(it, log.functions[it], answered_goals(ROOT / "crates" / it), log.modules[it], log.minutes(it))
+        for it in crates
+    ]
 
 
 def rows(log: Log) -> list[Row]:
-    """A row for each layer, highest first, and one for all."""
-    found = []
-    for layer, (_, crates) in LAYERS.items():
-        of_layer = [row[1:] for row in crate_rows(log) if row.name in crates]
-        found.append(Row(layer, *(sum(each) for each in zip((0, 0, 0), *of_layer))))
-    sums = (sum(each) for each in zip(*(row[1:] for row in found)))
-    return [*found, Row("all", *sums)]
+    """A row for each layer, highest first, one for what is of no crate, and one for all."""
+    each = crate_rows(log)
+    found = [row_of(layer, [row for row in each if row.name in crates]) for layer, (_, crates) in LAYERS.items()]
+    found.append(Row("the rest", 0, 0, 0, max(log.minutes_of_all - sum(row.minutes for row in each), 0.0)))
+    return [*found, row_of("all", found)]
+
+
+def longest_chain(log: Log, below: dict[str, list[str]]) -> tuple[float, list[str]]:
+    """The crates, each of which stands on the one before it, whose proofs weigh most together, and what they weigh.
+    The libraries below each crate are told lowest first."""
+    chains: dict[str, tuple[float, list[str]]] = {}
+    for crate, libraries in below.items():
+        weight, chain = max((chains[it] for it in libraries if it in chains), default=(0.0, []))
+        chains[crate] = weight + log.proofs[crate], [*chain, crate]
+    return max(chains.values(), default=(0.0, []))
 
 
 def table(log: Log) -> list[str]:
-    """The rows of layers and those of crates as lines of Markdown, and how many crates were kept, of which a log has
-    no counts."""
+    """The rows of layers and those of crates as lines of Markdown, the longest chain of crates, and how many were kept,
+    of which a log has no counts."""
     lines = []
     for name, found in (("Layer", rows(log)), ("Crate", crate_rows(log))):
-        lines += [f"| {name} | Functions | Goals answered by hand | Modules read |", "|---|---|---|---|"]
+        lines += [f"| {name} | Functions | Goals answered by hand | Modules read | Minutes |", "|---|---|---|---|---|"]
         lines += [*(row.line() for row in found), ""]
+    weight, chain = longest_chain(log, read_lines(ROOT.joinpath("crates.txt").read_text(encoding="utf-8")))
+    lines.append(f"the longest chain: {weight:.2f} times the proofs of csv_records and onix_terms: {', '.join(chain)}")
     return [*lines, f"{len(log.functions)} crates were proved; {len(log.kept)} were kept, and are not counted."]

@@ -1,14 +1,21 @@
-"""How large docs/DECISIONS.md says that the repository is: no figure is more than a twentieth from what git keeps."""
+"""How large docs/DECISIONS.md says that the repository is, and how many goals CONTRIBUTING.md says that its proofs
+answer: no figure is more than a twentieth from what git keeps."""
 
 import re
 import subprocess
 from collections.abc import Iterator
 
+from bench.figures.proved import answered_goals
 from tests.program.room import Room
 from tests.running import Outcome
 from tools.root import ROOT
 
 PAGE = "docs/DECISIONS.md"
+
+TABLE = "CONTRIBUTING.md"
+
+# The last row of the table of what the gate weighs: the functions, and the goals that are answered by hand.
+GOALS = r"\| all \| \S+ \| (\S+) \|"
 
 PYTHON = r"\*\*The Python is some (\S+) lines\*\*, (\S+) of which run at a shop; (\S+) test the conversion of XML and (\S+) the page"
 RATTLE = r"\*\*The Rattle is some (\S+) lines\*\*, (\S+) of them sources, (\S+) specs and (\S+) proofs"
@@ -21,8 +28,8 @@ def lines_of(*patterns: str) -> int:
     return sum(len(ROOT.joinpath(name).read_bytes().splitlines()) for name in names if ROOT.joinpath(name).is_file())
 
 
-def told(pattern: str) -> list[int]:
-    found = re.search(pattern, ROOT.joinpath(PAGE).read_text(encoding="utf-8"))
+def told(pattern: str, page: str = PAGE) -> list[int]:
+    found = re.search(pattern, ROOT.joinpath(page).read_text(encoding="utf-8"))
     return [int(each.replace(",", "")) for each in found.groups()] if found else []
 
 
@@ -45,3 +52,9 @@ def sizes(_room: Room) -> Iterator[Outcome]:
         yield Outcome(f"{PAGE}: figures of {language}", len(found), len(counted))
         far = [(said, came) for said, came in zip(found, counted) if abs(said - came) * 20 > came]
         yield Outcome(f"{PAGE}: figures of {language} that are not so", far, [])
+
+
+def goals(_room: Room) -> Iterator[Outcome]:
+    counted = sum(answered_goals(crate) for crate in ROOT.glob("crates/*"))
+    near = [said for said in told(GOALS, TABLE) if abs(said - counted) * 20 <= counted]
+    yield Outcome(f"{TABLE}: goals that are answered by hand", len(near), 1)

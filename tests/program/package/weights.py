@@ -3,7 +3,7 @@
 from collections.abc import Iterator
 
 from bench.commands.weight import part_named
-from bench.figures.proved import Log, crate_rows, rows, table
+from bench.figures.proved import Log, crate_rows, longest_chain, rows, table
 from tests.program.room import Room
 from tests.running import Outcome
 from tools.root import ROOT
@@ -24,7 +24,7 @@ PARTS = [
 BUSY = ["python3", "-c", "import time\nwhile time.process_time() < 1.5: pass\nraise SystemExit(3)"]
 
 
-# As `rt ci` writes it: of a crate once more below its tests, and of one that is kept.
+# As `rt ci` writes it, of a crate once more below its tests, and of one that is kept; and then bench/weight.
 LOG = """\
 == csv_records
 statements core: modules loaded=7 checked=0
@@ -35,6 +35,11 @@ rt: onix_terms is kept: an earlier run on this machine proved the same files ove
 == csv_records
 statements core: modules loaded=7 checked=0
 logic=proved functions=5 sum=x
+proofs: 3.00 = csv_records 2.00, onix_terms 1.00
+edits: 0.50 = csv_records 0.50
+others: 1.50 = all else 1.50
+all: 5.00 times the proofs of csv_records and onix_terms
+processor time of the whole: 10.0 min
 """
 
 
@@ -44,12 +49,15 @@ def counts(room: Room) -> Iterator[Outcome]:
         log.take(line)
     found = dict(log.functions), dict(log.modules), log.kept
     yield Outcome("bench/weight: what a log has", found, ({"csv_records": 3}, {"csv_records": 37}, {"onix_terms"}))
-    layers = [row.name for row in rows(log) if row.functions]
-    yield Outcome("bench/weight: no layer but that one", layers, ["Base", "all"])
+    layers = [(row.name, row.minutes) for row in rows(log) if row.minutes]
+    yield Outcome("bench/weight: a half of a crate", layers, [("Base", 5.0), ("the rest", 5.0), ("all", 10.0)])
     # The goals that this crate answers by hand are counted in its proofs.
     (row,) = crate_rows(log)
     yield Outcome("bench/weight: no crate but that one", (row.name, row.functions, row.modules), ("csv_records", 3, 37))
     yield Outcome("bench/weight: a row of it", row.line() in table(log), True)
+    below = {"onix_terms": [], "csv_records": [], "feed_xml": ["onix_terms"], "desk_http": ["csv_records", "feed_xml"]}
+    chain = ["csv_records", "desk_http"]
+    yield Outcome("bench/weight: the longest chain", longest_chain(log, below), (2.0, chain))
     room.write("log", LOG.encode())
     came = room.call([ROOT / "bench/weight", "--log", "log"])
     yield Outcome("bench/weight --log", (came.status, came.output.decode().splitlines()), (0, table(log)))

@@ -55,7 +55,12 @@ def counts(room: Room) -> Iterator[Outcome]:
     (row,) = crate_rows(log)
     yield Outcome("bench/weight: no crate but that one", (row.name, row.functions, row.modules), ("csv_records", 3, 37))
     yield Outcome("bench/weight: a row of it", row.line(True) in table(log), True)
-    below = {"onix_terms": [], "csv_records": [], "feed_xml": ["onix_terms"], "desk_http": ["csv_records", "feed_xml"]}
+    below: dict[str, list[str]] = {
+        "onix_terms": [],
+        "csv_records": [],
+        "feed_xml": ["onix_terms"],
+        "desk_http": ["csv_records", "feed_xml"],
+    }
     chain = ["csv_records", "desk_http"]
     yield Outcome("bench/weight: the longest chain", longest_chain(log, below), (2.0, chain))
     room.write("log", LOG.partition("proofs: ")[0].encode())

@@ -70,7 +70,8 @@ def answered_goals(crate: Path) -> int:
 
 
 class Row(NamedTuple):
-    """What was proved of a layer or of a crate, how many modules of libraries were read for it, and what it took."""
+    """What was proved of a layer or of a crate, how many modules of libraries were read for it, and what it took, which
+    is 0 where bench/weight has said nothing."""
 
     name: str
     functions: int
@@ -78,8 +79,9 @@ class Row(NamedTuple):
     modules: int
     minutes: float
 
-    def line(self) -> str:
-        return f"| {self.name} | {self.functions:,} | {self.goals:,} | {self.modules:,} | {self.minutes:.1f} |"
+    def line(self, has_minutes: bool) -> str:
+        counts = f"| {self.name} | {self.functions:,} | {self.goals:,} | {self.modules:,} |"
+        return f"{counts} {self.minutes:.1f} |" if has_minutes else counts
 
 
 def row_of(name: str, summed: list[Row]) -> Row:
@@ -116,10 +118,14 @@ def longest_chain(log: Log, below: dict[str, list[str]]) -> tuple[float, list[st
 def table(log: Log) -> list[str]:
     """The rows of layers and those of crates as lines of Markdown, the longest chain of crates, and how many were kept,
     of which a log has no counts."""
+    has_minutes = log.minutes_of_all > 0
     lines = []
     for name, found in (("Layer", rows(log)), ("Crate", crate_rows(log))):
-        lines += [f"| {name} | Functions | Goals answered by hand | Modules read | Minutes |", "|---|---|---|---|---|"]
-        lines += [*(row.line() for row in found), ""]
+        head = f"| {name} | Functions | Goals answered by hand | Modules read |" + " Minutes |" * has_minutes
+        lines += [head, "|---" * (head.count("|") - 1) + "|"]
+        lines += [*(row.line(has_minutes) for row in found if row.functions or row.minutes), ""]
     weight, chain = longest_chain(log, read_lines(ROOT.joinpath("crates.txt").read_text(encoding="utf-8")))
-    lines.append(f"the longest chain: {weight:.2f} times the proofs of csv_records and onix_terms: {', '.join(chain)}")
+    if weight:
+        told = f"the longest chain: {weight:.2f} times the proofs of csv_records and onix_terms"
+        lines.append(f"{told}: {', '.join(chain)}")
     return [*lines, f"{len(log.functions)} crates were proved; {len(log.kept)} were kept, and are not counted."]

@@ -54,10 +54,18 @@ def counts(room: Room) -> Iterator[Outcome]:
     # The goals that this crate answers by hand are counted in its proofs.
     (row,) = crate_rows(log)
     yield Outcome("bench/weight: no crate but that one", (row.name, row.functions, row.modules), ("csv_records", 3, 37))
-    yield Outcome("bench/weight: a row of it", row.line() in table(log), True)
-    below = {"onix_terms": [], "csv_records": [], "feed_xml": ["onix_terms"], "desk_http": ["csv_records", "feed_xml"]}
+    yield Outcome("bench/weight: a row of it", row.line(True) in table(log), True)
+    below: dict[str, list[str]] = {
+        "onix_terms": [],
+        "csv_records": [],
+        "feed_xml": ["onix_terms"],
+        "desk_http": ["csv_records", "feed_xml"],
+    }
     chain = ["csv_records", "desk_http"]
     yield Outcome("bench/weight: the longest chain", longest_chain(log, below), (2.0, chain))
+    room.write("log", LOG.partition("proofs: ")[0].encode())
+    came = room.call([ROOT / "bench/weight", "--log", "log"])
+    yield Outcome("bench/weight: no minutes are known", row.line(False) in came.output.decode().splitlines(), True)
     room.write("log", LOG.encode())
     came = room.call([ROOT / "bench/weight", "--log", "log"])
     yield Outcome("bench/weight --log", (came.status, came.output.decode().splitlines()), (0, table(log)))

@@ -114,7 +114,7 @@ def write(options: argparse.Namespace, program: Path) -> int:
             chosen += bool(cells["price"])
             if comparison:
                 comparison.add(cells)
-            progress.show(f"{place} articles", is_new=False)
+            progress.show(f"{place} articles", is_new=place == 1)
         if comparison:
             tell_changes(comparison.end(), options)
     if place and not chosen:

@@ -4,8 +4,11 @@ of files, whose cases the page's tests read too."""
 import csv
 import io
 import json
+import os
+import pty
 import re
 import socket
+import subprocess
 import threading
 from collections import defaultdict
 from collections.abc import Iterator
@@ -21,6 +24,7 @@ from desk_prices.rows import row
 from onixdesk_titles.kept_titles import Titles
 from shop_files.desk_json import shop_of
 from tests.program.databases import DATABASE, batch
+from tests.program.feeds.convert.endings import all_of
 from tests.program.inbox.inboxes import script, within
 from tests.program.desk.open_desks import SOCKET, open_desk
 from tests.program.room import Ran, Room
@@ -132,10 +136,14 @@ def make_shop(room: Room, **others: object) -> None:
     script(room, "programs/sendmail", f'cat >>"{room.path("mailed")}"')
 
 
-def prices(room: Room, *words: Word, file: str = DATABASE, day: str = "20250301") -> Ran:
+def command_of(*words: Word, file: str = DATABASE, day: str = "20250301") -> list[Word]:
     options: list[Word] = ["--settings", "desk.json", "--rules", "rules.toml", "--day", day, "--room", ".", *words]
+    return within(RUNNING, "programs", *options, file, "out")
+
+
+def prices(room: Room, *words: Word, file: str = DATABASE, day: str = "20250301") -> Ran:
     environment = {"PATH": f"{room.path('programs')}:/usr/bin:/bin"}
-    return room.call(within(RUNNING, "programs", *options, file, "out"), environment=environment)
+    return room.call(command_of(*words, file=file, day=day), environment=environment)
 
 
 def written(room: Room) -> dict[str, str]:
@@ -154,6 +162,18 @@ def of_a_copy(room: Room) -> Iterator[Outcome]:
     lines = written(room)["prices.csv"].splitlines()
     wanted = f"{TWO},South,south,X1,21,8.50,8.50,GBP,,,,,,9.00,,20250401"
     yield Outcome("prices: of another day", [line for line in lines if line.startswith(TWO)], [wanted])
+
+
+def on_a_terminal(room: Room) -> Iterator[Outcome]:
+    """A line shows how far it is, and is taken away at the end; elsewhere there is none."""
+    make_shop(room)
+    ours, theirs = pty.openpty()
+    ran = subprocess.run([*map(str, command_of())], cwd=room.folder, stdout=subprocess.DEVNULL, stderr=theirs)
+    os.close(theirs)
+    shown = all_of(ours)
+    found = ran.returncode, b"desk-prices: 1 articles" in shown, shown.endswith(b"\r\x1b[K")
+    yield Outcome("prices: on a terminal", found, (0, True, True))
+    yield Outcome("prices: elsewhere", prices(room), Ran(0))
 
 
 def nothing_chosen(room: Room) -> Iterator[Outcome]:

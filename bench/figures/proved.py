@@ -123,7 +123,7 @@ def table(log: Log) -> list[str]:
     for name, found in (("Layer", rows(log)), ("Crate", crate_rows(log))):
         head = f"| {name} | Functions | Goals answered by hand | Modules read |" + " Minutes |" * has_minutes
         lines += [head, "|---" * (head.count("|") - 1) + "|"]
-        lines += [*(row.line(has_minutes) for row in found if row.functions or row.minutes), ""]
+        lines += [*(row.line(has_minutes) for row in found if row.modules or row.minutes), ""]
     weight, chain = longest_chain(log, read_lines(ROOT.joinpath("crates.txt").read_text(encoding="utf-8")))
     if weight:
         told = f"the longest chain: {weight:.2f} times the proofs of csv_records and onix_terms"

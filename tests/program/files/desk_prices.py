@@ -56,7 +56,7 @@ def forms(_room: Room) -> Iterator[Outcome]:
         if isinstance(form, str):
             yield Outcome(name, form, case.get("wrong"))
             continue
-        text = form.head() + "".join(form.line(defaultdict(str, row)) for row in case["rows"])
+        text = form.head() + "".join(form.line(defaultdict(str, row)) for row in case.get("rows", []))
         yield Outcome(name, (form.file_name("20250301"), text), (case.get("file"), case.get("text")))
 
 

@@ -241,7 +241,7 @@ def of_a_socket(room: Room) -> Iterator[Outcome]:
             yield Outcome(f"why: {count} to a socket: the desk", (ended.status, ended.errors), (0, lines))
 
 
-NO_DATABASE = b"onixdesk: without --db a desk has only the agreements of its batch: if the desk in a file is meant, write --db FILE before the command\n"
+WITHOUT_DATABASE = b"onixdesk: without --db a desk has only the agreements of its batch: if the desk in a file is meant, write --db FILE before the command\n"
 
 
 def no_database(room: Room) -> Iterator[Outcome]:
@@ -250,9 +250,9 @@ def no_database(room: Room) -> Iterator[Outcome]:
     room.write("message.csv", message)
     unknown = b"refused,unknown-series\n"
     came = room.told("batch", given=b"AskGaps,north\n" + message)
-    yield Outcome("why: a batch without --db", came, Ran(1, unknown * 2, NO_DATABASE))
+    yield Outcome("why: a batch without --db", came, Ran(1, unknown * 2, WITHOUT_DATABASE))
     came = room.told("deliver", "message.csv", "message.csv")
-    yield Outcome("why: messages without --db", came, Ran(1, unknown * 2, NO_DATABASE))
+    yield Outcome("why: messages without --db", came, Ran(1, unknown * 2, WITHOUT_DATABASE))
     came = room.told("batch", given=AGREEMENT + message)
     yield Outcome("why: a batch with its agreement", (came.status, came.errors), (0, b""))
     batch(room, AGREEMENT)

@@ -31,6 +31,11 @@ def tables(room: Room) -> Iterator[Outcome]:
         room.write("north.toml", unescaped(repeated(case.text)))
         came = room.run("terms", "north.toml", given=UNREADABLE)
         yield Outcome(f"terms: {case.name}", came, wanted(case))
+        came = room.told("convert", "--terms", "north.toml", "absent.xml", given=UNREADABLE)
+        # Only behind a table that is read is the FILE opened.
+        is_read = wanted(case).status == 0
+        found = Ran(came.status) if is_read else came
+        yield Outcome(f"convert by terms: {case.name}", found, Ran(3) if is_read else wanted(case))
 
 
 # Name, text that is no TOML, and the line that is wrong.

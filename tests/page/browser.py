@@ -20,9 +20,10 @@ from tests.page.site import NAME, PASSWORD, USER, Site
 from tests.program.room import SECONDS
 from tests.program.serving import HOST
 
-# Chromium whole, and its shell without windows, whose pages are the same: to open one takes it half the processor.
+# Chromium whole, and its shell without windows, whose pages are the same: to open one takes it half the processor. The
+# shell is named itself: of /usr/bin/chromium-headless-shell, which starts it and waits, the driver would end that alone.
 CHROMIUM = "/usr/bin/chromium"
-SHELL = "/usr/bin/chromium-headless-shell"
+SHELL = "/usr/lib/chromium/chromium-headless-shell"
 DRIVER = "/usr/bin/chromedriver"
 
 STRANGER = "stranger.example.net"

@@ -13,6 +13,7 @@ from tests.page import (
     baskets,
     calendars,
     days,
+    ended,
     hostile,
     isbns,
     keyboard,
@@ -60,7 +61,7 @@ SEQUENCES = [
     Sequence("screens", screens.CASES),
     Sequence(
         "browsers",
-        [*keyboard.CASES, *origins.CASES, *baskets.OF_A_TILL, *passwords.CASES, *origins.AT_THE_END],
+        [*keyboard.CASES, *origins.CASES, *ended.CASES, *baskets.OF_A_TILL, *passwords.CASES, *origins.AT_THE_END],
         is_whole=True,
     ),
 ]

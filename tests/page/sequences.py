@@ -51,6 +51,7 @@ class Sequence(NamedTuple):
 
 SEQUENCES = [
     Sequence("stops", stops.CASES),
+    Sequence("no answer", stops.OF_NO_ANSWER),
     Sequence("minutes", [*reports.OVER_TIME, *titles.CASES]),
     Sequence("questions", [*articles.CASES, *isbns.CASES, *days.CASES, *prices.CASES]),
     Sequence("views", [*calendars.CASES, *reports.CASES, *hostile.CASES, *refusals.CASES]),

@@ -62,8 +62,12 @@ def paper(site: Site, browser: Browser) -> Iterator[Outcome]:
 LEAST_BORDER = 3
 
 
+def weak(texts: list[Any]) -> list[Any]:
+    return [text for text in texts if text[1] < LEAST_CONTRAST]
+
+
 def weak_texts(browser: Browser) -> list[Any]:
-    return [text for text in browser.call("contrasts") if text[1] < LEAST_CONTRAST]
+    return weak(browser.call("contrasts"))
 
 
 SCHEMES = ("light", "dark")
@@ -72,8 +76,9 @@ SCHEMES = ("light", "dark")
 def contrast(browser: Browser, name: str) -> Iterator[Outcome]:
     for scheme in SCHEMES:
         with preferring(browser, "prefers-color-scheme", scheme):
-            yield Outcome(f"contrast, {scheme}: {name} has texts", len(browser.call("contrasts")) > 10, True)
-            yield Outcome(f"contrast, {scheme}: {name}", weak_texts(browser), [])
+            texts = browser.call("contrasts")
+            yield Outcome(f"contrast, {scheme}: {name} has texts", len(texts) > 10, True)
+            yield Outcome(f"contrast, {scheme}: {name}", weak(texts), [])
 
 
 def notes(site: Site, browser: Browser) -> Iterator[Outcome]:
@@ -163,6 +168,8 @@ def nodes(browser: Browser) -> list[tuple[str, str, str]]:
     """The role, name and description of each node that the browser tells a screen reader of."""
     browser.driver.execute_cdp_cmd("Accessibility.enable", {})
     tree = browser.driver.execute_cdp_cmd("Accessibility.getFullAXTree", {})
+    # A page that goes on to tell a screen reader of each change takes longer for all of them.
+    browser.driver.execute_cdp_cmd("Accessibility.disable", {})
     told = [node for node in tree["nodes"] if not node["ignored"]]
     return [(part(node, "role"), part(node, "name"), part(node, "description")) for node in told]
 

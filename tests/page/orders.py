@@ -396,7 +396,7 @@ def other_copies(site: Site, browser: Browser) -> Iterator[Outcome]:
     yield Outcome("where none is better, none is told", notes_of(browser, BROKEN, DEARER), ["", ""])
     look_up(browser, f"{BROKEN} 10\n{DEARER} 10")
     yield Outcome("ten cost more than nine", notes_of(browser, DEARER), [fewer])
-    browser.open(f"#article?isbn={BROKEN}&quantity=9")
+    browser.go(f"#article?isbn={BROKEN}&quantity=9")
     browser.wait(lambda: beta in browser.texts("#notes li"))
     told = [more.removesuffix(" Take 10 copies"), beta]
     yield Outcome("in the article too", [note in browser.texts("#notes li") for note in told], [True, True])
@@ -502,7 +502,7 @@ def copied(site: Site, browser: Browser) -> Iterator[Outcome]:
     allow_clipboard(site, browser, "denied")
     look_up(browser, f"{isbn_of(0)};2;Anna")
     browser.one("#copy-alpha").click()
-    browser.wait(lambda: browser.all("#order-by-hand"))
+    browser.wait(lambda: browser.count("#order-by-hand"))
     text = browser.run("return document.activeElement.value")
     yield Outcome("where copying is not allowed, it is shown", text, f"{isbn_of(0)}\t2\n")
 
@@ -769,7 +769,7 @@ def another_question(site: Site, browser: Browser) -> Iterator[Outcome]:
 
 def missing_marks(site: Site, browser: Browser) -> Iterator[Outcome]:
     """A wholesaler whose messages are missing is marked at its books and its sum."""
-    open_list(browser)
+    go_to_list(browser)
     look_up(browser, f"{isbn_of(2)}\n{isbn_of(3)}")
     marked = [row.text for row in browser.all("#list tr[data-series] .tag")]
     yield Outcome("the book of a wholesaler with missing messages", marked, ["old price?"])

@@ -108,9 +108,10 @@ def first_sight(site: Site, browser: Browser) -> Iterator[Outcome]:
     fields take one line."""
     for language in ("de", "en-GB"):
         site.write_settings(language=language)
+        ask(browser, article(day=date.today().isoformat()))
         for width, height in ((1280, 720), (640, 360), (360, 740)):
             browser.size(width, height)
-            ask(browser, article(day=date.today().isoformat()))
+            browser.wait(lambda: browser.run("return innerWidth") == width)
             top = browser.run("return document.getElementById('verdict').getBoundingClientRect().top")
             name = f"{width} x {height}, {language}"
             yield Outcome(f"{name}: the answer begins at {top}", top <= 200, True)
@@ -130,7 +131,6 @@ def forced_colours(site: Site, browser: Browser) -> Iterator[Outcome]:
 
 
 def hyphens(site: Site, browser: Browser) -> Iterator[Outcome]:
-    browser.open("")
     style = browser.run("return getComputedStyle(document.querySelector('main')).hyphens")
     yield Outcome("long words have hyphens", style, "auto")
 
@@ -220,7 +220,6 @@ def fields(site: Site, browser: Browser) -> Iterator[Outcome]:
 
 def live(site: Site, browser: Browser) -> Iterator[Outcome]:
     """Answers stand in live regions, which are there before them."""
-    browser.open("")
     shown(browser, VIEWS["article"])
     status = browser.run("return document.querySelector('#article-status').getAttribute('role')")
     yield Outcome("accessible: the live region", status, "status")

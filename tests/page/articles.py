@@ -3,7 +3,7 @@
 from collections.abc import Iterator
 from datetime import date
 
-from tests.page.browser import Browser
+from tests.page.browser import FUNCTIONS, Browser
 from tests.page.site import Site
 from tests.page.week import ISBN, OTHER_ISBN, article
 from tests.running import Outcome
@@ -37,11 +37,13 @@ def has_calendar(browser: Browser) -> bool:
     return bool(browser.run("return !document.getElementById('calendar').hidden"))
 
 
+# The cells of each offer, if the calendar is there too.
+CELLS = f"{FUNCTIONS['offerCells']}\nreturn document.getElementById('calendar').hidden ? [] : offerCells();"
+
+
 def answered_now(browser: Browser) -> list[list[str]]:
     """The rows of the offers, if all that is asked beside their prices is answered too."""
-    if not has_calendar(browser):
-        return []
-    found: list[list[str]] = browser.call("offerCells")
+    found: list[list[str]] = browser.run(CELLS)
     waits = any(word in cell for row in found for cell in row for word in WAITING)
     return [] if waits else found
 
@@ -134,7 +136,7 @@ def no_rule(site: Site, browser: Browser) -> Iterator[Outcome]:
 
 def no_offer(site: Site, browser: Browser) -> Iterator[Outcome]:
     """A book without offers leaves nothing of the one before."""
-    ask(browser, article())
+    ask_on(browser, article())
     browser.run("location.hash = arguments[0]", article("9780000000002"))
     yield Outcome("no offer: it is said", said(browser, "No wholesaler offers this book"), True)
     shown = [browser.one(part).is_displayed() for part in ("#answer", "#calendar")]
@@ -152,8 +154,8 @@ def catalogue(site: Site, browser: Browser) -> Iterator[Outcome]:
     links = """return [...document.querySelectorAll(arguments[0] + ' a')].map((link) =>
       [link.textContent, link.href, link.rel, link.target])"""
     site.write_settings(catalogue=CATALOGUE)
-    for isbn in (ISBN, "9780000000002"):
-        browser.open(article(isbn))
+    for isbn, come in ((ISBN, browser.open), ("9780000000002", browser.go)):
+        come(article(isbn))
         said(browser, isbn)
         address = CATALOGUE.replace("{isbn}", isbn)
         wanted = [["look it up in the catalogue", address, "noreferrer", "_blank"]]
@@ -210,7 +212,7 @@ def own_type(site: Site, browser: Browser) -> Iterator[Outcome]:
 
 def one_moment(site: Site, browser: Browser) -> Iterator[Outcome]:
     """A message that comes between the two questions leaves no answer that contradicts itself."""
-    browser.open("")
+    browser.go("#article")
     browser.call("changePrice", article())
     rows = answered(browser)
     yield Outcome("price and choice of one moment", rows, ONE_COPY)

@@ -17,6 +17,7 @@ from tests.page.orders import (
     MARK,
     Keyboard,
     file_rows,
+    go_to_list,
     look_up,
     money,
     notes_of,
@@ -204,9 +205,9 @@ def beside(site: Site, browser: Browser) -> Iterator[Outcome]:
     needs = browser.texts("#list-needs li")
     yield Outcome("beside: it needs a person", needs, ["Price far from others (1): line 3"])
     for isbn, words in ((FALLING, falls), (order_desk.PENNY, far), (order_desk.HIDDEN, hidden)):
-        browser.open(f"#article?isbn={isbn}&quantity=1")
+        browser.go(f"#article?isbn={isbn}&quantity=1")
         yield Outcome(f"beside: in the article of {isbn}", noted(browser, words), True)
-    browser.open(f"#article?isbn={order_desk.ABROAD}&quantity=1")
+    browser.go(f"#article?isbn={order_desk.ABROAD}&quantity=1")
     came = browser.wait_for_text("#offers", "(not compared)")
     yield Outcome("beside: another currency in the article", "\u20ac6.10 (not compared)" in came, True)
     site.write_settings(order_desk.settings())
@@ -236,7 +237,7 @@ def from_an_article(site: Site, browser: Browser) -> Iterator[Outcome]:
     browser.wait(lambda: row_of(browser, isbn_of(1))[2] != "3")
     rows = [row[1:3] for row in browser.rows("#list")]
     yield Outcome("from an article: more copies", rows, [[isbn_of(1), "5"], [isbn_of(2), "1"]])
-    browser.open(f"#article?isbn={order_desk.NOT_ADMITTED}&quantity=1")
+    browser.go(f"#article?isbn={order_desk.NOT_ADMITTED}&quantity=1")
     browser.wait_for_text("#article-status", "No rule")
     yield Outcome("from an article: not what nobody says to buy", browser.one("#to-list").is_displayed(), False)
 
@@ -248,7 +249,7 @@ def margins(site: Site, browser: Browser) -> Iterator[Outcome]:
     site.write_settings(order_desk.settings(recommended_type="02"))
     browser.open(f"#article?isbn={RECOMMENDED}&quantity=1")
     yield Outcome("margins: in the article", said(browser, "RRP \u00a312.00 \u00b7 margin 40%"), True)
-    open_list(browser)
+    go_to_list(browser)
     look_up(browser, f"{RECOMMENDED} 2")
     in_list = ["RRP \u00a312.00 \u00a37.20", "margin 40% \u00a314.40"]
     yield Outcome("margins: in the list", row_of(browser, RECOMMENDED)[5:7], in_list)
@@ -294,11 +295,11 @@ def in_pieces(site: Site, browser: Browser) -> Iterator[Outcome]:
     button = browser.wait_for_text("#take-piece", "Take")
     yield Outcome("pieces: the first", button, "Take the next 1,000 lines")
     browser.one("#take-piece").click()
-    came = browser.wait(lambda: len(browser.all("#list tbody tr")) == 1000)
+    came = browser.wait(lambda: browser.count("#list tbody tr") == 1000)
     yield Outcome("pieces: a thousand rows", came, True)
     yield Outcome("pieces: the next", browser.text("#take-piece"), "Take the next 500 lines")
     browser.one("#take-piece").click()
-    came = browser.wait(lambda: len(browser.all("#list tbody tr")) == 500)
+    came = browser.wait(lambda: browser.count("#list tbody tr") == 500)
     yield Outcome("pieces: the last", (came, browser.one("#take-piece").is_displayed()), (True, False))
 
 

@@ -20,9 +20,10 @@ from tests.page.site import NAME, PASSWORD, USER, Site
 from tests.program.room import SECONDS
 from tests.program.serving import HOST
 
-# Chromium whole, and its shell without windows, whose pages are the same: to open one takes it half the processor.
+# Chromium whole, and its shell without windows, whose pages are the same: to open one takes it half the processor. The
+# shell is named itself: of /usr/bin/chromium-headless-shell, which starts it and waits, the driver would end that alone.
 CHROMIUM = "/usr/bin/chromium"
-SHELL = "/usr/bin/chromium-headless-shell"
+SHELL = "/usr/lib/chromium/chromium-headless-shell"
 DRIVER = "/usr/bin/chromedriver"
 
 STRANGER = "stranger.example.net"
@@ -30,7 +31,7 @@ STRANGER = "stranger.example.net"
 WIDE = (1100, 900)
 
 # How long a wait is between two looks.
-FIRST_PAUSE, LONGEST_PAUSE = 0.02, 0.3
+FIRST_PAUSE, LONGEST_PAUSE = 0.04, 0.3
 
 # The texts of the functions that are run in a page.
 SCRIPTS = Path(__file__).with_name("functions.js").read_text(encoding="utf-8")
@@ -79,6 +80,7 @@ class Browser:
 
     def __init__(self, site: Site, is_recorded: bool = False, is_trusting: bool = False, is_whole: bool = True) -> None:
         self.site = site
+        self.opened = 0
         key = site.key_digest() if is_trusting else ""
         self.driver = webdriver.Chrome(options=options(is_recorded, key, is_whole), service=Service(DRIVER))
         self.size(*WIDE)
@@ -92,9 +94,9 @@ class Browser:
         self.driver.execute_cdp_cmd("Emulation.setDeviceMetricsOverride", metrics)
 
     def open(self, address: str) -> None:
-        """Opens a view anew."""
-        self.driver.get("about:blank")
-        self.driver.get(self.site.address(f"/{address}"))
+        """Opens a view anew, of a page that has not been open: one that differs behind the `#` alone would stay."""
+        self.opened += 1
+        self.driver.get(self.site.address(f"/?{self.opened}{address}"))
 
     def start(self, address: str = "") -> None:
         """Opens a view anew, and waits until its fields are filled."""
@@ -115,6 +117,9 @@ class Browser:
 
     def all(self, selector: str) -> list[WebElement]:
         return self.driver.find_elements(By.CSS_SELECTOR, selector)
+
+    def count(self, selector: str) -> int:
+        return int(self.run("return document.querySelectorAll(arguments[0]).length", selector))
 
     def text(self, selector: str) -> str:
         return str(self.one(selector).text)

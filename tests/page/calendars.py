@@ -54,7 +54,7 @@ def unfold(browser: Browser) -> None:
     """Unfolds the calendar and its table, and waits until they are drawn."""
     browser.wait(lambda: has_calendar(browser))
     browser.run("for (const id of ['calendar', 'spans-part']) document.getElementById(id).open = true")
-    browser.wait(lambda: browser.all("#picture svg.lane") and browser.all("#spans tr"))
+    browser.wait(lambda: browser.count("#picture svg.lane") and browser.count("#spans tr"))
 
 
 def open_calendar(browser: Browser, isbn: str, first: date, last: date, **given: str) -> None:
@@ -126,7 +126,7 @@ def chosen_span(site: Site, browser: Browser) -> Iterator[Outcome]:
 def gaps(site: Site, browser: Browser) -> Iterator[Outcome]:
     first, last = date(2025, 3, 30), date(2025, 4, 4)
     yield from measured(site, browser, "gaps", HOSTILE_ISBN, first, last)
-    yield Outcome("gaps: where there is no price, there is a gap", len(browser.all("#picture .gap")), 2)
+    yield Outcome("gaps: where there is no price, there is a gap", browser.count("#picture .gap"), 2)
 
 
 def year(site: Site, browser: Browser) -> Iterator[Outcome]:

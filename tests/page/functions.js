@@ -118,20 +118,24 @@ function cutConnections(each) {
 function basket(name) {
   const all = (selector) => [...document.querySelectorAll(selector)];
   const height = (selector) => Math.ceil(document.querySelector(selector).getBoundingClientRect().height);
-  // As wide as its name is a field of which nothing holds the width.
-  const isCut = (field) => {
-    const free = field.cloneNode(true);
-    free.value = field.value;
-    Object.assign(free.style, { position: 'absolute', maxWidth: 'none' });
-    field.after(free);
-    const isWider = free.getBoundingClientRect().width > field.getBoundingClientRect().width + 0.5;
-    free.remove();
-    return isWider;
+  // As wide as its name is a field of which nothing holds the width; all stand beside theirs before one is measured.
+  const cutOf = (fields) => {
+    const free = fields.map((field) => {
+      const copy = field.cloneNode(true);
+      copy.value = field.value;
+      Object.assign(copy.style, { position: 'absolute', maxWidth: 'none' });
+      field.after(copy);
+      return copy;
+    });
+    const width = (field) => field.getBoundingClientRect().width;
+    const cut = fields.filter((field, at) => width(free[at]) > width(field) + 0.5);
+    free.forEach((copy) => copy.remove());
+    return cut;
   };
   return {
     height: height('#list-part'),
     state: height('#list-state'),
-    cutNames: all('#list select').filter((field) => field.selectedOptions[0].textContent.includes(name) && isCut(field))
+    cutNames: cutOf(all('#list select').filter((field) => field.selectedOptions[0].textContent.includes(name)))
       .map((field) => `${field.clientWidth}`),
     cutFields: all('#list tbody input').filter((field) => field.scrollWidth > field.clientWidth).map(({ value }) => value),
     tallTitles: all('#list .clamped').filter((title) => title.getClientRects().length !== 1 || title.clientHeight > 24)

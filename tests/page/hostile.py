@@ -11,7 +11,8 @@ from tests.running import Outcome
 
 
 def references(site: Site, browser: Browser) -> Iterator[Outcome]:
-    browser.open("")
+    # What the page before had to complain of is told by then.
+    browser.driver.get("about:blank")
     browser.complaints()
     browser.open(article(HOSTILE_ISBN))
     unfold(browser)
@@ -52,7 +53,7 @@ def addresses(site: Site, browser: Browser) -> Iterator[Outcome]:
     browser.wait_for_text("#isbn-wrong", "“<” is no digit.")
     yield Outcome("a hostile address", browser.one("#isbn").get_attribute("value"), HOSTILE)
     yield Outcome("no element of an address", browser.all("main img"), [])
-    browser.open("#nowhere?isbn=1")
+    browser.go("#nowhere?isbn=1")
     told = browser.wait_for_text("#isbn-wrong", "This is 1 digit.")
     yield Outcome("an unknown view is the first one", bool(told), True)
     browser.open("#article?__proto__=x&constructor=y&toString=z")

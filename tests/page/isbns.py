@@ -3,7 +3,7 @@
 from collections.abc import Iterator
 from selenium.webdriver.common.action_chains import ActionChains
 
-from tests.page.articles import answered, ask
+from tests.page.articles import answered, ask_on
 from tests.page.browser import Browser
 from tests.page.site import Site
 from tests.page.week import ISBN, OTHER_ISBN, article
@@ -68,8 +68,7 @@ def scanned(site: Site, browser: Browser) -> Iterator[Outcome]:
 
 def next_one_is_not_lost(site: Site, browser: Browser) -> Iterator[Outcome]:
     """What is typed while the desk is asked is not selected away by its answer."""
-    browser.open("")
-    browser.wait(lambda: browser.run(FOCUS)[0] == "isbn")
+    begin(browser)
     scan(browser, ISBN)
     ActionChains(browser.driver).send_keys(OTHER_ISBN[:5]).perform()
     answered(browser)
@@ -152,7 +151,7 @@ def check_digits(site: Site, browser: Browser) -> Iterator[Outcome]:
         browser.one("#ask-anyway").click()
         yield Outcome(f"{typed}: asked all the same", asked_any(browser, isbn), True)
         yield Outcome(f"{typed}: by the desk", "200" in site.lines_since(before), True)
-    ask(browser, article())
+    ask_on(browser, article())
     yield Outcome("a right ISBN has no remark", browser.text("#isbn-wrong"), "")
 
 

@@ -74,7 +74,7 @@ def article(site: Site, browser: Browser) -> Iterator[Outcome]:
     yield Outcome("a day by the keyboard", day, "2025-04-10")
     way += tab_to(browser, lambda focus: focus["text"].startswith("Calendar of prices"))
     press(browser, Keys.ENTER)
-    browser.wait(lambda: browser.all("#picture svg"))
+    browser.wait(lambda: browser.count("#picture svg"))
     way += tab_to(browser, has_id("month"))
     press(browser, Keys.SPACE)
     browser.wait(lambda: "until=2025-05-09" in browser.run("return location.hash"))

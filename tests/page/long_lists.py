@@ -111,22 +111,23 @@ def whole_list(site: Site, browser: Browser) -> Iterator[Outcome]:
     yield Outcome("one line too many", browser.wait_for_text("#lines-wrong", "1,001"), words)
     browser.call("putLines", lines_of(WHOLE))
     # Which wholesaler lacks messages is known by now, so that no row is made anew for that.
-    browser.wait(lambda: browser.all("#missing-count .count"))
+    browser.wait(lambda: browser.count("#missing-count .count"))
     asked = len(site.requests())
     browser.call("noteLookUp")
     end = time.monotonic() + SECONDS
     browser.one("#look-up").click()
-    colleague = []
+    told = []
     # As it stands in the page: to ask what is seen of it would lay the page out.
     state = "return document.getElementById('list-status').textContent"
-    while not browser.run(state).startswith("500 books") and time.monotonic() < end:
-        colleague.append(site.fetch("/desk/series/alpha/gaps")[0])
-        time.sleep(0.2)
+    with site.colleague() as ask:
+        while not browser.run(state).startswith("500 books") and time.monotonic() < end:
+            told.append(ask("/desk/series/alpha/gaps"))
+            time.sleep(0.2)
     yield Outcome(
         "five hundred lines", browser.text("#list-status"), "500 books: 500 ready to order. No book needs you."
     )
     yield from timed(browser, site.requests()[asked:])
-    yield Outcome("a colleague is answered", set(colleague), {200})
+    yield Outcome("a colleague is answered", set(told), {200})
     wanted = ordered(WHOLE)
     total = sum((sum_of(books) for books in wanted.values()), Decimal(0))
     yield Outcome("their sum", sums(browser)[-1][3], money(total))

@@ -15,7 +15,7 @@ from tests.page.articles import answered, ask, ask_on, has_calendar, noted, said
 from tests.page.browser import Browser
 from tests.page.days import with_clock
 from tests.page.prices import NET, settings
-from tests.page.reports import days_ago, open_missing, request
+from tests.page.reports import days_ago, go_to_missing, open_missing, request
 from tests.page.scanning import scan
 from tests.page.site import Site
 from tests.page.week import (
@@ -68,9 +68,9 @@ def scans(site: Site, browser: Browser) -> Iterator[Outcome]:
             yield Outcome(f"scanned at {name}, {behind!r}: the fields", fields(browser), [books[0], *before])
             browser.wait(lambda: has_calendar(browser))
             books.reverse()
-    open_missing(browser)
-    scan(browser, ISBN)
-    yield Outcome("scanned in another view", said(browser, ISBN), True)
+    go_to_missing(browser)
+    scan(browser, books[0])
+    yield Outcome("scanned in another view", said(browser, books[0]), True)
 
 
 def scanned_twice(site: Site, browser: Browser) -> Iterator[Outcome]:
@@ -309,7 +309,7 @@ def wrong_numbers(site: Site, browser: Browser) -> Iterator[Outcome]:
 
 def aliases(site: Site, browser: Browser) -> Iterator[Outcome]:
     """A country's other code is asked for as what it stands for, and it is said."""
-    rows = ask(browser, article(country="UK"))
+    rows = ask_on(browser, article(country="UK"))
     yield Outcome("UK: the prices of GB", [row[2] for row in rows], ["£11.50", "£11.80", "£8.00"])
     asked = [line for line in site.requests() if "/price?" in line][-1]
     yield Outcome("UK: the desk is asked for GB", "country=GB" in asked, True)

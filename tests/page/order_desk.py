@@ -91,6 +91,11 @@ def changing_rows(gln: str, amount: Decimal) -> list[str]:
     return product("s-8", CHANGING, gln, "21", f"Price,,{amount},,,,,,")
 
 
+def changed_price(number: int) -> str:
+    """The message of alpha by which a book's price changes."""
+    return message("alpha", number, changing_rows(gln_of("alpha"), CHANGING_TO))
+
+
 def special_rows(gln: str, today: date) -> list[str]:
     until = compact(today + timedelta(days=3))
     then = compact(today + timedelta(days=4))

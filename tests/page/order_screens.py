@@ -28,7 +28,7 @@ def shown(site: Site, browser: Browser) -> Iterator[Outcome]:
             yield Outcome(f"order list: contrast of fields, {scheme}, {border}", border >= LEAST_BORDER, True)
     yield from accessible(browser, "order list")
     yield Outcome("order list: headings", browser.call("headings"), [1, 2, 2, 2])
-    yield Outcome("order list: the roles of tables are written out", len(browser.all(BARE)), 0)
+    yield Outcome("order list: the roles of tables are written out", browser.count(BARE), 0)
     live = browser.run("return document.getElementById('list-status').getAttribute('role')")
     yield Outcome("order list: the live region", live, "status")
 
@@ -87,7 +87,7 @@ def basket(site: Site, browser: Browser) -> Iterator[Outcome]:
                 browser.one("#look-up").click()
                 browser.wait(lambda: browser.shows("#sums-part"))
                 browser.call("noteShifts")
-                browser.wait(lambda: len(browser.all("#list .clamped")) == BOOKS)
+                browser.wait(lambda: browser.count("#list .clamped") == BOOKS)
                 yield from laid_out(browser, f"basket, {language}, {width} pixels")
     browser.size(1100, SCREEN)
     site.write_settings(order_desk.settings())
@@ -114,7 +114,7 @@ def headers(site: Site, browser: Browser) -> Iterator[Outcome]:
     with titled(site):
         open_list(browser)
         look_up(browser, isbn_of(1))
-        browser.wait(lambda: browser.all("#list .clamped"))
+        browser.wait(lambda: browser.count("#list .clamped"))
         heads = browser.run(
             "return [...document.querySelectorAll('#list tbody [role=rowheader]')].map((cell) => cell.className)"
         )

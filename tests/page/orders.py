@@ -396,7 +396,7 @@ def other_copies(site: Site, browser: Browser) -> Iterator[Outcome]:
     yield Outcome("where none is better, none is told", notes_of(browser, BROKEN, DEARER), ["", ""])
     look_up(browser, f"{BROKEN} 10\n{DEARER} 10")
     yield Outcome("ten cost more than nine", notes_of(browser, DEARER), [fewer])
-    browser.open(f"#article?isbn={BROKEN}&quantity=9")
+    browser.go(f"#article?isbn={BROKEN}&quantity=9")
     browser.wait(lambda: beta in browser.texts("#notes li"))
     told = [more.removesuffix(" Take 10 copies"), beta]
     yield Outcome("in the article too", [note in browser.texts("#notes li") for note in told], [True, True])
@@ -426,8 +426,7 @@ def changed(site: Site, browser: Browser) -> Iterator[Outcome]:
     save_to(browser, folder)
     open_list(browser)
     look_up(browser, f"{order_desk.CHANGING} 2\n{isbn_of(12)}")
-    rows = order_desk.changing_rows(order_desk.gln_of("alpha"), order_desk.CHANGING_TO)
-    site.tell_desk(order_desk.message("alpha", 2, rows))
+    site.tell_desk(order_desk.changed_price(2))
     browser.one("#csv-all").click()
     told = saved_status(browser, "changed")
     words = "1 book has changed since it was looked up. Nothing is saved: look at it, and save again."
@@ -502,7 +501,7 @@ def copied(site: Site, browser: Browser) -> Iterator[Outcome]:
     allow_clipboard(site, browser, "denied")
     look_up(browser, f"{isbn_of(0)};2;Anna")
     browser.one("#copy-alpha").click()
-    browser.wait(lambda: browser.all("#order-by-hand"))
+    browser.wait(lambda: browser.count("#order-by-hand"))
     text = browser.run("return document.activeElement.value")
     yield Outcome("where copying is not allowed, it is shown", text, f"{isbn_of(0)}\t2\n")
 
@@ -579,59 +578,6 @@ def from_a_file(site: Site, browser: Browser) -> Iterator[Outcome]:
     told = browser.wait_for_text("#lines-wrong", "book.xlsx")
     words = "book.xlsx is not a text: save the spreadsheet as CSV, and open that."
     yield Outcome("what is no text", told, words)
-
-
-def without_reply(site: Site, browser: Browser) -> Iterator[Outcome]:
-    """A book that the desk gives no reply about is asked for twice, and then where the buyer wants it; others are
-    answered."""
-    open_list(browser)
-    browser.call("loseReplies", isbn_of(1))
-    look_up(browser, lines_of(range(6)))
-    yield Outcome("no reply: asked for twice", browser.run("return window.lost"), 2)
-    yield Outcome("no reply: the others", browser.text("#list-status"), "6 books: 5 ready to order. 1 book needs you.")
-    yield Outcome("no reply: it needs a person", browser.texts("#list-needs li"), ["Not answered (1): line 2"])
-    told = (
-        "The desk has left this question without an answer twice, though it answers others. "
-        "The page does not ask for it again by itself."
-    )
-    yield Outcome("no reply: it is told", row_of(browser, isbn_of(1))[3].strip(), told)
-    yield Outcome("no reply: the others are ordered", sums(browser)[-1][1], "5")
-    yield Outcome("no reply: a button asks again", browser.text("#go-on"), "Ask again for 1 book")
-    browser.run("window.isLosing = false")
-    browser.one("#go-on").click()
-    told = status(browser, "No book needs you")
-    yield Outcome("no reply: answered then", told, "6 books: 6 ready to order. No book needs you.")
-    yield Outcome("no reply: no button then", browser.one("#go-on").is_displayed(), False)
-
-
-def cut(site: Site, browser: Browser) -> Iterator[Outcome]:
-    """A question that is lost with its connection is asked again at once, and nobody is told that anything is down."""
-    open_list(browser)
-    browser.call("cutConnections", 5)
-    asked = len(site.requests())
-    look_up(browser, lines_of(range(20)))
-    count = browser.run("return window.cut")
-    yield Outcome(f"cut: {count} questions", count >= 4, True)
-    yield Outcome(
-        "cut: all are answered", browser.text("#list-status"), "20 books: 20 ready to order. No book needs you."
-    )
-    yield Outcome("cut: nobody is told", browser.run("return window.told"), [])
-    there = [line for line in site.requests()[asked:] if "is-the-desk-there" in line]
-    yield Outcome("cut: the desk is not asked whether it is there", there, [])
-
-
-def refused(site: Site, browser: Browser) -> Iterator[Outcome]:
-    """A server that was asked too often, and a desk with a fault, are told; the line is asked for again."""
-    open_list(browser)
-    browser.call("refuseTwice")
-    browser.call("putLines", isbn_of(0))
-    browser.one("#look-up").click()
-    again = "The page asks again by itself every 5 seconds."
-    often = f"The web server has been asked too often at once. {again}"
-    yield Outcome("asked too often", browser.wait_for_text("#down", "too often"), often)
-    fault = f"The desk has a fault of its storage. Its disk has failed; somebody should look at it. {again}"
-    yield Outcome("a fault of the desk", browser.wait_for_text("#down", "fault"), fault)
-    yield Outcome("then it is answered", status(browser, "1 book").startswith("1 book: 1 ready to order."), True)
 
 
 def kept(site: Site, browser: Browser) -> Iterator[Outcome]:
@@ -760,6 +706,8 @@ def another_question(site: Site, browser: Browser) -> Iterator[Outcome]:
     status(browser, "1 book: 1 ready to order")
     yield Outcome("free carriage is in pounds alone", "Carriage" in browser.texts("#sums thead th"), False)
     rows = order_desk.product("s-11", order_desk.IN_EUROS, order_desk.gln_of("alpha"), "21", "Price,,8.90,EUR,,,,,")
+    # The one before it, which the desk may have already.
+    site.tell_desk(order_desk.changed_price(2))
     site.tell_desk(order_desk.message("alpha", 3, rows))
     browser.one("#csv-all").click()
     saved_status(browser, "changed")
@@ -769,7 +717,7 @@ def another_question(site: Site, browser: Browser) -> Iterator[Outcome]:
 
 def missing_marks(site: Site, browser: Browser) -> Iterator[Outcome]:
     """A wholesaler whose messages are missing is marked at its books and its sum."""
-    open_list(browser)
+    go_to_list(browser)
     look_up(browser, f"{isbn_of(2)}\n{isbn_of(3)}")
     marked = [row.text for row in browser.all("#list tr[data-series] .tag")]
     yield Outcome("the book of a wholesaler with missing messages", marked, ["old price?"])
@@ -804,7 +752,4 @@ CASES = [
     missing_marks,
     another_question,
     kept,
-    refused,
-    cut,
-    without_reply,
 ]

@@ -205,7 +205,9 @@ def kept_files(site: Site, browser: Browser) -> Iterator[Outcome]:
 
     def opened(known: Browser) -> tuple[dict[str, int], list[str]]:
         since = len(site.requests())
-        known.open(article())
+        # By the same address, so that what is kept of it is taken.
+        known.driver.get("about:blank")
+        known.driver.get(site.address(f"/{article()}"))
         said(known, "North Books")
         taken: list[tuple[str, int]] = known.run(TAKEN)
         # Of what is asked for twice the first is waited for.
@@ -293,7 +295,7 @@ def another_site(site: Site, browser: Browser) -> Iterator[Outcome]:
         browser.driver.get(address)
         browser.wait(lambda: browser.driver.title == "done")
         browser.one("#page").click()
-        browser.wait(lambda: browser.all("#offers tr"))
+        browser.wait(lambda: browser.count("#offers tr"))
         yield Outcome("a link to a view opens it", len(browser.rows("#offers")), 3)
     yield Outcome("the desk is as before", site.ask_desk("/series/north/gaps"), gaps)
 

@@ -167,7 +167,7 @@ def settings(site: Site, browser: Browser) -> Iterator[Outcome]:
     yield Outcome("no desk.json", came, ["desk.json could not be read from the web server (status 404)."])
     site.write_settings()
     browser.open(article())
-    browser.wait(lambda: browser.all("#offers tr"))
+    browser.wait(lambda: browser.count("#offers tr"))
     yield Outcome("the sample desk.json", browser.one("#settings-wrong").is_displayed(), False)
 
 

@@ -20,8 +20,15 @@ def open_missing(browser: Browser) -> None:
     browser.wait_for_text("#as-of", "As of")
 
 
+def go_to_missing(browser: Browser) -> None:
+    """The view in the page that is open, as it is there if it is shown already."""
+    if browser.run("return location.hash") != "#missing":
+        browser.go("#missing")
+    browser.wait_for_text("#as-of", "As of")
+
+
 def reported(site: Site, browser: Browser) -> Iterator[Outcome]:
-    open_missing(browser)
+    go_to_missing(browser)
     said = "5 messages missing from 1 wholesaler: North Books."
     yield Outcome("missing: in all", browser.text("#missing-status"), said)
     heads = ["North Books", "South Books", "Western Wholesale"]
@@ -82,10 +89,10 @@ def strip(site: Site, browser: Browser) -> Iterator[Outcome]:
 
 
 def red(site: Site, browser: Browser) -> Iterator[Outcome]:
-    open_missing(browser)
+    go_to_missing(browser)
     wanted = ["count", "edge", "edge", "lacks", "missing", "missing", "missing", "ranges li", "ranges li"]
     yield Outcome("red where messages are missing", sorted(browser.call("redParts")), wanted)
-    browser.open("#article")
+    browser.go("#article")
     browser.one("#isbn").send_keys("1\n")
     browser.wait_for_text("#isbn-wrong", "digit")
     browser.wait_for_text("#missing-count", "5")
@@ -119,7 +126,7 @@ def allow_clipboard(site: Site, browser: Browser, setting: str) -> None:
 
 def copied(site: Site, browser: Browser) -> Iterator[Outcome]:
     allow_clipboard(site, browser, "granted")
-    open_missing(browser)
+    go_to_missing(browser)
     browser.one(f"{NORTH} button").click()
     told = browser.wait_for_text(f"{NORTH} .copied", "copied")
     words = "The letter is copied: paste it into a mail to North Books, and send it."

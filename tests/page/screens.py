@@ -62,8 +62,12 @@ def paper(site: Site, browser: Browser) -> Iterator[Outcome]:
 LEAST_BORDER = 3
 
 
+def weak(texts: list[Any]) -> list[Any]:
+    return [text for text in texts if text[1] < LEAST_CONTRAST]
+
+
 def weak_texts(browser: Browser) -> list[Any]:
-    return [text for text in browser.call("contrasts") if text[1] < LEAST_CONTRAST]
+    return weak(browser.call("contrasts"))
 
 
 SCHEMES = ("light", "dark")
@@ -72,8 +76,9 @@ SCHEMES = ("light", "dark")
 def contrast(browser: Browser, name: str) -> Iterator[Outcome]:
     for scheme in SCHEMES:
         with preferring(browser, "prefers-color-scheme", scheme):
-            yield Outcome(f"contrast, {scheme}: {name} has texts", len(browser.call("contrasts")) > 10, True)
-            yield Outcome(f"contrast, {scheme}: {name}", weak_texts(browser), [])
+            texts = browser.call("contrasts")
+            yield Outcome(f"contrast, {scheme}: {name} has texts", len(texts) > 10, True)
+            yield Outcome(f"contrast, {scheme}: {name}", weak(texts), [])
 
 
 def notes(site: Site, browser: Browser) -> Iterator[Outcome]:
@@ -103,9 +108,10 @@ def first_sight(site: Site, browser: Browser) -> Iterator[Outcome]:
     fields take one line."""
     for language in ("de", "en-GB"):
         site.write_settings(language=language)
+        ask(browser, article(day=date.today().isoformat()))
         for width, height in ((1280, 720), (640, 360), (360, 740)):
             browser.size(width, height)
-            ask(browser, article(day=date.today().isoformat()))
+            browser.wait(lambda: browser.run("return innerWidth") == width)
             top = browser.run("return document.getElementById('verdict').getBoundingClientRect().top")
             name = f"{width} x {height}, {language}"
             yield Outcome(f"{name}: the answer begins at {top}", top <= 200, True)
@@ -125,7 +131,6 @@ def forced_colours(site: Site, browser: Browser) -> Iterator[Outcome]:
 
 
 def hyphens(site: Site, browser: Browser) -> Iterator[Outcome]:
-    browser.open("")
     style = browser.run("return getComputedStyle(document.querySelector('main')).hyphens")
     yield Outcome("long words have hyphens", style, "auto")
 
@@ -163,6 +168,8 @@ def nodes(browser: Browser) -> list[tuple[str, str, str]]:
     """The role, name and description of each node that the browser tells a screen reader of."""
     browser.driver.execute_cdp_cmd("Accessibility.enable", {})
     tree = browser.driver.execute_cdp_cmd("Accessibility.getFullAXTree", {})
+    # A page that goes on to tell a screen reader of each change takes longer for all of them.
+    browser.driver.execute_cdp_cmd("Accessibility.disable", {})
     told = [node for node in tree["nodes"] if not node["ignored"]]
     return [(part(node, "role"), part(node, "name"), part(node, "description")) for node in told]
 
@@ -213,7 +220,6 @@ def fields(site: Site, browser: Browser) -> Iterator[Outcome]:
 
 def live(site: Site, browser: Browser) -> Iterator[Outcome]:
     """Answers stand in live regions, which are there before them."""
-    browser.open("")
     shown(browser, VIEWS["article"])
     status = browser.run("return document.querySelector('#article-status').getAttribute('role')")
     yield Outcome("accessible: the live region", status, "status")

@@ -13,10 +13,12 @@ from tests.page import (
     baskets,
     calendars,
     days,
+    ended,
     hostile,
     isbns,
     keyboard,
     long_lists,
+    lost_questions,
     misleading,
     order_screens,
     orders,
@@ -50,21 +52,32 @@ class Sequence(NamedTuple):
 
 SEQUENCES = [
     Sequence("stops", stops.CASES),
+    Sequence("no answer", stops.OF_NO_ANSWER),
     Sequence("minutes", [*reports.OVER_TIME, *titles.CASES]),
     Sequence("questions", [*articles.CASES, *isbns.CASES, *days.CASES, *prices.CASES]),
     Sequence("views", [*calendars.CASES, *reports.CASES, *hostile.CASES, *refusals.CASES]),
-    Sequence("orders", orders.CASES),
+    Sequence("orders", [*orders.CASES, *lost_questions.CASES]),
     Sequence("long lists", long_lists.CASES),
     Sequence("baskets", [*baskets.CASES, *order_screens.CASES]),
     Sequence("misleading", misleading.CASES),
     Sequence("screens", screens.CASES),
     Sequence(
         "browsers",
-        [*keyboard.CASES, *origins.CASES, *baskets.OF_A_TILL, *passwords.CASES, *origins.AT_THE_END],
+        [*keyboard.CASES, *origins.CASES, *ended.CASES, *baskets.OF_A_TILL, *passwords.CASES, *origins.AT_THE_END],
         is_whole=True,
     ),
 ]
 PICTURES = Sequence("pictures", pictures.CASES, is_whole=True)
+
+# What the groups of a module build on, and is run before one of them.
+GROUND: dict[str, Check] = {
+    "orders": orders.begins,
+    "lost_questions": orders.begins,
+    "baskets": baskets.with_wholesalers,
+    "order_screens": baskets.with_wholesalers,
+    "long_lists": baskets.with_wholesalers,
+    "titles": titles.not_kept,
+}
 
 
 class Group(Cases):
@@ -96,10 +109,15 @@ def try_at_a_site(program: Path, groups: list[Group], case: str) -> Counted:
 
 
 def chosen_groups(sequences: list[Sequence], chosen: Chosen) -> list[list[Group]]:
-    """The groups of each sequence that are chosen, without sequences of none."""
+    """The groups of each sequence that are chosen, with what they build on, without sequences of none."""
     found = [[Group(check, sequence.is_whole) for check in sequence.cases] for sequence in sequences]
-    kept = [[group for group in groups if chosen.has(group)] for groups in found]
+    kept = [with_ground(groups, chosen) for groups in found]
     return [groups for groups in kept if groups]
+
+
+def with_ground(groups: list[Group], chosen: Chosen) -> list[Group]:
+    grounds = [GROUND.get(group.module) for group in groups if chosen.has(group)]
+    return [group for group in groups if chosen.has(group) or group.check in grounds]
 
 
 def lanes(program: Path, sequences: list[list[Group]], case: str) -> list[Callable[[], Counted]]:

@@ -270,6 +270,21 @@ class Site:
             reply = connection.getresponse()
             return reply.status, dict(reply.getheaders()), reply.read()
 
+    @contextlib.contextmanager
+    def colleague(self) -> Iterator[Callable[[str], int]]:
+        """Another buyer at the same address, whose browser asks over one connection: what gives the status of the reply
+        to a path."""
+        fields = {"Host": self.own_host(), "Authorization": basic(PASSWORD)}
+        with contextlib.closing(self.connected()) as connection:
+
+            def ask(path: str) -> int:
+                connection.request("GET", path, headers=fields)
+                reply = connection.getresponse()
+                reply.read()
+                return reply.status
+
+            yield ask
+
     def stop(self) -> None:
         self.stop_nginx()
         self.stop_desk()

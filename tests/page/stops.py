@@ -227,7 +227,6 @@ def hurried(check: Check) -> Check:
     return outcomes
 
 
-CASES = [
-    *map(hurried, [stopped, silent, faulty, unreached, unanswered, unanswered_later, missing_view]),
-    set_early,
-]
+CASES = [*map(hurried, [stopped, silent, faulty, unreached, missing_view]), set_early]
+# They wait for most of their time, for a page that is to do nothing.
+OF_NO_ANSWER = [*map(hurried, [unanswered, unanswered_later])]

@@ -89,7 +89,7 @@ def of_an_article(site: Site, browser: Browser) -> Iterator[Outcome]:
     since = len(site.requests())
     browser.open(article(ISBN))
     yield Outcome("a title", browser.wait_for_text("#title", "Almanac"), f"Title: {WHOLE} · {DIFFERS} · {SAID}")
-    yield Outcome("a title is inside the box", len(browser.all("#verdict #title")), 1)
+    yield Outcome("a title is inside the box", browser.count("#verdict #title"), 1)
     paths = asked(site, since)
     answers = [paths.index(f"/desk/articles/{ISBN}/{what}") for what in ("price", "choice")]
     title = paths.index(f"/titles/{ISBN[:5]}/{ISBN[:8]}.json")

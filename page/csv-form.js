@@ -1,18 +1,32 @@
-// The form of the files and papers that go to a wholesaler, as its series of desk.json has it, and that of the shop's
-// own file of all orders.
+// The form of a file of CSV, as desk.json has it: of what goes to a wholesaler (`csv` of its series), and of the file of
+// prices that desk-prices writes (`price_file`), of which the page says what is wrong; and the shop's own file of all
+// orders. tests/forms/cases.json has for both programs what a form gives.
 
-/** What a column may have. */
-const CELLS = [
-  "isbn", "copies", "wholesaler", "price", "sum", "currency", "availability", "reference", "note", "remark", "rrp",
-  "margin", "title", "second", "order", "date", "shop", "address", "account",
-];
+import { amountWith, csvOf, decimalSign } from "./order-file.js";
+
+/** What an order may have in a column, and in the braces of its file's name. */
+export const ORDER = {
+  cells: [
+    "isbn", "copies", "wholesaler", "price", "sum", "currency", "availability", "reference", "note", "remark", "rrp",
+    "margin", "title", "second", "order", "date", "shop", "address", "account",
+  ],
+  places: ["day", "series", "order"],
+};
+
+/** The same of the file of prices, whose prices are at these numbers of copies. */
+export const pricesAt = (quantities) => ({
+  cells: [
+    "isbn", "wholesaler", "series", "reference", "availability", "price",
+    ...quantities.slice(1).map((count) => `price_${count}`), "currency", "holds_until", "next_price", "next_day", "rrp",
+    "margin", "others_least", "title", "day",
+  ],
+  places: ["day"],
+});
 
 /** What stands once above an order on paper, and not in each of its rows. */
 export const ABOVE = ["wholesaler", "currency", "order", "date", "shop", "address", "account"];
 
-const SEPARATORS = [",", ";", "|", "\t"];
-const FORM_KEYS = ["columns", "separator", "heading", "file", "isbn"];
-const FILE = /^[\p{L}\p{N} ._{}-]{1,80}$/u;
+const AMOUNTS = ["price", "sum", "rrp"];
 const MOST_COLUMNS = 30;
 
 // Nothing of another wholesaler, and nothing that a list has about customers.
@@ -26,23 +40,52 @@ const SHOP = {
   ],
 };
 
+const isBoolean = (value) => typeof value === "boolean";
 const isText = (value) => typeof value === "string";
 const areTexts = (value) => Array.isArray(value) && value.every(isText);
+const areColumns = (value, cells) => value.length > 0 && value.length <= MOST_COLUMNS && value.every((name) => cells.includes(name));
 
-function areColumns(value) {
-  return areTexts(value) && value.length > 0 && value.length <= MOST_COLUMNS && value.every((name) => CELLS.includes(name));
+// A folder, or a name that is hidden, has no place in it.
+const namesWith = (places) => new RegExp(`^(?!\\.)(?:[\\p{L}\\p{N} ._-]|\\{(?:${places.join("|")})\\}){1,80}$`, "u");
+
+// What each key may have, in this form of this kind of file.
+const RIGHT = {
+  columns: (value, _, { cells }) => areTexts(value) && areColumns(value, cells),
+  separator: (value) => [",", ";", "|", "\t"].includes(value),
+  decimal: (value, { separator }) => [".", ","].includes(value) && value !== separator,
+  heading: (value, { columns }) => isBoolean(value) || (areTexts(value) && value.length === columns.length),
+  file: (value, _, { places }) => isText(value) && namesWith(places).test(value),
+  isbn: (value) => value === "text",
+  byte_order_mark: isBoolean,
+};
+
+/** The first key for which a value is no form of that kind of file; `undefined` where it is one. */
+export function wrongKey(value, kind) {
+  const form = Object(value);
+  const isWrong = (key) => !Object.hasOwn(RIGHT, key) || !RIGHT[key](form[key], form, kind);
+  return ["columns", ...Object.keys(form)].find(isWrong);
 }
 
-const isHeading = (value, { columns }) =>
-  typeof value === "boolean" || (areTexts(value) && value.length === columns.length);
+/** A form with what is so without its keys: of an order, whose amounts are as the page's language has them, or `usual`. */
+export function wholeForm(form, usual = { decimal: decimalSign(), byte_order_mark: true }) {
+  const { decimal } = { ...usual, ...form };
+  return { separator: decimal === "," ? ";" : ",", heading: true, ...usual, ...form };
+}
 
-/** Whether a value is the form of a file: its `columns`, and, if wanted, `separator`, `heading`, `file` and `isbn`. */
-export function isForm(value) {
-  if (typeof value !== "object" || value === null || !areColumns(value.columns)) return false;
-  const { separator = ",", heading = true, file = "x", isbn = "text" } = value;
-  const areKnown = Object.keys(value).every((key) => FORM_KEYS.includes(key));
-  return areKnown && SEPARATORS.includes(separator) && isHeading(heading, value) && isText(file) && FILE.test(file)
-    && isbn === "text";
+/** Cells by their columns, with that decimal sign in the amounts of the desk. */
+export function withSign(cells, sign) {
+  return Object.fromEntries(Object.entries(cells).map(([name, text]) => (
+    [name, AMOUNTS.includes(name) ? amountWith(sign, text) : text]
+  )));
+}
+
+/** The text of a file in a whole form, of cells by their columns for each row; `heads` are the columns in words. */
+export function textIn({ columns, heading, separator, decimal, ...form }, heads, rows) {
+  const names = heading === true ? heads : heading;
+  const lines = rows.map((cells) => withSign(cells, decimal)).map((cells) => columns.map((name) => cells[name]));
+  const isText = columns.map((name) => name === "isbn" && form.isbn === "text");
+  const head = csvOf(names === false ? [] : [names], { separator, hasMark: form.byte_order_mark });
+  return head + csvOf(lines, { separator, isText, hasMark: false });
 }
 
 /** Which of the columns the shop has anything for. */
@@ -53,13 +96,13 @@ function isThere(name, { hasTitles, retailType, shop, address, account }) {
   return !Object.hasOwn(own, name) || (own[name] ?? "") !== "";
 }
 
-/** The form of the file of a series, or, with `undefined`, of the shop's own file of all. */
+/** The whole form of the file of a series, or, with `undefined`, of the shop's own file of all. */
 export function formOf(settings, series) {
   const found = settings.series.find(({ name }) => name === series);
-  if (found?.csv !== undefined) return found.csv;
+  if (found?.csv !== undefined) return wholeForm(found.csv);
   const { columns } = series === undefined ? SHOP : WHOLESALER;
   const context = { ...settings, account: found?.account };
-  return { columns: columns.filter((name) => isThere(name, context)) };
+  return wholeForm({ columns: columns.filter((name) => isThere(name, context)) });
 }
 
 /** The name of a file, with the day, the series and the order's reference in their places. */

@@ -2,7 +2,6 @@
 
 import { compareAmounts, times } from "./amounts.js";
 import { othersAdmitted } from "./better.js";
-import { amountCell } from "./order-file.js";
 import { inPercent, marginOf, retailOf } from "./retail.js";
 import { undirected } from "./said.js";
 import { wholesalerOf } from "./settings.js";
@@ -26,7 +25,7 @@ function marginCell(offer, retail) {
 }
 
 /**
- * The cells of a row by their columns. The context has the `settings`, the `currency`, `isOld`, which says of a series
+ * The cells of a row by their columns, with amounts as the desk writes them. The context has the `settings`, the `currency`, `isOld`, which says of a series
  * whether its prices may be old, the order's reference (`order`) and the `date`.
  */
 export function cellsOf(row, { settings, currency, isOld, order, date }) {
@@ -37,14 +36,14 @@ export function cellsOf(row, { settings, currency, isOld, order, date }) {
     isbn: book.isbn,
     copies: String(book.copies),
     wholesaler: wholesalerOf(settings, offer.series),
-    price: amountCell(offer.amount),
-    sum: amountCell(times(offer.amount, book.copies)),
+    price: offer.amount,
+    sum: times(offer.amount, book.copies),
     currency,
     availability: wordsOfCode("availabilities", offer.availability) ?? offer.availability,
     reference: undirected(offer.reference),
     note: book.note,
     remark: remarkOf(row, isOld),
-    rrp: retail === undefined ? "" : amountCell(retail),
+    rrp: retail ?? "",
     margin: marginCell(offer, retail),
     title: titleTexts(titlesOfOffers(book.titles ?? [], book.answer.offers, offer)).join(" · "),
     second: secondOf(book, offer, settings),

@@ -13,7 +13,7 @@ const FORMULA = /(?<=^|[,;|])(?=[\s'"]*[=+\-@\uff1d\uff0b\uff0d\uff20])/g;
 const CUTS = /[",;|]/;
 
 /** The sign of the page's language between whole and decimals. */
-function decimalSign() {
+export function decimalSign() {
   const parts = formatter(Intl.NumberFormat).formatToParts(1.5);
   return parts.find(({ type }) => type === "decimal").value;
 }
@@ -23,10 +23,11 @@ export function separatorOf() {
   return decimalSign() === "," ? ";" : ",";
 }
 
-/** An amount of the desk as a cell: with the language's sign, two decimals or, where it has them, three. */
-export function amountCell(amount) {
-  return amount.replace(/0$/, "").replace(".", decimalSign());
-}
+/** An amount of the desk with a decimal sign, and two decimals or, where it has them, three. */
+export const amountWith = (sign, amount) => amount.replace(/0$/, "").replace(".", sign);
+
+/** The same with the language's sign. */
+export const amountCell = (amount) => amountWith(decimalSign(), amount);
 
 const quoted = (text) => `"${text.replaceAll('"', '""')}"`;
 
@@ -44,9 +45,9 @@ const digitsAsText = (text) => (/^\d+$/.test(text) ? `="${text}"` : cellOf(text)
  * A file of rows of texts, with the mark by which spreadsheets know UTF-8, with a `separator`, the language's where
  * there is none; `isText` says of each column whether its digits are a text.
  */
-export function csvOf(rows, { separator = separatorOf(), isText = [] } = {}) {
+export function csvOf(rows, { separator = separatorOf(), isText = [], hasMark = true } = {}) {
   const lines = rows.map((row) => row.map((text, at) => (isText[at] ? digitsAsText(text) : cellOf(text))));
-  return MARK + lines.map((cells) => cells.join(separator) + LINE_END).join("");
+  return (hasMark ? MARK : "") + lines.map((cells) => cells.join(separator) + LINE_END).join("");
 }
 
 /** An order as lines of ISBN, copies and, where there is one, a remark, with a tabulator between them. */

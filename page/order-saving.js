@@ -1,11 +1,11 @@
 // How an order leaves the page: as a file, on the clipboard, on paper. Nothing of it is sent anywhere.
 
 import { money, sumOf, times } from "./amounts.js";
-import { ABOVE, fileNameOf, formOf } from "./csv-form.js";
+import { ABOVE, fileNameOf, formOf, textIn, withSign } from "./csv-form.js";
 import { inWords, today } from "./days.js";
 import { element, found, table } from "./elements.js";
 import { cellsOf, remarkOf } from "./order-cells.js";
-import { csvOf, linesToPaste } from "./order-file.js";
+import { decimalSign, linesToPaste } from "./order-file.js";
 import { lackingTo } from "./order-sums.js";
 import { kindOf } from "./price-types.js";
 import { wholesalerOf } from "./settings.js";
@@ -24,16 +24,9 @@ export function headsOf(columns, type) {
   return columns.map((name) => say(`order.columns.${name === "price" && isRetail ? "retail" : name}`));
 }
 
-/** The text of a file of rows in a form. */
+/** The text of a file of rows in a whole form. */
 export function fileText(rows, form, { type, ...context }) {
-  const { columns, heading = true } = form;
-  const heads = heading === true ? headsOf(columns, type) : heading;
-  const lines = rows.map((row) => {
-    const cells = cellsOf(row, context);
-    return columns.map((name) => cells[name]);
-  });
-  const isText = form.isbn === "text" ? columns.map((name) => name === "isbn") : [];
-  return csvOf(heads === false ? lines : [heads, ...lines], { ...form, isText });
+  return textIn(form, headsOf(form.columns, type), rows.map((row) => cellsOf(row, context)));
 }
 
 /**
@@ -150,7 +143,7 @@ export function printOrder(rows, series, context) {
   const { currency, order } = context;
   const columns = columnsOnPaper(rows, series, context);
   const lines = rows.map((row) => {
-    const cells = cellsOf(row, context);
+    const cells = withSign(cellsOf(row, context), decimalSign());
     return { cells: columns.map((name) => [element("bdi", {}, cells[name])]) };
   });
   const sum = sumOf(rows.map(({ book, state: { offer } }) => times(offer.amount, book.copies)));

@@ -4,7 +4,7 @@
 
 import { urlBeside } from "./address.js";
 import { isCatalogue } from "./catalogue.js";
-import { isForm } from "./csv-form.js";
+import { ORDER, pricesAt, wrongKey } from "./csv-form.js";
 import { isChecked } from "./isbn.js";
 import { withOwnWords } from "./own-words.js";
 import { kindOf } from "./price-types.js";
@@ -18,8 +18,7 @@ const KEYS = [
   ...NEEDED, "shop", "language", "quantities", "minutes_to_usual", "catalogue", "many_copies", "many_money",
   "recommended_type", "currencies", "address", "terms",
 ];
-// What the file of prices reads of desk.json.
-const OTHERS = ["price_file"];
+const PRICE_FILE = "price_file";
 const SERIES_KEYS = [
   "name", "words", "days_without_message", "parts", "number_offset", "sender", "addressee", "mail",
   "free_from", "account", "csv",
@@ -95,8 +94,15 @@ const OPTIONAL = {
   mail: ["mail", isMail, "seriesMail"],
   free_from: ["freeFrom", isAmount, "seriesFree"],
   account: ["account", isText, "seriesAccount"],
-  csv: ["csv", isForm, "seriesCsv"],
 };
+
+/** The form of a kind of file, or `undefined` with what is wrong with it added to the problems. */
+function readForm(value, kind, problems, path, values) {
+  const wrong = wrongKey(value, kind);
+  if (wrong === undefined) return value;
+  tell(problems, path, { ...values, wrong });
+  return undefined;
+}
 
 function readOptional(item, number, problems) {
   const found = {};
@@ -105,6 +111,7 @@ function readOptional(item, number, problems) {
     if (isRight(item[key])) found[name] = item[key];
     else tell(problems, path, { key, number, value: shown(item[key]) });
   }
+  if (item.csv !== undefined) found.csv = readForm(item.csv, ORDER, problems, "seriesCsv", { key: "csv", number });
   return found;
 }
 
@@ -196,8 +203,13 @@ export function readSettings(text) {
     if (!Object.hasOwn(given, key)) tell(problems, "lacks", { key });
   }
   if (Object.hasOwn(given, "rules")) tell(problems, "rules");
-  checkKeys(given, [...KEYS, ...OTHERS, "rules"], problems, "unknown");
-  return { settings: settingsOf(given, problems), problems };
+  checkKeys(given, [...KEYS, PRICE_FILE, "rules"], problems, "unknown");
+  const settings = settingsOf(given, problems);
+  // What desk-prices reads at night is told on the page by day.
+  if (Object.hasOwn(given, PRICE_FILE)) {
+    readForm(given[PRICE_FILE], pricesAt(settings.quantities), problems, "priceFile", { key: PRICE_FILE });
+  }
+  return { settings, problems };
 }
 
 // The texts that the page began with, by their files.

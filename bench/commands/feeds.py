@@ -1,6 +1,7 @@
 """Measures `onixdesk convert` on feeds that it makes as streams, of the products of the sample feeds in
 tests/feeds with a RecordReference for each: how many MB of XML it converts in a second of its processor
-time, and the greatest memory that it takes.
+time, and the greatest memory that it takes; and by terms of a shop that fit each Price of a reader how many times as
+long it takes, and how much memory.
 
     bench/feeds [--desk PROGRAM] [MEGABYTES]
 
@@ -13,6 +14,7 @@ import sys
 import tempfile
 from collections.abc import Iterator
 from pathlib import Path
+from typing import NamedTuple
 
 from bench.figures.conversion import converted
 from tools.root import ROOT
@@ -22,6 +24,20 @@ FEEDS = {
     "short tags": ("two-products-short.xml", b"product", b"com.tidewater.onix.00001"),
     "several Markets": ("block-update.xml", b"Product", b"nl-978190000"),
 }
+
+# A discount for a code of the samples, and another one for all other prices that a reader pays.
+TERMS = """\
+[[term]]
+types = ["02"]
+codes = ["02,T40"]
+net = "05"
+percent = "40"
+
+[[term]]
+types = ["02"]
+net = "05"
+percent = "35"
+"""
 
 # Products that are written at once, all with the same beginning of their references.
 AT_ONCE = 200
@@ -46,23 +62,38 @@ def counted(feed: Iterator[bytes], sizes: list[int]) -> Iterator[bytes]:
         yield piece
 
 
+class Measured(NamedTuple):
+    """How many MB were converted, in how many seconds of processor time, and the greatest memory, in MB."""
+
+    megabytes: float
+    seconds: float
+    memory: float
+
+
+def measured(program: Path, feed: tuple[str, bytes, bytes], megabytes: int, *words: str) -> Measured:
+    with tempfile.TemporaryDirectory() as folder:
+        Path(folder, "terms.toml").write_text(TERMS, encoding="utf-8")
+        sizes: list[int] = []
+        written = counted(pieces(*feed, megabytes * 1_000_000), sizes)
+        came = converted(program, Path(folder), written, "--parts", str(megabytes), "-o", ".", *words)
+    if came.status:
+        sys.exit(f"bench/feeds: {came.errors.decode()}")
+    return Measured(sum(sizes) / 1_000_000, came.seconds, came.memory / 1_048_576)
+
+
 def main() -> None:
     form = argparse.RawDescriptionHelpFormatter
     parser = argparse.ArgumentParser("bench/feeds", description=__doc__, formatter_class=form)
     parser.add_argument("--desk", metavar="PROGRAM", type=Path, default=ROOT / "crates/onixdesk/out/onixdesk")
     parser.add_argument("megabytes", metavar="MEGABYTES", type=int, nargs="?", default=2_000)
     given = parser.parse_args()
-    program, parts, size = given.desk.resolve(), str(given.megabytes), given.megabytes * 1_000_000
     for name, feed in FEEDS.items():
-        with tempfile.TemporaryDirectory() as folder:
-            sizes: list[int] = []
-            came = converted(program, Path(folder), counted(pieces(*feed, size), sizes), "--parts", parts, "-o", ".")
-        if came.status:
-            sys.exit(f"bench/feeds: {came.errors.decode()}")
-        made = sum(sizes) / 1_000_000
+        plain = measured(given.desk.resolve(), feed, given.megabytes)
+        by_terms = measured(given.desk.resolve(), feed, given.megabytes, "--terms", "terms.toml")
         print(
-            f"{name}: {made:.0f} MB, {made / came.seconds:.1f} MB a second,"
-            f" at most {came.memory / 1_048_576:.1f} MB of memory",
+            f"{name}: {plain.megabytes:.0f} MB, {plain.megabytes / plain.seconds:.1f} MB a second,"
+            f" at most {plain.memory:.1f} MB of memory;"
+            f" by terms {by_terms.seconds / plain.seconds:.2f} times as long, {by_terms.memory:.1f} MB",
             flush=True,
         )
 

@@ -11,7 +11,7 @@ _desk_prices() {
     esac
     case $cur in
         -*) COMPREPLY=($(compgen -W "--settings --rules --titles --day --list --since --ahead --watch --mail --outbox
-            --room --seconds --help" -- "$cur")) ;;
+            --check --room --seconds --help" -- "$cur")) ;;
         *) _filedir ;;
     esac
 } && complete -F _desk_prices desk-prices

@@ -2,7 +2,6 @@
 
 import os
 import shutil
-import time
 from collections.abc import Iterator, Mapping, Sequence
 from pathlib import Path
 
@@ -99,6 +98,14 @@ class OfCopies(OfCopy):
             yield f"there are {names}"
 
 
+# Has a run take place an hour later: what is moved away has the second in its name.
+AHEAD = """
+import time
+gmtime, ahead = time.gmtime, time.time() + 3600
+time.gmtime = lambda moment=ahead: gmtime(moment)
+"""
+
+
 class OfRestore(Scenario):
     """A copy is put into the place of a desk that has other rows."""
 
@@ -121,9 +128,10 @@ class OfRestore(Scenario):
         for name, data in self.old.items():
             self.room.write(name, data)
 
-    def words(self) -> Sequence[Word]:
+    def words(self, before: str = "") -> Sequence[Word]:
+        """Those by which it runs once a text has changed something."""
         options: list[Word] = ["--db", DATABASE, "--inboxes", "state", self.copy]
-        return within(desk_restore.RUNNING, self.programs, *options)
+        return within(before + desk_restore.RUNNING, self.programs, *options)
 
     def environment(self) -> Mapping[str, str]:
         return {**os.environ, "PATH": f"{self.programs}:{os.environ['PATH']}"}
@@ -153,9 +161,7 @@ class OfRestore(Scenario):
 
     def wrong_at_end(self) -> Iterator[str]:
         if self.standing() != self.new:
-            # Names have the second in which they are given.
-            time.sleep(1 - time.time() % 1)
-            if (ran := run_again(self.room, self.words(), self.environment())).status:
+            if (ran := run_again(self.room, self.words(AHEAD), self.environment())).status:
                 yield f"{ran}"
         if self.standing() != self.new:
             yield "what stands there is not the copy"

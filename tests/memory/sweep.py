@@ -6,7 +6,6 @@ itself, or whose disk in memory could not grow. No fault has these words."""
 
 import os
 import resource
-import shutil
 import subprocess
 import tempfile
 from collections.abc import Collection
@@ -14,13 +13,9 @@ from concurrent.futures import ThreadPoolExecutor
 from pathlib import Path
 from typing import IO, NamedTuple
 
-from tools.words import Word
+from tests.preloaded import NoCompiler, build
 
 SOURCE = Path(__file__).resolve().parent / "refuse.c"
-
-# The compilers of C that are looked for, before the toolchain's own, which has no library of C.
-COMPILERS = [["cc", "-ldl"], ["clang", "-ldl"]]
-OF_TOOLCHAIN = "toolchain/bin/clang"
 
 # The words of a test that could not go on, since it was itself refused memory.
 ENDED = ["refused to the test itself", "a disk in memory that could not grow"]
@@ -89,7 +84,10 @@ class Tests:
         self.program = program
         self.folder = folder
         self.library = folder / "refuse.so"
-        build(self.library)
+        try:
+            build(SOURCE, self.library)
+        except NoCompiler as none:
+            raise MemoryFault(str(none)) from None
         # A test that fails would leave a core file.
         resource.setrlimit(resource.RLIMIT_CORE, (0, 0))
 
@@ -139,31 +137,6 @@ class Tests:
         if not runs:
             raise MemoryFault(f"{sweep.name()}: no request was refused")
         return Swept(sweep, sorted(runs))
-
-
-def compilers() -> list[list[str]]:
-    """The compilers of C that may be here, each with its words for the linker."""
-    rt = shutil.which("rt")
-    own = Path(rt).resolve().parent.parent / OF_TOOLCHAIN if rt else None
-    return [*COMPILERS, *([[str(own), "-nostdlib", f"--ld-path={own.with_name('ld.lld')}"]] if own else [])]
-
-
-def build_by(compiler: list[str], library: Path) -> None:
-    """Compiles the library that refuses memory by one of them."""
-    program, *linking = compiler
-    words: list[Word] = [program, "-O2", "-shared", "-fPIC", "-o", library, SOURCE, *linking]
-    subprocess.run(words, check=True)
-
-
-def build(library: Path) -> None:
-    """Compiles it by the first that is there."""
-    for compiler in compilers():
-        try:
-            build_by(compiler, library)
-            return
-        except FileNotFoundError:
-            continue
-    raise MemoryFault("there is no compiler of C, which Debian's package gcc has")
 
 
 def contents(file: IO[bytes]) -> bytes:

@@ -35,7 +35,8 @@ MALFORMED = re.compile(
 )
 FAULT = re.compile(
     rb"onixdesk: (?:storage|file|rules): |onixdesk: port [0-9]+\n|onixdesk: socket\n|onixdesk: [^\n]*: no folder\n"
-    rb"|onixdesk: [a-zA-Z ]+ needs --db\n|onixdesk: --batches goes with batch\n"
+    rb"|onixdesk: [a-zA-Z ]+ needs --db\n|onixdesk: --batches goes with batch\n|onixdesk: output\n"
+    rb"|onixdesk: input: (?:not UTF-8|too large)\n"
 )
 
 

@@ -11,9 +11,9 @@ ghost use Rattle.program_commands.specs.TaskEnds.{BatchEnds};
 use crate::faults::fault_of_batch;
 use crate::malformed::{tell_refusals, tell_untold};
 use crate::streams::{Errors, Streams};
+use crate::unread::report_input;
 use desk_batch::{BatchFault, read_text, run_text};
 use price_rules::precedence::Precedence;
-use program_lines::fault::report;
 use series_rules::desk::Desk;
 use std::alloc::Global;
 use std::io::{Read, Write};
@@ -85,6 +85,6 @@ pub fn answer_input<D: Desk, R: Read, W: Write, E: Write>(
             tell_untold(&mut streams.errors);
             1
         }
-        Err(fault) => report(&fault_of_batch(fault), &mut streams.errors.writer),
+        Err(fault) => report_input(&fault_of_batch(fault), "", &mut streams.errors),
     }
 }

@@ -4,12 +4,12 @@ ghost use Rattle.std.specs.Prelude.{◌≡◌, ◌≤◌};
 
 use crate::malformed::tell_untold;
 use crate::streams::Errors;
-use crate::unread::report_unread;
+use crate::unread::{report_input, report_unread, wrong_byte};
 use csv_records::reading::{LIMIT, RecordFault};
 use csv_records::streams::{InputFault, read_input};
 use desk_reasons::explaining::explain_batch;
 use program_files::{FileFault, NamedFiles, STANDARD_INPUT};
-use program_lines::fault::{Fault, report};
+use program_lines::fault::Fault;
 use std::alloc::Global;
 use std::io::{Read, Write};
 
@@ -41,7 +41,10 @@ fn check_reader<R: Read, E: Write>(
         &mut errors.writer,
     ) {
         Ok(count) => Ok(count),
-        Err(fault) => Err(UnreadFault::Records(fault)),
+        Err(fault) => {
+            errors.wrong = wrong_byte(bytes.as_slice());
+            Err(UnreadFault::Records(fault))
+        }
     }
 }
 
@@ -69,16 +72,16 @@ fn report_text<F: NamedFiles, E: Write>(
     fault: UnreadFault,
     files: &F,
     name: &str,
-    errors: &mut E,
+    errors: &mut Errors<E>,
 ) -> u8
     ensures { result ≡ 3 }
 {
     match fault {
         UnreadFault::Unreadable => {
-            report_unread(alloc, files, name, errors);
+            report_unread(alloc, files, name, &mut errors.writer);
             3
         }
-        UnreadFault::Records(fault) => report(&Fault::from(fault), errors),
+        UnreadFault::Records(fault) => report_input(&Fault::from(fault), name, errors),
     }
 }
 
@@ -107,7 +110,7 @@ pub fn check_texts<F: NamedFiles, R: Read, E: Write>(
             Ok(count) => has_malformed |= count > 0,
             Err(fault) => {
                 tell_untold(errors);
-                return report_text(alloc, fault, files, name, &mut errors.writer);
+                return report_text(alloc, fault, files, name, errors);
             }
         }
     }

@@ -11,7 +11,7 @@ ghost use Rattle.program_commands.specs.TaskEnds.{DeliverEnds};
 use crate::faults::fault_of_request;
 use crate::malformed::{tell_delivery, tell_end};
 use crate::streams::{Errors, Streams};
-use crate::unread::report_unread;
+use crate::unread::{report_input, report_unread, wrong_byte};
 use csv_records::reading::{LIMIT, RecordFault, read_records};
 use csv_records::streams::{InputFault, read_input};
 use desk_batch::{RequestFault, run_request};
@@ -83,6 +83,13 @@ fn deliver_text<D: Desk, W: Write, E: Write>(
     }
 }
 
+// Keeps what of a text is not UTF-8 that has no records.
+fn note_wrong<E>(delivered: &Result<bool, DeliveryFault>, text: &[u8], errors: &mut Errors<E>) {
+    if let Err(DeliveryFault::Records(_)) = delivered {
+        errors.wrong = wrong_byte(text);
+    }
+}
+
 /// Delivers the message that a reader of this name has, to its end or to one byte past 4,194,304,
 /// writes the answer, and says whether that is a refusal. Where it is no message, a line on
 /// `errors` says why, as far as there is room.
@@ -102,15 +109,12 @@ pub fn deliver_one<D: Desk, R: Read, W: Write, E: Write>(
     ensures taken { TakesAtMost (limit + 1) (R.remaining reader.old) (R.remaining reader.new) }
 {
     match text_from_reader(alloc, reader) {
-        Ok(text) => deliver_text(
-            alloc,
-            desk,
-            precedence,
-            name,
-            text.as_slice(),
-            writer,
-            errors,
-        ),
+        Ok(text) => {
+            let bytes = text.as_slice();
+            let delivered = deliver_text(alloc, desk, precedence, name, bytes, writer, errors);
+            note_wrong(&delivered, bytes, errors);
+            delivered
+        }
         Err(fault) => Err(fault),
     }
 }
@@ -183,17 +187,17 @@ fn report_delivery<F: NamedFiles, E: Write>(
     fault: DeliveryFault,
     files: &F,
     name: &str,
-    errors: &mut E,
+    errors: &mut Errors<E>,
 ) -> u8
     ensures { result ≡ 3 }
 {
     match fault {
         DeliveryFault::Unreadable => {
-            report_unread(alloc, files, name, errors);
+            report_unread(alloc, files, name, &mut errors.writer);
             3
         }
-        DeliveryFault::Records(fault) => report(&Fault::from(fault), errors),
-        DeliveryFault::Request(fault) => report(&fault_of_request(fault), errors),
+        DeliveryFault::Records(fault) => report_input(&Fault::from(fault), name, errors),
+        DeliveryFault::Request(fault) => { report(&fault_of_request(fault), &mut errors.writer) }
     }
 }
 
@@ -231,7 +235,7 @@ pub fn deliver_files<D: Desk, F: NamedFiles, R: Read, W: Write, E: Write>(
                 has_refusal |= is_refused;
             }
             Err(fault) => {
-                return report_delivery(alloc, fault, files, name, &mut streams.errors.writer);
+                return report_delivery(alloc, fault, files, name, &mut streams.errors);
             }
         }
     }

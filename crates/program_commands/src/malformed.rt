@@ -2,6 +2,7 @@
 //! hint.
 
 use crate::streams::Errors;
+use crate::unread::wrong_byte;
 use desk_batch::BatchFault;
 use desk_reasons::explaining::{Room, explain_batch, explain_delivery, report_untold};
 use desk_reasons::questions::explain_question;
@@ -28,7 +29,7 @@ fn tell_hint<E: Write>(errors: &mut Errors<E>) {
 
 /// Writes a line for each request of a batch that is malformed, as far as there is room, if so many
 /// requests of it were refused; and the hint where others were. Where memory runs out, the lines that
-/// are left are lost.
+/// are left are lost. Of a text that has no requests it is kept what is not UTF-8.
 pub(crate) fn tell_refusals<E: Write>(
     alloc: Global,
     text: &[u8],
@@ -37,6 +38,10 @@ pub(crate) fn tell_refusals<E: Write>(
 ) {
     let refused = match outcome {
         Ok(refused) => *refused,
+        Err(BatchFault::Records(_)) => {
+            errors.wrong = wrong_byte(text);
+            0
+        }
         Err(_) => 0,
     };
     if refused == 0 {
@@ -96,22 +101,17 @@ pub(crate) fn tell_end<E: Write>(refused: u64, errors: &mut Errors<E>) {
     }
 }
 
-/// Since when there is room, which is made anew once an hour has passed: then how many lines were left
-/// out is written. None where the clock does not say.
-pub(crate) fn renew<E: Write>(
-    rt: &HostRuntime,
-    since: Option<Instant>,
-    errors: &mut Errors<E>,
-) -> Option<Instant> {
-    let Some(begun) = since else {
-        return Instant::now(rt).ok();
-    };
-    match begun.elapsed(rt) {
-        Ok(passed) if passed >= Duration::from_secs(HOUR_SECONDS) => {
-            report_untold(&errors.room, &mut errors.writer);
-            errors.room = Room::new(MOST_LINES);
-            Instant::now(rt).ok()
+/// Makes room anew where a client came an hour after there was: then how many lines were left out is
+/// written. It stays as it is where the clock does not say.
+pub(crate) fn renew<E: Write>(rt: &HostRuntime, errors: &mut Errors<E>) {
+    if let Some(begun) = errors.since {
+        match begun.elapsed(rt) {
+            Ok(passed) if passed >= Duration::from_secs(HOUR_SECONDS) => {
+                report_untold(&errors.room, &mut errors.writer);
+                errors.room = Room::new(MOST_LINES);
+            }
+            _ => return,
         }
-        _ => since,
     }
+    errors.since = Instant::now(rt).ok();
 }

@@ -13,14 +13,15 @@ ghost use Rattle.program_clients.specs.Sent.{IsSent};
 ghost use Rattle.program_commands.specs.Sending.{SendEnds, SendFits, TakesAnswers, WritesCame, answer_names, report_names, unanswered};
 
 use crate::malformed::tell_batch;
-use crate::streams::Streams;
+use crate::streams::{Errors, Streams};
+use crate::unread::{report_input, wrong_byte};
 use csv::StringRecord;
 use csv_records::reading::{LIMIT, RecordReader};
 use csv_records::streams::{InputFault, WriteFault, read_input, write_whole};
 use desk_texts::request_rows::requests_in;
 use program_clients::open_desks::OpenDesks;
 use program_clients::sockets::why_unanswered;
-use program_lines::fault::{Fault, report, report_why};
+use program_lines::fault::{Fault, report_why};
 use std::alloc::{AllocError, Global};
 use std::io::{Read, Write};
 use std::rt::HostRuntime;
@@ -199,13 +200,21 @@ fn read_text<R: Read>(alloc: Global, input: &mut R) -> Result<Vec<u8>, Fault>
     }
 }
 
-// Reports why a batch has not all of its answers; of the socket a second line says why.
-fn report_unsent<E: Write>(rt: &HostRuntime, fault: &Fault, socket: &str, errors: &mut E) -> u8
+// Reports why the batch of a text has not all of its answers; of the socket, and of a text that is not
+// UTF-8, a second line says why.
+fn report_unsent<E: Write>(
+    rt: &HostRuntime,
+    fault: &Fault,
+    socket: &str,
+    text: &[u8],
+    errors: &mut Errors<E>,
+) -> u8
     ensures { result ≡ 3 }
 {
-    let status = report(fault, errors);
+    errors.wrong = wrong_byte(text);
+    let status = report_input(fault, "", errors);
     if let Fault::Socket = fault {
-        report_why(socket, why_unanswered(rt, socket), errors);
+        report_why(socket, why_unanswered(rt, socket), &mut errors.writer);
     }
     status
 }
@@ -228,7 +237,7 @@ pub fn send_input<K: OpenDesks, R: Read, W: Write, E: Write>(
 {
     let text = match read_text(rt.alloc(), &mut streams.input) {
         Ok(text) => text,
-        Err(fault) => return report(&fault, &mut streams.errors.writer),
+        Err(fault) => return report_input(&fault, "", &mut streams.errors),
     };
     match send_batch(rt, desks, socket, text.as_slice(), &mut streams.output) {
         Ok(false) => 0,
@@ -236,6 +245,6 @@ pub fn send_input<K: OpenDesks, R: Read, W: Write, E: Write>(
             tell_batch(rt.alloc(), text.as_slice(), &mut streams.errors);
             1
         }
-        Err(fault) => report_unsent(rt, &fault, socket, &mut streams.errors.writer),
+        Err(fault) => report_unsent(rt, &fault, socket, text.as_slice(), &mut streams.errors),
     }
 }

@@ -1,7 +1,9 @@
 //! The streams of a command.
 
 use crate::malformed::MOST_LINES;
+use crate::unread::WrongByte;
 use desk_reasons::explaining::Room;
+use std::time::Instant;
 
 /// Standard error: where faults are reported, and behind the answers why requests were refused, as
 /// far as there is room.
@@ -10,8 +12,12 @@ pub struct Errors<E> {
     pub writer: E,
     /// The room for lines on requests that are malformed.
     pub room: Room,
+    /// When a command that serves made that room, where the clock said so.
+    pub(crate) since: Option<Instant>,
     /// What is written behind other refusals, where it is not empty.
     pub hint: &'static str,
+    /// What of the last text that was no batch and no message is not UTF-8.
+    pub(crate) wrong: Option<WrongByte>,
 }
 
 impl<E> Errors<E> {
@@ -20,7 +26,9 @@ impl<E> Errors<E> {
         Errors {
             writer,
             room: Room::new(MOST_LINES),
+            since: None,
             hint: "",
+            wrong: None,
         }
     }
 }

@@ -1,7 +1,10 @@
-//! Why a file is not read.
+//! Why a file is not read, or a text has no records.
 
+ghost use Rattle.std.specs.Prelude.{◌≡◌};
+
+use crate::streams::Errors;
 use program_files::{FileFault, NamedFiles, STANDARD_INPUT};
-use program_lines::fault::{report_file, report_why};
+use program_lines::fault::{Fault, report, report_cause, report_file};
 use std::alloc::Global;
 use std::io::{Read, Write};
 
@@ -31,6 +34,67 @@ pub(crate) fn report_unread<F: NamedFiles, E: Write>(
     }
     let fault = fault_of(alloc, files, name);
     if let Some(FileFault::File { why, .. }) = &fault {
-        report_why(name, why.as_str(), errors);
+        report_cause(name, why.as_str(), errors);
     }
+}
+
+/// A byte of a text that is not UTF-8, and its line, counted from 1.
+#[derive(Clone, Copy)]
+pub struct WrongByte {
+    byte: u8,
+    line: u64,
+}
+
+// The line on which a text goes on behind these bytes.
+fn line_behind(bytes: &[u8]) -> u64 {
+    let mut line = 1u64;
+    for byte in bytes {
+        if *byte == b'\n' {
+            line = line.saturating_add(1);
+        }
+    }
+    line
+}
+
+/// The first byte of a text that is not UTF-8.
+pub(crate) fn wrong_byte(text: &[u8]) -> Option<WrongByte> {
+    let place = match std::str::from_utf8(text) {
+        Ok(_) => return None,
+        Err(error) => error.valid_up_to(),
+    };
+    let byte = *text.get(place)?;
+    let line = line_behind(text.get(..place).unwrap_or(text));
+    Some(WrongByte { byte, line })
+}
+
+// Writes where a text is not UTF-8, or how long it may be. NAME is that of its file, or empty.
+fn tell_text<E: Write>(fault: &Fault, name: &str, errors: &mut Errors<E>) {
+    let wrong = errors.wrong;
+    let writer = &mut errors.writer;
+    let mark = if name.is_empty() { "" } else { ": " };
+    match (fault, wrong) {
+        (Fault::InputNotUtf8, Some(WrongByte { byte, line })) => {
+            let _ = write!(
+                writer,
+                "onixdesk: {name}{mark}line {line}: byte {byte:02X} is not UTF-8; save the text as UTF-8, or write: iconv -f WINDOWS-1252 -t UTF-8 FILE\n"
+            );
+        }
+        (Fault::InputTooLarge, _) => {
+            let _ = write!(
+                writer,
+                "onixdesk: {name}{mark}more than 4,194,304 bytes; cut a batch between two requests, and convert a feed into more parts (onixdesk convert --parts P)\n"
+            );
+        }
+        _ => {}
+    }
+}
+
+/// Reports a fault of the input or of the text of this name, which may be empty, and in a second
+/// line, of a text that has no records, where it is not UTF-8 or how long it may be.
+pub(crate) fn report_input<E: Write>(fault: &Fault, name: &str, errors: &mut Errors<E>) -> u8
+    ensures { result ≡ 3 }
+{
+    let status = report(fault, &mut errors.writer);
+    tell_text(fault, name, errors);
+    status
 }

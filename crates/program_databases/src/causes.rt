@@ -53,11 +53,12 @@ fn cause_of_file(rt: &HostRuntime, name: &str, found: &Metadata) -> Cause {
     }
 }
 
-/// What an error of the system says of why the file of a name is not opened. That of a folder may
-/// have no kind of its own.
+/// What an error of the system says of why the file of a name, or its log, is not opened. That of a
+/// folder may have no kind of its own, and what is missing beside a file that is there is its log.
 pub(crate) fn cause_of_error(rt: &HostRuntime, name: &str, kind: ErrorKind) -> Cause {
     match metadata(rt, name) {
         Ok(found) if found.is_dir() => Cause::Folder,
+        Ok(_) if kind == ErrorKind::NotFound => Cause::NoLog,
         _ => cause_of_kind(rt, name, kind),
     }
 }

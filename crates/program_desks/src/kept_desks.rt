@@ -30,6 +30,8 @@ pub enum Cause {
     Full,
     /// Another program has it open.
     Busy,
+    /// Its log cannot be made beside it.
+    NoLog,
     /// It does not begin as a database does.
     NoDatabase,
     /// It is a database, but not a desk's, or one that is damaged.
@@ -107,7 +109,7 @@ pub trait KeepsDesks<D: ListedDesk> {
 
     /// Closes the files of a desk. After a fault, which comes with what is left of them, a crash
     /// leaves what it could leave before.
-    fn close(desk: D) -> Result<Self::Closed, (StoreFault, Self::Unclosed)>
+    fn close_files(desk: D) -> Result<Self::Closed, (StoreFault, Self::Unclosed)>
         ensures ok { IfOk result (λ closed. LeavesAs (seen desk) (files.closed closed)) }
         ensures alone { IfOk result (λ closed. LastsAlone files closed) }
         ensures err { IfErr result (λ e. LeavesAs (seen desk) (files.unclosed e.1)) };

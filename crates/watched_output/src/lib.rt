@@ -1,5 +1,5 @@
-//! An output that passes on what is written to it: `output` shows on a terminal how much that is,
-//! and `hints` says what the refusals in it mean.
+//! An output that passes on what is written to it: `output` shows on a terminal how much that is, and
+//! says why it took no more; `hints` says what the refusals in it mean.
 #![tactic(auto)]
 
 mod hints;

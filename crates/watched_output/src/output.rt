@@ -4,7 +4,7 @@ ghost use Rattle.std.specs.Prelude.{◌≡◌};
 
 use crate::hints::Hints;
 use std::alloc::AllocError;
-use std::io::{IsTerminal, Result, Write};
+use std::io::{ErrorKind, IsTerminal, Result, Write};
 use std::rt::HostRuntime;
 use std::time::{Duration, Instant};
 
@@ -22,6 +22,16 @@ fn next_time(rt: &HostRuntime) -> Option<Instant> {
     }
 }
 
+// Why an output takes no more, by an error of the system.
+fn cause_of(kind: ErrorKind) -> &'static str {
+    match kind {
+        ErrorKind::BrokenPipe => "the program that reads it has ended",
+        ErrorKind::StorageFull | ErrorKind::QuotaExceeded => "no space left on the disk",
+        ErrorKind::FileTooLarge => "its file may not grow further",
+        _ => "it is closed, or accepts nothing",
+    }
+}
+
 /// Gives a writer what it is given, writes on standard error what the refusals in it mean, and shows
 /// there how much was written, if that is a terminal.
 #[derive(Drop)]
@@ -36,6 +46,8 @@ pub struct Watched<'a, W> {
     // When the line is written next, if it is shown.
     next: Option<Instant>,
     has_line: bool,
+    // Of what kind the last error of the writer was.
+    fault: Option<ErrorKind>,
 }
 
 impl<'a, W: Write> Watched<'a, W> {
@@ -52,6 +64,7 @@ impl<'a, W: Write> Watched<'a, W> {
             is_amid: false,
             next: if is_shown { next_time(rt) } else { None },
             has_line: false,
+            fault: None,
         }
     }
 }
@@ -101,6 +114,24 @@ impl<'a, W> Watched<'a, W> {
         self.show();
     }
 
+    // Notes that the writer gave an error of this kind.
+    fn note_fault(&mut self, kind: ErrorKind)
+        ensures { self.new.writer ≡ self.old.writer }
+    {
+        if kind != ErrorKind::Interrupted {
+            self.fault = Some(kind);
+        }
+    }
+
+    /// Says on standard error why the writer takes no more, if it gave an error that shows it.
+    pub fn tell_fault(&self) {
+        if let Some(kind) = self.fault {
+            let why = cause_of(kind);
+            let mut errors = self.rt.stderr();
+            let _ = write!(errors, "onixdesk: standard output: {why}\n");
+        }
+    }
+
     /// Takes the line away.
     pub fn clear(&mut self) {
         if self.has_line {
@@ -119,7 +150,10 @@ impl<'a, W: Write> Write for Watched<'a, W> {
                 self.note(bytes, count);
                 Ok(count)
             }
-            Err(error) => Err(error),
+            Err(error) => {
+                self.note_fault(error.kind());
+                Err(error)
+            }
         }
     }
 

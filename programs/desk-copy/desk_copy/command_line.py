@@ -4,12 +4,14 @@ import argparse
 import os
 import sys
 import time
+from collections.abc import Iterator
+from contextlib import contextmanager
 from functools import partial
 from pathlib import Path
 
 from command_lines.ending import DONE, end_orderly, status_of, teller
 from command_lines.parsing import count, parser_of
-from command_lines.progress import Progress
+from command_lines.progress import NOBODY, Progress
 from desk_copy.copying import Copied, copy_desk
 from desk_copy.crowding import crowded
 from desk_copy.places import alone, keep_latest, named, put, unfinished
@@ -40,10 +42,27 @@ def add_seconds(parser: argparse.ArgumentParser) -> None:
     )
 
 
+def add_room(parser: argparse.ArgumentParser) -> None:
+    parser.add_argument(
+        "--room",
+        metavar="FOLDER",
+        type=Path,
+        default=Path("/var/tmp"),
+        help="where a copy of the desk's files has room for a while; /var/tmp without it",
+    )
+
+
 def add_source(parser: argparse.ArgumentParser) -> None:
     """Adds the words that say of which desk a copy is taken."""
     add_seconds(parser)
     parser.add_argument("file", metavar="FILE", type=Path, help="the database that the desk has open")
+
+
+@contextmanager
+def copied(options: argparse.Namespace, progress: Progress = NOBODY) -> Iterator[tuple[Path, Copied]]:
+    """A copy of the desk that these words say, which is removed at the end."""
+    with unfinished(options.room) as folder:
+        yield folder / options.file.name, copy_desk(options.file, folder, options.seconds, progress)
 
 
 def command_line() -> argparse.ArgumentParser:
@@ -79,16 +98,13 @@ def told(database: Path, copied: Copied) -> str:
 
 def copy_into(folder: Path, file: Path, seconds: int) -> Copied:
     """Takes a copy into the folder, and tries it."""
-    progress = Progress(PROGRAM)
-    try:
-        copied = copy_desk(file, folder, seconds, progress)
+    with Progress(PROGRAM) as progress:
+        found = copy_desk(file, folder, seconds, progress)
         progress.show(f"{file}: SQLite tries the copy")
         try_copy(folder / file.name, file)
-    finally:
-        progress.end()
     for line in crowded(folder / file.name):
         tell(line)
-    return copied
+    return found
 
 
 def copy_to(folder: Path, file: Path, seconds: int) -> tuple[Path, Copied]:

@@ -2,16 +2,13 @@
 
 import argparse
 import os
-import sqlite3
 from functools import partial
 from pathlib import Path
 from typing import TYPE_CHECKING
 
 from command_lines.ending import DONE, FAILED, Fault, end_orderly, status_of, teller
 from command_lines.parsing import parser_of
-from desk_copy.command_line import add_source, as_of
-from desk_copy.copying import copy_desk
-from desk_copy.places import unfinished
+from desk_copy.command_line import add_room, add_source, as_of, copied
 from desk_follow.rules import Rule, read_rules
 
 if TYPE_CHECKING:
@@ -50,14 +47,8 @@ def command_line() -> argparse.ArgumentParser:
         help="the precedence table by which desk.choice chooses; none without it",
     )
     add("--readers", metavar="ROLE", help="a role of the database that is let read the schema")
-    add(
-        "--room",
-        metavar="FOLDER",
-        type=Path,
-        default=Path("/var/tmp"),
-        help="where a copy of the desk's files has room for a while; /var/tmp without it",
-    )
     add("--compare", action="store_true", help="then compare all rows with those of the copy")
+    add_room(parser)
     add_source(parser)
     return parser
 
@@ -75,14 +66,13 @@ def follow(options: argparse.Namespace, rules: list[Rule]) -> int:
     from desk_follow.layout import let_read
     from desk_follow.source import opened
 
-    with connected(options.database) as connection, unfinished(options.room) as folder:
-        copied = copy_desk(options.file, folder, options.seconds)
-        with opened(folder / options.file.name) as source, connection.cursor() as cursor:
-            brought = bring(cursor, source, rules, copied.moment)
+    with connected(options.database) as connection, copied(options) as (copy, taken):
+        with opened(copy) as source, connection.cursor() as cursor:
+            brought = bring(cursor, source, rules, taken.moment)
             if options.readers:
                 let_read(cursor, options.readers, quoted(connection, options.readers))
             connection.commit()
-            print(told(copied.moment, brought))
+            print(told(taken.moment, brought))
             wrong = [each for each in compare(cursor, source) if not each.is_same] if options.compare else []
     for each in wrong:
         tell(f"{each.table}: {each.rows} rows, which are not those in the database")
@@ -90,11 +80,9 @@ def follow(options: argparse.Namespace, rules: list[Rule]) -> int:
 
 
 def run(options: argparse.Namespace) -> int:
-    """Follows. What SQLite says is of the desk's file, and what is not there to be imported is psycopg2."""
+    """Follows. What is not there to be imported is psycopg2."""
     try:
         return follow(options, read_rules(options.rules))
-    except sqlite3.Error as error:
-        raise Fault(f"{options.file}: {error}") from error
     except ModuleNotFoundError as error:
         raise Fault(f"no {error.name}; apt-get install python3-psycopg2") from error
 

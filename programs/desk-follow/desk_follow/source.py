@@ -133,11 +133,13 @@ def digest_of(before: str, texts: Iterable[tuple[int, str]]) -> str:
 
 @contextmanager
 def opened(database: Path) -> Iterator[Source]:
-    """A copy, to be read. Fault where it has no tables of a desk, or of another version."""
-    connection = sqlite3.connect(f"{database.resolve().as_uri()}?mode=ro", uri=True, isolation_level=None)
-    with closing(connection):
-        source = Source(connection)
-        version = source.version()
-        if version != VERSION:
-            raise Fault(f"{database.name}: it is of version {version} of a desk's tables, in place of {VERSION}")
-        yield source
+    """A copy, to be read. Fault where it has no tables of a desk, or of another version, or SQLite does not read it."""
+    try:
+        with closing(sqlite3.connect(f"{database.resolve().as_uri()}?mode=ro", uri=True, isolation_level=None)) as desk:
+            source = Source(desk)
+            version = source.version()
+            if version != VERSION:
+                raise Fault(f"{database.name}: it is of version {version} of a desk's tables, in place of {VERSION}")
+            yield source
+    except sqlite3.Error as error:
+        raise Fault(f"{database.name}: {error}") from error

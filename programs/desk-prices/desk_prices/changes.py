@@ -1,15 +1,16 @@
 """What changed since an earlier file of the same form, and what will within some days."""
 
-import csv
-import io
+from collections import defaultdict
 from collections.abc import Collection
-from datetime import date, timedelta
+from datetime import date
+from decimal import Decimal
+from itertools import groupby
 from pathlib import Path
 from typing import NamedTuple
 
-from command_lines.ending import BAD_CALL, Fault
-from desk_prices.rows import thousandths
-from shop_files.form import Form
+from command_lines.ending import BadCall
+from desk_prices.asking import later
+from desk_prices.form import Cells, Form
 
 NEEDED = ("isbn", "wholesaler", "price", "next_price", "next_day", "day")
 
@@ -24,12 +25,6 @@ SENTENCES = {
     "falls": "Fall",
     "ends": "Have no price any more",
 }
-
-Cells = dict[str, str]
-
-
-class BadComparison(Fault):
-    status = BAD_CALL
 
 
 class Change(NamedTuple):
@@ -56,10 +51,12 @@ class Change(NamedTuple):
 
 
 def kind_of(before: str, now: str) -> str:
-    """What an amount does that becomes another one, if it does."""
-    if not before or not now or thousandths(before) == thousandths(now):
+    """What becomes of an amount, if it changes."""
+    if not before or not now:
+        return "new" if now else "gone" if before else ""
+    if Decimal(before) == Decimal(now):
         return ""
-    return "dearer" if thousandths(before) < thousandths(now) else "cheaper"
+    return "dearer" if Decimal(before) < Decimal(now) else "cheaper"
 
 
 class Comparison:
@@ -67,71 +64,46 @@ class Comparison:
 
     def __init__(self, file: Path, form: Form, ahead: int, watched: Collection[str] | None) -> None:
         if missing := [name for name in NEEDED if name not in form.columns]:
-            raise BadComparison(f"a comparison needs the columns {', '.join(missing)}")
-        self.ahead = timedelta(ahead)
-        self.watched = watched
+            raise BadCall(f"a comparison needs the columns {', '.join(missing)}")
+        self.ahead, self.watched = ahead, watched
         self.found: list[Change] = []
         self.before = {cells["isbn"]: cells for cells in form.read(file) if self.is_watched(cells["isbn"])}
-        for cells in self.before.values():
-            cells |= {name: form.read_amount(cells[name]) for name in ("price", "next_price")}
 
     def is_watched(self, isbn: str) -> bool:
         return self.watched is None or isbn in self.watched
 
     def is_ahead(self, cells: Cells) -> bool:
         """Whether the next price of a line begins within the days ahead."""
-        if not cells.get("next_day"):
-            return False
-        return date.fromisoformat(cells["next_day"]) <= date.fromisoformat(cells["day"]) + self.ahead
+        return bool(cells["next_day"]) and cells["next_day"] <= later(cells["day"], self.ahead)
 
-    def add(self, cells: Cells) -> None:
+    def add(self, now: Cells) -> None:
         """Compares a line of the new file."""
-        isbn = cells["isbn"]
-        if not self.is_watched(isbn):
+        if not self.is_watched(now["isbn"]):
             return
-        before = self.before.pop(isbn, {})
-        if kind := self.kind_of(before, cells):
-            self.note(kind, before, cells, cells.get("price", ""), "")
-        if self.is_ahead(cells) and not (self.is_ahead(before) and same(before, cells, "next_day", "next_price")):
-            then = cells["next_price"]
-            kind = {"dearer": "rises", "cheaper": "falls"}.get(kind_of(cells["price"], then), "ends")
-            self.note(kind, cells, cells, then, cells["next_day"])
+        before = self.before.pop(now["isbn"], defaultdict(str))
+        kind = kind_of(before["price"], now["price"])
+        if before["price"] and now["price"] and before["wholesaler"] != now["wholesaler"]:
+            kind = "wholesaler"
+        if kind:
+            self.note(kind, before, now, now["price"])
+        is_told = self.is_ahead(before) and all(before[name] == now[name] for name in ("next_day", "next_price"))
+        if self.is_ahead(now) and not is_told:
+            kind = {"dearer": "rises", "cheaper": "falls"}.get(kind_of(now["price"], now["next_price"]), "ends")
+            self.note(kind, now, now, now["next_price"], now["next_day"])
 
-    def kind_of(self, before: Cells, cells: Cells) -> str:
-        if not before.get("price") or not cells.get("price"):
-            return "new" if cells.get("price") else "gone" if before.get("price") else ""
-        return kind_of(before["price"], cells["price"]) if same(before, cells, "wholesaler") else "wholesaler"
-
-    def note(self, kind: str, before: Cells, now: Cells, price: str, day: str) -> None:
-        wholesaler, price_before = (before.get(name, "") for name in ("wholesaler", "price"))
-        last = now if now.get("price") else before
-        currency, title = (last.get(name, "") for name in ("currency", "title"))
-        self.found.append(
-            Change(kind, now["isbn"], wholesaler, price_before, now.get("wholesaler", ""), price, currency, day, title)
-        )
+    def note(self, kind: str, before: Cells, now: Cells, price: str, day: str = "") -> None:
+        last = now if now["price"] else before
+        wholesalers = before["wholesaler"], before["price"], now["wholesaler"]
+        self.found.append(Change(kind, now["isbn"], *wholesalers, price, last["currency"], day, last["title"]))
 
     def end(self) -> list[Change]:
         """All changes, in order of their kind, day and ISBN, with the articles that nobody offers any more."""
-        for isbn, cells in self.before.items():
-            if cells["price"]:
-                self.note("gone", cells, {"isbn": isbn}, "", "")
-        kinds = [*SENTENCES]
-        return sorted(self.found, key=lambda each: (kinds.index(each.change), each.day, each.isbn))
-
-
-def same(one: Cells, other: Cells, *names: str) -> bool:
-    return all(one.get(name, "") == other.get(name, "") for name in names)
-
-
-def csv_of(changes: list[Change]) -> str:
-    text = io.StringIO()
-    csv.writer(text, lineterminator="\n").writerows([Change._fields, *changes])
-    return text.getvalue()
+        for isbn in [*self.before]:
+            self.add(defaultdict(str, isbn=isbn))
+        return sorted(self.found, key=lambda each: ([*SENTENCES].index(each.change), each.day, each.isbn))
 
 
 def words_of(changes: list[Change]) -> str:
     """What changed, in groups of one kind and day."""
-    groups: dict[str, list[str]] = {}
-    for change in changes:
-        groups.setdefault(change.sentence(), []).append(change.line())
-    return "\n".join("\n".join([f"{sentence} ({len(lines)}):", *lines, ""]) for sentence, lines in groups.items())
+    groups = ((sentence, [change.line() for change in group]) for sentence, group in groupby(changes, Change.sentence))
+    return "\n".join("\n".join([f"{sentence} ({len(lines)}):", *lines, ""]) for sentence, lines in groups)

@@ -1,7 +1,6 @@
 """The command line of onixdesk-look."""
 
 import argparse
-import json
 import tempfile
 import time
 from collections import Counter
@@ -18,11 +17,9 @@ from onixdesk_look import letter, page
 from onixdesk_look.asking import Desk
 from onixdesk_look.converting import Converter, Feed
 from onixdesk_look.counting import Counts, lines_to_paste, series_of
+from shop_files.desk_json import DESK_JSON, read_shop
 
 PROGRAM = "onixdesk-look"
-
-# The settings of the buyers' page in the package.
-LIKE = Path("/etc/onixdesk/page/desk.json")
 
 DESCRIPTION = """\
 Says whether a feed of a wholesaler fits the desk, before anything is agreed: what the converter makes of it, of how
@@ -38,7 +35,9 @@ or written. docs/ONIX.md has what to ask a wholesaler for."""
 def command_line() -> argparse.ArgumentParser:
     parser = parser_of(PROGRAM, DESCRIPTION, STATUSES)
     add = parser.add_argument
-    add("--like", metavar="FILE", type=Path, help=f"a desk.json; {LIKE} without it, or the one beside this program")
+    add(
+        "--like", metavar="FILE", type=Path, help=f"a desk.json; {DESK_JSON} without it, or the one beside this program"
+    )
     add("--day", metavar="DAY", type=day, help="the day of the prices, as 20261127; today without it")
     add("--series", metavar="NAME", type=series, help="the name for the agreement; after the FILE's name without it")
     add("--words", metavar="WORDS", type=words, default=(), help="words for onixdesk convert, as in WORDS of an inbox")
@@ -53,13 +52,8 @@ def command_line() -> argparse.ArgumentParser:
 
 def question_of(options: argparse.Namespace, programs: Path) -> Question:
     """What the shop asks, by the settings of its page."""
-    file = options.like or (LIKE if LIKE.exists() else programs.parent / "page/desk.json")
-    try:
-        like = json.loads(file.read_text(encoding="utf-8"))
-        today = options.day or time.strftime("%Y%m%d")
-        return Question(today, str(like["country"]), str(like["currency"]), str(like["price_type"]))
-    except (ValueError, KeyError, TypeError) as error:
-        raise BadCall(f"{file}: no settings of a page: {error!r}") from None
+    shop = read_shop(options.like or (DESK_JSON if DESK_JSON.exists() else programs.parent / "page/desk.json"))
+    return Question(options.day or time.strftime("%Y%m%d"), shop.country, shop.currency, shop.price_type)
 
 
 def sections_of(options: argparse.Namespace, feed: Feed, counts: Counts, folder: Path) -> page.Sections:

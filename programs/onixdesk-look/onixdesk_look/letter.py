@@ -6,6 +6,7 @@ from string import Template
 
 from message_records.notes import Note, Said
 from message_records.rows import text_of
+from shop_files.cells import without_formulas
 
 LANGUAGES = "de", "en"
 EXAMPLES = 3
@@ -13,8 +14,17 @@ COLUMNS = "reference", "ISBN", "line", "column", "note"
 
 
 def table(said: Said, isbns: dict[str, str]) -> str:
-    """The notes as CSV, and how many more there are."""
-    rows = [(note.reference, isbns.get(note.reference, ""), note.line, note.column, note.text) for note in said.notes]
+    """The notes as CSV, and how many more there are. What a feed says in them is no formula."""
+    rows = [
+        (
+            without_formulas(note.reference),
+            isbns.get(note.reference, ""),
+            note.line,
+            note.column,
+            without_formulas(note.text),
+        )
+        for note in said.notes
+    ]
     rest = said.count - len(rows)
     more = [("", "", "", "", f"and {rest} more notes, which are not written")] if rest > 0 else []
     return text_of(COLUMNS, *rows, *more)

@@ -1,7 +1,6 @@
 """The words of a command line."""
 
 import argparse
-import re
 
 
 def parser_of(program: str, description: str, statuses: str) -> argparse.ArgumentParser:
@@ -23,6 +22,11 @@ def count(word: str) -> int:
 
 
 def day(word: str) -> str:
-    if not re.fullmatch("[0-9]{8}", word):
-        raise argparse.ArgumentTypeError(f"{ascii(word)} is no day YYYYMMDD")
-    return word
+    """A day of the calendar, as the desk writes it."""
+    # Imported here, since few command lines have a day.
+    from datetime import date
+
+    try:
+        return date.fromisoformat(word).isoformat().replace("-", "")
+    except ValueError:
+        raise argparse.ArgumentTypeError(f"{ascii(word)} is no day YYYYMMDD") from None

@@ -3,7 +3,7 @@
 import io
 import sys
 import time
-from typing import TextIO
+from typing import Self, TextIO
 
 # How often the line is written anew, in seconds.
 PAUSE = 0.2
@@ -20,6 +20,12 @@ class Progress:
         self.is_shown = self.stream.isatty()
         self.next = 0.0
         self.has_line = False
+
+    def __enter__(self) -> Self:
+        return self
+
+    def __exit__(self, *_: object) -> None:
+        self.end()
 
     def show(self, text: str, is_new: bool = True) -> None:
         """Shows a text; one that is not new only where the last has stood for a while."""

@@ -3,6 +3,7 @@
 import csv
 import socket
 import subprocess
+import tempfile
 from collections.abc import Iterable, Iterator
 from pathlib import Path
 from typing import IO, Any
@@ -16,6 +17,9 @@ MOST_BYTES = 4_194_304
 BEHIND = ("offer", "span", "missing")
 
 Answer = list[list[str]]
+
+# What no other offer of an article has: its series, reference and place.
+Key = tuple[str, ...]
 
 
 def batches(texts: Iterable[str]) -> Iterator[str]:
@@ -42,6 +46,11 @@ def answers_in(lines: Iterable[str]) -> Iterator[Answer]:
         yield answer
 
 
+def amounts_of(answer: Answer) -> dict[Key, str]:
+    """The amount of each offer in an answer to AskPrice, empty where no price holds."""
+    return {tuple(record[1:4]): record[5] for record in answer[1:]}
+
+
 def answers_of_program(words: list[str | Path], text: IO[str], **more: Any) -> Iterator[Answer]:
     """The answers of a run of the program to a batch, which is a file. Fault if it fails."""
     pipe = subprocess.PIPE
@@ -51,6 +60,16 @@ def answers_of_program(words: list[str | Path], text: IO[str], **more: Any) -> I
         said = ran.stderr.read().strip()
     if ran.returncode > 1:
         raise Fault(f"{words[0]}: {said}")
+
+
+def answers_to(texts: Iterable[str], words: list[str | Path], folder: Path) -> Iterator[Answer]:
+    """The answers of runs of the program to requests, in as few batches as can be, since each opens the database. They
+    lie in the folder meanwhile."""
+    for batch in batches(texts):
+        with tempfile.TemporaryFile("w+", dir=folder, encoding="utf-8") as text:
+            text.write(batch)
+            text.seek(0)
+            yield from answers_of_program(words, text)
 
 
 def answers_of_desk(path: Path, text: str) -> list[Answer]:

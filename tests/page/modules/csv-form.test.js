@@ -1,15 +1,17 @@
-// The files that go to wholesalers, each in its own form. The rows are written by hand.
+// The files that go to wholesalers, each in its own form. The rows are written by hand. What a form gives stands in
+// tests/forms/cases.json, which the test of desk-prices reads too.
 
 import assert from "node:assert/strict";
 import { readFileSync } from "node:fs";
 import { test } from "node:test";
 
-import { fileNameOf, formOf } from "../page/csv-form.js";
+import { fileNameOf, formOf, textIn, wholeForm } from "../page/csv-form.js";
 import { copiesIn } from "../page/order-before.js";
 import { stepTo } from "../page/order-carriage.js";
 import { budgetOf } from "../page/order-results.js";
 import { fileText } from "../page/order-saving.js";
 import { readSettings } from "../page/settings.js";
+import { shippedWords, speak } from "../page/wording.js";
 
 const offer = (series, amount) => ({ series, reference: `${series}-1`, place: 1, availability: "21", amount });
 const NORTH = offer("north", "9.000");
@@ -29,6 +31,64 @@ function fileFor(csv, series = "north", more = {}) {
   assert.deepEqual(problems, []);
   return fileText([ROW], formOf({ ...settings, hasTitles: false }, series), { ...CONTEXT, settings }).slice(1);
 }
+
+const CASES = JSON.parse(readFileSync("cases.json", "utf8"));
+const MARK = "\ufeff";
+const PRICES = { decimal: ".", byte_order_mark: false };
+
+/** What is told of a form, of the file of prices or of a series. */
+const wrongIn = (given) => (
+  readSettings(JSON.stringify({ series: [], country: "GB", currency: "GBP", price_type: "05", quantities: [1, 10], ...given }))
+    .problems.map(({ values: { key, wrong } }) => `${key}: ${wrong}`)
+);
+const asPriceFile = (form) => wrongIn({ price_file: form });
+const asCsv = (form) => wrongIn({ series: [{ name: "north", words: "North Books", csv: form }] });
+
+/** The text of the order that has such rows, whose wholesalers have one form. */
+function ordered(form, rows) {
+  const series = rows.map(({ wholesaler = "" }, at) => ({ name: `s${at}`, words: wholesaler, csv: form }));
+  const { settings } = readSettings(JSON.stringify({ series, country: "GB", currency: "GBP", price_type: "05" }));
+  const books = rows.map(({ isbn, price = "1.000" }, at) => {
+    const chosen = offer(`s${at}`, price);
+    return { book: { isbn, copies: 1, note: "", answer: { offers: [chosen], retail: [] } }, state: { offer: chosen } };
+  });
+  return fileText(books, formOf({ ...settings, hasTitles: false }, "s0"), { ...CONTEXT, settings });
+}
+
+const ORDERED = ["isbn", "wholesaler", "price"];
+const canBeOrdered = ({ form: { columns, heading = true }, rows }) => (
+  rows.length > 0 && heading !== true && columns.every((name) => ORDERED.includes(name))
+);
+
+for (const { name, form, only, rows, file, text, wrong } of CASES) {
+  test(`a form: ${name}`, () => {
+    const told = (key) => (wrong === undefined ? [] : [`${key}: ${wrong}`]);
+    assert.deepEqual(asPriceFile(form), told("price_file"));
+    if (only === undefined) assert.deepEqual(asCsv(form), told("csv"));
+    if (wrong !== undefined) return;
+    assert.equal(textIn(wholeForm(form, PRICES), form.columns, rows), text);
+    assert.equal(fileNameOf(form, "prices.csv", { day: "20250301" }), file);
+    if (!canBeOrdered({ form, rows })) return;
+    const isMarked = form.byte_order_mark ?? true;
+    assert.equal(ordered(form, rows), (isMarked ? MARK : "") + text.replace(MARK, ""));
+  });
+}
+
+test("cases are of orders too", () => {
+  assert.ok(CASES.filter(({ wrong, ...each }) => wrong === undefined && canBeOrdered(each)).length > 4);
+});
+
+test("an order without keys is as the page's language has it", () => {
+  const form = { columns: ["isbn", "price"], heading: false };
+  const rows = [{ isbn: "9780306406157", price: "9.000" }];
+  speak("de", shippedWords("de"));
+  try {
+    assert.equal(ordered(form, rows), `${MARK}9780306406157;"9,00"\r\n`);
+    assert.equal(ordered({ ...form, decimal: ".", byte_order_mark: false }, rows), "9780306406157,9.00\r\n");
+  } finally {
+    speak("en-GB", shippedWords("en-GB"));
+  }
+});
 
 test("a wholesaler's file has its own columns, separator and heading", () => {
   const csv = { columns: ["copies", "isbn", "account"], separator: ";", heading: ["Menge", "EAN", "Kunde"] };

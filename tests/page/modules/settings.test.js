@@ -19,7 +19,7 @@ test("the sample has nothing wrong in it", () => {
 });
 
 test("what the file of prices reads is not unknown", () => {
-  assert.deepEqual(problemsOf({ ...RIGHT, recommended_type: "02", price_file: {} }), []);
+  assert.deepEqual(problemsOf({ ...RIGHT, recommended_type: "02", price_file: { columns: ["isbn"] } }), []);
 });
 
 test("what is not named is as the page has it", () => {

@@ -12,7 +12,7 @@ from tests.program.databases import DATABASE, batch, complaints
 from tests.program.desk.exchange_cases import AGREEMENTS, APPLIED, DELIVERY, NO_NUMBERS
 from tests.program.messages import AGREED, applied
 from tests.program.desk.open_desks import SOCKET, answered
-from tests.program.room import Ran, Room
+from tests.program.room import Ran, Room, without_reasons
 from tests.program.serving import Exchange, connected, posted, serving
 from tests.running import Outcome
 from tools.words import Word
@@ -117,7 +117,7 @@ def taken_answers(room: Room, count: int) -> tuple[Ran, bytes]:
         answers.seek(start)
         came = room.call(words, given.fileno(), answers.fileno())
         answers.seek(start)
-        return came, answers.read()
+        return came._replace(errors=without_reasons(came.errors)), answers.read()
 
 
 def written_in_parts(room: Room) -> Iterator[Outcome]:

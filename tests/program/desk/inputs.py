@@ -5,7 +5,7 @@ from collections.abc import Iterator
 
 from tests.program.databases import DATABASE, batch, gaps
 from tests.program.messages import AGREED, AGREEMENT, applied, bare
-from tests.program.room import SECONDS, UNREADABLE, Ran, Room
+from tests.program.room import SECONDS, UNREADABLE, Ran, Room, without_reasons
 from tests.running import Outcome
 
 OPENING = b"Message,1,06,4012345000009,06,5012345678900,1,,,,\n"
@@ -65,7 +65,7 @@ def unended_input(room: Room) -> Iterator[Outcome]:
             process.stdin.write(b"\n" * 4_194_305)
             process.stdin.flush()
             status = process.wait(timeout=SECONDS)
-            came = Ran(status, process.stdout.read(), process.stderr.read())
+            came = Ran(status, process.stdout.read(), without_reasons(process.stderr.read()))
         finally:
             process.kill()
     yield Outcome("an input that does not end", came, Ran(3, b"", b"onixdesk: input: too large\n"))

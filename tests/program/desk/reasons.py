@@ -1,4 +1,5 @@
-"""The second line of a fault, which says why: of the storage, of a file, of the port, of a socket, of a rules file."""
+"""The second line of a fault, which says why: of the storage, of a file, of the input, of the output, of the port, of a
+socket, of a rules file."""
 
 import os
 import socket
@@ -10,12 +11,18 @@ from tests.program.messages import AGREEMENT, bare, priced
 from tests.program.room import Ran, Room
 from tests.program.serving import HOST, serving
 from tests.running import Outcome, left_out
+from tools.words import Word
 
 OTHERS = "a database of another program, or a damaged one; docs/RELIABILITY.md, Faults"
 NO_FILE = "no such file; correct the name behind --db, or have batch make a new desk, without --existing"
 NO_FOLDER = (
     "its folder is not there; correct the name behind --db, or make the folder for a new desk with nothing in it"
 )
+# Of files of the command line, and of the desk's own.
+NOT_THERE = "No such file or directory; correct the name"
+A_FOLDER = "Is a directory; write the name of a file in it"
+FOLDER = "a folder; write the name of a file in it behind --db"
+NO_DATABASE = "not a database; correct the name behind --db, or restore a copy"
 FAILED_DISK = "the disk is full or failed, or a page of the file is damaged; docs/RELIABILITY.md, Faults"
 OPEN_ELSEWHERE = (
     "another program has it open; if a desk is served, send it the batch (--batches), or list a copy of it (desk-copy)"
@@ -48,11 +55,11 @@ def storage(room: Room) -> Iterator[Outcome]:
         ("folder/none/shop.db", ["--existing", "batch"], NO_FOLDER),
         ("folder/missing.db", ["gaps"], NO_FILE),
         ("file/shop.db", ["batch"], "a folder of its path is a file"),
-        ("folder", ["batch"], "a folder"),
-        ("folder", ["migrate"], "a folder"),
+        ("folder", ["batch"], FOLDER),
+        ("folder", ["migrate"], FOLDER),
         ("empty.db", ["export"], "an empty file, which has no desk"),
-        ("text.db", ["batch"], "not a database"),
-        ("one.db", ["batch"], "not a database"),
+        ("text.db", ["batch"], NO_DATABASE),
+        ("one.db", ["batch"], NO_DATABASE),
         ("other.db", ["--existing", "batch"], OTHERS),
         ("other.db", ["gaps"], OTHERS),
         (":memory:", ["batch"], "not the name of a file to SQLite"),
@@ -65,7 +72,19 @@ def storage(room: Room) -> Iterator[Outcome]:
     yield Outcome("why: cut.db", came, fault("storage: disk", f"cut.db: {FAILED_DISK}"))
     with serving(room, ["--db", DATABASE], None):
         why = f"{DATABASE}: {OPEN_ELSEWHERE}"
-        yield Outcome("why: open elsewhere", room.told("--db", DATABASE, "batch"), fault("storage: unusable", why))
+        for command in "batch", "agreements", "gaps", "export":
+            came = room.told("--db", DATABASE, command)
+            yield Outcome(f"why: open elsewhere: {command}", came, fault("storage: unusable", why))
+
+
+def without_a_log(room: Room) -> Iterator[Outcome]:
+    """Of a file that is there, in whose folder the system makes none."""
+    if os.geteuid() != 0:
+        yield left_out("a desk without a log, since another user than root may not open the file")
+        return
+    name = "/proc/version"
+    wanted = fault("storage: unusable", f"{name}: no log can be made beside it")
+    yield Outcome("why: no log", room.told("--db", name, "batch"), wanted)
 
 
 def denied(room: Room) -> Iterator[Outcome]:
@@ -132,10 +151,59 @@ def in_deliver(room: Room) -> Iterator[Outcome]:
 def files(room: Room) -> Iterator[Outcome]:
     """A file of `deliver` and of `check`."""
     room.path("folder").mkdir()
-    for name, why in (("none.csv", "No such file or directory"), ("folder", "Is a directory")):
+    for name, why in (("none.csv", NOT_THERE), ("folder", A_FOLDER)):
         for command in ("deliver", "check"):
             came = room.told(command, name)
             yield Outcome(f"why: {command} {name}", came, fault(f"file: {name}", f"{name}: {why}"))
+
+
+# Behind an `é` in UTF-8 one in ISO-8859-1, and half of one at an end.
+WRONG_TEXTS = {b"AskGaps,\xc3\xa9\r\n\nAskGaps,\xe9\n": (3, "E9"), b"AskGaps,north\nAskGaps,\xc3": (2, "C3")}
+SAVE = "save the text as UTF-8, or write: iconv -f WINDOWS-1252 -t UTF-8 FILE"
+CUT = "cut a batch between two requests, and convert a feed into more parts (onixdesk convert --parts P)"
+
+
+def texts(room: Room) -> Iterator[Outcome]:
+    """Of a text that is not UTF-8 the first wrong byte and its line are said, of one that is too large the limit, by
+    the name of its file, also where another text was right before."""
+    room.write("right.csv", b"Message,1,06,S,,,1,1,20250301,,\nEndMessage,1\n")
+    for text, (line, byte) in WRONG_TEXTS.items():
+        room.write("wrong.csv", text)
+        why = f"line {line}: byte {byte} is not UTF-8; {SAVE}"
+        named = fault("input: not UTF-8", f"wrong.csv: {why}")
+        yield Outcome(f"why: batch {text!r}", room.told("batch", given=text), fault("input: not UTF-8", why))
+        yield Outcome(f"why: check {text!r}", room.told("check", "right.csv", "wrong.csv"), named)
+        came = room.told("deliver", "right.csv", "wrong.csv")
+        yield Outcome(f"why: deliver {text!r}", came, named._replace(output=b"refused,unknown-series\n"))
+        came = room.told("--batches", "none", "batch", given=text)
+        yield Outcome(f"why: send {text!r}", came, fault("input: not UTF-8", why))
+    large = b"\n" * 4_194_305
+    room.write("large.csv", large)
+    why = f"more than 4,194,304 bytes; {CUT}"
+    for words in ["batch"], ["--batches", "none", "batch"]:
+        came = room.told(*words, given=large)
+        yield Outcome(f"why: {' '.join(words)}: too large", came, fault("input: too large", why))
+    for words in ["check", "large.csv"], ["deliver", "large.csv"]:
+        wanted = fault("input: too large", f"large.csv: {why}")
+        yield Outcome(f"why: {' '.join(words)}", room.told(*words), wanted)
+
+
+def outputs(room: Room) -> Iterator[Outcome]:
+    """What the system says of an output that takes no more; of each command that writes to it, once."""
+    batch(room, AGREEMENT)
+    listing = ["--db", DATABASE, "agreements"]
+    reading, writing = os.pipe()
+    os.close(reading)
+    full = os.open("/dev/full", os.O_WRONLY)
+    causes = {writing: "the program that reads it has ended", full: "no space left on the disk"}
+    for output, why in causes.items():
+        for words in listing, ["gaps", "north"], ["--help"], ["--db", DATABASE, "gaps", "north"]:
+            came = room.call([room.program, *words], output=output)
+            yield Outcome(f"why: {why}: {' '.join(words)}", came, fault("output", f"standard output: {why}"))
+        os.close(output)
+    shell: list[Word | bytes] = ["sh", "-c", '"$0" "$@" >&-', room.program, *listing]
+    why = "standard output: it is closed, or accepts nothing"
+    yield Outcome("why: a closed output", room.call(shell), fault("output", why))
 
 
 def ports_and_sockets(room: Room) -> Iterator[Outcome]:
@@ -173,7 +241,7 @@ def of_a_socket(room: Room) -> Iterator[Outcome]:
             yield Outcome(f"why: {count} to a socket: the desk", (ended.status, ended.errors), (0, lines))
 
 
-NO_DATABASE = b"onixdesk: without --db a desk has only the agreements of its batch: if the desk in a file is meant, write --db FILE before the command\n"
+WITHOUT_DATABASE = b"onixdesk: without --db a desk has only the agreements of its batch: if the desk in a file is meant, write --db FILE before the command\n"
 
 
 def no_database(room: Room) -> Iterator[Outcome]:
@@ -182,9 +250,9 @@ def no_database(room: Room) -> Iterator[Outcome]:
     room.write("message.csv", message)
     unknown = b"refused,unknown-series\n"
     came = room.told("batch", given=b"AskGaps,north\n" + message)
-    yield Outcome("why: a batch without --db", came, Ran(1, unknown * 2, NO_DATABASE))
+    yield Outcome("why: a batch without --db", came, Ran(1, unknown * 2, WITHOUT_DATABASE))
     came = room.told("deliver", "message.csv", "message.csv")
-    yield Outcome("why: messages without --db", came, Ran(1, unknown * 2, NO_DATABASE))
+    yield Outcome("why: messages without --db", came, Ran(1, unknown * 2, WITHOUT_DATABASE))
     came = room.told("batch", given=AGREEMENT + message)
     yield Outcome("why: a batch with its agreement", (came.status, came.errors), (0, b""))
     batch(room, AGREEMENT)
@@ -297,7 +365,7 @@ def rules(room: Room) -> Iterator[Outcome]:
     came = room.told("--rules", "rules.toml", "batch")
     yield Outcome("why: a rules file", came, fault("rules: bad rule 1", why, status=2))
     yield Outcome("why: a rules file has its line", why.startswith("rules.toml: line 2: rule 1 "), True)
-    for name, why in (("none.toml", "No such file or directory"), (".", "Is a directory")):
+    for name, why in (("none.toml", NOT_THERE), (".", A_FOLDER)):
         wanted = fault(f"file: {name}", f"{name}: {why}", status=2)
         for words in (["--rules", name, "batch"], ["rules", name]):
             yield Outcome(f"why: no rules file: {' '.join(words)}", room.told(*words), wanted)

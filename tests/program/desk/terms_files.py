@@ -2,6 +2,7 @@
 
 from collections.abc import Iterator
 
+from tests.program.desk.reasons import A_FOLDER, NOT_THERE
 from tests.program.room import UNREADABLE, Ran, Room
 from tests.program.written_cases import TESTS, Written, read_file, repeated, unescaped
 from tests.running import Outcome
@@ -30,6 +31,11 @@ def tables(room: Room) -> Iterator[Outcome]:
         room.write("north.toml", unescaped(repeated(case.text)))
         came = room.run("terms", "north.toml", given=UNREADABLE)
         yield Outcome(f"terms: {case.name}", came, wanted(case))
+        came = room.told("convert", "--terms", "north.toml", "absent.xml", given=UNREADABLE)
+        # Only behind a table that is read is the FILE opened.
+        is_read = wanted(case).status == 0
+        found = Ran(came.status) if is_read else came
+        yield Outcome(f"convert by terms: {case.name}", found, Ran(3) if is_read else wanted(case))
 
 
 # Name, text that is no TOML, and the line that is wrong.
@@ -55,7 +61,7 @@ def tables_that_are_no_toml(room: Room) -> Iterator[Outcome]:
 
 
 def tables_that_cannot_be_read(room: Room) -> Iterator[Outcome]:
-    for file, why in ("absent.toml", "No such file or directory"), (".", "Is a directory"):
+    for file, why in ("absent.toml", NOT_THERE), (".", A_FOLDER):
         lines = f"onixdesk: file: {file}\nonixdesk: {file}: {why}\n".encode()
         yield Outcome(f"terms: {file}", room.told("terms", file), Ran(2, b"", lines))
         yield Outcome(f"convert by terms: {file}", room.told("convert", "--terms", file), Ran(2, b"", lines))

@@ -42,6 +42,13 @@ def agreed(parties: str = NORTH, first: int = 1) -> bytes:
     return written([f"Agree,north,{parties},{first}"])
 
 
+def more_text(first: int, parties: str) -> bytes:
+    """Two messages from that number on, each a batch of its own, whose text is longer than a batch may be. They change
+    no price: they delete what is not there."""
+    messages = [message_of(number, [1000] * 2200) for number in (first, first + 1)]
+    return b"".join(b"\n" + each.replace(NORTH.encode(), parties.encode()) for each in messages)
+
+
 def offers(**amounts: str) -> dict[str, list[str]]:
     """The prices of the articles, of which each that is named has one offer."""
     isbns = {"a": A, "b": B, "c": C}
@@ -92,9 +99,8 @@ def a_mistyped_sender(room: Room) -> Iterator[Outcome]:
 
 def a_first_number_too_high(room: Room) -> Iterator[Outcome]:
     """Of a desk that has more text than a batch may have, in two parts."""
-    others = written([f"Agree,south,{PARTIES.format('4012345000023')},1"])
-    more = [message_of(number, [1000] * 2200).replace(b"4012345000009", b"4012345000023") for number in (1, 2)]
-    records = agreed(first=2) + others + more[0] + b"\n" + more[1]
+    south = PARTIES.format("4012345000023")
+    records = agreed(first=2) + written([f"Agree,south,{south},1"]) + more_text(1, south)
     yield Outcome("a first number too high: more than a batch may have", len(records) > LIMIT, True)
     with machine(room, records, SENDER="06,4012345000009") as desk:
         files = {
@@ -270,12 +276,13 @@ def a_wholesaler_that_is_gone(room: Room) -> Iterator[Outcome]:
 
 
 def two_shops(room: Room) -> Iterator[Outcome]:
-    """The second shop's desk has its series alone, with what was waived."""
+    """The second shop's desk has its series alone, with what was waived. Both have more text than a batch may have."""
     second = NORTH.replace("5012345678900", "5012345678917")
     records = agreed() + written([f"Agree,other,{second},1", "Waive,other,2"])
     records += (
         message(1, (A, "10.00")) + message(1, (B, "20.00"), parties=second) + message(3, (C, "7.00"), parties=second)
     )
+    records += more_text(2, NORTH) + more_text(4, second)
     with machine(room, records) as desk:
         offered = {isbn: len(found) for isbn, found in desk.prices(A, B, C).items()}
         yield Outcome("two shops: one desk has both", offered, {A: 1, B: 1, C: 1})
@@ -291,13 +298,13 @@ def two_shops(room: Room) -> Iterator[Outcome]:
             f"offer,other,R{B[-3:]},1,21,20.000",
             f"price,{C},1",
             f"offer,other,R{C[-3:]},1,21,7.000",
-            "gaps,other,first=1,next=4,greatest=3,held=0,missing=0",
+            "gaps,other,first=1,next=6,greatest=5,held=0,missing=0",
         ]
         yield Outcome("two shops: the second desk", came.output.decode().splitlines(), wanted)
         ran = desk.run(block_with(BLOCKS["two shops: the first one's desk"]))
         yield Outcome("two shops: the first desk is made", (ran.status, ran.status and ran.errors), (0, 0))
         yield Outcome("two shops: the first desk", desk.prices(A, B, C), offers(a="10.000"))
-        wanted = ["gaps,north,first=1,next=2,greatest=1,held=0,missing=0", "refused,unknown-series"]
+        wanted = ["gaps,north,first=1,next=4,greatest=3,held=0,missing=0", "refused,unknown-series"]
         yield Outcome("two shops: its series", desk.ask("AskGaps,north", "AskGaps,other"), wanted)
 
 

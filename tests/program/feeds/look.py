@@ -257,6 +257,17 @@ def letters_of_other_feeds(room: Room) -> Iterator[Outcome]:
             yield Outcome(f"look: a letter on {name}, {language}", came, ([True] * len(wanted), [False] * 4))
 
 
+def notes_without_formulas(room: Room) -> Iterator[Outcome]:
+    """What a feed says in its notes is no formula where they are opened as a table."""
+    bad = PRICE.replace("<PriceAmount>", "<PriceQualifier>06</PriceQualifier><PriceAmount>")
+    text = feed([product(0, Article(supplied(bad), ""))])
+    reference = b"<RecordReference>=1+1</RecordReference>"
+    room.write("feed.xml", re.sub(b"<RecordReference>.*?</RecordReference>", reference, text))
+    look(room, "--notes", "notes.csv", "feed.xml")
+    rows = list(csv.reader(room.path("notes.csv").read_text(encoding="utf-8").splitlines()))
+    yield Outcome("look: notes without formulas", [row[0] for row in rows[1:]], ["'=1+1"])
+
+
 def notes_that_are_not_written(room: Room) -> Iterator[Outcome]:
     """The converter writes 1,000 notes on what it leaves out of the prices, and counts the rest."""
     bad = PRICE.replace("<PriceAmount>", "<PriceQualifier>06</PriceQualifier><PriceAmount>")

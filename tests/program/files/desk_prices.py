@@ -4,21 +4,27 @@ of files, whose cases the page's tests read too."""
 import csv
 import io
 import json
+import os
+import pty
 import re
 import socket
+import subprocess
 import threading
+from collections import defaultdict
 from collections.abc import Iterator
 from pathlib import Path
 from types import SimpleNamespace
+from typing import Any
 from unittest.mock import patch
 
 from command_lines.ending import Fault
 from desk_prices.asking import Questions
+from desk_prices.form import Form, form_in
 from desk_prices.rows import row
 from onixdesk_titles.kept_titles import Titles
 from shop_files.desk_json import shop_of
-from shop_files.form import BadForm, form_of
 from tests.program.databases import DATABASE, batch
+from tests.program.feeds.convert.endings import all_of
 from tests.program.inbox.inboxes import script, within
 from tests.program.desk.open_desks import SOCKET, open_desk
 from tests.program.room import Ran, Room
@@ -28,46 +34,45 @@ from tools.words import Word
 
 CASES = ROOT / "tests/forms/cases.json"
 
-COLUMNS = ["isbn", "wholesaler", "price", "title"]
-AMOUNTS = ["price"]
-
-
-def forms(_room: Room) -> Iterator[Outcome]:
-    """What is written in each form is read again."""
-    for case in json.loads(CASES.read_text(encoding="utf-8")):
-        name = f"a form: {case['name']}"
-        try:
-            form = form_of(case["form"], COLUMNS, ["day"])
-        except BadForm as bad:
-            yield Outcome(name, str(bad), case.get("wrong"))
-            continue
-        shown = [row | {each: form.amount(row[each]) for each in AMOUNTS if each in row} for row in case["rows"]]
-        text = form.head() + "".join(map(form.line, shown))
-        yield Outcome(name, (form.file_name(case["values"]), text), (case["file"], case["text"]))
-
-
-def on_one_line(text: str) -> str:
-    return re.sub("[\r\n\t\u2028]+", " ", text).strip()
-
-
-def forms_that_are_read(room: Room) -> Iterator[Outcome]:
-    """Of a file each form gives the texts and the amounts again, on one line."""
-    for case in json.loads(CASES.read_text(encoding="utf-8")):
-        if "text" in case:
-            room.write("a.csv", case["text"].encode())
-            form = form_of(case["form"], COLUMNS, ["day"])
-            came = [
-                {name: form.read_amount(text) if name in AMOUNTS else text for name, text in cells.items()}
-                for cells in form.read(room.path("a.csv"))
-            ]
-            wanted = [{name: on_one_line(text) for name, text in row.items()} for row in case["rows"]]
-            yield Outcome(f"a form that is read: {case['name']}", came, wanted)
-
-
 SETTINGS: dict[str, object] = {
     "series": [{"name": "north", "words": "North Books"}, {"name": "south", "words": "South"}],
     "country": "GB", "currency": "GBP", "price_type": "05", "recommended_type": "02", "quantities": [1, 10],
 }  # fmt: skip
+
+
+def case_forms() -> Iterator[tuple[dict[str, Any], Form | str]]:
+    """Each case with its form of desk.json, or the key that is wrong there."""
+    for case in json.loads(CASES.read_text(encoding="utf-8")):
+        try:
+            yield case, form_in(shop_of(SETTINGS | {"price_file": case["form"]}))
+        except ValueError as wrong:
+            yield case, str(wrong)
+
+
+def forms(_room: Room) -> Iterator[Outcome]:
+    """What is written in each form, or which key is wrong."""
+    for case, form in case_forms():
+        name = f"a form: {case['name']}"
+        if isinstance(form, str):
+            yield Outcome(name, form, case.get("wrong"))
+            continue
+        text = form.head() + "".join(form.line(defaultdict(str, row)) for row in case.get("rows", []))
+        yield Outcome(name, (form.file_name("20250301"), text), (case.get("file"), case.get("text")))
+
+
+def on_one_line(text: str) -> str:
+    return re.sub("[\r\n\t\u2028\u00a0]+", " ", text).strip()
+
+
+def forms_that_are_read(room: Room) -> Iterator[Outcome]:
+    """Of a file each form gives the texts and the amounts again, on one line."""
+    for case, form in case_forms():
+        if not isinstance(form, str):
+            room.write("a.csv", case["text"].encode())
+            came = [{**cells} for cells in form.read(room.path("a.csv"))]
+            wanted = [{name: on_one_line(text) for name, text in row.items()} for row in case["rows"]]
+            yield Outcome(f"a form that is read: {case['name']}", came, wanted)
+
 
 RULES = b'[[rule]]\nseries = "*"\ncodes = ["20", "21"]\n'
 
@@ -102,7 +107,7 @@ DESK = (
 
 HEAD = (
     "isbn,wholesaler,series,reference,availability,price,price_10,currency,holds_until,next_price,next_day,"
-    "recommended,margin,others_least,title,day\r\n"
+    "rrp,margin,others_least,title,day\r\n"
 )
 
 # The margin is (12.99 - 8) / 12.99 = 38.41 %.
@@ -131,10 +136,14 @@ def make_shop(room: Room, **others: object) -> None:
     script(room, "programs/sendmail", f'cat >>"{room.path("mailed")}"')
 
 
-def prices(room: Room, *words: Word, file: str = DATABASE, day: str = "20250301") -> Ran:
+def command_of(*words: Word, file: str = DATABASE, day: str = "20250301") -> list[Word]:
     options: list[Word] = ["--settings", "desk.json", "--rules", "rules.toml", "--day", day, "--room", ".", *words]
+    return within(RUNNING, "programs", *options, file, "out")
+
+
+def prices(room: Room, *words: Word, file: str = DATABASE, day: str = "20250301") -> Ran:
     environment = {"PATH": f"{room.path('programs')}:/usr/bin:/bin"}
-    return room.call(within(RUNNING, "programs", *options, file, "out"), environment=environment)
+    return room.call(command_of(*words, file=file, day=day), environment=environment)
 
 
 def written(room: Room) -> dict[str, str]:
@@ -153,6 +162,18 @@ def of_a_copy(room: Room) -> Iterator[Outcome]:
     lines = written(room)["prices.csv"].splitlines()
     wanted = f"{TWO},South,south,X1,21,8.50,8.50,GBP,,,,,,9.00,,20250401"
     yield Outcome("prices: of another day", [line for line in lines if line.startswith(TWO)], [wanted])
+
+
+def on_a_terminal(room: Room) -> Iterator[Outcome]:
+    """A line shows how far it is, and is taken away at the end; elsewhere there is none."""
+    make_shop(room)
+    ours, theirs = pty.openpty()
+    ran = subprocess.run([*map(str, command_of())], cwd=room.folder, stdout=subprocess.DEVNULL, stderr=theirs)
+    os.close(theirs)
+    shown = all_of(ours)
+    found = ran.returncode, b"desk-prices: 1 articles" in shown, shown.endswith(b"\r\x1b[K")
+    yield Outcome("prices: on a terminal", found, (0, True, True))
+    yield Outcome("prices: elsewhere", prices(room), Ran(0))
 
 
 def nothing_chosen(room: Room) -> Iterator[Outcome]:
@@ -175,7 +196,7 @@ def in_a_form(room: Room) -> Iterator[Outcome]:
     form = {"columns": ["price", "isbn"], "file": "till-{day}.txt", "separator": ";", "decimal": ",", "heading": False}
     make_shop(room, price_file=form)
     prices(room)
-    wanted = {"till-20250301.txt": f";{ONE}\r\n8,00;{TWO}\r\n0,00;{THREE}\r\n"}
+    wanted = {"till-20250301.txt": f';{ONE}\r\n"8,00";{TWO}\r\n"0,00";{THREE}\r\n'}
     yield Outcome("prices: in a form of the shop", written(room), wanted)
 
 
@@ -310,6 +331,11 @@ def bad_settings(room: Room) -> Iterator[Outcome]:
         ("no country", {"country": "gb"}, "desk.json: country"),
         ("quantities", {"quantities": [0]}, "desk.json: quantities"),
         ("a form", {"price_file": {"columns": ["copies"], "file": "a.csv"}}, "desk.json: price_file: columns"),
+        (
+            "a form as it was",
+            {"price_file": {"columns": ["isbn"], "isbn_as_text": True}},
+            "desk.json: price_file: isbn_as_text",
+        ),
         ("a recommended type", {"recommended_type": "2"}, "desk.json: recommended_type"),
     ]
     for name, given, line in cases:
@@ -319,6 +345,16 @@ def bad_settings(room: Room) -> Iterator[Outcome]:
         yield Outcome(f"prices: bad settings: {name}", found, (2, True))
     yield Outcome("prices: no file of bad settings", written(room), {})
     yield Outcome("prices: a day that is none", prices(room, day="20250230").status, 2)
+
+
+def checked(room: Room) -> Iterator[Outcome]:
+    """The settings alone are read, as at an upgrade, where there may be no desk."""
+    line = b"desk-prices: desk.json: price_file: isbn\n"
+    for name, isbn, wanted in [("right", "text", Ran(0)), ("wrong", "number", Ran(2, b"", line))]:
+        form = {"columns": ["isbn"], "isbn": isbn}
+        room.write("desk.json", json.dumps(SETTINGS | {"price_file": form}).encode())
+        yield Outcome(f"prices: {name} settings are checked", prices(room, "--check"), wanted)
+    yield Outcome("prices: nothing is made by it", [each.name for each in room.folder.iterdir()], ["desk.json"])
 
 
 def changed(ran: Ran) -> list[list[str]]:
@@ -364,6 +400,19 @@ def since(room: Room) -> Iterator[Outcome]:
     yield Outcome("since: thirty days ahead", changed(came), [rises])
     came = prices(room, "--since", "out/prices.csv", day="20250303")
     yield Outcome("since: what is ahead is told once", changed(came), [])
+
+
+def formulas(room: Room) -> Iterator[Outcome]:
+    """What a feed calls a book is no formula where the changes are opened as a table."""
+    make_shop(room)
+    room.path("titles/titles/97812").mkdir(parents=True)
+    entries = [["north", 1, 10, "=1+1", "", "", ""]]
+    room.path("titles/titles/97812/97812345.json").write_text(json.dumps({TWO: entries}))
+    room.write("none.csv", HEAD.encode())
+    room.write("watch.csv", f"{TWO}\n".encode())
+    came = prices(room, "--titles", "titles", "--since", "none.csv", "--watch", "watch.csv")
+    wanted = f"new,{TWO},,,North Books,8.000,GBP,,'=1+1"
+    yield Outcome("since: a title is no formula", came.output.decode().splitlines()[1], wanted)
 
 
 MAILED = [

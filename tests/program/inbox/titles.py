@@ -5,7 +5,6 @@ import gzip
 import json
 import os
 import shutil
-import time
 from collections.abc import Iterator
 from functools import partial
 from pathlib import Path
@@ -51,6 +50,18 @@ def main_of(package: str, before: str, *words: Word) -> list[Word]:
     """The words by which a program runs in which a text has changed something before."""
     begin = f"import sys; from pathlib import Path; from {package}.command_line import main"
     return within(f"{begin}\n{before}\nsys.exit(main(Path('.')))", *words)
+
+
+# Has a run of an inbox take place at a moment: the desk's answer, by whose time feeds are ordered, has that one.
+AT_A_MOMENT = """
+import os
+from onixdesk_inbox.handing import Handing
+fault_of = Handing.fault_of
+def of_then(handing, name, source, answer, answered):
+    os.utime(answered, ({0}, {0}))
+    return fault_of(handing, name, source, answer, answered)
+Handing.fault_of = of_then
+"""
 
 
 class Shop:
@@ -370,10 +381,9 @@ def repeated(room: Room) -> Iterator[Outcome]:
     """A repeat is no newer than what it repeats, also where all is made anew."""
     shop = Shop(room)
     north, south = feed(1, row(ONE, "A")), feed(1, row(ONE, "B"))
-    for name, data, series in ("a.xml", north, "north"), ("b.xml", south, "south"), ("again.xml", north, "north"):
-        # Each in a second of its own.
-        time.sleep(1 - time.time() % 1)
-        shop.feed({name: data}, series)
+    feeds = ("a.xml", north, "north"), ("b.xml", south, "south"), ("again.xml", north, "north")
+    for moment, (name, data, series) in enumerate(feeds, 1_700_000_000):
+        shop.feed({name: data}, series, AT_A_MOMENT.format(moment))
     shop.take()
     before = files_in(shop.kept)
     yield Outcome("titles: a repeat of the newest message", shop.first(), {ONE: "B"})

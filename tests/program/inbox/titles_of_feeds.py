@@ -2,8 +2,8 @@
 converter and the desk. What is wanted is taken from the feeds by the rules of docs/ONIX.md and docs/INBOX.md."""
 
 import gzip
+import itertools
 import shutil
-import time
 from collections.abc import Iterator
 from functools import partial
 
@@ -15,7 +15,7 @@ from tests.program.inbox.inboxes import WORDS, files_in, of_series, said, script
 from tests.program.room import Group, Ran, Room
 from tests.program.feeds.sample_feeds import FOLDER
 from tests.program.serving import Serving, serving
-from tests.program.inbox.titles import CASES, ONE, THREE, TWO, Entry, Shop, entry
+from tests.program.inbox.titles import AT_A_MOMENT, CASES, ONE, THREE, TWO, Entry, Shop, entry
 from tests.running import Outcome
 
 AGREEMENTS = b"Agree,north,06,4012345000009,06,5012345678900,42\nAgree,south,06,5000000000005,06,5012345678900,7\n"
@@ -90,11 +90,12 @@ class Intake:
         self.shop = Shop(room)
         self.shop.converter = script(room, "convert", f'exec "{room.program}" convert "$@"')
         self.desk = desk
+        self.moments = itertools.count(1_700_000_000)
 
     def take(self, series: str, name: str, data: bytes) -> Ran:
-        """A run of the inbox of a series over a file, in a second of its own: of two series the later one counts."""
-        time.sleep(1 - time.time() % 1)
-        return self.shop.deliver(self.desk.port, {name: data}, series)
+        """A run of the inbox of a series over a file, a second behind the one before: of two series the later one
+        counts."""
+        return self.shop.deliver(self.desk.port, {name: data}, series, AT_A_MOMENT.format(next(self.moments)))
 
     def handed_over(self) -> dict[str, list[list[str]]]:
         """The rows that wait, by the end of the name of their file."""

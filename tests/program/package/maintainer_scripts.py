@@ -143,3 +143,14 @@ def a_purge_without_data(room: Room) -> Iterator[Outcome]:
     yield Outcome("postrm purge without data: nothing is left", (came, left), (Ran(0), ["var/lib"]))
     users = [f"userdel onixdesk{name}" for name in ("-titles", "-fetch", "", "-inbox")]
     yield Outcome("postrm purge without data: no user is left", told(room), users)
+
+
+def a_purge_with_copies_alone(room: Room) -> Iterator[Outcome]:
+    """Their user stays with them."""
+    copy = "var/lib/onixdesk-copies/2026-11-27T02-30-12Z/shop.db"
+    room.path("bin").mkdir()
+    make(room, copy)
+    came = at(room, "postrm", "purge")
+    yield Outcome("postrm purge: copies alone stay", (came, found(room)), (Ran(0), [copy]))
+    users = [f"userdel onixdesk{name}" for name in ("-titles", "-fetch", "-inbox")]
+    yield Outcome("postrm purge: their user stays", told(room), users)

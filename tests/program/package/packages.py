@@ -15,7 +15,7 @@ MAY_IMPORT: dict[str, set[str]] = {
     "programs/shared/command_lines": set(),
     "programs/shared/message_records": set(),
     "programs/shared/desk_batches": {"command_lines"},
-    "programs/desk-prices/shop_files": {"command_lines"},
+    "programs/shared/shop_files": {"command_lines"},
     "programs/desk-copy/desk_copy": {"command_lines"},
     "programs/desk-renew/desk_renew": {
         "command_lines",
@@ -38,7 +38,13 @@ MAY_IMPORT: dict[str, set[str]] = {
     "programs/onixdesk-inbox/onixdesk_inbox": {"command_lines", "message_records"},
     "programs/desk-metrics/desk_metrics": {"command_lines", "desk_copy", "onixdesk_inbox"},
     "programs/onixdesk-fetch/onixdesk_fetch": {"command_lines", "onixdesk_inbox"},
-    "programs/onixdesk-look/onixdesk_look": {"command_lines", "desk_batches", "message_records", "onixdesk_inbox"},
+    "programs/onixdesk-look/onixdesk_look": {
+        "command_lines",
+        "desk_batches",
+        "message_records",
+        "onixdesk_inbox",
+        "shop_files",
+    },
     "programs/onixdesk-titles/onixdesk_titles": {"command_lines", "onixdesk_inbox"},
     "tools": set(),
     "bench": {"tools"},

@@ -7,7 +7,8 @@ import sys
 from collections.abc import Iterator
 from pathlib import Path
 
-from tests.memory import sweep
+from tests import preloaded
+from tests.memory.sweep import SOURCE
 from tests.program.room import SECONDS, Room
 from tests.running import Outcome
 from tools.words import Word
@@ -38,11 +39,11 @@ def refused(library: Path) -> tuple[int, dict[str, int]]:
 
 def by_each_compiler(room: Room) -> Iterator[Outcome]:
     """The stand-in goes on to its own end, each of its requests is refused to a copy, and some copies end for it."""
-    here = [each for each in sweep.compilers() if shutil.which(each[0])]
+    here = [each for each in preloaded.compilers() if shutil.which(each[0])]
     yield Outcome("refused memory: a compiler of C is here", bool(here), True)
     for number, compiler in enumerate(here):
         library = room.path(f"refuse-{number}.so")
-        sweep.build_by(compiler, library)
+        preloaded.build_by(compiler, SOURCE, library)
         status, copies = refused(library)
         came = (status, [*copies], any(end != ENDED for end in copies.values()))
         wanted = (ENDED, [str(1 + place) for place in range(len(copies))], True)

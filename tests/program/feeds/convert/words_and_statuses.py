@@ -7,7 +7,7 @@ from collections.abc import Iterator
 from functools import partial
 
 from tests.program.feeds.convert import argument_grammar, wanted_runs
-from tests.program.feeds.convert.case_files import in_short_tags
+from tests.program.feeds.convert.case_files import FRAMES, in_short_tags, records_of
 from tests.program.feeds.convert.running import FEED
 from tests.program.feeds.convert.wanted_runs import (
     BAD,
@@ -42,6 +42,11 @@ def large_part(number: int, *references: str) -> bytes:
     records = begin + "".join(f"Product,{each},03,15,{ISBN}\n{supply}" for each in references)
     return f"{records}EndMessage,{records.count(chr(10))}\n".encode()
 
+
+# A feed of a Price, the shop's terms, and the message that comes of both.
+PRICED = "".join(FRAMES["price"][:2]).encode()
+TERMS = b'[[term]]\ntypes = ["02"]\nnet = "05"\npercent = "42.5"\n'
+PAID = records_of("price", "Price,,12.99,,,,,,\nPrice,05,7.47,,,,,,\n").encode()
 
 LARGE_PARTS = {1: large_part(1, "R1"), 2: large_part(2, "R2"), 3: large_part(3)}
 
@@ -80,6 +85,27 @@ CASES = [
     Case(
         "a packed file by standard input", {}, [], Ran(1, b"", b"onixdesk: -:1:1: refused\n"), given=gzip.compress(ONE)
     ),
+    Case("terms in a file of the name -", {"-": TERMS, FEED: PRICED}, ["--terms", "-", FEED], Ran(0, PAID)),
+    Case(
+        "terms in a file of the name -, a feed by standard input",
+        {"-": TERMS},
+        ["--terms", "-"],
+        Ran(0, PAID),
+        given=PRICED,
+    ),
+    Case(
+        "terms are no standard input",
+        {FEED: PRICED},
+        ["--terms", "-", "-o", ".", FEED],
+        Ran(2, b"", b"onixdesk: file: -\n"),
+        given=TERMS,
+    ),
+    Case(
+        "terms that cannot be read, before a file that is not there",
+        {},
+        ["--terms", "absent.toml", "-o", ".", FEED],
+        Ran(2, b"", b"onixdesk: file: absent.toml\n"),
+    ),
     Case("a file of nothing", {FEED: b""}, ["-o", ".", FEED], Ran(1, b"", b"onixdesk: feed.xml:1:1: refused\n")),
 ]
 
@@ -104,7 +130,8 @@ def check(case: Case, room: Room) -> Iterator[Outcome]:
 
 
 def bad_words(room: Room) -> Iterator[Outcome]:
-    files = {"a.xml": ONE, "b.xml": TWO, FEED: argument_grammar.feed_of(HEADER.format(SENDER))}
+    feed = argument_grammar.feed_of(HEADER.format(SENDER))
+    files = {"a.xml": ONE, "b.xml": TWO, FEED: feed, "shop.toml": b""}
     for name, data in files.items():
         room.write(name, data)
     for words in argument_grammar.bad():

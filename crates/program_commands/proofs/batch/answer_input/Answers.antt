@@ -12,4 +12,4 @@ returns-in-Ok-clause-end g c =
 pub returns-in-Err-clause-end : goal.returns-in-Err-clause-end
 returns-in-Err-clause-end g c =
     let ran = c.in-Err.ensures in
-    (ran.0, Err c.in-Err.fault, ran.1, ran.2, c.report.ensures)
+    (ran.0, Err c.in-Err.fault, ran.1, ran.2, c.report_input.ensures)

@@ -9,9 +9,9 @@ use Rattle.program_commands.proofs.deliver.deliver_one.Goals as goal
 pub returns-in-Ok-clause-run : goal.returns-in-Ok-clause-run
 returns-in-Ok-clause-run g c =
     let read = c.in-Ok.ensures.text in
-    let asked = Asked g.D.Desk.seen c.args.precedence.now c.args.desk.now c.deliver_text.new.desk in
-    let written = Appends (g.W.Write.contents c.args.writer.now) (g.W.Write.contents c.deliver_text.new.writer) in
-    (read.0, read.1, subst (λ text. Delivers asked written text c.deliver_text.result) (c.as_slice.ensures.value ∙ read.2) c.deliver_text.ensures)
+    let asked = Asked g.D.Desk.seen c.args.precedence.now c.args.desk.now c.deliver_text-delivered.new.desk in
+    let written = Appends (g.W.Write.contents c.args.writer.now) (g.W.Write.contents c.deliver_text-delivered.new.writer) in
+    (read.0, read.1, subst (λ text. Delivers asked written text c.deliver_text-delivered.result) (c.as_slice-bytes.ensures.value ∙ read.2) c.deliver_text-delivered.ensures)
 
 pub returns-in-Err-clause-run : goal.returns-in-Err-clause-run
 returns-in-Err-clause-run g c =

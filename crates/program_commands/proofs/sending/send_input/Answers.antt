@@ -10,4 +10,4 @@ returns-in-Err-clause-end g c =
     let told = told_text (g.R.Read.remaining c.args.streams.now.input) in
     let came = g.K.OpenDesks.answers c.args.desks.now c.args.socket.now told.0 in
     let output = g.W.Write.contents c.args.streams.now.output in
-    (told.0, told.1, inr (c.report.ensures, none_sent (c.args.socket.now, told.0) (g.K.OpenDesks.sent c.args.desks.now), wrote_came came came (Appends output output) [] (Consumes-nil came) (Appends-nil output)))
+    (told.0, told.1, inr (c.report_input.ensures, none_sent (c.args.socket.now, told.0) (g.K.OpenDesks.sent c.args.desks.now), wrote_came came came (Appends output output) [] (Consumes-nil came) (Appends-nil output)))

@@ -1,1 +1,0 @@
-"""Files that a shop writes or has written: desk.json, lists of ISBNs, and files in a form of its own."""

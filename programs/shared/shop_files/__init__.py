@@ -1,0 +1,1 @@
+"""Files that a shop writes for several programs."""

@@ -14,8 +14,9 @@ PAGE = "docs/DECISIONS.md"
 
 TABLE = "CONTRIBUTING.md"
 
-# The last row of the table of what the gate weighs: the functions, and the goals that are answered by hand.
-GOALS = r"\| all \| \S+ \| (\S+) \|"
+# The last row of the table of what the gate weighs: the crate that it leaves out, where it does; the functions; and the
+# goals that are answered by hand.
+GOALS = re.compile(r"^\| all(?: but `(\w+)`)? \| \S+ \| (\S+) \|", re.MULTILINE)
 
 PYTHON = r"\*\*The Python is some (\S+) lines\*\*, (\S+) of which run at a shop; (\S+) test the conversion of XML and (\S+) the page"
 RATTLE = r"\*\*The Rattle is some (\S+) lines\*\*, (\S+) of them sources, (\S+) specs and (\S+) proofs"
@@ -28,8 +29,8 @@ def lines_of(*patterns: str) -> int:
     return sum(len(ROOT.joinpath(name).read_bytes().splitlines()) for name in names if ROOT.joinpath(name).is_file())
 
 
-def told(pattern: str, page: str = PAGE) -> list[int]:
-    found = re.search(pattern, ROOT.joinpath(page).read_text(encoding="utf-8"))
+def told(pattern: str) -> list[int]:
+    found = re.search(pattern, ROOT.joinpath(PAGE).read_text(encoding="utf-8"))
     return [int(each.replace(",", "")) for each in found.groups()] if found else []
 
 
@@ -55,6 +56,9 @@ def sizes(_room: Room) -> Iterator[Outcome]:
 
 
 def goals(_room: Room) -> Iterator[Outcome]:
-    counted = sum(answered_goals(crate) for crate in ROOT.glob("crates/*"))
-    near = [said for said in told(GOALS, TABLE) if abs(said - counted) * 20 <= counted]
-    yield Outcome(f"{TABLE}: goals that are answered by hand", len(near), 1)
+    found = GOALS.findall(ROOT.joinpath(TABLE).read_text(encoding="utf-8"))
+    yield Outcome(f"{TABLE}: rows of all crates", len(found), 1)
+    for left_out, said in found:
+        counted = sum(answered_goals(crate) for crate in ROOT.glob("crates/*") if crate.name != left_out)
+        far = abs(int(said.replace(",", "")) - counted) * 20 > counted
+        yield Outcome(f"{TABLE}: {said} goals that are answered by hand, of {counted}", far, False)

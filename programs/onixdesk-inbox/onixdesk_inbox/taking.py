@@ -1,5 +1,6 @@
 """How one file is taken: converted, posted, and moved to `done` or `refused`."""
 
+import contextlib
 from dataclasses import dataclass, replace
 from pathlib import Path
 from typing import NamedTuple
@@ -23,7 +24,7 @@ from onixdesk_inbox.verdicts import Refusal, Taken, Unconverted
 
 # What a feed leaves that is not converted: one with a number of its own holds up its series.
 NOTHING_TAKEN = "nothing of it is taken"
-WAITING = f"{NOTHING_TAKEN}, and the messages behind its number wait"
+WAITING = f"{NOTHING_TAKEN}, and the messages behind {{}} wait"
 
 # What is said of bytes that were taken before.
 HAD = "had it already"
@@ -220,7 +221,15 @@ class Taker:
         try:
             return self.by_its_terms(copied, number, of_feed)
         except Unconverted as refusal:
-            raise Refusal(f"{refusal}; {NOTHING_TAKEN if of_feed else WAITING}") from None
+            raise Refusal(f"{refusal}; {NOTHING_TAKEN if of_feed else self.waiting()}") from None
+
+    def waiting(self) -> str:
+        """What a refused feed with a number of its own holds up: what is behind the number for which its series waits,
+        where a desk tells that."""
+        number = None
+        with contextlib.suppress(Fault):
+            number = self.desk.report(self.series).members.get("next")
+        return WAITING.format("its number" if number is None else f"number {number}")
 
     def by_its_terms(self, copied: Copied, number: int | None, of_feed: int | None) -> Converted:
         """Its number says by which table, and is known for certain once it is converted."""

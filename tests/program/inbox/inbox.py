@@ -229,14 +229,15 @@ def wrong_products(room: Room) -> Iterator[Outcome]:
     )
     for name, line in zip([*messages, "none"], [*WRONG, "feed.xml:2:1: refused: 2 of 3 products wrong"], strict=True):
         room.write(f"{name}.last", line.encode())
-    with serving(room, WORDS, len(messages)) as desk:
+    with serving(room, WORDS, len(messages) + 1) as desk:
         inbox = Inbox(room, desk.port)
         inbox.put({f"{name}.xml": name.encode() for name in [*messages, "none"]})
         lines = [
             f"{name}.xml: done{told}: number {number} applied; notes: {last}"
             for number, (name, (last, told)) in enumerate(zip(messages, WRONG.items(), strict=True), 1)
         ]
-        wanted = said(*lines, f"none.xml: refused: 2:1: 2 of 3 products wrong{WAITING}", status=1)
+        waiting = WAITING.replace("its number", "number 4")
+        wanted = said(*lines, f"none.xml: refused: 2:1: 2 of 3 products wrong{waiting}", status=1)
         yield Outcome("inbox: products that are wrong", inbox.run("--converter", program), wanted)
         found = sorted(name for name in inbox.kept() if name.endswith(".xml"))
         wanted_files = [*(f"done/{name}.xml" for name in messages), "refused/none.xml"]

@@ -27,7 +27,7 @@ HELD = '202 {{"answer":"held","number":{},"series":"{}","waiting_for":{}}}'
 ROW_1 = '422 {"answer":"refused","reason":"malformed","row":1}'
 OTHER = '409 {{"answer":"refused","number":{},"reason":"other-contents","series":"north"}}'
 
-# Behind why a feed with a number of its own is refused by the converter.
+# Behind why a feed with a number of its own is refused by the converter, where no desk tells the next number.
 WAITING = "; nothing of it is taken, and the messages behind its number wait"
 
 

@@ -98,7 +98,9 @@ def calls(text: str) -> Iterator[tuple[Function | None, Function]]:
 def judged(text: str) -> Iterator[tuple[str, tuple[bool, bool]]]:
     """Each call of the page, and whether the function is in its file and is called there, with its types or without."""
     for above, (name, file) in calls(text):
-        called = above is None or any(re.search(rf"\b{name}(?:::<[\w, ]+>)?\(", body) for body in bodies(above[1]).get(above[0], []))
+        called = above is None or any(
+            re.search(rf"\b{name}(?:::<[\w, ]+>)?\(", body) for body in bodies(above[1]).get(above[0], [])
+        )
         yield (f"{above[0]} calls {name}" if above else name), (name in bodies(file), called)
 
 

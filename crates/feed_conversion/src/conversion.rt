@@ -6,20 +6,21 @@ ghost use Rattle.feed_conversion.specs.private.Endings.{Comes, Ends, IsUnread};
 ghost use Rattle.feed_conversion.specs.Packing.{Converted};
 ghost use Rattle.feed_conversion.specs.Conversion.{Options as Chosen, vocabulary_by};
 ghost use Rattle.feed_conversion.specs.private.Stages.{all_parts, empty_parts, ended, ended_at, finished, first_state, stored, taken};
-ghost use Rattle.feed_mapping.specs.Vocabulary.{desk_vocabulary, terms_vocabulary};
 ghost use Rattle.feed_conversion.specs.Views.{options_view};
 ghost use Rattle.feed_conversion.specs.private.StageViews.{begun_view};
 
-use crate::converter::{Converter, TermsConverter};
+use crate::converter::{Converter, WordConverter};
 use crate::options::Options;
 use crate::packing::{OpenParts, Stage, first_text, hand_on};
 use crate::refusal::{Fault, Refusal};
 use crate::tally::refused_for;
 use crate::target::Target;
+use crate::words::{DeskWords, TermsWords, Words};
 use feed_outline::{RefusalHints, Stopped, outlines_tell, read_message};
 use feed_xml::Position;
 use std::alloc::{AllocError, Global};
 use std::io::Read;
+use std::marker::PhantomData;
 
 /// What has come of a feed: the target, and how many of its products are wrong, or why nothing came
 /// of it.
@@ -153,45 +154,20 @@ fn unread<T: Target + Drop>(
     Outcome { target, ended }
 }
 
-// Reads a feed of which nothing counts but for the desk.
-fn convert_by_desk<R: Read, T: Target + Drop>(
+// Reads a feed of which the elements with these words count.
+fn convert_by<R: Read, T: Target + Drop, W: Words + Drop>(
     alloc: Global,
     reader: &mut R,
     converter: Converter<'_, T>,
 ) -> Outcome<T>
     ensures { (o : Chosen) (parts : T.Parts) (notes : T.Notes)
-        → vocabulary_by o.terms ≡ desk_vocabulary → converter.entry ≡ first_state o parts notes
+        → vocabulary_by o.terms ≡ W.words → converter.entry ≡ first_state o parts notes
         → Comes T.keeping (R.remaining reader.old) o (taken parts notes 0) result.ended
         (T.parts result.target) (T.notes result.target) }
 {
     outlines_tell();
-    match read_message(alloc, reader, converter) {
-        Ok(converter) => finish(converter),
-        Err(stopped) => {
-            let Stopped {
-                fault,
-                place,
-                taker,
-                told,
-            } = stopped;
-            unread(taker.into_target(), fault, place, told)
-        }
-    }
-}
-
-// Reads a feed of which the terms of the shop ask more.
-fn convert_by_terms<R: Read, T: Target + Drop>(
-    alloc: Global,
-    reader: &mut R,
-    converter: Converter<'_, T>,
-) -> Outcome<T>
-    ensures { (o : Chosen) (parts : T.Parts) (notes : T.Notes)
-        → vocabulary_by o.terms ≡ terms_vocabulary → converter.entry ≡ first_state o parts notes
-        → Comes T.keeping (R.remaining reader.old) o (taken parts notes 0) result.ended
-        (T.parts result.target) (T.notes result.target) }
-{
-    outlines_tell();
-    match read_message(alloc, reader, TermsConverter { converter }) {
+    let words: PhantomData<W> = PhantomData;
+    match read_message(alloc, reader, WordConverter { converter, words }) {
         Ok(taker) => finish(taker.converter),
         Err(stopped) => {
             let Stopped {
@@ -224,7 +200,7 @@ pub fn convert<'a, R: Read, T: Target + Drop>(
 {
     let converter = Converter::new(alloc, options, target);
     match options.terms {
-        None => convert_by_desk(alloc, reader, converter),
-        Some(_) => convert_by_terms(alloc, reader, converter),
+        None => convert_by::<R, T, DeskWords>(alloc, reader, converter),
+        Some(_) => convert_by::<R, T, TermsWords>(alloc, reader, converter),
     }
 }

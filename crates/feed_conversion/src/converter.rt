@@ -18,18 +18,18 @@ use crate::packing::{OpenParts, Stage, keep};
 use crate::refusal::Refusal;
 use crate::tally::{Tally, count_product};
 use crate::target::Target;
+use crate::words::Words;
 use csv_records::buffer::RecordBuffer;
 use csv_records::fields::FieldBuffer;
 use feed_mapping::{
     Choices, Composite, Fate, HeaderFault, Heading, Note, Reason, ReasonKind, SupplyChoices, Wrong,
-    add_bare, add_large, add_plain, add_product, desk_vocabulary, fill_message, read_heading,
-    terms_vocabulary, text_or_empty,
+    add_bare, add_large, add_plain, add_product, fill_message, read_heading, text_or_empty,
 };
 use feed_outline::{Elements, Line, Taker, Vocabulary, has_stranger, outlined};
 use onix_records::row::RowFault;
 use onix_terms::items::Items;
 use std::alloc::{AllocError, Global};
-use std::marker::Model;
+use std::marker::{Model, PhantomData};
 
 /// What converts a message: it takes its Header and its Products, and hands on parts and notes.
 #[derive(Drop)]
@@ -454,41 +454,14 @@ impl<'a, T: Target + Drop> Converter<'a, T> {
     }
 }
 
-impl<'a, T: Target + Drop> Taker for Converter<'a, T> {
-    ghost use Rattle.feed_mapping.specs.Vocabulary.{desk_vocabulary};
-    ghost use Rattle.feed_outline.specs.Outlined.{outlined};
-    ghost use Rattle.feed_outline.specs.Views.{vocabulary_view};
-    ghost use Rattle.feed_conversion.specs.private.Stages.{after_nodes};
-
-    ghost vocabulary = { desk_vocabulary };
-
-    ghost after = { λ s lines. after_nodes T.keeping s (outlined lines) };
-
-    fn vocabulary() -> Vocabulary
-        ensures { vocabulary_view result ≡ desk_vocabulary }
-    {
-        desk_vocabulary()
-    }
-
-    // Lines that are the outline of no element change nothing.
-    fn take(&mut self, lines: &[Line]) -> Result<(), AllocError> {
-        match outlined(lines) {
-            None => Ok(()),
-            Some(node) => self.take_element(&Composite {
-                line: node.line,
-                below: node.below,
-            }),
-        }
-    }
-}
-
-/// The same, of a message of which the terms of the shop ask more.
+/// The same, of a message of which the elements with these words count.
 #[derive(Drop)]
-pub(crate) struct TermsConverter<'a, T: Target> {
+pub(crate) struct WordConverter<'a, T: Target, W> {
     pub(crate) converter: Converter<'a, T>,
+    pub(crate) words: PhantomData<W>,
 }
 
-impl<'a, T: Target> Model for TermsConverter<'a, T> {
+impl<'a, T: Target, W> Model for WordConverter<'a, T, W> {
     ghost use Rattle.feed_conversion.specs.private.Stages.{State};
 
     ghost Value = { State T.Parts T.Notes };
@@ -496,23 +469,29 @@ impl<'a, T: Target> Model for TermsConverter<'a, T> {
     ghost view = { λ c. c.converter };
 }
 
-impl<'a, T: Target + Drop> Taker for TermsConverter<'a, T> {
-    ghost use Rattle.feed_mapping.specs.Vocabulary.{terms_vocabulary};
+impl<'a, T: Target + Drop, W: Words> Taker for WordConverter<'a, T, W> {
     ghost use Rattle.feed_outline.specs.Outlined.{outlined};
     ghost use Rattle.feed_outline.specs.Views.{vocabulary_view};
     ghost use Rattle.feed_conversion.specs.private.Stages.{after_nodes};
 
-    ghost vocabulary = { terms_vocabulary };
+    ghost vocabulary = { W.words };
 
     ghost after = { λ s lines. after_nodes T.keeping s (outlined lines) };
 
     fn vocabulary() -> Vocabulary
-        ensures { vocabulary_view result ≡ terms_vocabulary }
+        ensures { vocabulary_view result ≡ W.words }
     {
-        terms_vocabulary()
+        W::vocabulary()
     }
 
+    // Lines that are the outline of no element change nothing.
     fn take(&mut self, lines: &[Line]) -> Result<(), AllocError> {
-        self.converter.take(lines)
+        match outlined(lines) {
+            None => Ok(()),
+            Some(node) => self.converter.take_element(&Composite {
+                line: node.line,
+                below: node.below,
+            }),
+        }
     }
 }

@@ -1,16 +1,16 @@
 //! What the definitions of the conversion come to. Each law is the contract of a function that does
 //! nothing.
 
-ghost use Rattle.std.specs.Prelude.{◌≡◌, Ok, map};
+ghost use Rattle.std.specs.Prelude.{◌≡◌, [], None, Ok, Some, map};
 ghost use Rattle.std.specs.List.{AllByRecursion, flat_map};
 ghost use Rattle.feed_outline.specs.Nodes.{Nodes};
 ghost use Rattle.feed_mapping.specs.Rows.{HaveCodes};
-ghost use Rattle.feed_conversion.specs.Conversion.{Options, conversion, products_in, settings};
+ghost use Rattle.feed_conversion.specs.Conversion.{Options, by_terms, conversion, products_in, settings};
 ghost use Rattle.feed_conversion.specs.Packing.{Converted};
 ghost use Rattle.feed_conversion.specs.Parts.{AreParts, HasRoom};
 
 use csv_records::laws::one_text;
-use feed_mapping::laws::{parts_say_the_same, records_are_products};
+use feed_mapping::laws::{no_term_says_nothing, parts_say_the_same, records_are_products};
 
 /// The products of a message, each once and in order, stand in its parts, one part after the other
 /// and each in the first of its variants that is not too large, as many as there is room for, with
@@ -34,3 +34,12 @@ pub fn what_has_room_is_placed()
         → AllByRecursion (HasRoom (settings o are.heading are.header.below)) (products_in nodes)
         → map (λ p. p.product) (flat_map (λ p. p) are.parts) ≡ products_in nodes }
 {}
+
+/// With a table of no term what comes of a message is what comes of it without terms: the same parts
+/// and notes, or the same refusal.
+pub fn no_term_converts_as_none()
+    ensures { (o : Options) (nodes : Nodes)
+        → conversion (by_terms (Some []) o) nodes ≡ conversion (by_terms None o) nodes }
+{
+    no_term_says_nothing();
+}

@@ -10,6 +10,7 @@ pub mod packing;
 pub mod refusal;
 pub mod tally;
 pub mod target;
+pub mod words;
 
 pub use conversion::{Outcome, convert};
 pub use options::{Allowed, Options};

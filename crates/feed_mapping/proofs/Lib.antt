@@ -13,6 +13,7 @@ pub mod ComputedRows
 pub mod SeenPrices
 pub mod RowLaws
 pub mod GivenPriceLaws
+pub mod NoTermLaws
 pub mod PriceFateLaws
 pub mod OpeningLaws
 pub mod PartLaws

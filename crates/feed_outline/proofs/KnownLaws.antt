@@ -2,7 +2,7 @@
 use Rattle.std.proofs.Common.{◌≡◌, ℕ, Bool, true, false, List, [], ◌∷◌, ◌++◌, Some, None, Ok, refl, sym, ap, ◌∙◌, append-nil, fold, subst}
 use Rattle.std.specs.Prelude.{◌&&◌}
 use Rattle.std.specs.List.{AllByRecursion, list_all}
-use Rattle.std.proofs.lemmas.Bool.{and_from, and_parts, and_right}
+use Rattle.std.proofs.lemmas.Bool.{and_from, and_parts}
 use Rattle.feed_outline.specs.Names.{Word}
 use Rattle.feed_xml.specs.declared.position.Position.{Position}
 use Rattle.feed_xml.specs.Grammar.{Token, raw, reference, cdata, comment, instruction, declaration, doctype, start, empty, end, spelling}
@@ -37,10 +37,6 @@ has_root tokens name inside tree e =
 
 -- ---- references
 
-pub unknown_among : (before : List Token) (token : Token) (behind : List Token) → is_known token ≡ false → list_all is_known (before ++ token ∷ behind) ≡ false
-unknown_among [] token behind h = ap (λ b. b && list_all is_known behind) h
-unknown_among (first ∷ before) token behind h = and_right (is_known first) (list_all is_known (before ++ token ∷ behind)) (unknown_among before token behind h)
-
 -- what is known behind the first tag
 known_fold : (vocabulary : List Word) {T : Type 0} (after : T → List Line → T) (f : Feed T) (tokens : List Token) (d : Dialect) → f.root ≡ Some (Ok d) → (fold (feed vocabulary after) f tokens).known ≡ (list_all is_known tokens && f.known)
 known_fold vocabulary after f [] d e = refl
@@ -66,10 +62,6 @@ quiet_known (cdata body) h = absurd h
 quiet_known (start name attributes space) h = absurd h
 quiet_known (empty name attributes space) h = absurd h
 quiet_known (end name space) h = absurd h
-
-all_known : (tokens : List Token) → AllByRecursion IsQuiet tokens → list_all is_known tokens ≡ true
-all_known [] h = refl
-all_known (token ∷ tokens) h = and_from (is_known token) (list_all is_known tokens) (quiet_known token h.0) (all_known tokens h.1)
 
 -- behind a root's first tag
 known_tag : (vocabulary : List Word) {T : Type 0} (after : T → List Line → T) (t : T) (d : Dialect) (p : Position) (tag token : Token) (tokens : List Token) → token ≡ tag → is_known tag ≡ true

@@ -1,6 +1,6 @@
 -- What comes of the tokens of a document.
 use Rattle.std.proofs.Common.{◌≡◌, ℕ, Bool, true, false, List, [], Option, Some, None, Result, Ok, Err, refl, sym, ap, ◌∙◌, append-nil, append_assoc, ◌++◌, ◌∷◌, fold, subst}
-use Rattle.std.specs.Prelude.{IfOk, IfErr, IfSome, IsErrOf}
+use Rattle.std.specs.Prelude.{IfOk, IfErr}
 use Rattle.std.specs.List.{flat_map, list_all}
 use Rattle.std.proofs.lemmas.Bool.{and_parts}
 use Rattle.std.proofs.lemmas.List.Concat.{flat_map-cons}
@@ -11,16 +11,15 @@ use Rattle.feed_xml.specs.declared.fault.Fault.{Fault as DocumentFault}
 use Rattle.feed_xml.specs.declared.fault.Fault.TheVariants.{Malformed, NotText, TooDeep, TooLong, LargeTag, Refused, UnknownEncoding, Read, Memory}
 use Rattle.feed_xml.specs.declared.position.Position.{Position}
 use Rattle.feed_xml.specs.Grammar.{Token, is_token, spelling}
-use Rattle.feed_xml.specs.Faults.{AtFault}
-use Rattle.feed_xml.specs.Documents.{AreFront, IsDocument, IsNoDocument, IsNoText}
+use Rattle.feed_xml.specs.Faults.{Tells, TookTo}
+use Rattle.feed_xml.specs.Documents.{AreFront, IsDocument}
 use Rattle.feed_xml.specs.Positions.{first_position, position_past}
-use Rattle.feed_xml.specs.EncodingNames.{IsTextOf, OfText, IsOfUnknown}
+use Rattle.feed_xml.specs.EncodingNames.{IsTextOf, OfText}
 use Rattle.feed_xml.specs.Limits.{BeginsWith, Bound, Follows, Meets, IsDeep, IsGarbled, IsLarge, IsLong, NoneMayStand}
 use Rattle.feed_xml.specs.Tree.{Content}
 use Rattle.feed_xml.specs.Trees.{AreDocument, IsTree}
 use Rattle.feed_outline.specs.declared.dialect.Wrong.{Wrong}
-use Rattle.feed_outline.specs.declared.message_reading.Fault.{Fault}
-use Rattle.feed_outline.specs.declared.message_reading.Fault.TheVariants.{Document, Message, Reference, TooLarge}
+use Rattle.feed_outline.specs.declared.message_reading.Fault.TheVariants.{Document}
 use Rattle.feed_outline.specs.declared.message_reading.Stopped.{Stopped}
 use Rattle.feed_outline.specs.Dialect.{Dialect}
 use Rattle.feed_outline.specs.Nodes.{is_known, nodes_in}
@@ -29,11 +28,11 @@ use Rattle.feed_outline.specs.Sizes.{first_large}
 use Rattle.feed_outline.specs.private.Feed.{Feed, feed, first_feed, fits, is_sound, is_sound_with, takes_more, takes_more_with}
 use Rattle.feed_outline.specs.Roots.{root_of, root_place}
 use Rattle.feed_outline.specs.Faults.{Explains, IsLargeAt, IsRefusedRoot, IsUnknown, Refuses}
-use Rattle.feed_outline.specs.private.Reasons.{IsAt, IsReason, RefusesReference, RefusesRoot}
+use Rattle.feed_outline.specs.private.Reasons.{RefusesReference, RefusesRoot}
 use Rattle.feed_outline.specs.private.Finishing.{finished, finished_with, first_place_of, is_of_text}
 use Rattle.feed_outline.specs.Message.{IsMessage}
 use Rattle.feed_outline.proofs.FeedLaws.{tree_feeds}
-use Rattle.feed_outline.proofs.KnownLaws.{has_root, known_front, known_tree, unknown_among}
+use Rattle.feed_outline.proofs.KnownLaws.{has_root, known_front, known_tree}
 use Rattle.feed_outline.proofs.LargeLaws.{is_stuck, stuck_large}
 use Rattle.feed_outline.proofs.RefusalLaws.{Finds, finds_root, finds_unknown, places, roots}
 use Rattle.feed_outline.proofs.TreeLaws.{is_large, tree_kept}
@@ -46,8 +45,7 @@ Reads vocabulary after taker bytes taken =
 -- what a call gave is one of the two
 pub record Comes (vocabulary : List Word) {T : Type 0} (after : T → List Line → T) (taker : T) (bytes : Option (List ℕ)) (result : Result T (Stopped T)) : Type 0 where
   pub ok : IfOk result (Reads vocabulary after taker bytes)
-  pub err : IfErr result (λ s. IsReason vocabulary bytes s.fault)
-  pub at : IfErr result (λ s. IsAt vocabulary bytes s.fault s.place)
+  pub refused : IfErr result (λ s. Explains vocabulary bytes s.fault s.place)
 
 -- a document begins with all of its tokens
 all_tokens : (bytes : Option (List ℕ)) (text : List ℕ) (tokens : List Token) → IsTextOf bytes text → IsDocument text tokens → OfText (BeginsWith tokens) bytes
@@ -116,8 +114,7 @@ refuses vocabulary {T = T} after taker bytes tokens begins refused = go f.root r
     go None e k known small size r = absurd cc
     go (Some (Err w)) e k known small size r = record {
       ok = tt;
-      err = (tokens, begins, sym root_is ∙ e);
-      at = place_of vocabulary (RefusesRoot w) (IsRefusedRoot w) (at_root w) bytes tokens f.place begins (finds_root vocabulary after (first_feed taker) tokens w refl e);
+      refused = place_of vocabulary (RefusesRoot w) (IsRefusedRoot w) (at_root w) bytes tokens f.place begins (finds_root vocabulary after (first_feed taker) tokens w refl e);
     }
     go (Some (Ok d)) e true known true size r = absurd cc
     go (Some (Ok d)) e true known false size r =
@@ -125,16 +122,14 @@ refuses vocabulary {T = T} after taker bytes tokens begins refused = go f.root r
         let root = sym root_is ∙ e in
         record {
           ok = tt;
-          err = tt;
-          at = (tokens, holds_there (IsLargeAt vocabulary place) tokens bytes (λ rest front. is_large vocabulary after taker d tokens place rest root (known_there d root known front) (is_stuck f.child f.place size)) begins);
+          refused = (tokens, holds_there (IsLargeAt vocabulary place) tokens bytes (λ rest front. is_large vocabulary after taker d tokens place rest root (known_there d root known front) (is_stuck f.child f.place size)) begins);
         }
     go (Some (Ok d)) e false known small size r =
         let unsound : is_sound f ≡ false = ap (λ o. is_sound_with o f.known) e ∙ known in
         let h = finds_unknown vocabulary after (first_feed taker) tokens refl known unsound (λ w x. absurd (cc (sym e ∙ x))) in
         record {
           ok = tt;
-          err = (tokens, begins, ap (list_all is_known) h.parts ∙ unknown_among h.before h.token h.behind h.holds);
-          at = place_of vocabulary RefusesReference IsUnknown at_reference bytes tokens f.place begins h;
+          refused = place_of vocabulary RefusesReference IsUnknown at_reference bytes tokens f.place begins h;
         }
 
 -- ---- a document
@@ -196,22 +191,11 @@ comes vocabulary {T = T} after taker bytes text tokens name inside is document t
     go (Some (Err w)) e k known small size refused = by_refusal (Some (Err w)) e k known small size refl refused
     go (Some (Ok d)) e true known true size refused =
         let root = sym root_is ∙ e in
-        record { ok = taken d root (known_tree vocabulary after taker d tokens name inside tree root known) size (first_large (nodes_in vocabulary d [] place inside)) refl; err = tt; at = tt }
+        record { ok = taken d root (known_tree vocabulary after taker d tokens name inside tree root known) size (first_large (nodes_in vocabulary d [] place inside)) refl; refused = tt }
     go (Some (Ok d)) e true known false size refused = by_refusal (Some (Ok d)) e true known false size refl refused
     go (Some (Ok d)) e false known small size refused = by_refusal (Some (Ok d)) e false known small size refl refused
 
 -- ---- a document that was not read to its end
-
-pub at_text : (P : Type 0) (fault : DocumentFault) → is_of_text fault ≡ true → AtFault P fault → P
-at_text P Malformed e h = h
-at_text P NotText e h = h
-at_text P TooDeep e h = h
-at_text P TooLong e h = h
-at_text P LargeTag e h = h
-at_text P Refused e h = h
-at_text P (UnknownEncoding name) e h = absurd cc
-at_text P Read e h = absurd cc
-at_text P Memory e h = absurd cc
 
 pub takes_sound : {T : Type 0} (f : Feed T) → takes_more f ≡ true → is_sound f ≡ true
 takes_sound f h = go f.root f.known (fits f.child) h
@@ -222,39 +206,23 @@ takes_sound f h = go f.root f.known (fits f.child) h
     go (Some (Ok d)) true small h = refl
     go (Some (Ok d)) false small h = h
 
--- the text goes beyond a bound behind tokens, and they were fed
-abbrev pub Goes : (vocabulary : List Word) {T : Type 0} → (T → List Line → T) → Option (List ℕ) → Feed T → Feed T → Bound → Type 0
-Goes vocabulary after bytes start b Limit = (tokens : List Token) × OfText (Meets Limit tokens) bytes × (b ≡ fold (feed vocabulary after) start tokens)
+-- a text that begins with tokens of which something holds begins with them
+begins_only : (Limit : Bound) (tokens : List Token) (bytes : Option (List ℕ)) → OfText (Meets Limit tokens) bytes → OfText (BeginsWith tokens) bytes
+begins_only Limit tokens None h = tt
+begins_only Limit tokens (Some b) h = let m = h.2 in (h.0, h.1, (m.0, m.1, m.2, tt))
 
--- what is said of each fault that comes from the reading of the document
-pub record Reasons (vocabulary : List Word) {T R : Type 0} (after : T → List Line → T) (bytes : Option (List ℕ)) (start f : Feed T) (r : Result R DocumentFault) : Type 0 where
-  pub malformed : IsErrOf r Malformed → OfText IsNoDocument bytes
-  pub stuck : IsErrOf r Malformed → Goes vocabulary after bytes start f NoneMayStand
-  pub garbled : IsErrOf r NotText → OfText IsNoText bytes
-  pub broken : IsErrOf r NotText → Goes vocabulary after bytes start f IsGarbled
-  pub deep : IsErrOf r TooDeep → Goes vocabulary after bytes start f IsDeep
-  pub large : IsErrOf r LargeTag → Goes vocabulary after bytes start f IsLarge
-  pub long : IsErrOf r TooLong → Goes vocabulary after bytes start f IsLong
-  pub unknown : (name : List ℕ) → IsErrOf r (UnknownEncoding name) → IfSome bytes (IsOfUnknown name)
-  pub unread : (name : List ℕ) → IsErrOf r (UnknownEncoding name) → f ≡ start
-  pub refused : IsErrOf r Refused → takes_more f ≡ false
-
-goes_at : (vocabulary : List Word) {T : Type 0} (after : T → List Line → T) (bytes : Option (List ℕ)) (start f : Feed T) (Limit : Bound)
-    → Goes vocabulary after bytes start f Limit → (place : Position) × Refuses vocabulary bytes Limit place
-goes_at vocabulary after bytes start f Limit w = (position_past first_position w.0, (w.0, w.1, refl))
-
--- a document that was read while more was taken is refused for a reason
-pub document_explained : (vocabulary : List Word) {T R : Type 0} (after : T → List Line → T) (bytes : Option (List ℕ)) (start f : Feed T) (fault : DocumentFault)
-    → (is_of_text fault ≡ true → takes_more f ≡ true) → Reasons vocabulary {T = T} {R = R} after bytes start f (Err fault) → IsReason vocabulary bytes (Document fault)
-document_explained vocabulary after bytes start f Malformed takes r = r.malformed refl
-document_explained vocabulary after bytes start f NotText takes r = r.garbled refl
-document_explained vocabulary after bytes start f TooDeep takes r = goes_at vocabulary after bytes start f IsDeep (r.deep refl)
-document_explained vocabulary after bytes start f TooLong takes r = goes_at vocabulary after bytes start f IsLong (r.long refl)
-document_explained vocabulary after bytes start f LargeTag takes r = goes_at vocabulary after bytes start f IsLarge (r.large refl)
-document_explained vocabulary after bytes start f Refused takes r = absurd (cc (sym (takes refl) ∙ r.refused refl))
-document_explained vocabulary after bytes start f (UnknownEncoding name) takes r = r.unknown name refl
-document_explained vocabulary after bytes start f Read takes r = tt
-document_explained vocabulary after bytes start f Memory takes r = tt
+-- what was taken where reading stopped
+pub taken_behind : {S : Type 0} (after : S → Token → S) (bytes : Option (List ℕ)) (old new : S) (goes_on : S → Bool) (fault : DocumentFault) → is_of_text fault ≡ true → Tells after bytes old new goes_on fault
+    → (tokens : List Token) × OfText (BeginsWith tokens) bytes × (new ≡ fold after old tokens)
+taken_behind after bytes old new goes_on Malformed e t = let w = t.1 in (w.0, begins_only NoneMayStand w.0 bytes w.1, w.2)
+taken_behind after bytes old new goes_on NotText e t = let w = t.1 in (w.0, begins_only IsGarbled w.0 bytes w.1, w.2)
+taken_behind after bytes old new goes_on TooDeep e t = (t.0, begins_only IsDeep t.0 bytes t.1, t.2)
+taken_behind after bytes old new goes_on TooLong e t = (t.0, begins_only IsLong t.0 bytes t.1, t.2)
+taken_behind after bytes old new goes_on LargeTag e t = (t.0, begins_only IsLarge t.0 bytes t.1, t.2)
+taken_behind after bytes old new goes_on Refused e t = t.1
+taken_behind after bytes old new goes_on (UnknownEncoding name) e t = absurd cc
+taken_behind after bytes old new goes_on Read e t = absurd cc
+taken_behind after bytes old new goes_on Memory e t = absurd cc
 
 -- while more is taken, the next token stands behind those that were
 place_is : (vocabulary : List Word) {T : Type 0} (after : T → List Line → T) (taker : T) (f : Feed T) (tokens : List Token) → takes_more f ≡ true → f ≡ fold (feed vocabulary after) (first_feed taker) tokens
@@ -262,44 +230,21 @@ place_is : (vocabulary : List Word) {T : Type 0} (after : T → List Line → T)
 place_is vocabulary after taker f tokens more is =
     ap (λ g. g.place) is ∙ places vocabulary after (first_feed taker) tokens (takes_sound (fold (feed vocabulary after) (first_feed taker) tokens) (sym (ap takes_more is) ∙ more))
 
--- and so is its place
-pub document_at : (vocabulary : List Word) {T R : Type 0} (after : T → List Line → T) (bytes : Option (List ℕ)) (taker : T) (start f : Feed T) (fault : DocumentFault) → start ≡ first_feed taker
-    → (is_of_text fault ≡ true → takes_more f ≡ true) → AtFault ((tokens : List Token) × OfText (BeginsWith tokens) bytes × (f ≡ fold (feed vocabulary after) start tokens)) fault
-    → Reasons vocabulary {T = T} {R = R} after bytes start f (Err fault) → IsAt vocabulary bytes (Document fault) f.place
-document_at vocabulary {T = T} {R = R} after bytes taker start f fault starts takes h r = go fault takes h r
+-- a document that was read while more was taken is refused for a reason, and there
+pub document_explained : (vocabulary : List Word) {T : Type 0} (after : T → List Line → T) (bytes : Option (List ℕ)) (taker : T) (start f : Feed T) (fault : DocumentFault) → start ≡ first_feed taker
+    → (is_of_text fault ≡ true → takes_more f ≡ true) → Tells (feed vocabulary after) bytes start f takes_more fault → Explains vocabulary bytes (Document fault) f.place
+document_explained vocabulary {T = T} after bytes taker start f fault starts takes told = go fault takes told
   where
-    at : takes_more f ≡ true → (tokens : List Token) → f ≡ fold (feed vocabulary after) start tokens → f.place ≡ position_past first_position tokens
-    at more tokens is = place_is vocabulary after taker f tokens more (is ∙ ap (λ g. fold (feed vocabulary after) g tokens) starts)
+    at : (Limit : Bound) → takes_more f ≡ true → TookTo (feed vocabulary after) bytes start f Limit → Refuses vocabulary bytes Limit f.place
+    at Limit more w = (w.0, w.1, place_is vocabulary after taker f w.0 more (w.2 ∙ ap (λ g. fold (feed vocabulary after) g w.0) starts))
 
-    go : (e : DocumentFault) → (is_of_text e ≡ true → takes_more f ≡ true) → AtFault ((tokens : List Token) × OfText (BeginsWith tokens) bytes × (f ≡ fold (feed vocabulary after) start tokens)) e
-        → Reasons vocabulary {T = T} {R = R} after bytes start f (Err e) → IsAt vocabulary bytes (Document e) f.place
-    go Malformed t w r = let g = r.stuck refl in (g.0, g.1, at (t refl) g.0 g.2)
-    go NotText t w r = let g = r.broken refl in (g.0, g.1, at (t refl) g.0 g.2)
-    go TooDeep t w r = let g = r.deep refl in (g.0, g.1, at (t refl) g.0 g.2)
-    go TooLong t w r = let g = r.long refl in (g.0, g.1, at (t refl) g.0 g.2)
-    go LargeTag t w r = let g = r.large refl in (g.0, g.1, at (t refl) g.0 g.2)
-    go Refused t w r = absurd (cc (sym (t refl) ∙ r.refused refl))
-    go (UnknownEncoding name) t w r = ap (λ g. g.place) (r.unread name refl ∙ starts)
-    go Read t w r = tt
-    go Memory t w r = tt
-
--- ---- both as one
-
-pub explained : (vocabulary : List Word) (bytes : Option (List ℕ)) (fault : Fault) (place : Position) → IsReason vocabulary bytes fault → IsAt vocabulary bytes fault place → Explains vocabulary bytes fault place
-explained vocabulary bytes (Document Malformed) place why at = (why, at)
-explained vocabulary bytes (Document NotText) place why at = (why, at)
-explained vocabulary bytes (Document TooDeep) place why at = at
-explained vocabulary bytes (Document TooLong) place why at = at
-explained vocabulary bytes (Document LargeTag) place why at = at
-explained vocabulary bytes (Document Refused) place why at = at
-explained vocabulary bytes (Document (UnknownEncoding name)) place why at = (why, at)
-explained vocabulary bytes (Document Read) place why at = tt
-explained vocabulary bytes (Document Memory) place why at = tt
-explained vocabulary bytes (Message wrong) place why at = at
-explained vocabulary bytes Reference place why at = at
-explained vocabulary bytes TooLarge place why at = at
-
-pub all_explained : (vocabulary : List Word) {T : Type 0} (bytes : Option (List ℕ)) (result : Result T (Stopped T)) → IfErr result (λ s. IsReason vocabulary bytes s.fault) → IfErr result (λ s. IsAt vocabulary bytes s.fault s.place)
-    → IfErr result (λ s. Explains vocabulary bytes s.fault s.place)
-all_explained vocabulary bytes (Ok taken) why at = tt
-all_explained vocabulary bytes (Err s) why at = explained vocabulary bytes s.fault s.place why at
+    go : (e : DocumentFault) → (is_of_text e ≡ true → takes_more f ≡ true) → Tells (feed vocabulary after) bytes start f takes_more e → Explains vocabulary bytes (Document e) f.place
+    go Malformed t w = (w.0, at NoneMayStand (t refl) w.1)
+    go NotText t w = (w.0, at IsGarbled (t refl) w.1)
+    go TooDeep t w = at IsDeep (t refl) w
+    go TooLong t w = at IsLong (t refl) w
+    go LargeTag t w = at IsLarge (t refl) w
+    go Refused t w = absurd (cc (sym (t refl) ∙ w.0))
+    go (UnknownEncoding name) t w = (w.0, ap (λ g. g.place) (w.1 ∙ starts))
+    go Read t w = tt
+    go Memory t w = tt

@@ -147,9 +147,3 @@ again name tag text below =
     ∙ ap (nodes_at 0) (sym (append-nil (line 0 name tag text ∷ (outline 1 below ++ []))))
     ∙ told_at 0 (node name tag text below no_nodes) [] refl in
     rw (passes name tag text below) lone
-
--- lines that pass are the outline of what they tell
-pub whole : (lines : List Line) → is_outline lines ≡ true → lines ≡ outline 0 (outlined lines)
-whole lines h =
-    let t = told lines h in
-    t.4 ∙ ap (λ (ls : List Line). line 0 t.0 t.1 t.2 ∷ ls) (sym (append-nil (outline 1 t.3))) ∙ ap (outline 0) (sym t.5)

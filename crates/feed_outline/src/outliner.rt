@@ -82,6 +82,19 @@ fn first_place_of(lines: &[Line], place: Position) -> Position
     }
 }
 
+// That no message was read, for this reason.
+fn refused<T>(fault: Fault, place: Position, taker: T, told: RefusalHints) -> Result<T, Stopped<T>>
+    ensures { result
+        ≡ Err (record { fault = fault; place = place; taker = taker; told = tt }) }
+{
+    Err(Stopped {
+        fault,
+        place,
+        taker,
+        told,
+    })
+}
+
 // The kind of names that a root tells, where it is that of a message.
 fn naming_in(root: &Option<Result<Dialect, Wrong>>) -> Option<Naming> {
     match root {
@@ -122,46 +135,19 @@ impl<T: Taker + Drop> Outliner<T> {
         match root {
             None => {
                 let name = Bytes::from_vec(Vec::new(alloc));
-                let fault = Fault::Message(Wrong::Root(name));
-                Err(Stopped {
-                    fault,
-                    place,
-                    taker,
-                    told,
-                })
+                refused(Fault::Message(Wrong::Root(name)), place, taker, told)
             }
-            Some(Err(wrong)) => {
-                let fault = Fault::Message(wrong);
-                Err(Stopped {
-                    fault,
-                    place,
-                    taker,
-                    told,
-                })
-            }
+            Some(Err(wrong)) => refused(Fault::Message(wrong), place, taker, told),
             Some(Ok(dialect)) => {
                 told.naming = Some(dialect.naming());
                 if !known {
-                    let fault = Fault::Reference;
-                    return Err(Stopped {
-                        fault,
-                        place,
-                        taker,
-                        told,
-                    });
+                    return refused(Fault::Reference, place, taker, told);
                 }
                 if child.fits() {
-                    Ok(taker)
-                } else {
-                    let place = first_place_of(child.lines(), place);
-                    let fault = Fault::TooLarge;
-                    Err(Stopped {
-                        fault,
-                        place,
-                        taker,
-                        told,
-                    })
+                    return Ok(taker);
                 }
+                let first = first_place_of(child.lines(), place);
+                refused(Fault::TooLarge, first, taker, told)
             }
         }
     }

@@ -18,7 +18,7 @@ use Rattle.feed_xml.specs.Pieces.{Begins, HasNoToken, Explains}
 use Rattle.feed_xml.proofs.PlaceLaws.{steps-append, past_is}
 use Rattle.feed_xml.specs.private.Places.{steps, is_nothing, is_closed, is_past, is_last, Completes, IsComplete, IsNeverComplete, first_place, last_nesting, last_place}
 use Rattle.feed_xml.specs.Documents.{IsNoText}
-use Rattle.std.specs.Prelude.{IfSome, not, OnOk, OnErr}
+use Rattle.std.specs.Prelude.{IfSome, not, OnOk}
 use Rattle.std.specs.Io.KnownBytes.{Consumes, IsAtEnd}
 use Rattle.feed_xml.specs.private.Windows.{Advances, IsTold, is_whole}
 use Rattle.feed_xml.specs.declared.texts.Part.{Part}
@@ -296,10 +296,6 @@ a_none window shown behind n is dropped none =
 pub ok_then : {T E : Type 0} {P Q : Type 0} (r : Result T E) → OnOk r P → (P → Q) → OnOk r Q
 ok_then (Ok x) h f = f h
 ok_then (Err e) h f = tt
-
-pub err_then : {T E : Type 0} {P : Type 0} (r : Result T E) (e : E) → IsErrOf r e → OnErr r P → P
-err_then (Ok x) e is h = absurd cc
-err_then (Err f) e is h = h
 
 -- an empty read adds nothing
 pub nothing_read : (after before piece : List ℕ) → after ≡ before ++ piece → piece ≡ [] → after ≡ before

@@ -52,15 +52,6 @@ decoded-end Windows1252 h = refl
 decoded-end Utf16Big h = sym (append-nil (ending16 h))
 decoded-end Utf16Little h = sym (append-nil (ending16 h))
 
-none_left : (e : Encoding) → decoded_from e Nothing [] ≡ []
-none_left Utf8 = refl
-none_left Ascii = refl
-none_left Latin1 = refl
-none_left Latin9 = refl
-none_left Windows1252 = refl
-none_left Utf16Big = refl
-none_left Utf16Little = refl
-
 -- a read of some bytes
 pub read_bytes : (e : Encoding) (h k : Held) (a b : Option (List ℕ)) (bytes : List ℕ) → k ≡ held_behind e h bytes → Consumes a b bytes
     → Consumes (decoded_rest e h a) (decoded_rest e k b) (text_from e h bytes)

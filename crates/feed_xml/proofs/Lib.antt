@@ -25,6 +25,7 @@ pub mod EncodingLaws
 pub mod ReadingLaws
 pub mod GarbledLaws
 pub mod HeadLaws
+pub mod FaultLaws
 pub mod ValueLaws
 pub mod OneTreeLaws
 pub mod UnitLaws

@@ -1,5 +1,5 @@
 -- The parts that tokens are made of: what is read is spelled so, what is spelled so is read, and both stay.
-use Rattle.std.proofs.Common.{◌≡◌, ℕ, length, length-append, ◌⊎◌, ◌≤◌, Bool, true, false, cond, eqb, List, [], ◌∷◌, ◌++◌, inl, inr, Ok, Err, refl, sym, ap, subst, ◌∙◌, append_assoc, arith}
+use Rattle.std.proofs.Common.{◌≡◌, ℕ, length, length-append, ◌≤◌, Bool, true, false, cond, eqb, List, [], ◌∷◌, ◌++◌, inl, inr, Ok, Err, refl, sym, ap, subst, ◌∙◌, append_assoc, arith}
 use Rattle.std.specs.Prelude.{◌&&◌, not}
 use Rattle.std.specs.List.{list_all}
 use Rattle.std.proofs.lemmas.Bool.{eqb-true, eq-eqb, and_parts}
@@ -142,10 +142,6 @@ name_stops (b ∷ name) rest h =
     (name_no_space b first, first)
 
 -- ---- up to a mark
-
-and_false : (p q : Bool) → (p && q) ≡ false → (p ≡ false) ⊎ ((p ≡ true) × (q ≡ false))
-and_false true q e = inr (refl, e)
-and_false false q e = inl refl
 
 -- what begins with the mark is read as the mark
 begins_reads : (mark text more : List ℕ) → begins mark text ≡ true → (x : List ℕ × List ℕ) × (literal mark (text ++ more) ≡ Ok x)

@@ -1,16 +1,13 @@
 -- Where the reading of a document stands.
-use Rattle.std.proofs.Common.{append-nil, ◌≡◌, ◌≤◌, ℕ, ◌+◌, ◌-◌, arith, true, false, List, [], ◌++◌, length, take, drop, Option, Some, None, Result, Ok, Err, refl, sym, ap, subst, ◌∙◌, append_assoc, take-append-drop, take-add, take_at, drop_at}
-use Rattle.std.specs.Prelude.{IfSome, IfErr, option_and_then}
+use Rattle.std.proofs.Common.{append-nil, ◌≡◌, ◌≤◌, ℕ, ◌+◌, ◌-◌, arith, true, false, List, [], ◌++◌, length, take, drop, Option, Some, None, refl, sym, ap, subst, ◌∙◌, append_assoc, take-append-drop, take-add, take_at, drop_at}
+use Rattle.std.specs.Prelude.{IfSome, option_and_then}
 use Rattle.std.proofs.lemmas.List.{length-take}
 use Rattle.std.specs.Io.KnownBytes.{Consumes, IsAtEnd, prepend_known}
 use Rattle.std.proofs.KnownBytes.{Consumes-trans, prepend_known-nil}
-use Rattle.feed_xml.specs.declared.fault.Fault.{Fault}
-use Rattle.feed_xml.specs.declared.fault.Fault.TheVariants.{Malformed, NotText, TooDeep, TooLong, LargeTag, Refused, UnknownEncoding, Read, Memory}
 use Rattle.feed_xml.specs.declared.place.Place.{Place}
 use Rattle.feed_xml.specs.declared.texts.Part.{Part}
 use Rattle.feed_xml.specs.declared.texts.Part.TheVariants.{Whole}
 use Rattle.feed_xml.specs.private.Windows.{Advances, BeginsAt, Grows, IsEnding, IsTold, is_whole}
-use Rattle.feed_xml.specs.Faults.{AtFault}
 use Rattle.feed_xml.specs.Grammar.{Token}
 use Rattle.feed_xml.specs.private.Bounds.{MeetsFrom, IsLongAt, NoneStandsAt}
 use Rattle.feed_xml.specs.Pieces.{HasNoToken}
@@ -141,37 +138,11 @@ known_front None b text window tokens q c adv = tt
 known_front (Some x) None text window tokens q c adv = absurd c
 known_front (Some x) (Some y) text window tokens q c adv = (window ++ y, q, subst (λ (l : List ℕ). Advances l tokens (window ++ y) first_place q) (sym c) (advance_longer text window y tokens first_place q adv))
 
-pub begins_so : (told left : Option (List ℕ)) (window : List ℕ) (tokens : List Token) (q : Place) (part : Option Part) → State told left window tokens q part
-    → IfSome told (BeginsAt first_place tokens)
-begins_so told left window tokens q part s = known_front told (prepend_known s.bad left) s.text window tokens q s.read s.advances
-
 pub begins_further : (told left : Option (List ℕ)) (window shown : List ℕ) (tokens others : List Token) (q : Place) (part : Option Part) → State told left window tokens q part → shown ≡ window
     → BeginsAt q others shown → IfSome told (BeginsAt first_place (tokens ++ others))
 begins_further told left window shown tokens others q part s is b =
     let a : Advances window others b.0 q b.1 = subst (λ (l : List ℕ). Advances l others b.0 q b.1) is b.2 in
     known_front told (prepend_known s.bad left) s.text b.0 (tokens ++ others) b.1 s.read (advance_further s.text window b.0 tokens others first_place q b.1 s.advances a)
-
-pub at_fault : (P : Type 0) (fault : Fault) → P → AtFault P fault
-at_fault P Malformed h = h
-at_fault P NotText h = h
-at_fault P TooDeep h = h
-at_fault P TooLong h = h
-at_fault P LargeTag h = h
-at_fault P Refused h = h
-at_fault P (UnknownEncoding name) h = tt
-at_fault P Read h = tt
-at_fault P Memory h = tt
-
-pub at_same_fault : (P Q : Type 0) (fault : Fault) → (P → Q) → AtFault P fault → AtFault Q fault
-at_same_fault P Q Malformed f h = f h
-at_same_fault P Q NotText f h = f h
-at_same_fault P Q TooDeep f h = f h
-at_same_fault P Q TooLong f h = f h
-at_same_fault P Q LargeTag f h = f h
-at_same_fault P Q Refused f h = f h
-at_same_fault P Q (UnknownEncoding name) f h = tt
-at_same_fault P Q Read f h = tt
-at_same_fault P Q Memory f h = tt
 
 -- a window that is too long
 pub too_long : (told left : Option (List ℕ)) (window : List ℕ) (tokens : List Token) (q : Place) (part : Option Part) → State told left window tokens q part → IsLongAt q window
@@ -263,11 +234,3 @@ pub ends_half : (told left later : Option (List ℕ)) (before window : List ℕ)
 ends_half told left later before window tokens place was part piece next last s is c g found end_here ending_is half =
     let t = last_state told left later before window tokens place was part piece next last s is c g found ending_is in
     known_half told later t.text last (nothing_bad told later t.text t.bad t.at_part.0 t.read) end_here t.at_part.1 half
-
-pub at_err : {T : Type 0} (P : Type 0) (r : Result T Fault) → P → IfErr r (AtFault P)
-at_err P (Ok x) h = tt
-at_err P (Err f) h = at_fault P f h
-
-pub at_same_err : {T : Type 0} (P Q : Type 0) (r : Result T Fault) → IfErr r (AtFault P) → (P → Q) → IfErr r (AtFault Q)
-at_same_err P Q (Ok x) h f = tt
-at_same_err P Q (Err fault) h f = at_same_fault P Q fault f h

@@ -1,7 +1,13 @@
--- Faults, by where they come from.
+-- Faults, by where they come from, and what they tell.
+use Rattle.std.specs.Prelude.{◌≡◌, ℕ, Bool, false, List, Option, IfSome, fold}
 use Rattle.feed_xml.specs.declared.fault.Fault.{Fault}
-use Rattle.feed_xml.specs.declared.fault.Fault.TheVariants.{Malformed, NotText, TooDeep, LargeTag}
-use Rattle.feed_xml.specs.declared.fault.Fault.TheVariants.{UnknownEncoding, Read, Memory}
+use Rattle.feed_xml.specs.declared.fault.Fault.TheVariants.{Malformed, NotText, TooDeep, TooLong}
+use Rattle.feed_xml.specs.declared.fault.Fault.TheVariants.{LargeTag, Refused, UnknownEncoding}
+use Rattle.feed_xml.specs.declared.fault.Fault.TheVariants.{Read, Memory}
+use Rattle.feed_xml.specs.Documents.{IsNoDocument, IsNoText}
+use Rattle.feed_xml.specs.EncodingNames.{OfText, IsOfUnknown}
+use Rattle.feed_xml.specs.Grammar.{Token}
+use Rattle.feed_xml.specs.Limits.{BeginsWith, Bound, Meets, IsDeep, IsGarbled, IsLarge, IsLong, NoneMayStand}
 
 -- those of a token that may not stand at a place, and out of memory
 abbrev pub IsOfPlace : Fault → Type 0
@@ -17,16 +23,33 @@ IsOfEnd Malformed = Unit {0}
 IsOfEnd NotText = Unit {0}
 IsOfEnd other = ⊥
 
--- this holds at a fault of the text; nothing is said where the encoding is none that is known, a
--- read failed or memory ran out
-abbrev pub AtFault : Type 0 → Fault → Type 0
-AtFault P (UnknownEncoding name) = Unit {0}
-AtFault P Read = Unit {0}
-AtFault P Memory = Unit {0}
-AtFault P other = P
-
 -- a read that failed, and out of memory
 abbrev pub IsOfReading : Fault → Type 0
 IsOfReading Read = Unit {0}
 IsOfReading Memory = Unit {0}
 IsOfReading other = ⊥
+
+module _ {S : Type 0} (after : S → Token → S) (bytes : Option (List ℕ)) (old new : S) where
+  -- The text of the bytes, where those are told, begins with tokens, as a document may, and there
+  -- this holds; the sink took them.
+  abbrev pub TookTo : Bound → Type 0
+  TookTo Limit =
+      (tokens : List Token) × OfText (Meets Limit tokens) bytes × (new ≡ fold after old tokens)
+
+  -- the text begins with tokens, as a document may, and the sink took them
+  abbrev pub TookSome : Type 0
+  TookSome =
+      (tokens : List Token) × OfText (BeginsWith tokens) bytes × (new ≡ fold after old tokens)
+
+  -- what a fault of a document tells of its bytes, and of what the sink took; nothing where a read
+  -- failed or memory ran out
+  abbrev pub Tells : (S → Bool) → Fault → Type 0
+  Tells goes_on Malformed = OfText IsNoDocument bytes × TookTo NoneMayStand
+  Tells goes_on NotText = OfText IsNoText bytes × TookTo IsGarbled
+  Tells goes_on TooDeep = TookTo IsDeep
+  Tells goes_on TooLong = TookTo IsLong
+  Tells goes_on LargeTag = TookTo IsLarge
+  Tells goes_on Refused = (goes_on new ≡ false) × TookSome
+  Tells goes_on (UnknownEncoding name) = IfSome bytes (IsOfUnknown name) × (new ≡ old)
+  Tells goes_on Read = Unit {0}
+  Tells goes_on Memory = Unit {0}

@@ -6,3 +6,4 @@ pub mod Windows
 pub mod Bounds
 pub mod References
 pub mod Passed
+pub mod Faults

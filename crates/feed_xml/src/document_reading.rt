@@ -1,19 +1,19 @@
 //! The reading of documents.
 
-ghost use Rattle.std.specs.Prelude.{◌≡◌, ◌≢◌, ◌≤◌, ◌<◌, ◌++◌, ◌⊎◌, ◌∷◌, ℕ, List, Bool, map, IfOk, IfErr, OnOk, OnErr, true, false, vec_len, IsErrOf, IfSome, [], length, take, drop, fold, Some, None};
+ghost use Rattle.std.specs.Prelude.{◌≡◌, ◌≤◌, ◌<◌, ◌∷◌, ℕ, List, map, IfOk, IfErr, OnOk, OnErr, true, false, vec_len, IsErrOf, IfSome, [], length, take, drop, fold, Some, None};
 ghost use Rattle.std.specs.Io.KnownBytes.{Consumes, IsAtEnd};
 ghost use Rattle.feed_xml.specs.Grammar.{Token, raw};
 ghost use Rattle.feed_xml.specs.Pieces.{Begins, HasNoToken};
 ghost use Rattle.feed_xml.specs.View.{piece_view};
-ghost use Rattle.feed_xml.specs.Limits.{BeginsWith, Meets, IsDeep, IsGarbled, IsLarge, IsLong, NoneMayStand};
-ghost use Rattle.feed_xml.specs.private.Places.{Completes, IsComplete, IsNeverComplete, first_place, steps};
-ghost use Rattle.feed_xml.specs.Documents.{IsDocument, IsNoDocument, IsNoText};
-ghost use Rattle.feed_xml.specs.private.Windows.{Advances, BeginsAt, Grows, IsEnding, IsTold, is_whole};
-ghost use Rattle.feed_xml.specs.EncodingNames.{IsOfUnknown, IsTextOf, OfText, declared_name, encoding_at};
+ghost use Rattle.feed_xml.specs.private.Places.{IsComplete, steps};
+ghost use Rattle.feed_xml.specs.Documents.{IsDocument};
+ghost use Rattle.feed_xml.specs.private.Faults.{IsUnknown, TellsText, TellsWindow};
+ghost use Rattle.feed_xml.specs.private.Windows.{Advances, Grows, IsEnding, IsTold, is_whole};
+ghost use Rattle.feed_xml.specs.EncodingNames.{IsTextOf, encoding_at};
 ghost use Rattle.feed_xml.specs.private.Decoders.{decoded_rest, ending, held_behind, text_from, text_left};
-ghost use Rattle.feed_xml.specs.Faults.{AtFault, IsOfEnd, IsOfPlace, IsOfReading};
+ghost use Rattle.feed_xml.specs.Faults.{IsOfEnd, IsOfPlace, IsOfReading, Tells};
 ghost use Rattle.feed_xml.specs.Texts.{IsSmall, is_start};
-ghost use Rattle.feed_xml.specs.private.Bounds.{IsGarbledBehind, MeetsFrom, IsDeepAt, IsLargeAt, IsLongAt, NoneStandsAt, NoneWillStand};
+ghost use Rattle.feed_xml.specs.private.Bounds.{IsDeepAt, IsLargeAt};
 
 use crate::bytes::Bytes;
 use crate::classes::is_filled;
@@ -109,23 +109,8 @@ fn drain<S: Sink>(window: &[u8], place: &mut Place, sink: &mut S) -> Result<usiz
         × Advances window.now tokens (drop n window.now) place.old place.new
         × (sink.new ≡ fold S.after sink.old tokens)) }
     ensures no_more { IfOk result (λ n. HasNoToken (drop n window.now)) }
-    ensures malformed { IsErrOf result Fault.Malformed → (more : List ℕ) (tokens : List Token)
-        → ¬ (Completes place.old (window.now ++ more) tokens) }
-    ensures stuck { IsErrOf result Fault.Malformed → (tokens : List Token)
-        × MeetsFrom NoneWillStand place.old tokens window.now
-        × (sink.new ≡ fold S.after sink.old tokens) }
-    ensures deep { IsErrOf result Fault.TooDeep → (tokens : List Token)
-        × MeetsFrom IsDeepAt place.old tokens window.now
-        × (sink.new ≡ fold S.after sink.old tokens) }
-    ensures large { IsErrOf result Fault.LargeTag → (tokens : List Token)
-        × MeetsFrom IsLargeAt place.old tokens window.now
-        × (sink.new ≡ fold S.after sink.old tokens) }
-    ensures long { ¬ (IsErrOf result Fault.TooLong) }
-    ensures text { ¬ (IsErrOf result Fault.NotText) }
-    ensures known { (name : List ℕ) → ¬ (IsErrOf result (Fault.UnknownEncoding name)) }
-    ensures refused { IsErrOf result Fault.Refused → S.goes_on sink.new ≡ false }
-    ensures stopped { IfErr result (AtFault ((tokens : List Token)
-        × BeginsAt place.old tokens window.now × (sink.new ≡ fold S.after sink.old tokens))) }
+    ensures fault { IfErr result
+        (TellsWindow S.after S.goes_on place.old window.now sink.old sink.new) }
 {
     let mut rest = window;
     'reading: loop {
@@ -174,31 +159,8 @@ fn read_encoded<R: Read, S: Sink>(
     ensures document { OnOk result ((input : List ℕ) × (tokens : List Token)
         × IsTold (text_left encoding head.now (R.remaining reader.old)) input
         × IsComplete input tokens × (sink.new ≡ fold S.after sink.old tokens)) }
-    ensures malformed { IsErrOf result Fault.Malformed
-        → IfSome (text_left encoding head.now (R.remaining reader.old)) IsNeverComplete }
-    ensures stuck { IsErrOf result Fault.Malformed → (tokens : List Token)
-        × IfSome (text_left encoding head.now (R.remaining reader.old))
-        (MeetsFrom NoneStandsAt first_place tokens) × (sink.new ≡ fold S.after sink.old tokens) }
-    ensures garbled { IsErrOf result Fault.NotText
-        → IfSome (text_left encoding head.now (R.remaining reader.old)) IsNoText }
-    ensures broken { IsErrOf result Fault.NotText → (tokens : List Token)
-        × IfSome (text_left encoding head.now (R.remaining reader.old)) (IsGarbledBehind tokens)
-        × (sink.new ≡ fold S.after sink.old tokens) }
-    ensures deep { IsErrOf result Fault.TooDeep → (tokens : List Token)
-        × IfSome (text_left encoding head.now (R.remaining reader.old))
-        (MeetsFrom IsDeepAt first_place tokens) × (sink.new ≡ fold S.after sink.old tokens) }
-    ensures large { IsErrOf result Fault.LargeTag → (tokens : List Token)
-        × IfSome (text_left encoding head.now (R.remaining reader.old))
-        (MeetsFrom IsLargeAt first_place tokens) × (sink.new ≡ fold S.after sink.old tokens) }
-    ensures long { IsErrOf result Fault.TooLong → (tokens : List Token)
-        × IfSome (text_left encoding head.now (R.remaining reader.old))
-        (MeetsFrom IsLongAt first_place tokens) × (sink.new ≡ fold S.after sink.old tokens) }
-    ensures known { (name : List ℕ) → ¬ (IsErrOf result (Fault.UnknownEncoding name)) }
-    ensures refused { IsErrOf result Fault.Refused → S.goes_on sink.new ≡ false }
-    ensures stopped { IfErr result (AtFault ((tokens : List Token)
-        × IfSome (text_left encoding head.now (R.remaining reader.old))
-        (BeginsAt first_place tokens)
-        × (sink.new ≡ fold S.after sink.old tokens))) }
+    ensures fault { IfErr result (TellsText S.after S.goes_on
+        (text_left encoding head.now (R.remaining reader.old)) sink.old sink.new) }
 {
     let mut place = Place::first(alloc);
     let mut held = Held::Nothing;
@@ -238,33 +200,8 @@ pub fn read_document<R: Read, S: Sink>(
     ensures document { OnOk result ((text : List ℕ) × (tokens : List Token)
         × IsTextOf (R.remaining reader.old) text
         × IsDocument text tokens × (sink.new ≡ fold S.after sink.old tokens)) }
-    ensures malformed { IsErrOf result Fault.Malformed
-        → OfText IsNoDocument (R.remaining reader.old) }
-    ensures stuck { IsErrOf result Fault.Malformed → (tokens : List Token)
-        × OfText (Meets NoneMayStand tokens) (R.remaining reader.old)
-        × (sink.new ≡ fold S.after sink.old tokens) }
-    ensures garbled { IsErrOf result Fault.NotText
-        → OfText IsNoText (R.remaining reader.old) }
-    ensures broken { IsErrOf result Fault.NotText → (tokens : List Token)
-        × OfText (Meets IsGarbled tokens) (R.remaining reader.old)
-        × (sink.new ≡ fold S.after sink.old tokens) }
-    ensures deep { IsErrOf result Fault.TooDeep → (tokens : List Token)
-        × OfText (Meets IsDeep tokens) (R.remaining reader.old)
-        × (sink.new ≡ fold S.after sink.old tokens) }
-    ensures large { IsErrOf result Fault.LargeTag → (tokens : List Token)
-        × OfText (Meets IsLarge tokens) (R.remaining reader.old)
-        × (sink.new ≡ fold S.after sink.old tokens) }
-    ensures long { IsErrOf result Fault.TooLong → (tokens : List Token)
-        × OfText (Meets IsLong tokens) (R.remaining reader.old)
-        × (sink.new ≡ fold S.after sink.old tokens) }
-    ensures unknown { (name : List ℕ) → IsErrOf result (Fault.UnknownEncoding name)
-        → IfSome (R.remaining reader.old) (IsOfUnknown name) }
-    ensures unread { (name : List ℕ) → IsErrOf result (Fault.UnknownEncoding name)
-        → sink.new ≡ sink.old }
-    ensures refused { IsErrOf result Fault.Refused → S.goes_on sink.new ≡ false }
-    ensures stopped { IfErr result (AtFault ((tokens : List Token)
-        × OfText (BeginsWith tokens) (R.remaining reader.old)
-        × (sink.new ≡ fold S.after sink.old tokens))) }
+    ensures fault { IfErr result
+        (Tells S.after (R.remaining reader.old) sink.old sink.new S.goes_on) }
 {
     let head = read_head(alloc, reader)?;
     let Some((encoding, mark)) = encoding_at(front(&head)) else {
@@ -276,10 +213,7 @@ pub fn read_document<R: Read, S: Sink>(
 // That the encoding of a document that begins so is none that is known.
 fn unknown_encoding(alloc: Global, head: &[u8]) -> Fault
     requires { encoding_at head.now ≡ None }
-    ensures named { (name : List ℕ) → result ≡ Fault.UnknownEncoding name
-        → declared_name head.now ≡ Some name }
-    ensures fault { (result ≡ Fault.Memory)
-        ⊎ ((name : List ℕ) × (result ≡ Fault.UnknownEncoding name)) }
+    ensures { IsUnknown head.now result }
 {
     match Vec::from_slice(alloc, unknown_name(head)) {
         Ok(name) => Fault::UnknownEncoding(Bytes::from_vec(name)),

@@ -5,6 +5,7 @@
 
 ghost use Rattle.std.specs.Prelude.{◌≤◌, IfOk};
 
+use program_clients::entrances::HostEntrances;
 use program_clients::sockets::Sockets;
 use program_databases::paths::Paths;
 use program_databases::stored_desks::StoredDesks;
@@ -37,6 +38,7 @@ fn run_words(rt: &HostRuntime, words: std::env::Args) -> Result<u8, AllocError>
     let may_show = is_long(words.as_slice()) && !output.is_terminal();
     let mut machine = Machine {
         desks: Sockets,
+        entrances: HostEntrances::new(rt),
         files: HostFiles::new(rt),
         streams: Streams {
             input: rt.stdin(),

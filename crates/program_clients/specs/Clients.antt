@@ -4,6 +4,10 @@ use Rattle.program_lines.specs.declared.fault.Fault.{Fault}
 use Rattle.program_clients.specs.declared.clients.Protocol.{Protocol}
 use Rattle.program_clients.specs.declared.clients.Protocol.TheVariants as protocol
 
+-- what clients send, or are sent, in order, where that is known
+abbrev pub ClientTexts : Type 0
+ClientTexts = Option (List (List ℕ))
+
 -- The next client sends that. Old, new: what the clients send that are still to come, where that is
 -- known
 abbrev pub IsNext : Option (List ℕ) → Option (List (List ℕ)) → Option (List (List ℕ)) → Type 0
@@ -45,3 +49,10 @@ Accepts sends speaks holds batches old new (Ok (Some client)) =
     × IfSome (holds client.2) (λ bytes. bytes ≡ [])
 Accepts sends speaks holds batches old new (Ok None) = IfSome old (λ clients. ⊥)
 Accepts sends speaks holds batches old new (Err fault) = ⊤
+
+-- what opening to clients gives: those who were to come, of whom it is known what others were sent.
+-- Coming, replied: what clients send that are to come, and were sent that were served
+abbrev pub OpensTo : {C : Type 0} → (C → ClientTexts) → (C → ClientTexts) → ClientTexts
+    → ClientTexts → Result C Fault → Type 0
+OpensTo coming replied are were (Ok clients) = (coming clients ≡ are) × (replied clients ≡ were)
+OpensTo coming replied are were (Err fault) = ⊤

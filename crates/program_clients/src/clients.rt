@@ -44,7 +44,7 @@ pub trait Clients {
             (replied self.old) (replied self.new) result };
 
     /// Closes the connection of a client, which was served.
-    fn close(&mut self, reader: Self::Reader, writer: Self::Writer)
+    fn disconnect(&mut self, reader: Self::Reader, writer: Self::Writer)
         ensures coming { coming self.new ≡ coming self.old }
         ensures replied { IsReplied (Self.Writer.contents writer)
             (replied self.old) (replied self.new) };

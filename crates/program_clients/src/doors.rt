@@ -168,7 +168,7 @@ impl<'a> Clients for Doors<'a> {
         }
     }
 
-    fn close(&mut self, reader: Timed<'a>, writer: Timed<'a>) {
+    fn disconnect(&mut self, reader: Timed<'a>, writer: Timed<'a>) {
         drop(writer);
         reader.into_stream().shut_down();
     }

@@ -20,10 +20,6 @@ pub struct Port<'a> {
     pub limit: Duration,
 }
 
-/// The port of a command that serves at one, or why it could not be bound. A command that does not
-/// has none.
-pub type Bound<'a> = Option<Result<Port<'a>, Fault>>;
-
 /// Why a port of 127.0.0.1 cannot be listened at, where the system says it again.
 pub fn why_unbound(rt: &HostRuntime, number: u16) -> Option<&'static str> {
     let address = SocketAddr::V4(SocketAddrV4::new(Ipv4Addr::LOCALHOST, number));
@@ -94,7 +90,7 @@ impl<'a> Clients for Port<'a> {
         }
     }
 
-    fn close(&mut self, reader: Timed<'a>, writer: Timed<'a>) {
+    fn disconnect(&mut self, reader: Timed<'a>, writer: Timed<'a>) {
         drop(writer);
         reader.into_stream().shut_down();
     }

@@ -19,6 +19,7 @@ use Rattle.program_commands.specs.Connections.{Connection, EndsServing, IsServed
 use Rattle.program_commands.specs.Deliveries.{AreTexts, delivery_of}
 use Rattle.program_lines.specs.Printing.{PrintEnds}
 use Rattle.program_commands.specs.Serving.{listening_line}
+use Rattle.program_clients.specs.Clients.{ClientTexts}
 use Rattle.program_clients.specs.declared.clients.Protocol.{Protocol}
 use Rattle.program_words.specs.declared.invocation.Task.{Task}
 use Rattle.program_words.specs.declared.invocation.Task.TheVariants as task
@@ -68,7 +69,7 @@ module _ (asked : List Step → Type 0) (written : List ℕ → Type 0) where
   -- that is known; old, new: what those that were served were sent. Speaks: by what a client is
   -- served that is read so
   abbrev pub ConnectionsServed : {R : Type 0} → (R → Protocol) → Bool
-      → Option (List (List ℕ)) → Option (List (List ℕ)) → Option (List (List ℕ)) → ℕ → ℕ → Type 0
+      → ClientTexts → ClientTexts → ClientTexts → ℕ → ℕ → Type 0
   ConnectionsServed speaks batches coming old new count status =
       (served : List Connection) × AreFirst coming served × AreReplied old new served
       × All (λ c. IsOf speaks c.ending) served
@@ -77,17 +78,21 @@ module _ (asked : List Step → Type 0) (written : List ℕ → Type 0) where
   -- `serve` of so many connections at that port, and at a socket where batches are taken: their
   -- lines are written behind the one of the port; or a first part of that is, with 3, and none was
   -- served
-  abbrev pub ServeEnds : Bool → ℕ → ℕ → ℕ → Type 0
-  ServeEnds batches port count status =
-      (served : List Connection) × ConnectionsEnd asked batches count served
+  abbrev pub ServeEnds : Bool → ClientTexts → ClientTexts → ClientTexts → ℕ → ℕ → ℕ → Type 0
+  ServeEnds batches coming old new port count status =
+      (served : List Connection) × AreFirst coming served × AreReplied old new served
+      × ConnectionsEnd asked batches count served
       × (((status ≡ 3) × (served ≡ []) × WritesFront written (listening_line port))
       ⊎ EndsServing (λ lines. written (listening_line port ++ lines)) count served status)
 
-  -- how a command can end with this status
-  abbrev pub TaskEnds : Task → Holdings → Option (List ℕ) → ℕ → Type 0
-  TaskEnds task.Batch holds told status = BatchEnds told status
-  TaskEnds (task.Deliver names) holds told status =
-      DeliverEnds holds told (map (λ name. name.now) names.items) status
-  TaskEnds (task.Gaps name) holds told status = GapsEnds (series_name_of name.now) status
-  TaskEnds (task.Serve port requests batches) holds told status =
-      ServeEnds (is_some batches) port requests status
+  -- how a command can end with this status. Holds: what names hold. Told: what the input tells of
+  -- its bytes. Coming, old, new: as of serving
+  abbrev pub TaskEnds : Task → Holdings → Option (List ℕ) → ClientTexts → ClientTexts → ClientTexts
+      → ℕ → Type 0
+  TaskEnds task.Batch holds told coming old new status = (new ≡ old) × BatchEnds told status
+  TaskEnds (task.Deliver names) holds told coming old new status =
+      (new ≡ old) × DeliverEnds holds told (map (λ name. name.now) names.items) status
+  TaskEnds (task.Gaps name) holds told coming old new status =
+      (new ≡ old) × GapsEnds (series_name_of name.now) status
+  TaskEnds (task.Serve port requests batches) holds told coming old new status =
+      ServeEnds (is_some batches) coming old new port requests status

@@ -67,7 +67,7 @@ impl<'a> Clients for KnownClients<'a> {
         }
     }
 
-    fn close(&mut self, reader: &'a [u8], writer: Vec<u8>) {
+    fn disconnect(&mut self, reader: &'a [u8], writer: Vec<u8>) {
         drop(reader);
         self.replies = with_reply(self.replies.take(), writer);
     }

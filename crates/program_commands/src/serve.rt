@@ -1,7 +1,7 @@
 //! The command `serve`: the desk over HTTP at a port of 127.0.0.1, and for batches at a socket of
 //! the file system where one is named.
 
-ghost use Rattle.std.specs.Prelude.{◌≡◌, ◌≤◌, is_some};
+ghost use Rattle.std.specs.Prelude.{◌≡◌, ◌≤◌, false, is_some, true};
 ghost use Rattle.std.specs.Io.KnownBytes.{Appends};
 ghost use Rattle.program_commands.specs.ServedClients.{ServesNext};
 ghost use Rattle.series_rules.specs.Steps.{Asked};
@@ -16,8 +16,8 @@ use crate::streams::Streams;
 use desk_http::{HttpFault, Routes};
 use price_rules::precedence::Precedence;
 use program_clients::clients::Clients;
-use program_clients::doors::Doors;
-use program_clients::port::{Bound, Port, why_unbound};
+use program_clients::entrances::Entrances;
+use program_clients::port::why_unbound;
 use program_clients::sockets::why_unheard;
 use program_lines::fault::{Fault, report, report_why};
 use program_lines::printing::print_number;
@@ -72,7 +72,7 @@ fn serve_next<D: Desk, C: Clients, I, O: Write, E: Write>(
                 writer,
             } = client;
             tell_exchange(rt.alloc(), protocol, reader.kept(), &mut streams.errors);
-            clients.close(reader.into_reader(), writer);
+            clients.disconnect(reader.into_reader(), writer);
             ended
         }
         Ok(None) => print_line(&Err(HttpFault::Read), &mut streams.output),
@@ -134,7 +134,8 @@ fn serve_at<D: Desk, C: Clients, I, O: Write, E: Write>(
     ensures status { result ≤ 3 }
     ensures end { ServeEnds (Asked D.seen precedence.now desk.old desk.new)
         (Appends (O.contents streams.old.output) (O.contents streams.new.output))
-        C.takes_batches place.entry.port place.entry.requests result }
+        C.takes_batches (C.coming clients.old) (C.replied clients.old) (C.replied clients.new)
+        place.entry.port place.entry.requests result }
 {
     match print_listening(place.port, &mut streams.output) {
         Ok(()) => serve_clients(
@@ -176,69 +177,97 @@ fn report_unopened<E: Write>(
     status
 }
 
-// What cannot be listened at is reported, and nothing is served.
-fn serve_opened<D: Desk, C: Clients + Drop, I, O: Write, E: Write>(
+// Listens at a port, and serves by these routes. What cannot be listened at is reported, and nothing
+// is served.
+fn listen_at_port<D: Desk, N: Entrances, I, O: Write, E: Write>(
     rt: &HostRuntime,
     routes: &Routes,
     desk: &mut D,
     precedence: &Precedence,
-    opened: Result<C, Fault>,
+    entrances: &mut N,
     place: Place<'_>,
     streams: &mut Streams<I, O, E>,
 ) -> u8
     ensures status { result ≤ 3 }
     ensures end { ServeEnds (Asked D.seen precedence.now desk.old desk.new)
         (Appends (O.contents streams.old.output) (O.contents streams.new.output))
-        C.takes_batches place.entry.port place.entry.requests result }
+        false (N.coming entrances.old) (N.replied entrances.old) (N.replied entrances.new)
+        place.entry.port place.entry.requests result }
 {
-    match opened {
-        Ok(mut clients) => { serve_at(rt, routes, desk, precedence, &mut clients, place, streams) }
-        Err(fault) => report_unopened(rt, &fault, place.batches, &mut streams.errors.writer),
+    match entrances.open_port(place.port) {
+        Ok(mut clients) => {
+            let status = serve_at(rt, routes, desk, precedence, &mut clients, place, streams);
+            entrances.close_port(clients);
+            status
+        }
+        Err(fault) => report_unopened(rt, &fault, None, &mut streams.errors.writer),
     }
 }
 
-// The port that was bound, or that is bound now.
-fn bound_port<'a>(rt: &'a HostRuntime, bound: Bound<'a>, number: u16) -> Result<Port<'a>, Fault> {
-    match bound {
-        Some(opened) => opened,
-        None => Port::open(rt, number),
-    }
-}
-
-// Listens, and serves by these routes.
-fn listen<D: Desk, I, O: Write, E: Write>(
+// The same at a port and at a socket for batches.
+fn listen_at_both<D: Desk, N: Entrances, I, O: Write, E: Write>(
     rt: &HostRuntime,
     routes: &Routes,
     desk: &mut D,
     precedence: &Precedence,
-    port: Result<Port<'_>, Fault>,
+    entrances: &mut N,
+    place: Place<'_>,
+    socket: &str,
+    streams: &mut Streams<I, O, E>,
+) -> u8
+    ensures status { result ≤ 3 }
+    ensures end { ServeEnds (Asked D.seen precedence.now desk.old desk.new)
+        (Appends (O.contents streams.old.output) (O.contents streams.new.output))
+        true (N.coming entrances.old) (N.replied entrances.old) (N.replied entrances.new)
+        place.entry.port place.entry.requests result }
+{
+    match entrances.open_both(place.port, socket) {
+        Ok(mut clients) => {
+            let status = serve_at(rt, routes, desk, precedence, &mut clients, place, streams);
+            entrances.close_both(clients);
+            status
+        }
+        Err(fault) => report_unopened(rt, &fault, Some(socket), &mut streams.errors.writer),
+    }
+}
+
+// Listens where it is named, and serves by these routes.
+fn listen<D: Desk, N: Entrances, I, O: Write, E: Write>(
+    rt: &HostRuntime,
+    routes: &Routes,
+    desk: &mut D,
+    precedence: &Precedence,
+    entrances: &mut N,
     place: Place<'_>,
     streams: &mut Streams<I, O, E>,
 ) -> u8
     ensures status { result ≤ 3 }
     ensures end { ServeEnds (Asked D.seen precedence.now desk.old desk.new)
         (Appends (O.contents streams.old.output) (O.contents streams.new.output))
-        (is_some place.entry.batches) place.entry.port place.entry.requests result }
+        (is_some place.entry.batches) (N.coming entrances.old)
+        (N.replied entrances.old) (N.replied entrances.new)
+        place.entry.port place.entry.requests result }
 {
     match place.batches {
-        None => serve_opened(rt, routes, desk, precedence, port, place, streams),
+        None => listen_at_port(rt, routes, desk, precedence, entrances, place, streams),
         Some(socket) => {
-            let opened = Doors::open(rt, port, socket);
-            serve_opened(rt, routes, desk, precedence, opened, place, streams)
+            listen_at_both(
+                rt, routes, desk, precedence, entrances, place, socket, streams,
+            )
         }
     }
 }
 
-/// Listens at a port of 127.0.0.1, the one that was bound where there is one, and at a socket of
-/// the file system where one is named, writes `listening` and the number of the port, and serves so
-/// many connections: an exchange over HTTP at the port, a batch at the socket. Gives 0, or 3 after
-/// a fault of the port, of the socket or of the output, or when out of memory, which is reported.
-/// The routes of HTTP are made before.
-pub fn serve_desk<D: Desk, I, O: Write, E: Write>(
+/// Listens at a port, the one that was bound where there is one, and at a socket for batches where
+/// one is named, writes `listening` and the number of the port, and serves so many connections: an
+/// exchange over HTTP at the port, a batch at the socket. Gives 0, or 3 after a fault of the port,
+/// of the socket or of the output, or when out of memory, which is reported. The routes of HTTP are
+/// made before.
+pub fn serve_desk<D: Desk, N: Entrances, I, O: Write, E: Write>(
     rt: &HostRuntime,
     desk: &mut D,
     precedence: &Precedence,
-    bound: Bound<'_>,
+    entrances: &mut N,
     place: Place<'_>,
     streams: &mut Streams<I, O, E>,
 ) -> u8
@@ -246,13 +275,12 @@ pub fn serve_desk<D: Desk, I, O: Write, E: Write>(
     // As `serve_clients`, behind the line of the port; with batches only where a socket is named.
     ensures end { ServeEnds (Asked D.seen precedence.now desk.old desk.new)
         (Appends (O.contents streams.old.output) (O.contents streams.new.output))
-        (is_some place.entry.batches) place.entry.port place.entry.requests result }
+        (is_some place.entry.batches) (N.coming entrances.old)
+        (N.replied entrances.old) (N.replied entrances.new)
+        place.entry.port place.entry.requests result }
 {
     match Routes::new(rt.alloc()) {
-        Ok(routes) => {
-            let port = bound_port(rt, bound, place.port);
-            listen(rt, &routes, desk, precedence, port, place, streams)
-        }
+        Ok(routes) => listen(rt, &routes, desk, precedence, entrances, place, streams),
         Err(_) => report(&Fault::Memory, &mut streams.errors.writer),
     }
 }

@@ -4,7 +4,7 @@ ghost use Rattle.std.specs.Prelude.{◌≡◌};
 
 use crate::streams::Errors;
 use program_files::{FileFault, NamedFiles, STANDARD_INPUT};
-use program_lines::fault::{Fault, report, report_file, report_why};
+use program_lines::fault::{Fault, report, report_cause, report_file};
 use std::alloc::Global;
 use std::io::{Read, Write};
 
@@ -34,7 +34,7 @@ pub(crate) fn report_unread<F: NamedFiles, E: Write>(
     }
     let fault = fault_of(alloc, files, name);
     if let Some(FileFault::File { why, .. }) = &fault {
-        report_why(name, why.as_str(), errors);
+        report_cause(name, why.as_str(), errors);
     }
 }
 

@@ -52,7 +52,7 @@ impl<O: Databases> KeepsDesks<DeskStore<FileStore<O::File>>> for StoredDesks<O> 
         }
     }
 
-    fn close(
+    fn close_files(
         desk: DeskStore<FileStore<O::File>>,
     ) -> Result<Files<O::File>, (StoreFault, FileStore<O::File>)> {
         match desk.close_files() {

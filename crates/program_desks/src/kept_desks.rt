@@ -109,7 +109,7 @@ pub trait KeepsDesks<D: ListedDesk> {
 
     /// Closes the files of a desk. After a fault, which comes with what is left of them, a crash
     /// leaves what it could leave before.
-    fn close(desk: D) -> Result<Self::Closed, (StoreFault, Self::Unclosed)>
+    fn close_files(desk: D) -> Result<Self::Closed, (StoreFault, Self::Unclosed)>
         ensures ok { IfOk result (λ closed. LeavesAs (seen desk) (files.closed closed)) }
         ensures alone { IfOk result (λ closed. LastsAlone files closed) }
         ensures err { IfErr result (λ e. LeavesAs (seen desk) (files.unclosed e.1)) };

@@ -71,6 +71,22 @@ pub fn report_why<E: Write>(name: &str, why: &str, errors: &mut E) {
     let _ = write!(errors, "onixdesk: {name}: {why}\n");
 }
 
+// What to do about what the system says of a file, as far as that is plain.
+fn cure_of(why: &str) -> &'static str {
+    match why {
+        "No such file or directory" => "; correct the name",
+        "Is a directory" => "; write the name of a file in it",
+        _ => "",
+    }
+}
+
+/// Writes a second line behind that of a file that cannot be read: what the system says of it, and
+/// what to do. As with `report`, it may be lost.
+pub fn report_cause<E: Write>(name: &str, why: &str, errors: &mut E) {
+    let cure = cure_of(why);
+    let _ = write!(errors, "onixdesk: {name}: {why}{cure}\n");
+}
+
 /// Writes the line of a file that cannot be read. As with `report`, it may be lost.
 pub fn report_file<E: Write>(name: &str, errors: &mut E) {
     let _ = write!(errors, "onixdesk: file: {name}\n");

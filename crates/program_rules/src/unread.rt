@@ -1,7 +1,7 @@
 //! Why a file is not read.
 
 use program_files::{FileFault, NamedFiles};
-use program_lines::fault::report_why;
+use program_lines::fault::report_cause;
 use std::alloc::Global;
 use std::io::{Read, Write};
 
@@ -26,6 +26,6 @@ pub(crate) fn tell_unread<F: NamedFiles, E: Write>(
 ) {
     let fault = fault_of(alloc, files, name);
     if let Some(FileFault::File { why, .. }) = &fault {
-        report_why(name, why.as_str(), errors);
+        report_cause(name, why.as_str(), errors);
     }
 }

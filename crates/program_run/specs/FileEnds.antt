@@ -11,8 +11,9 @@ use Rattle.program_desks.specs.declared.kept_desks.Creation.TheVariants.{Never}
 use Rattle.program_words.specs.Asked.{Reads}
 use Rattle.program_run.specs.ConvertEnds.{ConvertEnds}
 use Rattle.program_run.specs.ListingEnds.{ListingEnds, SparesFiles}
-use Rattle.program_run.specs.OverFiles.{EndsOverFiles, IsUntouched, MigrateEnds, creation_by}
+use Rattle.program_run.specs.OverFiles.{EndsOverFiles, IsUnserved, IsUntouched, MigrateEnds, creation_by}
 use Rattle.program_lines.specs.Printing.{PrintEnds}
+use Rattle.program_clients.specs.Clients.{ClientTexts}
 use Rattle.program_clients.specs.Sent.{Message}
 use Rattle.program_rules.specs.RulesFile.{CheckEnds, ReadsTable, status_of}
 use Rattle.program_rules.specs.TermsRead.{CheckTermsEnds}
@@ -27,13 +28,15 @@ use Rattle.program_words.specs.declared.invocation.Task.{Task}
 use Rattle.program_rules.specs.declared.rules.RulesFault.{RulesFault}
 
 -- Of a command under these rules. Written: these bytes were written. Holds: what names hold. Told:
--- what the input tells of its bytes
+-- what the input tells of its bytes. Coming: what the clients send of a desk that serves; were,
+-- are: what those that were served were sent, before and after
 module _ (rules : List Rule) (written : List ℕ → Type 0) (task : Task) (holds : Holdings)
-    (told : Option (List ℕ)) where
+    (told : Option (List ℕ)) (coming were are : ClientTexts) where
   -- how it can end over a desk that was seen as `old` at first and as `new` at last: what it asked
   -- led from the one to the other
   abbrev pub TaskLeads : {k : DeskKind} → View k → View k → ℕ → Type 0
-  TaskLeads old new = TaskEnds (λ steps. Leads rules steps old new) written task holds told
+  TaskLeads old new =
+      TaskEnds (λ steps. Leads rules steps old new) written task holds told coming were are
 
   -- how it can end over a new desk, which has seen no request
   abbrev pub NewDeskEnds : {M : Type 0} → {k : DeskKind} → (M → View k) → ℕ → Type 0
@@ -65,17 +68,21 @@ IsUnread written words status =
 
 -- Seen: what is seen of a desk in memory. Files: what is seen of the files that `databases` opens.
 -- Answers: what comes from the desk at the socket of a name once it was sent a text, where that is
--- known; was sent, sent: what was sent to such desks, before and after. Is told: whether it is told
--- what files hold; before, after: what names hold. Written: these bytes were written. Told: what
--- the input tells of its bytes
+-- known; was sent, sent: what was sent to such desks, before and after. Coming, were, are: as of a
+-- command. Is told: whether it is told what files hold; before, after: what names hold. Written:
+-- these bytes were written. Told: what the input tells of its bytes
 module _ {M : Type 0} {m : DeskKind} (seen : M → View m) {K : Type 0} {k : DeskKind}
     {C U N : Type 0} (files : DeskFiles K k C U N) (databases : K)
     (answers : List ℕ → List ℕ → Option (List ℕ)) (was_sent sent : Option (List Message))
-    (is_told : Bool) (before after : Holdings)
+    (coming were are : ClientTexts) (is_told : Bool) (before after : Holdings)
     (written : List ℕ → Type 0) (told : Option (List ℕ)) where
   -- nothing was sent to a desk that is open, and each name holds what it held
+  abbrev pub IsApart : Type 0
+  IsApart = (sent ≡ was_sent) × (after ≡ before)
+
+  -- so it is, and no client was served
   abbrev pub IsQuiet : Type 0
-  IsQuiet = (sent ≡ was_sent) × (after ≡ before)
+  IsQuiet = IsApart × (are ≡ were)
 
   -- nothing was done: with that status, nothing written or sent, no file of a desk touched, and
   -- each name holds what it held
@@ -84,27 +91,29 @@ module _ {M : Type 0} {m : DeskKind} (seen : M → View m) {K : Type 0} {k : Des
       (status ≡ own) × written [] × IsUntouched left × IsQuiet
 
   -- how an action can end under those rules, with what it leaves of files. Only `export` into a
-  -- folder and `convert` change what names hold, and only `--batches` sends anything to a desk that
-  -- is open
+  -- folder and `convert` change what names hold, only `--batches` sends anything to a desk that is
+  -- open, and only `serve` serves clients
   abbrev pub ActionEnds : List Rule → Action → ℕ → FilesLeft K N U C → Type 0
   ActionEnds rules (InMemory task) status left =
-      IsQuiet × IsUntouched left × NewDeskEnds rules written task before told seen status
+      IsApart × IsUntouched left
+      × NewDeskEnds rules written task before told coming were are seen status
   ActionEnds rules (InFile db task) status left =
-      IsQuiet × EndsOverFiles files databases db.name.now
-      (creation_by db.is_existing) written
-      (TaskLeads rules written task before told) status left
+      IsApart × IsUnserved were are left
+      × EndsOverFiles files databases db.name.now (creation_by db.is_existing) written
+      (TaskLeads rules written task before told coming were are) status left
   ActionEnds rules (Listed db listing) status left =
-      (sent ≡ was_sent) × SparesFiles written is_told before after listing
+      (sent ≡ was_sent) × (are ≡ were) × SparesFiles written is_told before after listing
       × EndsOverFiles files databases db.name.now Never written
       (ListingEnds written is_told before after listing) status left
   ActionEnds rules (Migrate db) status left =
       IsQuiet
       × MigrateEnds files databases db.name.now (creation_by db.is_existing) written status left
   ActionEnds rules (Send socket) status left =
-      (after ≡ before) × IsUntouched left
+      (after ≡ before) × (are ≡ were) × IsUntouched left
       × SendEnds told answers was_sent sent written socket.now status
   ActionEnds rules (Convert c) status left =
-      (sent ≡ was_sent) × IsUntouched left × ConvertEnds is_told before after told written c status
+      (sent ≡ was_sent) × (are ≡ were) × IsUntouched left
+      × ConvertEnds is_told before after told written c status
   ActionEnds rules (CheckRules file) status left =
       IsQuiet × IsUntouched left × CheckEnds written (before file.now) status
   ActionEnds rules (CheckTerms file) status left =

@@ -31,7 +31,7 @@ pub(crate) fn close_desk<D: ListedDesk, K: KeepsDesks<D>, E: Write>(
     ensures status { result.0 ≤ 3 }
     ensures end { Closes K.files (K.seen desk) status result.0 result.1 }
 {
-    match K::close(desk) {
+    match K::close_files(desk) {
         Ok(files) => (status, FilesLeft::Closed(files)),
         Err((fault, left)) => {
             let status = report_unclosed(status, &Fault::from(fault), errors);

@@ -119,7 +119,7 @@ fn convert_with_terms<F: NamedFiles, R: Read, W: Write, E: Write>(
 
 /// Converts FILEs, by the terms of a file where one is named, and writes their titles where they
 /// are asked for. Where there are no terms in that file, that is reported, and no FILE is opened.
-pub(crate) fn run<F: NamedFiles, R: Read, W: Write, E: Write>(
+pub(crate) fn convert<F: NamedFiles, R: Read, W: Write, E: Write>(
     rt: &HostRuntime,
     conversion: &Conversion<'_>,
     files: &mut F,

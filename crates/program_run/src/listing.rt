@@ -140,7 +140,7 @@ fn run_export<D: ListedDesk, F: NamedFiles, R, W: Write, E: Write>(
 }
 
 // Lists what a desk holds. Gives 0, or 3 after a fault, which is reported.
-fn run<D: ListedDesk, F: NamedFiles, R, W: Write, E: Write>(
+fn list_desk<D: ListedDesk, F: NamedFiles, R, W: Write, E: Write>(
     alloc: Global,
     desk: &mut D,
     listing: Listing<'_>,
@@ -185,7 +185,7 @@ pub fn list_file<D: ListedDesk, K: KeepsDesks<D>, F: NamedFiles, R, W: Write, E:
 {
     match databases.open(rt, db.name, Creation::Never, &mut streams.errors.writer) {
         Ok(mut desk) => {
-            let status = run(rt.alloc(), &mut desk, listing, files, streams);
+            let status = list_desk(rt.alloc(), &mut desk, listing, files, streams);
             close_desk(status, desk, &mut streams.errors.writer)
         }
         Err((fault, left)) => (

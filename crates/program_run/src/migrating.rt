@@ -40,7 +40,7 @@ fn write_line<W: Write, E: Write>(did: Migration, output: &mut W, errors: &mut E
 /// Brings the desk in the database file of a name to the present version, and writes `migrated`, or
 /// `schema 2` where it is of that version and stays as it is. Gives 0, or 3 after a fault, which is
 /// reported; and what is left of the files.
-pub(crate) fn run<D: ListedDesk, K: KeepsDesks<D>, R, W: Write, E: Write>(
+pub(crate) fn migrate_file<D: ListedDesk, K: KeepsDesks<D>, R, W: Write, E: Write>(
     rt: &HostRuntime,
     db: &Database<'_>,
     databases: K,

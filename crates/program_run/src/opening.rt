@@ -30,7 +30,7 @@ fn text_of(cause: Cause) -> &'static str {
         Cause::NoFolder =>
             "its folder is not there; correct the name behind --db, or make the folder for a new desk with nothing in it",
         Cause::Empty => "an empty file, which has no desk",
-        Cause::Folder => "a folder",
+        Cause::Folder => "a folder; write the name of a file in it behind --db",
         Cause::InFile => "a folder of its path is a file",
         Cause::Special => "not a file",
         Cause::BadName => "not the name of a file to SQLite",
@@ -40,7 +40,7 @@ fn text_of(cause: Cause) -> &'static str {
             "another program has it open; if a desk is served, send it the batch (--batches), or list a copy of it (desk-copy)"
         }
         Cause::NoLog => "no log can be made beside it",
-        Cause::NoDatabase => "not a database",
+        Cause::NoDatabase => "not a database; correct the name behind --db, or restore a copy",
         Cause::NoDesk => {
             "a database of another program, or a damaged one; docs/RELIABILITY.md, Faults"
         }

@@ -4,7 +4,7 @@ ghost use Rattle.std.specs.Prelude.{◌≡◌, ◌≤◌, IfErr, IfOk, map};
 ghost use Rattle.std.specs.Io.KnownBytes.{Appends};
 ghost use Rattle.program_run.specs.FileEnds.{ActionEnds, InvocationEnds, IsUnread, NewDeskEnds, ReadsRules, RunEnds, TaskLeads};
 ghost use Rattle.program_words.specs.Asked.{Reads};
-ghost use Rattle.program_run.specs.OverFiles.{EndsOverFiles, creation_by};
+ghost use Rattle.program_run.specs.OverFiles.{EndsOverFiles, IsUnserved, creation_by};
 
 use crate::closing::close_desk;
 use crate::machine::Machine;
@@ -12,11 +12,12 @@ use crate::opening::{creation_of, report_unopened};
 use crate::{converting, help, listing, migrating};
 use desk_memory::MemoryDesk;
 use price_rules::precedence::Precedence;
+use program_clients::entrances::Entrances;
 use program_clients::open_desks::OpenDesks;
 use program_commands::checked_texts::check_texts;
 use program_commands::sending::send_input;
 use program_commands::streams::Streams;
-use program_commands::task::{port_of, run_task};
+use program_commands::task::{bind_port, run_task};
 use program_desks::files_left::FilesLeft;
 use program_desks::kept_desks::KeepsDesks;
 use program_files::NamedFiles;
@@ -44,34 +45,46 @@ fn hint_of(task: &Task<'_>) -> &'static str {
 }
 
 // Runs a command over a new desk in memory.
-fn run_in_memory<F: NamedFiles, R: Read, W: Write, E: Write>(
+fn run_in_memory<F: NamedFiles, N: Entrances, R: Read, W: Write, E: Write>(
     rt: &HostRuntime,
     precedence: &Precedence,
     task: &Task<'_>,
     files: &F,
+    entrances: &mut N,
     streams: &mut Streams<R, W, E>,
 ) -> u8
     ensures status { result ≤ 3 }
     ensures end { NewDeskEnds precedence.now
         (Appends (W.contents streams.old.output) (W.contents streams.new.output)) task.now
-        (F.holds files.now) (R.remaining streams.old.input) ⟦<MemoryDesk as Desk>⟧.seen result }
+        (F.holds files.now) (R.remaining streams.old.input) (N.coming entrances.old)
+        (N.replied entrances.old) (N.replied entrances.new)
+        ⟦<MemoryDesk as Desk>⟧.seen result }
 {
     let mut desk = MemoryDesk::new(rt.alloc());
-    let bound = port_of(rt, task);
+    bind_port(entrances, task);
     streams.errors.hint = hint_of(task);
-    let status = run_task(rt, &mut desk, precedence, bound, task, files, streams);
+    let status = run_task(rt, &mut desk, precedence, task, files, entrances, streams);
     desk.is_always_sound();
     status
 }
 
 // Runs a command over the desk in the database file of a name.
-fn run_in_file<D: ListedDesk, K: KeepsDesks<D>, F: NamedFiles, R: Read, W: Write, E: Write>(
+fn run_in_file<
+    D: ListedDesk,
+    K: KeepsDesks<D>,
+    F: NamedFiles,
+    N: Entrances,
+    R: Read,
+    W: Write,
+    E: Write,
+>(
     rt: &HostRuntime,
     db: &Database<'_>,
     databases: K,
     precedence: &Precedence,
     task: &Task<'_>,
     files: &F,
+    entrances: &mut N,
     streams: &mut Streams<R, W, E>,
 ) -> (u8, FilesLeft<K, K::Unopened, K::Unclosed, K::Closed>)
     ensures status { result.0 ≤ 3 }
@@ -82,12 +95,14 @@ fn run_in_file<D: ListedDesk, K: KeepsDesks<D>, F: NamedFiles, R: Read, W: Write
         (Appends (W.contents streams.old.output) (W.contents streams.new.output))
         (TaskLeads precedence.now
         (Appends (W.contents streams.old.output) (W.contents streams.new.output))
-        task.now (F.holds files.now) (R.remaining streams.old.input)) result.0 result.1 }
+        task.now (F.holds files.now) (R.remaining streams.old.input) (N.coming entrances.old)
+        (N.replied entrances.old) (N.replied entrances.new)) result.0 result.1 }
+    ensures unserved { IsUnserved (N.replied entrances.old) (N.replied entrances.new) result.1 }
 {
-    let bound = port_of(rt, task);
+    bind_port(entrances, task);
     match databases.open(rt, db.name, creation_of(db), &mut streams.errors.writer) {
         Ok(mut desk) => {
-            let status = run_task(rt, &mut desk, precedence, bound, task, files, streams);
+            let status = run_task(rt, &mut desk, precedence, task, files, entrances, streams);
             close_desk(status, desk, &mut streams.errors.writer)
         }
         Err((fault, left)) => (
@@ -102,6 +117,7 @@ fn run_action<
     D: ListedDesk,
     K: KeepsDesks<D>,
     O: OpenDesks,
+    N: Entrances,
     F: NamedFiles,
     R: Read,
     W: Write,
@@ -111,11 +127,13 @@ fn run_action<
     action: &Action<'_>,
     databases: K,
     precedence: &Precedence,
-    machine: &mut Machine<O, F, R, W, E>,
+    machine: &mut Machine<O, N, F, R, W, E>,
 ) -> (u8, FilesLeft<K, K::Unopened, K::Unclosed, K::Closed>)
     ensures status { result.0 ≤ 3 }
     ensures end { ActionEnds ⟦<MemoryDesk as Desk>⟧.seen K.files databases
         (O.answers machine.old.desks) (O.sent machine.old.desks) (O.sent machine.new.desks)
+        (N.coming machine.old.entrances)
+        (N.replied machine.old.entrances) (N.replied machine.new.entrances)
         F.is_told (F.holds machine.old.files) (F.holds machine.new.files)
         (Appends (W.contents machine.old.streams.output) (W.contents machine.new.streams.output))
         (R.remaining machine.old.streams.input) precedence.now action.now result.0 result.1 }
@@ -123,20 +141,23 @@ fn run_action<
     let alloc = rt.alloc();
     let Machine {
         desks,
+        entrances,
         files,
         streams,
     } = machine;
     let status = match action {
         Action::InFile { db, task } => {
-            return run_in_file(rt, db, databases, precedence, task, files, streams);
+            return run_in_file(
+                rt, db, databases, precedence, task, files, entrances, streams,
+            );
         }
         Action::Listed { db, listing } => {
             return listing::list_file(rt, db, databases, *listing, files, streams);
         }
-        Action::Migrate { db } => return migrating::run(rt, db, databases, streams),
-        Action::InMemory(task) => run_in_memory(rt, precedence, task, files, streams),
+        Action::Migrate { db } => return migrating::migrate_file(rt, db, databases, streams),
+        Action::InMemory(task) => run_in_memory(rt, precedence, task, files, entrances, streams),
         Action::Send { socket } => send_input(rt, desks, socket, streams),
-        Action::Convert(conversion) => converting::run(rt, conversion, files, streams),
+        Action::Convert(conversion) => converting::convert(rt, conversion, files, streams),
         Action::CheckRules { file } => {
             let errors = &mut streams.errors.writer;
             checking::check_rules(alloc, files, file, &mut streams.output, errors)
@@ -178,6 +199,7 @@ pub fn run_invocation<
     D: ListedDesk,
     K: KeepsDesks<D>,
     O: OpenDesks,
+    N: Entrances,
     F: NamedFiles,
     R: Read,
     W: Write,
@@ -186,11 +208,13 @@ pub fn run_invocation<
     rt: &HostRuntime,
     invocation: &Invocation<'_>,
     databases: K,
-    machine: &mut Machine<O, F, R, W, E>,
+    machine: &mut Machine<O, N, F, R, W, E>,
 ) -> (u8, FilesLeft<K, K::Unopened, K::Unclosed, K::Closed>)
     ensures status { result.0 ≤ 3 }
     ensures end { InvocationEnds ⟦<MemoryDesk as Desk>⟧.seen K.files databases
         (O.answers machine.old.desks) (O.sent machine.old.desks) (O.sent machine.new.desks)
+        (N.coming machine.old.entrances)
+        (N.replied machine.old.entrances) (N.replied machine.new.entrances)
         F.is_told (F.holds machine.old.files) (F.holds machine.new.files)
         (Appends (W.contents machine.old.streams.output) (W.contents machine.new.streams.output))
         (R.remaining machine.old.streams.input) invocation.now result.0 result.1 }
@@ -259,6 +283,7 @@ pub fn run<
     D: ListedDesk,
     K: KeepsDesks<D>,
     O: OpenDesks,
+    N: Entrances,
     F: NamedFiles,
     R: Read,
     W: Write,
@@ -267,11 +292,13 @@ pub fn run<
     rt: &HostRuntime,
     words: &[&str],
     databases: K,
-    machine: &mut Machine<O, F, R, W, E>,
+    machine: &mut Machine<O, N, F, R, W, E>,
 ) -> (u8, FilesLeft<K, K::Unopened, K::Unclosed, K::Closed>)
     ensures status { result.0 ≤ 3 }
     ensures end { RunEnds ⟦<MemoryDesk as Desk>⟧.seen K.files databases
         (O.answers machine.old.desks) (O.sent machine.old.desks) (O.sent machine.new.desks)
+        (N.coming machine.old.entrances)
+        (N.replied machine.old.entrances) (N.replied machine.new.entrances)
         F.is_told (F.holds machine.old.files) (F.holds machine.new.files)
         (Appends (W.contents machine.old.streams.output) (W.contents machine.new.streams.output))
         (R.remaining machine.old.streams.input) (map (λ word. word.now) words.now)

@@ -18,7 +18,7 @@ fn hint_of(kind: usize) -> (&'static str, &'static str) {
         ),
         2 => (
             "refused,before-first",
-            "the number is below the FirstNumber of the agreement, the last in the answer: leave the message out, or write its number as FirstNumber in the line Agree; where the desk in a file has that agreement: MISTAKES.md, An agreement was mistyped (in docs, or in /usr/share/doc/onixdesk)",
+            "the number is below the FirstNumber of the agreement, the last in the answer: a message from before the agreement is left out; if FirstNumber was mistyped, write that of the sender's first message, 1 as a rule, as the last field of Agree; where the desk in a file has that agreement: MISTAKES.md, An agreement was mistyped (in docs, or in /usr/share/doc/onixdesk)",
         ),
         3 => (
             "refused,other-contents",

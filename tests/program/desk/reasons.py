@@ -18,6 +18,11 @@ NO_FILE = "no such file; correct the name behind --db, or have batch make a new 
 NO_FOLDER = (
     "its folder is not there; correct the name behind --db, or make the folder for a new desk with nothing in it"
 )
+# Of files of the command line, and of the desk's own.
+NOT_THERE = "No such file or directory; correct the name"
+A_FOLDER = "Is a directory; write the name of a file in it"
+FOLDER = "a folder; write the name of a file in it behind --db"
+NO_DATABASE = "not a database; correct the name behind --db, or restore a copy"
 FAILED_DISK = "the disk is full or failed, or a page of the file is damaged; docs/RELIABILITY.md, Faults"
 OPEN_ELSEWHERE = (
     "another program has it open; if a desk is served, send it the batch (--batches), or list a copy of it (desk-copy)"
@@ -50,11 +55,11 @@ def storage(room: Room) -> Iterator[Outcome]:
         ("folder/none/shop.db", ["--existing", "batch"], NO_FOLDER),
         ("folder/missing.db", ["gaps"], NO_FILE),
         ("file/shop.db", ["batch"], "a folder of its path is a file"),
-        ("folder", ["batch"], "a folder"),
-        ("folder", ["migrate"], "a folder"),
+        ("folder", ["batch"], FOLDER),
+        ("folder", ["migrate"], FOLDER),
         ("empty.db", ["export"], "an empty file, which has no desk"),
-        ("text.db", ["batch"], "not a database"),
-        ("one.db", ["batch"], "not a database"),
+        ("text.db", ["batch"], NO_DATABASE),
+        ("one.db", ["batch"], NO_DATABASE),
         ("other.db", ["--existing", "batch"], OTHERS),
         ("other.db", ["gaps"], OTHERS),
         (":memory:", ["batch"], "not the name of a file to SQLite"),
@@ -146,7 +151,7 @@ def in_deliver(room: Room) -> Iterator[Outcome]:
 def files(room: Room) -> Iterator[Outcome]:
     """A file of `deliver` and of `check`."""
     room.path("folder").mkdir()
-    for name, why in (("none.csv", "No such file or directory"), ("folder", "Is a directory")):
+    for name, why in (("none.csv", NOT_THERE), ("folder", A_FOLDER)):
         for command in ("deliver", "check"):
             came = room.told(command, name)
             yield Outcome(f"why: {command} {name}", came, fault(f"file: {name}", f"{name}: {why}"))
@@ -389,7 +394,7 @@ def rules(room: Room) -> Iterator[Outcome]:
     came = room.told("--rules", "rules.toml", "batch")
     yield Outcome("why: a rules file", came, fault("rules: bad rule 1", why, status=2))
     yield Outcome("why: a rules file has its line", why.startswith("rules.toml: line 2: rule 1 "), True)
-    for name, why in (("none.toml", "No such file or directory"), (".", "Is a directory")):
+    for name, why in (("none.toml", NOT_THERE), (".", A_FOLDER)):
         wanted = fault(f"file: {name}", f"{name}: {why}", status=2)
         for words in (["--rules", name, "batch"], ["rules", name]):
             yield Outcome(f"why: no rules file: {' '.join(words)}", room.told(*words), wanted)

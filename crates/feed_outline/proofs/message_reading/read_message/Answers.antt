@@ -1,8 +1,7 @@
-use Rattle.std.proofs.Common.{◌≡◌, ◌∙◌, true, false, Err, ap, fold, sym}
-use Rattle.feed_outline.specs.declared.message_reading.Fault.TheVariants.{Document}
+use Rattle.std.proofs.Common.{◌≡◌, ◌∙◌, true, false, ap, fold, sym}
 use Rattle.feed_outline.specs.private.Feed.{feed, takes_more}
 use Rattle.feed_outline.specs.private.Finishing.{finished, is_of_text}
-use Rattle.feed_outline.proofs.MessageLaws.{all_explained, at_text, comes, document_at, document_explained, explained, refuses, Reasons}
+use Rattle.feed_outline.proofs.MessageLaws.{comes, document_explained, refuses, taken_behind}
 use Rattle.feed_outline.proofs.message_reading.read_message.Goals.{else-is_of_text-via-then-is_of_text+else-not-takes_more, else-is_of_text-via-else-is_of_text}
 use Rattle.feed_outline.proofs.message_reading.read_message.Goals as goal
 
@@ -22,18 +21,18 @@ returns-in-Ok-clause-refused g c =
     let bytes = g.R.Read.remaining c.args.reader.now in
     let all = comes g.T.Taker.vocabulary after c.args.taker bytes d.0 d.1 t.name t.inside d.2 d.3 t.tree in
     rw (c.finish.ensures ∙ ap finished (d.4 ∙ ap (λ f. fold (feed g.T.Taker.vocabulary after) f d.1) c.new-outliner.ensures))
-    (all_explained g.T.Taker.vocabulary bytes _ all.err all.at)
+    all.refused
 
 pub returns-then-not-takes_more-clause-refused : goal.returns-then-not-takes_more-clause-refused
 returns-then-not-takes_more-clause-refused g c =
     let after = g.T.Taker.after in
     let bytes = g.R.Read.remaining c.args.reader.now in
-    let w = at_text _ c.in-Err.fault (sym c.is_of_text.ensures ∙ c.if-is_of_text.true) c.in-Err.ensures.stopped in
+    let w = taken_behind (feed g.T.Taker.vocabulary after) bytes c.new-outliner.result c.read_document.new.sink takes_more c.in-Err.fault (sym c.is_of_text.ensures ∙ c.if-is_of_text.true) c.in-Err.ensures.fault in
     let is = w.2 ∙ ap (λ f. fold (feed g.T.Taker.vocabulary after) f w.0) c.new-outliner.ensures in
     let last : takes_more c.read_document.new.sink ≡ false = sym c.takes_more.ensures ∙ c.if-not-takes_more.true in
     let all = refuses g.T.Taker.vocabulary after c.args.taker bytes w.0 w.1 (ap takes_more (sym is) ∙ last) in
     rw (c.finish-then-not-takes_more.ensures ∙ ap finished is)
-    (all_explained g.T.Taker.vocabulary bytes _ all.err all.at)
+    all.refused
 
 pub returns-else-is_of_text-clause-refused : goal.returns-else-is_of_text-clause-refused
 returns-else-is_of_text-clause-refused g c =
@@ -45,20 +44,5 @@ returns-else-is_of_text-clause-refused g c =
       | else-is_of_text-via-then-is_of_text+else-not-takes_more w ↦ sym w.takes_more.ensures ∙ w.if-not-takes_more.false
       | else-is_of_text-via-else-is_of_text w ↦ absurd (cc (sym e ∙ sym c.is_of_text.ensures ∙ w.if-is_of_text.false))
     ] in
-    let said = c.in-Err.ensures in
-    let reasons : Reasons g.T.Taker.vocabulary {T = _} {R = _} after bytes c.new-outliner.result sink (Err c.in-Err.fault) = record {
-      malformed = said.malformed;
-      stuck = said.stuck;
-      garbled = said.garbled;
-      broken = said.broken;
-      deep = said.deep;
-      large = said.large;
-      long = said.long;
-      unknown = said.unknown;
-      unread = said.unread;
-      refused = said.refused;
-    } in
     rw (c.stop.ensures, c.place-place.ensures)
-    (explained g.T.Taker.vocabulary bytes (Document c.in-Err.fault) _
-    (document_explained g.T.Taker.vocabulary after bytes c.new-outliner.result sink c.in-Err.fault takes reasons)
-    (document_at g.T.Taker.vocabulary after bytes c.args.taker c.new-outliner.result sink c.in-Err.fault c.new-outliner.ensures takes said.stopped reasons))
+    (document_explained g.T.Taker.vocabulary after bytes c.args.taker c.new-outliner.result sink c.in-Err.fault c.new-outliner.ensures takes c.in-Err.ensures.fault)

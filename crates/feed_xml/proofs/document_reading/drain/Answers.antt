@@ -1,52 +1,22 @@
-use Rattle.std.proofs.Common.{◌++◌, ◌∷◌, ◌∙◌, [], sym, ap, fold}
+use Rattle.std.proofs.Common.{◌≡◌, ◌++◌, ◌∙◌, false, Err, sym, ap, fold}
 use Rattle.std.proofs.lemmas.List.Sums.{fold-append}
 use Rattle.feed_xml.specs.View.{piece_view}
-use Rattle.feed_xml.proofs.DocumentLaws.{other_err, advance_more, never_completes, misplaced, never_stands, stuck_here}
+use Rattle.feed_xml.proofs.DocumentLaws.{advance_more, never_completes, never_stands}
+use Rattle.feed_xml.proofs.FaultLaws.{place_tells}
 use Rattle.feed_xml.proofs.document_reading.drain.Goals as goal
 
-pub returns-in-Err-clause-malformed : goal.returns-in-Err-clause-malformed
-returns-in-Err-clause-malformed g c = λ is.
-    let m = c.in-Err.ensures.malformed (other_err _ _ is) in
-    misplaced c.args.window.now c.reading.rest.now m.1 c.reading.invariant.tokens (m.0 ∷ []) c.args.place.now c.reading.place c.reading.invariant.advances m.2 m.3
+pub returns-in-Err-clause-fault : goal.returns-in-Err-clause-fault
+returns-in-Err-clause-fault g c =
+    let e = c.in-Err.ensures in
+    place_tells g.S.Sink.after g.S.Sink.goes_on c.args.window.now c.reading.rest.now c.reading.invariant.tokens c.args.place.now c.reading.place c.args.sink.now _ c.in-Err.fault c.reading.invariant.advances (cc) e.fault (λ is. e.malformed (ap (λ x. Err x) is)) (λ is. e.deep (ap (λ x. Err x) is)) (λ is. e.large (ap (λ x. Err x) is))
 
-pub returns-in-Err-clause-stuck : goal.returns-in-Err-clause-stuck
-returns-in-Err-clause-stuck g c = λ is.
-    let m = c.in-Err.ensures.malformed (other_err _ _ is) in (
-      c.reading.invariant.tokens,
-      record {
-        rest = c.reading.rest.now;
-        place = c.reading.place;
-        leads = c.reading.invariant.advances;
-        meets = stuck_here c.reading.place c.reading.rest.now m.1 m.0 m.2 m.3;
-      },
-      (cc),
+pub returns-in-Err-Never-clause-fault : goal.returns-in-Err-Never-clause-fault
+returns-in-Err-Never-clause-fault g c =
+    let rest = c.reading.rest.now in
+    let never = rw c.in-Err-Never.field-0-is at c.in-Err-Never.ensures.err in (
+      never_completes c.args.window.now rest c.reading.invariant.tokens c.args.place.now c.reading.place c.reading.invariant.advances never,
+      (c.reading.invariant.tokens, record { rest = rest; place = c.reading.place; leads = c.reading.invariant.advances; meets = never_stands c.reading.place rest never }, (cc)),
     )
-
-pub returns-in-Err-clause-deep : goal.returns-in-Err-clause-deep
-returns-in-Err-clause-deep g c = λ is. (
-  c.reading.invariant.tokens,
-  record { rest = c.reading.rest.now; place = c.reading.place; leads = c.reading.invariant.advances; meets = c.in-Err.ensures.deep (other_err _ _ is) },
-  (cc),
-)
-
-pub returns-in-Err-clause-large : goal.returns-in-Err-clause-large
-returns-in-Err-clause-large g c = λ is. (
-  c.reading.invariant.tokens,
-  record { rest = c.reading.rest.now; place = c.reading.place; leads = c.reading.invariant.advances; meets = c.in-Err.ensures.large (other_err _ _ is) },
-  (cc),
-)
-
-pub returns-in-Err-Never-clause-stuck : goal.returns-in-Err-Never-clause-stuck
-returns-in-Err-Never-clause-stuck g c = λ _. (
-  c.reading.invariant.tokens,
-  record {
-    rest = c.reading.rest.now;
-    place = c.reading.place;
-    leads = c.reading.invariant.advances;
-    meets = never_stands c.reading.place c.reading.rest.now (rw c.in-Err-Never.field-0-is at c.in-Err-Never.ensures.err);
-  },
-  (cc),
-)
 
 pub reading-preserved : goal.reading-preserved
 reading-preserved g c = record {
@@ -57,18 +27,18 @@ reading-preserved g c = record {
       ∙ sym (fold-append g.S.Sink.after c.args.sink.now c.reading.invariant.tokens (piece_view c.in-Ok-take_some.found.0));
 }
 
-pub returns-in-Ok-false-clause-stopped : goal.returns-in-Ok-false-clause-stopped
-returns-in-Ok-false-clause-stopped g c = (
-  c.reading.invariant.tokens ++ piece_view c.in-Ok-take_some.found.0,
-  (
-    c.in-Ok-take_some.found.1.now,
-    c.take_some.new.place,
-    advance_more c.args.window.now c.reading.rest.now c.in-Ok-take_some.found.1.now c.reading.invariant.tokens (piece_view c.in-Ok-take_some.found.0) c.args.place.now c.reading.place c.take_some.new.place c.reading.invariant.advances c.in-Ok-take_some.ensures.begins c.in-Ok-take_some.ensures.ok,
-  ),
-  c.in-Ok-false.ensures.taken ∙ ap (λ s. fold g.S.Sink.after s (piece_view c.in-Ok-take_some.found.0)) c.reading.invariant.sunk
-      ∙ sym (fold-append g.S.Sink.after c.args.sink.now c.reading.invariant.tokens (piece_view c.in-Ok-take_some.found.0)),
-)
-
-pub returns-in-Err-Never-clause-malformed : goal.returns-in-Err-Never-clause-malformed
-returns-in-Err-Never-clause-malformed g c =
-    λ _. never_completes c.args.window.now c.reading.rest.now c.reading.invariant.tokens c.args.place.now c.reading.place c.reading.invariant.advances (rw c.in-Err-Never.field-0-is at c.in-Err-Never.ensures.err)
+pub returns-in-Ok-false-clause-fault : goal.returns-in-Ok-false-clause-fault
+returns-in-Ok-false-clause-fault g c =
+    let is : c.in-Ok-false.field-0 ≡ false = cc c.in-Ok-false.field-0-test in (
+      sym c.in-Ok-false.ensures.more ∙ is,
+      (
+        c.reading.invariant.tokens ++ piece_view c.in-Ok-take_some.found.0,
+        (
+          c.in-Ok-take_some.found.1.now,
+          c.take_some.new.place,
+          advance_more c.args.window.now c.reading.rest.now c.in-Ok-take_some.found.1.now c.reading.invariant.tokens (piece_view c.in-Ok-take_some.found.0) c.args.place.now c.reading.place c.take_some.new.place c.reading.invariant.advances c.in-Ok-take_some.ensures.begins c.in-Ok-take_some.ensures.ok,
+        ),
+        c.in-Ok-false.ensures.taken ∙ ap (λ s. fold g.S.Sink.after s (piece_view c.in-Ok-take_some.found.0)) c.reading.invariant.sunk
+            ∙ sym (fold-append g.S.Sink.after c.args.sink.now c.reading.invariant.tokens (piece_view c.in-Ok-take_some.found.0)),
+      ),
+    )

@@ -1,19 +1,15 @@
-use Rattle.std.proofs.Common.{◌≡◌, ◌∙◌, ℕ, List, Option, Some, take, drop, length, ◌≤◌, sym, ap, subst, refl, fold}
+use Rattle.std.proofs.Common.{◌≡◌, ◌∙◌, ℕ, List, Option, Some, None, take, drop, length, ◌≤◌, sym, ap, subst, refl}
 use Rattle.std.specs.Prelude.{IfSome}
-use Rattle.feed_xml.specs.private.Windows.{BeginsAt, IsTold}
+use Rattle.std.proofs.lemmas.Result.{IfErr-weaker, err_from_is_err_and}
+use Rattle.feed_xml.specs.private.Windows.{IsTold}
 use Rattle.feed_xml.specs.EncodingNames.{encoding_at, IsTextOf, OfText}
+use Rattle.feed_xml.specs.Faults.{Tells}
 use Rattle.feed_xml.specs.private.Decoders.{text_left}
-use Rattle.feed_xml.specs.Grammar.{Token}
-use Rattle.feed_xml.specs.private.Bounds.{IsGarbledBehind, MeetsFrom, IsDeepAt, IsLargeAt, IsLongAt, NoneStandsAt}
-use Rattle.feed_xml.specs.private.Places.{IsNeverComplete, first_place}
-use Rattle.feed_xml.specs.Documents.{IsNoDocument, IsNoText}
+use Rattle.feed_xml.specs.private.Faults.{IsUnknown}
 use Rattle.feed_xml.proofs.DocumentLaws.{ok_then}
-use Rattle.feed_xml.proofs.GarbledLaws.{broken_text}
-use Rattle.feed_xml.proofs.MeetLaws.{of_all, stuck_text, deep_text, large_text, long_text, begins_text}
-use Rattle.feed_xml.proofs.TreeLaws.{document_of, never_document}
-use Rattle.feed_xml.specs.Limits.{BeginsWith}
+use Rattle.feed_xml.proofs.FaultLaws.{by_reading, text_tells, unknown_tells}
 use Rattle.feed_xml.proofs.HeadLaws.{of_text, is_text_of, mark_within}
-use Rattle.feed_xml.proofs.ReadingLaws.{at_same_err}
+use Rattle.feed_xml.proofs.TreeLaws.{document_of}
 use Rattle.feed_xml.proofs.document_reading.read_document.Given.{Over}
 use Rattle.feed_xml.proofs.document_reading.read_document.Goals.{After-read_encoded}
 use Rattle.feed_xml.proofs.document_reading.read_document.Goals as goal
@@ -55,44 +51,21 @@ returns-clause-document g c =
     let s = (goal.at.returns-clause-document g c).After-read_encoded in
     ok_then c.read_encoded.result c.read_encoded.ensures.document (λ d. (d.0, d.1, whole g s d.0 d.2, document_of d.0 d.1 d.3, d.4))
 
-pub returns-clause-malformed : goal.returns-clause-malformed
-returns-clause-malformed g c =
-    let s = (goal.at.returns-clause-malformed g c).After-read_encoded in
-    λ is. of_all IsNeverComplete IsNoDocument (before g s) never_document (of_all_bytes g s IsNeverComplete (c.read_encoded.ensures.malformed is))
+pub returns-clause-fault : goal.returns-clause-fault
+returns-clause-fault g c =
+    let s = (goal.at.returns-clause-fault g c).After-read_encoded in
+    IfErr-weaker c.read_encoded.result _ _ (λ fault told. text_tells g.S.Sink.after g.S.Sink.goes_on _ (before g s) _ _ (of_all_bytes g s) fault told) c.read_encoded.ensures.fault
 
-pub returns-clause-garbled : goal.returns-clause-garbled
-returns-clause-garbled g c = λ is. of_all_bytes g (goal.at.returns-clause-garbled g c).After-read_encoded IsNoText (c.read_encoded.ensures.garbled is)
+pub returns-in_err-head-clause-fault : goal.returns-in_err-head-clause-fault
+returns-in_err-head-clause-fault g c =
+    let p = err_from_is_err_and c.from_residual.result c.from_residual.ensures.1 in
+    rw (p.1, p.2) (by_reading (Tells g.S.Sink.after (g.R.Read.remaining c.args.reader.now) c.args.sink.now c.args.sink.now g.S.Sink.goes_on) tt tt _ c.in_err-head.ensures.fault)
 
-pub returns-clause-broken : goal.returns-clause-broken
-returns-clause-broken g c =
-    let s = (goal.at.returns-clause-broken g c).After-read_encoded in
-    λ is. let w = c.read_encoded.ensures.broken is in (w.0, broken_text w.0 (before g s) (of_all_bytes g s (IsGarbledBehind w.0) w.1), w.2)
-
-pub returns-clause-stuck : goal.returns-clause-stuck
-returns-clause-stuck g c =
-    let s = (goal.at.returns-clause-stuck g c).After-read_encoded in
-    λ is. let w = c.read_encoded.ensures.stuck is in (w.0, stuck_text w.0 (before g s) (of_all_bytes g s (MeetsFrom NoneStandsAt first_place w.0) w.1), w.2)
-
-pub returns-clause-deep : goal.returns-clause-deep
-returns-clause-deep g c =
-    let s = (goal.at.returns-clause-deep g c).After-read_encoded in
-    λ is. let w = c.read_encoded.ensures.deep is in (w.0, deep_text w.0 (before g s) (of_all_bytes g s (MeetsFrom IsDeepAt first_place w.0) w.1), w.2)
-
-pub returns-clause-large : goal.returns-clause-large
-returns-clause-large g c =
-    let s = (goal.at.returns-clause-large g c).After-read_encoded in
-    λ is. let w = c.read_encoded.ensures.large is in (w.0, large_text w.0 (before g s) (of_all_bytes g s (MeetsFrom IsLargeAt first_place w.0) w.1), w.2)
-
-pub returns-clause-long : goal.returns-clause-long
-returns-clause-long g c =
-    let s = (goal.at.returns-clause-long g c).After-read_encoded in
-    λ is. let w = c.read_encoded.ensures.long is in (w.0, long_text w.0 (before g s) (of_all_bytes g s (MeetsFrom IsLongAt first_place w.0) w.1), w.2)
-
-pub returns-clause-stopped : goal.returns-clause-stopped
-returns-clause-stopped g c =
-    let s = (goal.at.returns-clause-stopped g c).After-read_encoded in
-    let Far : Type 0 = (list : List Token) × IfSome (text_left c.in-Some.encoding c.behind.result.now (left g s)) (BeginsAt first_place list) × (c.read_encoded.new.sink ≡ fold g.S.Sink.after c.args.sink.now list) in
-    let Told : Type 0 = (list : List Token) × OfText (BeginsWith list) (before g s) × (c.read_encoded.new.sink ≡ fold g.S.Sink.after c.args.sink.now list) in
-    at_same_err Far Told c.read_encoded.result c.read_encoded.ensures.stopped (λ (w : Far).
-    let all : Told = (w.0, begins_text w.0 (before g s) (of_all_bytes g s (BeginsAt first_place w.0) w.1), w.2) in
-    all)
+pub returns-in_default-clause-fault : goal.returns-in_default-clause-fault
+returns-in_default-clause-fault g c =
+    let none : encoding_at (take 1024 c.in_ok-head.head.items) ≡ None =
+    ap encoding_at (sym (c.front.ensures ∙ ap (take 1024) c.deref.ensures.value)) ∙ sym c.encoding_at.ensures.gives ∙ c.in_default.is in
+    let fault = c.unknown_encoding.result in
+    let unknown : IsUnknown (take 1024 c.in_ok-head.head.items) fault =
+    subst (λ (l : List ℕ). IsUnknown l fault) (c.front-in_default.ensures ∙ ap (take 1024) c.deref-in_default.ensures.value) c.unknown_encoding.ensures in
+    unknown_tells g.S.Sink.after g.S.Sink.goes_on (g.R.Read.remaining c.args.reader.now) c.args.sink.now c.in_ok-head.head.items c.in_ok-head.ensures.whole none fault unknown

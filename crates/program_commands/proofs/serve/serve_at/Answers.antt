@@ -11,6 +11,8 @@ pub returns-in-Ok-clause-end : goal.returns-in-Ok-clause-end
 returns-in-Ok-clause-end g c =
     let ended = c.serve_clients.ensures.end in (
       ended.0,
+      ended.1,
+      ended.2,
       ended.4,
       inr (
         lines_behind _ _ _ (listening_line c.args.place.port) ended.0 c.in-Ok.ensures ended.5.0,
@@ -25,4 +27,4 @@ pub returns-in-Err-clause-end : goal.returns-in-Err-clause-end
 returns-in-Err-clause-end g c =
     let asked = Asked g.D.Desk.seen c.args.precedence.now c.args.desk.now c.args.desk.now in
     let written = Appends (g.O.Write.contents c.args.streams.now.output) (g.O.Write.contents c.print_listening.new.output) in
-    unserved_ends asked written g.C.Clients.takes_batches c.args.place.port c.args.place.requests c.report.result refl c.report.ensures c.in-Err.ensures
+    unserved_ends asked written g.C.Clients.takes_batches (g.C.Clients.coming c.args.clients.now) (g.C.Clients.replied c.args.clients.now) c.args.place.port c.args.place.requests c.report.result refl c.report.ensures c.in-Err.ensures

@@ -14,10 +14,10 @@ returns-in-Ok-Some g c =
     let served = rw c.new.ensures at c.serve_connection-ended.ensures in
     inl (client_of _ g.C.Clients.speaks c.in-Ok-Some.reader sent
     (g.C.Writer.Write.contents c.in-Ok-Some.writer) (g.C.Writer.Write.contents c.serve_connection-ended.new.client.writer)
-    g.C.Clients.takes_batches (g.C.Clients.coming c.args.clients.now) (g.C.Clients.coming c.close.new.self) (g.C.Clients.replied c.args.clients.now) (g.C.Clients.replied c.close.new.self) _ c.serve_connection-ended.result
-    (subst (λ o. IsNext sent (g.C.Clients.coming c.args.clients.now) o) (sym c.close.ensures.coming) accepted.2)
-    (replied_of (g.C.Writer.Write.contents c.in-Ok-Some.writer) (g.C.Writer.Write.contents c.serve_connection-ended.new.client.writer) (g.C.Clients.replied c.args.clients.now) (g.C.Clients.replied c.accept.new.self) (g.C.Clients.replied c.close.new.self)
-    kept.0 kept.1 c.close.ensures.replied)
+    g.C.Clients.takes_batches (g.C.Clients.coming c.args.clients.now) (g.C.Clients.coming c.disconnect.new.self) (g.C.Clients.replied c.args.clients.now) (g.C.Clients.replied c.disconnect.new.self) _ c.serve_connection-ended.result
+    (subst (λ o. IsNext sent (g.C.Clients.coming c.args.clients.now) o) (sym c.disconnect.ensures.coming) accepted.2)
+    (replied_of (g.C.Writer.Write.contents c.in-Ok-Some.writer) (g.C.Writer.Write.contents c.serve_connection-ended.new.client.writer) (g.C.Clients.replied c.args.clients.now) (g.C.Clients.replied c.accept.new.self) (g.C.Clients.replied c.disconnect.new.self)
+    kept.0 kept.1 c.disconnect.ensures.replied)
     accepted.3
     c.in-Ok-Some.protocol accepted.0 accepted.1 served)
 

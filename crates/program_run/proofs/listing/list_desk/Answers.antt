@@ -1,5 +1,5 @@
 use Rattle.std.proofs.Common.{refl}
-use Rattle.program_run.proofs.listing.run.Goals as goal
+use Rattle.program_run.proofs.listing.list_desk.Goals as goal
 
 pub returns-in-Agreements-clause-spares : goal.returns-in-Agreements-clause-spares
 returns-in-Agreements-clause-spares g c = rw c.in-Agreements.is refl

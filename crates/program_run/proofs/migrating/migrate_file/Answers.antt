@@ -1,7 +1,7 @@
 use Rattle.std.proofs.Common.{subst}
 use Rattle.std.proofs.KnownBytes.{Appends-nil}
 use Rattle.program_desks.specs.DeskFiles.{IsMigrated}
-use Rattle.program_run.proofs.migrating.run.Goals as goal
+use Rattle.program_run.proofs.migrating.migrate_file.Goals as goal
 
 pub returns-in-Ok-clause-end : goal.returns-in-Ok-clause-end
 returns-in-Ok-clause-end g c = (

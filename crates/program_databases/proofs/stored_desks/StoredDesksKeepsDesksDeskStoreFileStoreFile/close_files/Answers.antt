@@ -1,6 +1,6 @@
 use Rattle.sqlite.specs.Files.{file_state}
 use Rattle.program_databases.proofs.ViewLemmas.{left_closed, left_unclosed}
-use Rattle.program_databases.proofs.stored_desks.StoredDesksKeepsDesksDeskStoreFileStoreFile.close.Goals as goal
+use Rattle.program_databases.proofs.stored_desks.StoredDesksKeepsDesksDeskStoreFileStoreFile.close_files.Goals as goal
 
 pub returns-in-Ok-clause-ok : goal.returns-in-Ok-clause-ok
 returns-in-Ok-clause-ok g c = left_closed g.O.File.Disk c.args.desk.tables.connection c.in-Ok.files (λ clean. (c.in-Ok.ensures.copied clean, c.in-Ok.ensures.holds clean))

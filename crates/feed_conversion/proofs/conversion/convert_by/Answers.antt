@@ -1,12 +1,11 @@
 use Rattle.std.proofs.Common.{◌∙◌}
-use Rattle.feed_mapping.specs.Vocabulary.{terms_vocabulary}
 use Rattle.feed_conversion.specs.private.Stages.{taken}
 use Rattle.feed_conversion.proofs.OutcomeLaws.{read-by}
-use Rattle.feed_conversion.proofs.conversion.convert_by_terms.Goals as goal
+use Rattle.feed_conversion.proofs.conversion.convert_by.Goals as goal
 
 pub returns-in-Ok : goal.returns-in-Ok
 returns-in-Ok g c = λ o parts notes same begins.
     let m = c.in-Ok.ensures.message in
-    read-by g.T.Target.keeping c.outlines_tell.ensures.again (g.R.Read.remaining c.args.reader.now) o terms_vocabulary same (taken parts notes 0)
+    read-by g.T.Target.keeping c.outlines_tell.ensures.again (g.R.Read.remaining c.args.reader.now) o g.W.Words.words same (taken parts notes 0)
     (g.T.Target.parts c.finish.result.target) (g.T.Target.notes c.finish.result.target) m.0 m.1 m.2 m.3 m.4 m.5 c.args.converter c.taker.inside.converter
     begins (c.taker.view_is ∙ m.6) c.finish.result.ended c.finish.ensures

@@ -62,19 +62,24 @@ fn print_batch_line<O: Write>(
     }
 }
 
+// Whether a reply says that a message is malformed, or refused for another reason of its own.
+fn is_unprocessable(outcome: &Result<u16, HttpFault>) -> bool {
+    matches!(outcome, Ok(422))
+}
+
 // Serves one connection as an exchange over HTTP, and writes its line.
-fn serve_exchange<D: Desk, R: Read, W: Write, O: Write>(
+fn serve_exchange<D: Desk, R: Read, W: Write, I, O: Write, E>(
     alloc: Global,
     routes: &Routes,
     desk: &mut D,
     precedence: &Precedence,
     client: &mut Client<R, W>,
-    output: &mut O,
+    streams: &mut Streams<I, O, E>,
 ) -> Result<(), Fault>
     ensures { ServesConnection (Asked D.seen precedence.now desk.old desk.new) Protocol.Exchange
         (R.remaining client.old.reader)
         (Appends (W.contents client.old.writer) (W.contents client.new.writer))
-        (Appends (O.contents output.old) (O.contents output.new)) result }
+        (Appends (O.contents streams.old.output) (O.contents streams.new.output)) result }
 {
     let outcome = serve_routed(
         alloc,
@@ -84,7 +89,8 @@ fn serve_exchange<D: Desk, R: Read, W: Write, O: Write>(
         &mut client.reader,
         &mut client.writer,
     );
-    print_line(&outcome, output)
+    streams.errors.is_unprocessable = is_unprocessable(&outcome);
+    print_line(&outcome, &mut streams.output)
 }
 
 // Serves one connection as a batch, the text to the end of what the client sends, and writes its
@@ -129,9 +135,7 @@ pub(crate) fn serve_connection<D: Desk, R: Read, W: Write, I, O: Write, E: Write
         (Appends (O.contents streams.old.output) (O.contents streams.new.output)) result }
 {
     match client.protocol {
-        Protocol::Exchange => {
-            serve_exchange(alloc, routes, desk, precedence, client, &mut streams.output)
-        }
+        Protocol::Exchange => { serve_exchange(alloc, routes, desk, precedence, client, streams) }
         Protocol::Batch => serve_batch(alloc, desk, precedence, client, streams),
     }
 }

@@ -1,18 +1,30 @@
-//! A reader of which the first bytes are kept.
+//! A reader of which the first bytes are kept, or all of a message that is posted.
 
 ghost use Rattle.std.specs.Prelude.{◌≡◌};
 
+use csv_records::reading::LIMIT;
 use std::alloc::Global;
 use std::io::{Read, Result};
 
 // How many of the first bytes are kept.
 const MOST: usize = 8_192;
 
+// How many bytes are kept of a request that begins so.
+fn most_of(request: &[u8]) -> usize {
+    if request.starts_with(b"POST ") {
+        LIMIT.saturating_add(MOST)
+    } else {
+        MOST
+    }
+}
+
 /// Gives what a reader gives, and keeps the first bytes of it.
 #[derive(Drop)]
 pub(crate) struct Front<R> {
     reader: R,
     bytes: Vec<u8>,
+    // Whether bytes were not kept, behind which no others are.
+    is_cut: bool,
 }
 
 impl<R> Front<R> {
@@ -23,6 +35,7 @@ impl<R> Front<R> {
         Front {
             reader,
             bytes: Vec::new(alloc),
+            is_cut: false,
         }
     }
 
@@ -31,14 +44,25 @@ impl<R> Front<R> {
         self.bytes.as_slice()
     }
 
+    // How many more bytes are kept, of which these were read now.
+    fn room(&self, bytes: &[u8]) -> usize {
+        let kept = self.bytes.as_slice();
+        let most = most_of(if kept.is_empty() { bytes } else { kept });
+        most.saturating_sub(kept.len())
+    }
+
     // Keeps bytes that were read, as far as there is room. Without memory they are not kept.
     fn keep(&mut self, bytes: &[u8])
         ensures { self.new.reader ≡ self.old.reader }
     {
-        let room = MOST.saturating_sub(self.bytes.len());
-        let _ = self
+        if self.is_cut {
+            return;
+        }
+        let room = self.room(bytes);
+        let kept = self
             .bytes
             .extend_from_slice(bytes.get(..room).unwrap_or(bytes));
+        self.is_cut = kept.is_err() || room < bytes.len();
     }
 }
 

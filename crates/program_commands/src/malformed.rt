@@ -6,6 +6,7 @@ use crate::unread::wrong_byte;
 use desk_batch::BatchFault;
 use desk_reasons::explaining::{Room, explain_batch, explain_delivery, report_untold};
 use desk_reasons::questions::explain_question;
+use onix_terms::digits::read_digits;
 use program_clients::clients::Protocol;
 use std::alloc::Global;
 use std::io::Write;
@@ -74,16 +75,41 @@ pub(crate) fn tell_delivery<E: Write>(
     }
 }
 
-/// Writes a line where a question over HTTP, of which these are the first bytes, is a bad query, as
-/// far as there is room. Where memory runs out, it is lost.
-pub(crate) fn tell_question<E: Write>(
+// How many bytes a request has behind its head, as that says; none where it does not.
+fn length_in(head: &str) -> Option<usize> {
+    for line in head.lines() {
+        if let Some((name, value)) = line.split_once(':') {
+            if name.eq_ignore_ascii_case("content-length") {
+                return Some(read_digits(value.trim())? as usize);
+            }
+        }
+    }
+    None
+}
+
+// The message that a request posts; none where it posts none.
+fn posted_in(request: &[u8]) -> Option<&[u8]> {
+    let text = std::str::from_utf8(request).ok()?;
+    let (head, body) = text.strip_prefix("POST ")?.split_once("\r\n\r\n")?;
+    body.as_bytes().get(..length_in(head)?)
+}
+
+/// Writes a line where an exchange over HTTP, of whose request these bytes were kept, asks by a bad
+/// query, or posts what is no message, as far as there is room. Where memory runs out, it is lost.
+pub(crate) fn tell_exchange<E: Write>(
     alloc: Global,
     protocol: Protocol,
     request: &[u8],
     errors: &mut Errors<E>,
 ) {
-    if let Protocol::Exchange = protocol {
-        let _ = explain_question(alloc, &mut errors.room, request, &mut errors.writer);
+    let Protocol::Exchange = protocol else {
+        return;
+    };
+    let _ = explain_question(alloc, &mut errors.room, request, &mut errors.writer);
+    if errors.is_unprocessable {
+        if let Some(message) = posted_in(request) {
+            let _ = explain_delivery(alloc, &mut errors.room, "", message, &mut errors.writer);
+        }
     }
 }
 

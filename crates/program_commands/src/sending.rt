@@ -200,8 +200,8 @@ fn read_text<R: Read>(alloc: Global, input: &mut R) -> Result<Vec<u8>, Fault>
     }
 }
 
-// Reports why the batch of a text has not all of its answers; of the socket, and of a text that is not
-// UTF-8, a second line says why.
+// Reports why the batch of a text has not all of its answers; of the socket, and of a text that is
+// not UTF-8, a second line says why.
 fn report_unsent<E: Write>(
     rt: &HostRuntime,
     fault: &Fault,

@@ -11,7 +11,7 @@ ghost use Rattle.program_commands.specs.TaskEnds.{ConnectionsServed, ServeEnds};
 
 use crate::connection::{Client, print_line, serve_connection};
 use crate::front::Front;
-use crate::malformed::{renew, tell_question, tell_untold};
+use crate::malformed::{renew, tell_exchange, tell_untold};
 use crate::streams::Streams;
 use desk_http::{HttpFault, Routes};
 use price_rules::precedence::Precedence;
@@ -34,8 +34,9 @@ pub struct Place<'a> {
 }
 
 // Waits for a client, serves its connection, and writes the line of that. Of a client that was gone
-// before nothing was read, and nothing was asked of the desk. Of a question over HTTP whose query is
-// bad a line on standard error says why, as far as there is room.
+// before nothing was read, and nothing was asked of the desk. Of a question over HTTP whose query
+// is bad, and of a message that is none, a line on standard error says why, as far as there is
+// room.
 fn serve_next<D: Desk, C: Clients, I, O: Write, E: Write>(
     rt: &HostRuntime,
     routes: &Routes,
@@ -70,7 +71,7 @@ fn serve_next<D: Desk, C: Clients, I, O: Write, E: Write>(
                 reader,
                 writer,
             } = client;
-            tell_question(rt.alloc(), protocol, reader.kept(), &mut streams.errors);
+            tell_exchange(rt.alloc(), protocol, reader.kept(), &mut streams.errors);
             clients.disconnect(reader.into_reader(), writer);
             ended
         }
@@ -80,9 +81,9 @@ fn serve_next<D: Desk, C: Clients, I, O: Write, E: Write>(
 }
 
 /// Serves so many clients, one after the other, and writes the line of each connection at once.
-/// Gives 0, or 3 where no more clients can be had or a line cannot be written, which is reported. Of
-/// the malformed requests of batches, and of bad queries, a line on `errors` says why, of 100 an hour,
-/// and then how many more there are.
+/// Gives 0, or 3 where no more clients can be had or a line cannot be written, which is reported.
+/// Of the malformed requests of batches, of messages that are none, and of bad queries, a line on
+/// `errors` says why, of 100 an hour, and then how many more there are.
 pub fn serve_clients<D: Desk, C: Clients, I, O: Write, E: Write>(
     rt: &HostRuntime,
     routes: &Routes,

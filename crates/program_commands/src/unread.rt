@@ -67,26 +67,28 @@ pub(crate) fn wrong_byte(text: &[u8]) -> Option<WrongByte> {
     Some(WrongByte { byte, line })
 }
 
-// Writes where a text is not UTF-8, or how long it may be. NAME is that of its file, or empty.
-fn tell_text<E: Write>(fault: &Fault, name: &str, errors: &mut Errors<E>) {
-    let wrong = errors.wrong;
-    let writer = &mut errors.writer;
-    let mark = if name.is_empty() { "" } else { ": " };
-    match (fault, wrong) {
-        (Fault::InputNotUtf8, Some(WrongByte { byte, line })) => {
-            let _ = write!(
-                writer,
-                "onixdesk: {name}{mark}line {line}: byte {byte:02X} is not UTF-8; save the text as UTF-8, or write: iconv -f WINDOWS-1252 -t UTF-8 FILE\n"
-            );
-        }
-        (Fault::InputTooLarge, _) => {
-            let _ = write!(
-                writer,
-                "onixdesk: {name}{mark}more than 4,194,304 bytes; cut a batch between two requests, and convert a feed into more parts (onixdesk convert --parts P)\n"
-            );
-        }
-        _ => {}
-    }
+// What separates the name of a file from what is said of it; nothing where there is none.
+fn mark_behind(name: &str) -> &'static str {
+    if name.is_empty() { "" } else { ": " }
+}
+
+// Writes which byte of the text of this name is not UTF-8.
+fn tell_wrong<E: Write>(wrong: WrongByte, name: &str, errors: &mut E) {
+    let mark = mark_behind(name);
+    let WrongByte { byte, line } = wrong;
+    let _ = write!(
+        errors,
+        "onixdesk: {name}{mark}line {line}: byte {byte:02X} is not UTF-8; save the text as UTF-8, or write: iconv -f WINDOWS-1252 -t UTF-8 FILE\n"
+    );
+}
+
+// Writes how long the text of this name may be.
+fn tell_limit<E: Write>(name: &str, errors: &mut E) {
+    let mark = mark_behind(name);
+    let _ = write!(
+        errors,
+        "onixdesk: {name}{mark}more than 4,194,304 bytes; cut a batch between two requests, and convert a feed into more parts (onixdesk convert --parts P)\n"
+    );
 }
 
 /// Reports a fault of the input or of the text of this name, which may be empty, and in a second
@@ -95,6 +97,16 @@ pub(crate) fn report_input<E: Write>(fault: &Fault, name: &str, errors: &mut Err
     ensures { result ≡ 3 }
 {
     let status = report(fault, &mut errors.writer);
-    tell_text(fault, name, errors);
+    let wrong = errors.wrong;
+    let writer = &mut errors.writer;
+    match fault {
+        Fault::InputNotUtf8 => {
+            if let Some(wrong) = wrong {
+                tell_wrong(wrong, name, writer);
+            }
+        }
+        Fault::InputTooLarge => tell_limit(name, writer),
+        _ => {}
+    }
     status
 }

@@ -9,7 +9,7 @@ from tests.program.databases import DATABASE, META, batch, execute
 from tests.program.feeds.convert.failing_files import small_disk
 from tests.program.messages import AGREEMENT, bare, priced
 from tests.program.room import Ran, Room
-from tests.program.serving import HOST, serving
+from tests.program.serving import HOST, in_pieces, posted, serving
 from tests.running import Outcome, left_out
 from tools.words import Word
 
@@ -356,6 +356,35 @@ def bad_queries(room: Room) -> Iterator[Outcome]:
         for line, right in zip(came, wanted):
             yield Outcome(f"why: the line of the desk: {right}", line, right)
         yield Outcome("why: the lines of the desk", len(came), len(wanted))
+
+
+# Posted messages, each with the line of the desk on it; empty where it says nothing. The last one is about as long as a
+# batch may be, and its last record is wrong.
+LONG = b"Message,1,06,4012345000009,06,5012345678900,1,1,20250301,,\n" + b"\n" * 4_194_200
+POSTED = {
+    b"Message,1,06,4012345000009,06,5012345678900,1,1,20250301,,\nEndMessage,5\n": (
+        "line 2: EndMessage: Count 5 is not the number of records before it, which is 1: a record is missing or one too "
+        "many; take the file from its sender again, and do not just change Count"
+    ),
+    b"<ONIXMessage>": "line 1: <ONIXMessage>: this is XML; make records of it first: onixdesk convert FILE > FILE.csv",
+    UNNUMBERED: "",
+    b"\xff": "",
+    LONG + b"Foo,1\n": f"line {LONG.count(10) + 1}: Foo: no record of a message has this name",
+}
+
+
+def posted_messages(room: Room) -> Iterator[Outcome]:
+    """Of a message that is posted over HTTP and is none a line of the desk says why, and nothing of what a client sends
+    behind it."""
+    wanted = []
+    with serving(room, [], len(POSTED) + 1) as desk:
+        for place, (text, why) in enumerate([*POSTED.items(), next(iter(POSTED.items()))]):
+            behind = b"Price\n" if place == len(POSTED) else b""
+            reply = desk.reply(in_pieces(posted(text) + behind, 100_000))
+            yield Outcome(f"why: posted: {text[:60]!r}", b'"malformed"' in reply, why != "")
+            wanted += [f"onixdesk: {why}"] if why else []
+        came = desk.told().errors.decode().splitlines()
+    yield Outcome("why: the lines of the desk on posted messages", came, wanted)
 
 
 def rules(room: Room) -> Iterator[Outcome]:

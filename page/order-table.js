@@ -168,7 +168,7 @@ function unpricedOf({ answer }, ordered, { currency }) {
 }
 
 /** Who has no price for what is asked, and what it has by another type or in another currency. */
-function unpricedNotes(book, ordered, context) {
+export function unpricedNotes(book, ordered, context) {
   const { settings, type, currency } = context;
   const copies = copiesInWords(book.copies);
   return unpricedOf(book, ordered, context).map(({ series, prices }) => {

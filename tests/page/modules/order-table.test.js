@@ -3,7 +3,7 @@
 import assert from "node:assert/strict";
 import test from "node:test";
 
-import { amountCells, needInWords } from "../page/order-table.js";
+import { amountCells, needInWords, unpricedNotes } from "../page/order-table.js";
 
 const SETTINGS = { series: [{ name: "north", words: "North Books" }] };
 
@@ -18,4 +18,11 @@ test("a row has what a copy costs, and what all of them do", () => {
   const cells = (copies, amount, currency) => amountCells({ answer: {}, copies }, { amount }, { settings: SETTINGS, currency });
   assert.deepEqual(cells(1, "7.200", "GBP"), [["£7.20"], ["£7.20"]]);
   assert.deepEqual(cells(3, "7.205", "EUR"), [["€7.205"], ["€21.615"]]);
+});
+
+test("of a wholesaler without a price the row says for how many copies, of which type and in which currency", () => {
+  const question = { settings: SETTINGS, type: "05", currency: "GBP" };
+  const told = (copies) => unpricedNotes({ copies, answer: { offers: [{ series: "north", amount: null }] } }, undefined, question);
+  assert.deepEqual(told(1), ["North Books: no price of type 05 for 1 copy in GBP"]);
+  assert.deepEqual(told(4), ["North Books: no price of type 05 for 4 copies in GBP"]);
 });

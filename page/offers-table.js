@@ -46,7 +46,7 @@ function availabilityCell({ availability: code }) {
 }
 
 /** The price of an offer, or that it has none of the type for so few copies, in the currency. */
-function priceCell({ amount }, { type, currency, quantity }) {
+export function priceCell({ amount }, { type, currency, quantity }) {
   if (amount !== null) return [money(amount, currency)];
   const words = say("article.noPriceOf", { type, copies: copiesInWords(quantity), currency });
   return [element("span", { class: "lacking" }, words)];

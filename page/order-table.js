@@ -168,7 +168,7 @@ function unpricedOf({ answer }, ordered, { currency }) {
 }
 
 /** Who has no price for what is asked, and what it has by another type or in another currency. */
-function unpricedNotes(book, ordered, context) {
+export function unpricedNotes(book, ordered, context) {
   const { settings, type, currency } = context;
   const copies = copiesInWords(book.copies);
   return unpricedOf(book, ordered, context).map(({ series, prices }) => {
@@ -339,7 +339,7 @@ function amountCell(amount, path, text) {
 }
 
 /** What a copy costs, with the recommended price, and what all do, with the margin. */
-function amountCells({ answer, copies }, offer, context) {
+export function amountCells({ answer, copies }, offer, context) {
   const { retail, margin } = retailTexts(answer.retail, offer, context);
   const [price, sum] = [offer.amount, times(offer.amount, copies)].map((amount) => money(amount, context.currency));
   return [amountCell(price, "order.retail", retail), amountCell(sum, "order.margin", margin)];

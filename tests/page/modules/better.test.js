@@ -7,7 +7,7 @@ import { elsewhereInWords, fallsInWords, onlyMoreInWords } from "../page/better.
 import { detailsOf, sentenceOf, sumInWords, whyOf } from "../page/decision.js";
 import { untilNotes } from "../page/answer.js";
 import { keyOf } from "../page/offers.js";
-import { differenceInWords } from "../page/offers-table.js";
+import { differenceInWords, priceCell } from "../page/offers-table.js";
 import { farOf, marginOf, retailInWords, retailOf } from "../page/retail.js";
 import { areAdmitting, rulesOf } from "../page/rules.js";
 
@@ -181,4 +181,9 @@ test("where the desk and rules.toml differ no rule's words are quoted", () => {
   assert.equal(why({ ...offers[0], rule: 1 }), "rule 1");
   assert.equal(why(null), "");
   assert.doesNotMatch(detailsOf(answerOf(offers, { ...offers[1], rule: 1 })).join(" · "), /rule/);
+});
+
+test("a price is in the currency that is asked for", () => {
+  assert.deepEqual(priceCell({ amount: "24.000" }, { type: "05", currency: "EUR", quantity: "1" }), ["€24.00"]);
+  assert.deepEqual(priceCell({ amount: "8.125" }, { type: "05", currency: "GBP", quantity: "1" }), ["£8.125"]);
 });

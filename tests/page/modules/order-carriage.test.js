@@ -3,7 +3,7 @@
 import assert from "node:assert/strict";
 import test from "node:test";
 
-import { stepTo } from "../page/order-carriage.js";
+import { hasCarriage, stepTo } from "../page/order-carriage.js";
 
 const free = () => undefined;
 const offer = (series, amount) => ({ series, reference: "R", place: 1, availability: "21", amount });
@@ -29,4 +29,16 @@ test("a book that another one makes needless stays, also where that one is just 
   const rows = [row("small", "4.950", "5.000"), row("large", "9.800", "10.000")];
   assert.deepEqual(stepOf("10.000", rows), [["large"], "0.200"]);
   assert.deepEqual(stepOf("10.001", rows), [["small", "large"], "0.250"]);
+});
+
+test("free carriage is told of the shop's own country, currency and net type alone, where desk.json says from when on", () => {
+  const own = { country: "GB", currency: "GBP", type: "05" };
+  const shop = { ...own, series: [{ name: "north" }, { name: "south", freeFrom: "50.00" }] };
+  assert.equal(hasCarriage(own, shop), true);
+  for (const other of [{ country: "IE" }, { currency: "EUR" }, { type: "06" }]) {
+    assert.equal(hasCarriage({ ...own, ...other }, shop), false);
+  }
+  assert.equal(hasCarriage(own, { ...shop, series: [{ name: "north" }] }), false);
+  const retail = { ...own, type: "02" };
+  assert.equal(hasCarriage(retail, { ...shop, ...retail }), false);
 });

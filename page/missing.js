@@ -17,7 +17,8 @@ function rangeInWords(range) {
 
 const rangesInWords = (ranges) => ranges.map(rangeInWords).join(", ");
 
-function standsInWords({ first, next }) {
+/** From which number to which the messages of a series are in use, by its report. */
+export function standsInWords({ first, next }) {
   if (next === first) return say("missing.nothingYet", { next });
   if (next === first + 1) return say("missing.standsAtFirst", { first, next });
   return say("missing.stands", { first, last: next - 1, next });

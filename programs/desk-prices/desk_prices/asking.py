@@ -1,13 +1,13 @@
-"""The questions about articles, and their answers, also of an open desk at its socket."""
+"""The articles that are asked about, the questions, and their answers, also of an open desk at its socket."""
 
 import itertools
+import re
 import time
-from collections.abc import Iterator
-from datetime import date, timedelta
+from collections.abc import Callable, Iterator
 from pathlib import Path
 
 from command_lines.ending import Fault
-from desk_batches.asking import Answer, answers_of_desk
+from desk_batches.asking import Answer, answers_to, later
 from shop_files.desk_json import Shop
 
 # An open desk answers nobody else during a batch, so one shall take no longer.
@@ -23,10 +23,19 @@ SELECT DISTINCT id_value FROM article JOIN offer USING (series, reference)
 WHERE id_type IN ('03', '15') AND length(id_value) = 13 AND id_value NOT GLOB '*[^0-9]*' ORDER BY id_value"""
 
 
-def later(day: str, days: int) -> str:
-    """The day that is so many days later, or the last one of the calendar."""
-    first = date.fromisoformat(day)
-    return f"{first + min(timedelta(days), date.max - first):%Y%m%d}"
+def read_list(file: Path, tell: Callable[[str], None]) -> list[str]:
+    """The ISBNs in the first cells of the lines, each once and in order. A first line without digits names columns; a
+    line without an ISBN of thirteen digits is told."""
+    found: set[str] = set()
+    with open(file, encoding="utf-8-sig", errors="replace") as lines:
+        for number, line in enumerate(lines, 1):
+            cell = re.split("[,;|\t]", line)[0]
+            isbn = re.sub(r"[\s\"'=-]", "", cell)
+            if re.fullmatch("[0-9]{13}", isbn):
+                found.add(isbn)
+            elif line.strip() and (number > 1 or re.search("[0-9]", cell)):
+                tell(f"{file}: line {number} has no ISBN of thirteen digits in its first cell")
+    return sorted(found)
 
 
 class Questions:
@@ -51,12 +60,12 @@ class Questions:
                 raise Fault(f"the desk does not answer about {isbn}: {found[-1:]}")
             yield isbn, found
 
-    def of_socket(self, isbns: list[str], path: Path) -> Iterator[Asked]:
+    def of_open(self, isbns: list[str], words: list[str | Path], room: Path) -> Iterator[Asked]:
         """Asks an open desk, in batches that take so little of its time that others hardly wait."""
         at, size = 0, 1
         while piece := isbns[at : at + size]:
             began = time.monotonic()
-            answers = answers_of_desk(path, "".join(map(self.about, piece)))
+            answers = [*answers_to(map(self.about, piece), words, room)]
             seconds = time.monotonic() - began
             yield from self.told(piece, iter(answers))
             at += size

@@ -1,15 +1,19 @@
-"""What changed since an earlier file of the same form, and what will within some days."""
+"""What changed since an earlier file of the same form, what will within some days, and the mail of it."""
 
+import subprocess
+import time
 from collections import defaultdict
 from collections.abc import Collection
 from datetime import date
 from decimal import Decimal
+from email.message import EmailMessage
 from itertools import groupby
 from pathlib import Path
 from typing import NamedTuple
 
-from command_lines.ending import BadCall
-from desk_prices.asking import later
+from command_lines.ending import BadCall, Fault
+from command_lines.files import put
+from desk_batches.asking import later
 from desk_prices.form import Cells, Form
 
 NEEDED = ("isbn", "wholesaler", "price", "next_price", "next_day", "day")
@@ -107,3 +111,20 @@ def words_of(changes: list[Change]) -> str:
     """What changed, in groups of one kind and day."""
     groups = ((sentence, [change.line() for change in group]) for sentence, group in groupby(changes, Change.sentence))
     return "\n".join("\n".join([f"{sentence} ({len(lines)}):", *lines, ""]) for sentence, lines in groups)
+
+
+def mail(changes: list[Change], address: str, outbox: Path | None) -> None:
+    """Gives what changed to the mail server of the machine, or puts it into a folder from where another unit does."""
+    message = EmailMessage()
+    message["To"], message["Subject"] = address, f"onixdesk: changes of prices: {len(changes)}"
+    message.set_content(words_of(changes), cte="8bit")
+    if outbox:
+        outbox.mkdir(exist_ok=True)
+        put(outbox / f"{time.time_ns()}.mail", bytes(message).decode())
+        return
+    try:
+        status = subprocess.run(["sendmail", "-i", "-t"], input=bytes(message)).returncode
+    except FileNotFoundError:
+        raise Fault("no sendmail is here, so nobody is mailed (apt-get install default-mta)") from None
+    if status:
+        raise Fault(f"sendmail ends with status {status}, so nobody is mailed")

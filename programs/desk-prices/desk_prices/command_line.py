@@ -1,9 +1,7 @@
 """The command line of desk-prices."""
 
 import argparse
-import csv
 import os
-import sys
 from collections.abc import Iterator
 from contextlib import contextmanager
 from datetime import date
@@ -12,20 +10,18 @@ from pathlib import Path
 
 from command_lines.ending import DONE, BadCall, end_orderly, status_of, teller
 from command_lines.files import put_whole
-from command_lines.mailing import mail
 from command_lines.parsing import count, day, parser_of
 from command_lines.progress import Progress
 from desk_batches.asking import answers_to
 from desk_copy.command_line import add_room, add_source, copied
 from desk_follow.source import opened
-from desk_prices.asking import ARTICLES, Asked, Questions
-from desk_prices.changes import Change, Comparison, words_of
-from desk_prices.form import Form, read_settings
-from desk_prices.lists import read_list
+from desk_prices.asking import ARTICLES, Asked, Questions, read_list
+from desk_prices.changes import Change, Comparison, mail
+from desk_prices.form import Form, settings_of
 from desk_prices.rows import row
 from onixdesk_titles.kept_titles import Titles
-from shop_files.cells import without_formulas
-from shop_files.desk_json import DESK_JSON, Shop
+from shop_files.cells import table
+from shop_files.desk_json import DESK_JSON, Shop, read_json
 
 PROGRAM = "desk-prices"
 
@@ -70,7 +66,7 @@ def asked(options: argparse.Namespace, shop: Shop, program: Path, progress: Prog
     if options.file.is_socket():
         if listed is None:
             raise BadCall("a socket is asked about the articles of --list alone")
-        yield questions.of_socket(listed, options.file)
+        yield questions.of_open(listed, [program, "--batches", options.file, "batch"], options.room)
         return
     with copied(options, progress) as (copy, _):
         with opened(copy) as source:
@@ -88,19 +84,9 @@ def compared(options: argparse.Namespace, form: Form) -> Comparison | None:
     return None
 
 
-def tell_changes(changes: list[Change], options: argparse.Namespace) -> None:
-    """Writes what changed, and mails it."""
-    csv.writer(sys.stdout, lineterminator="\n").writerows(
-        map(without_formulas, each) for each in [Change._fields, *changes]
-    )
-    sys.stdout.flush()
-    if changes and options.mail:
-        mail(options.mail, f"onixdesk: changes of prices: {len(changes)}", words_of(changes), options.outbox)
-
-
 def write(options: argparse.Namespace, program: Path) -> int:
     """Writes the file. What changed is mailed before it has its name: who is killed between mails it once more."""
-    shop, form = read_settings(options.settings)
+    shop, form = read_json(options.settings, settings_of)
     if options.check:
         return DONE
     comparison, titles, progress = compared(options, form), Titles(options.titles), Progress(PROGRAM)
@@ -116,7 +102,12 @@ def write(options: argparse.Namespace, program: Path) -> int:
                 comparison.add(cells)
             progress.show(f"{place} articles", is_new=place == 1)
         if comparison:
-            tell_changes(comparison.end(), options)
+            changes = comparison.end()
+            print(table(Change._fields, *changes), end="", flush=True)
+            if changes and options.mail:
+                mail(changes, options.mail, options.outbox)
+        new.flush()
+        os.fsync(new.fileno())
     if place and not chosen:
         tell(
             f"{file}: of {place} articles nothing is chosen: no rule of the precedence table admits an offer, or"

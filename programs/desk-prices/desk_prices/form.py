@@ -8,9 +8,9 @@ from dataclasses import dataclass
 from pathlib import Path
 from typing import Any
 
-from command_lines.ending import BadCall, Fault
+from command_lines.ending import Fault
 from shop_files.cells import one_line, with_formulas, without_formulas
-from shop_files.desk_json import Shop, read_shop
+from shop_files.desk_json import Shop, shop_of
 
 # Before and behind the prices at other quantities than the first one.
 BEFORE_PRICES = ["isbn", "wholesaler", "series", "reference", "availability", "price"]
@@ -99,24 +99,17 @@ def is_right(key: str, value: Any, form: dict[str, Any], known: list[str]) -> bo
     return False
 
 
-def form_in(shop: Shop) -> Form:
-    """The form of desk.json, or one with all columns. ValueError, which names the first key that is wrong, if it is
-    none."""
+def settings_of(desk_json: Any) -> tuple[Shop, Form]:
+    """What desk.json says of the shop and of the form, which has all columns without it. ValueError, which names the
+    first key that is wrong."""
+    shop = shop_of(desk_json)
     known = [*BEFORE_PRICES, *(f"price_{quantity}" for quantity in shop.quantities[1:]), *BEHIND_PRICES]
     given = shop.given.get("price_file", {"columns": known})
     form: dict[str, Any] = {"columns": [], **(given if isinstance(given, dict) else {})}
     for key, value in form.items():
         if not is_right(key, value, form, known):
-            raise ValueError(key)
+            raise ValueError(f"price_file: {key}")
     whole: dict[str, Any] = {"separator": ";" if form.get("decimal") == "," else ",", "heading": True} | form
     if isinstance(whole["heading"], bool):
         whole["heading"] = form["columns"] if whole["heading"] else []
-    return Form(**whole)
-
-
-def read_settings(file: Path) -> tuple[Shop, Form]:
-    shop = read_shop(file)
-    try:
-        return shop, form_in(shop)
-    except ValueError as error:
-        raise BadCall(f"{file}: price_file: {error}") from None
+    return shop, Form(**whole)

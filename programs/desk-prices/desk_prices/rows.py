@@ -31,15 +31,13 @@ def margin(price: str, recommended: str) -> str:
 def row(isbn: str, answers: list[Answer], day: str, shop: Shop, titles: Titles) -> Cells:
     """The cells of an article by their columns; amounts are as the desk writes them."""
     choice, calendar, *prices = answers
-    found = defaultdict(str, {"isbn": isbn, "currency": shop.currency, "day": day})
-    _, _, rule, *chosen = choice[0]
-    if rule == "none":
-        found["title"] = titles.of(isbn, "")
+    series, reference, place, availability, price = choice[0][3:] or [""] * 5
+    found = defaultdict(str, isbn=isbn, series=series, reference=reference, availability=availability, price=price)
+    found |= {"wholesaler": shop.wholesalers.get(series, series), "currency": shop.currency, "day": day}
+    found["title"] = titles.of(isbn, series)
+    if not series:
         return found
-    series, reference, place, availability, price = chosen
     key, spans = (series, reference, place), spans_of(calendar)
-    found |= {"wholesaler": shop.wholesalers.get(series, series), "series": series, "reference": reference}
-    found |= {"availability": availability, "price": price, "title": titles.of(isbn, series)}
     if len(spans[key]) > 1:
         (_, last, _), (first, _, then) = spans[key][:2]
         found |= {"holds_until": last, "next_price": then, "next_day": first}

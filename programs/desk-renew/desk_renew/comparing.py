@@ -7,10 +7,10 @@ from collections.abc import Iterator
 from contextlib import closing
 from pathlib import Path
 
-from desk_batches.asking import Answer
+from desk_batches.asking import Answer, later
 from desk_copy.comparing import Differs, uri
 from desk_restore.asking import Program
-from message_records.catalogue import LAST, day
+from message_records.catalogue import day
 
 # How many articles are asked about.
 ARTICLES = 1_000
@@ -38,7 +38,7 @@ def questions(copy: Path) -> Iterator[str]:
             country, currency, kind, quantity, first = connection.execute(TERMS, [isbn]).fetchone() or ANY_TERMS
             terms = f"{country},{currency},{kind},{quantity}"
             yield f"AskPrice,{isbn},{day(first)},{terms}\nAskChoice,{isbn},{day(first)},{terms}\n"
-            yield f"AskCalendar,{isbn},{day(first)},{day(min(first + 365, LAST))},{terms}\n"
+            yield f"AskCalendar,{isbn},{day(first)},{later(day(first), 365)},{terms}\n"
 
 
 def without_first(answer: Answer) -> Answer:

@@ -5,8 +5,7 @@ from pathlib import Path
 from string import Template
 
 from message_records.notes import Note, Said
-from message_records.rows import text_of
-from shop_files.cells import without_formulas
+from shop_files import cells
 
 LANGUAGES = "de", "en"
 EXAMPLES = 3
@@ -15,19 +14,10 @@ COLUMNS = "reference", "ISBN", "line", "column", "note"
 
 def table(said: Said, isbns: dict[str, str]) -> str:
     """The notes as CSV, and how many more there are. What a feed says in them is no formula."""
-    rows = [
-        (
-            without_formulas(note.reference),
-            isbns.get(note.reference, ""),
-            note.line,
-            note.column,
-            without_formulas(note.text),
-        )
-        for note in said.notes
-    ]
+    rows = [(note.reference, isbns.get(note.reference, ""), note.line, note.column, note.text) for note in said.notes]
     rest = said.count - len(rows)
     more = [("", "", "", "", f"and {rest} more notes, which are not written")] if rest > 0 else []
-    return text_of(COLUMNS, *rows, *more)
+    return cells.table(COLUMNS, *rows, *more)
 
 
 def example(note: Note, isbns: dict[str, str]) -> str:

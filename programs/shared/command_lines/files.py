@@ -8,31 +8,23 @@ from pathlib import Path
 from typing import TextIO
 
 
-def put(file: Path, text: str) -> None:
-    """Writes a file beside, under a name that nobody reads, and then gives it its own."""
-    new = file.with_name(f"{file.name}.new")
-    try:
-        new.write_text(text, encoding="utf-8")
-    except OSError:
-        with contextlib.suppress(OSError):
-            new.unlink()
-        raise
-    os.replace(new, file)
-
-
 @contextlib.contextmanager
 def put_whole(file: Path) -> Iterator[TextIO]:
-    """A file to write, under a hidden name; it gets its own name at the end, once it is on the disk, or none."""
+    """A file to write, under a hidden name that nobody reads; it gets its own name at the end, or none."""
     new = file.with_name(f".{file.name}.new")
     try:
         with open(new, "w", encoding="utf-8", newline="") as opened:
             yield opened
-            opened.flush()
-            os.fsync(opened.fileno())
         os.replace(new, file)
     except BaseException:
-        new.unlink(missing_ok=True)
+        with contextlib.suppress(OSError):
+            new.unlink()
         raise
+
+
+def put(file: Path, text: str) -> None:
+    with put_whole(file) as new:
+        new.write(text)
 
 
 @contextlib.contextmanager

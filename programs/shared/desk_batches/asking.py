@@ -1,10 +1,10 @@
-"""Batches that the program answers over a database, or an open desk at its socket."""
+"""Batches that the program answers over a database, or has answered by an open desk at its socket."""
 
 import csv
-import socket
 import subprocess
 import tempfile
 from collections.abc import Iterable, Iterator
+from datetime import date, timedelta
 from pathlib import Path
 from typing import IO, Any
 
@@ -20,6 +20,12 @@ Answer = list[list[str]]
 
 # What no other offer of an article has: its series, reference and place.
 Key = tuple[str, ...]
+
+
+def later(day: str, days: int) -> str:
+    """The day that is so many days later, or the last one of the calendar."""
+    first = date.fromisoformat(day)
+    return (first + min(timedelta(days), date.max - first)).isoformat().replace("-", "")
 
 
 def batches(texts: Iterable[str]) -> Iterator[str]:
@@ -63,23 +69,10 @@ def answers_of_program(words: list[str | Path], text: IO[str], **more: Any) -> I
 
 
 def answers_to(texts: Iterable[str], words: list[str | Path], folder: Path) -> Iterator[Answer]:
-    """The answers of runs of the program to requests, in as few batches as can be, since each opens the database. They
-    lie in the folder meanwhile."""
+    """The answers of runs of the program to requests, in as few batches as can be, since each opens the database. The
+    requests lie in the folder meanwhile."""
     for batch in batches(texts):
         with tempfile.TemporaryFile("w+", dir=folder, encoding="utf-8") as text:
             text.write(batch)
             text.seek(0)
             yield from answers_of_program(words, text)
-
-
-def answers_of_desk(path: Path, text: str) -> list[Answer]:
-    """The answers of an open desk to a batch at its socket."""
-    try:
-        with socket.socket(socket.AF_UNIX) as peer:
-            peer.connect(str(path))
-            peer.sendall(text.encode())
-            peer.shutdown(socket.SHUT_WR)
-            with peer.makefile(encoding="utf-8", newline="") as lines:
-                return [*answers_in(lines)]
-    except OSError as error:
-        raise Fault(f"{path}: {error.strerror}") from None

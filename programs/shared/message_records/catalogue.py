@@ -21,9 +21,8 @@ CONFIRMED = "03"
 MOST_RECORDS = 20_000
 ROOM = 8_192
 
-# Days are counted from there, to the last one of the calendar.
+# Days are counted from there.
 EPOCH = date(1970, 1, 1).toordinal()
-LAST = date.max.toordinal() - EPOCH
 
 # All in the order of the references.
 REFERENCES = "SELECT reference FROM record WHERE series = ? ORDER BY reference"

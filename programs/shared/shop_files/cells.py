@@ -1,6 +1,9 @@
 """Texts as cells of files of CSV that people open in spreadsheets."""
 
 import re
+from collections.abc import Iterable
+
+from message_records.rows import text_of
 
 BLANKS = re.compile("[\x00-\x1f\x7f-\x9f\u2028\u2029]+")
 AT_ENDS = re.compile(r"^[\s\ufeff]+|[\s\ufeff]+$")
@@ -22,3 +25,8 @@ def without_formulas(text: str) -> str:
 def with_formulas(cell: str) -> str:
     """The text of which that was made."""
     return SAFE.sub("", cell)
+
+
+def table(*rows: Iterable[object]) -> str:
+    """Rows as CSV of which a spreadsheet runs nothing."""
+    return text_of(*([without_formulas(str(cell)) for cell in row] for row in rows))

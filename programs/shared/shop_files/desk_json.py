@@ -2,14 +2,17 @@
 
 import json
 import re
+from collections.abc import Callable
 from dataclasses import dataclass
 from pathlib import Path
-from typing import Any
+from typing import Any, TypeVar
 
 from command_lines.ending import BadCall
 
 # That of the buyers' page in the package.
 DESK_JSON = Path("/etc/onixdesk/page/desk.json")
+
+Made = TypeVar("Made")
 
 PATTERNS = {"country": "[A-Z]{2}", "currency": "[A-Z]{3}", "price_type": "[0-9]{2}", "recommended_type": "([0-9]{2})?"}
 
@@ -50,8 +53,13 @@ def shop_of(given: Any) -> Shop:
     return Shop(**texts, quantities=quantities, wholesalers=wholesalers, given=given)
 
 
-def read_shop(file: Path) -> Shop:
+def read_json(file: Path, made_of: Callable[[Any], Made]) -> Made:
+    """What is made of the object of a file; BadCall if that is wrong."""
     try:
-        return shop_of(json.loads(file.read_bytes()))
+        return made_of(json.loads(file.read_bytes()))
     except ValueError as error:
         raise BadCall(f"{file}: {error}") from None
+
+
+def read_shop(file: Path) -> Shop:
+    return read_json(file, shop_of)

@@ -311,9 +311,9 @@ def refused(room: Room) -> Iterator[Outcome]:
         yield Outcome(f"metrics: {words}", write(room, *words).status, 2)
     came = room.call([PROGRAM, "missing", "north"])
     yield Outcome("metrics: no folder", came, Ran(3, b"", b"desk-metrics: missing: No such file or directory\n"))
-    room.path(KEPT + ".new").mkdir()
+    room.path(KEPT).with_name(".since.json.new").mkdir()
     came = write(room)
-    line = b"desk-metrics: metrics/since.json.new: Is a directory\n"
+    line = b"desk-metrics: metrics/.since.json.new: Is a directory\n"
     yield Outcome("metrics: a folder that takes no file", came, Ran(3, b"", line))
 
 

@@ -2,6 +2,7 @@
 of files, whose cases the page's tests read too."""
 
 import csv
+import email.policy
 import io
 import json
 import os
@@ -19,7 +20,7 @@ from unittest.mock import patch
 
 from command_lines.ending import Fault
 from desk_prices.asking import Questions
-from desk_prices.form import Form, form_in
+from desk_prices.form import Form, settings_of
 from desk_prices.rows import row
 from onixdesk_titles.kept_titles import Titles
 from shop_files.desk_json import shop_of
@@ -44,9 +45,9 @@ def case_forms() -> Iterator[tuple[dict[str, Any], Form | str]]:
     """Each case with its form of desk.json, or the key that is wrong there."""
     for case in json.loads(CASES.read_text(encoding="utf-8")):
         try:
-            yield case, form_in(shop_of(SETTINGS | {"price_file": case["form"]}))
+            yield case, settings_of(SETTINGS | {"price_file": case["form"]})[1]
         except ValueError as wrong:
-            yield case, str(wrong)
+            yield case, str(wrong).removeprefix("price_file: ")
 
 
 def forms(_room: Room) -> Iterator[Outcome]:
@@ -257,8 +258,9 @@ def batches_for_an_open_desk(room: Room) -> Iterator[Outcome]:
     desk = SlowDesk(room.path("slow"))
     desk.start()
     isbns = [f"{9780000000000 + place}" for place in range(100)]
+    words: list[str | Path] = [room.program, "--batches", room.path("slow"), "batch"]
     with patch("desk_prices.asking.time", SimpleNamespace(monotonic=lambda: desk.now)):
-        came = [isbn for isbn, _ in Questions("20250301", shop_of(SETTINGS)).of_socket(isbns, room.path("slow"))]
+        came = [isbn for isbn, _ in Questions("20250301", shop_of(SETTINGS)).of_open(isbns, words, room.folder)]
     yield Outcome("batches for an open desk: all articles", came, isbns)
     yield Outcome("batches for an open desk: their size", max(desk.counts) <= 25, True)
     yield Outcome("batches for an open desk: more than one article", max(desk.counts) > 1, True)
@@ -394,7 +396,7 @@ def since(room: Room) -> Iterator[Outcome]:
     room.write("old.csv", room.path("out/prices.csv").read_bytes())
     came = prices(room, "--since", "old.csv", "--mail", "a@example.org")
     yield Outcome("since: what has changed", changed(came), wanted)
-    yield Outcome("since: the mail", room.path("mailed").read_text().split("\n\n"), MAILED)
+    yield Outcome("since: the mail", mail_in(room.path("mailed")), (HEADERS, MAILED))
     came = prices(room, "--since", "out/prices.csv", day="20250302")
     rises = ["rises", TWO, "North Books", "8.000", "North Books", "9.000", "20250401"]
     yield Outcome("since: thirty days ahead", changed(came), [rises])
@@ -415,9 +417,16 @@ def formulas(room: Room) -> Iterator[Outcome]:
     yield Outcome("since: a title is no formula", came.output.decode().splitlines()[1], wanted)
 
 
+# The names of types and charsets are alike in small and capital letters.
+HEADERS = {
+    "To": "a@example.org",
+    "Subject": "onixdesk: changes of prices: 6",
+    "MIME-Version": "1.0",
+    "Content-Type": 'text/plain; charset="utf-8"',
+    "Content-Transfer-Encoding": "8bit",
+}
+
 MAILED = [
-    "To: a@example.org\nSubject: onixdesk: changes of prices: 6\nMIME-Version: 1.0\n"
-    "Content-Type: text/plain; charset=UTF-8\nContent-Transfer-Encoding: 8bit",
     "Nobody offers any more, or no rule chooses any more (1):\n9780000000103  5.00 GBP  North Books",
     "Cost more (1):\n9780000000102  5.00 to 5.01 GBP  North Books",
     "Cost less (1):\n9780000000101  5.00 to 4.99 GBP  North Books",
@@ -425,6 +434,31 @@ MAILED = [
     "New (1):\n9780000000105  3.00 GBP  North Books",
     f"Have no price any more on 11 March 2025 (1):\n{THREE}  0.00 GBP  South\n",
 ]
+
+
+def mail_in(file: Path) -> tuple[dict[str, str], list[str]]:
+    """The headers of a mail, and what it says, in paragraphs."""
+    mail = email.message_from_bytes(file.read_bytes(), policy=email.policy.default)
+    return dict(mail.items()), file.read_text(encoding="utf-8").split("\n\n")[1:]
+
+
+def with_letters_of_any_language(room: Room) -> Iterator[Outcome]:
+    """A title is in the mail as it is, which is sent, or put into a folder, in UTF-8."""
+    make_shop(room)
+    title = f"Größe – 書 {'ä' * 300}"
+    room.path("titles/titles/97812").mkdir(parents=True)
+    room.path("titles/titles/97812/97812345.json").write_text(json.dumps({TWO: [["north", 1, 10, title, "", "", ""]]}))
+    room.write("none.csv", HEAD.encode())
+    room.write("watch.csv", f"{TWO}\n".encode())
+    words = ["--titles", "titles", "--since", "none.csv", "--watch", "watch.csv", "--mail", "a@example.org"]
+    prices(room, *words)
+    prices(room, *words, "--outbox", "mails")
+    wanted = HEADERS | {"Subject": "onixdesk: changes of prices: 1"}, [
+        f"New (1):\n{TWO}  8.00 GBP  North Books  {title}\n"
+    ]
+    [in_folder] = room.path("mails").iterdir()
+    yield Outcome("since: a mail that is sent", mail_in(room.path("mailed")), wanted)
+    yield Outcome("since: a mail in a folder", mail_in(in_folder), wanted)
 
 
 def watched(room: Room) -> Iterator[Outcome]:
@@ -468,7 +502,7 @@ def sent_by_a_unit(room: Room) -> Iterator[Outcome]:
     room.path("mails").mkdir()
     for name in ("2", "1", "3"):
         room.path(f"mails/{name}.mail").write_text(f"{name}\n")
-    room.path("mails/4.mail.new").write_text("unfinished")
+    room.path("mails/.4.mail.new").write_text("unfinished")
     sending = f'echo "$* $line" >>"{room.path("mailed")}"'
     script(room, "programs/sendmail", f'read line; [ "$line" != 2 ] || exit 75; {sending}')
     words: list[Word] = [ROOT / "programs/desk-prices/send-mails.sh", "mails"]
@@ -479,7 +513,7 @@ def sent_by_a_unit(room: Room) -> Iterator[Outcome]:
     script(room, "programs/sendmail", f"read line; {sending}")
     yield Outcome("mails of a folder: once more", room.call(words, environment=environment), Ran(0))
     found = room.path("mailed").read_text(), [each.name for each in room.path("mails").iterdir()]
-    yield Outcome("mails of a folder: those that were sent", found, ("-i -t 1\n-i -t 2\n-i -t 3\n", ["4.mail.new"]))
+    yield Outcome("mails of a folder: those that were sent", found, ("-i -t 1\n-i -t 2\n-i -t 3\n", [".4.mail.new"]))
     room.path("empty").mkdir()
     came = room.call([words[0], "empty"], environment={"PATH": "/bin"})
     yield Outcome("mails of a folder: none", came, Ran(0))

@@ -1,5 +1,6 @@
 """A desk that is renewed by bin/desk-renew, with a systemctl that keeps what it is told."""
 
+import json
 import os
 import shutil
 import signal
@@ -18,7 +19,9 @@ from tests.program.databases import DATABASE, all_rows, batch
 from tests.program.files.desk_restore import UNITS, make_programs
 from tests.program.inbox.inboxes import within
 from tests.program.room import Ran, Room
+from tests.program.serving import serving
 from tests.running import Outcome, left_out
+from tools.root import ROOT
 
 # As the program has it, with the programs beside it of this folder, and messages of so many records.
 RUNNING = """
@@ -163,6 +166,39 @@ def in_several_messages(room: Room) -> Iterator[Outcome]:
     line = b"north: begins at 4 in place of 1, next is 6; 1 to 3 are before-first then; 4 to 5 are other-contents then"
     yield Outcome("renewed, in several messages", came.output.splitlines()[1:2], [line])
     yield Outcome("renewed, in several messages: what it has", kept(room, DATABASE), wanted)
+
+
+# What the page says of the report that is its input.
+SAYING = """
+import { readFileSync } from "node:fs";
+import { standsInWords } from "./page/missing.js";
+console.log(standsInWords(JSON.parse(readFileSync(0, "utf8"))));
+"""
+
+
+def that_the_page_tells(room: Room) -> Iterator[Outcome]:
+    """From which number on the messages of a series are in use, by the report of the desk that is served then."""
+    if not shutil.which("node"):
+        yield left_out("what the page says of a renewed series, since there is no node")
+        return
+    shutil.copytree(ROOT / "page", room.path("page"))
+    room.write("package.json", b'{"type": "module"}')
+    room.write("say.js", SAYING.encode())
+    batch(room, DESK.encode())
+    renew(room, "--yes", most=20)
+    with serving(room, ["--db", DATABASE], None) as desk:
+        for series, numbers, line in [
+            ("north", (4, 6), "Messages 4 to 5 are in use; the next one is 6."),
+            ("south", (6, 7), "Message 6 is in use; the next one is 7."),
+            ("west", (7, 7), "Nothing is in use yet; it begins with message 7."),
+        ]:
+            report = desk.reply([f"GET /series/{series}/gaps HTTP/1.1\r\nHost: a\r\n\r\n".encode()]).split(b"\r\n\r\n")[
+                1
+            ]
+            came = json.loads(report)
+            yield Outcome(f"renewed: the report on {series}", (came["first"], came["next"]), numbers)
+            said = room.call(["node", "say.js"], report)
+            yield Outcome(f"renewed: what the page says of {series}", said, Ran(0, f"{line}\n".encode()))
 
 
 def that_nobody_wants(room: Room) -> Iterator[Outcome]:

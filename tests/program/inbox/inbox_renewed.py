@@ -2,12 +2,17 @@
 
 import json
 from collections.abc import Iterator
+from contextlib import contextmanager
 
-from tests.program.feeds.convert.wanted_runs import message_of
+from tests.program.databases import DATABASE, batch
+from tests.program.feeds.convert.wanted_runs import ISBN, message_of
+from tests.program.files import desk_renew
 from tests.program.inbox.inbox_again import AGREED, desk_of
 from tests.program.inbox.inbox_numbers import digest, numbers_kept
-from tests.program.inbox.inboxes import OTHER, Inbox, numbered, of_series, said, unnumbered
+from tests.program.inbox.inboxes import OTHER, Inbox, files_in, numbered, of_series, said, unnumbered
+from tests.program.inbox.titles import Shop, entry
 from tests.program.room import Room
+from tests.program.serving import serving
 from tests.running import Outcome
 
 # The desk is renewed behind number 3, which has the catalogue then.
@@ -135,3 +140,47 @@ def refused_in_part(room: Room) -> Iterator[Outcome]:
         why = "number 2 is below the first number of the series, 3"
         line = f"b.xml: done in part: number 1 applied; not applied: {why}; kept as a.xml"
         yield Outcome("renewed: refused in part", inbox.run(), said(line, status=1))
+
+
+TITLE = (
+    "<DescriptiveDetail><TitleDetail><TitleType>01</TitleType><TitleElement><TitleElementLevel>01</TitleElementLevel>"
+    "<TitleText>{}</TitleText></TitleElement></TitleDetail></DescriptiveDetail></Product>"
+)
+
+
+def titled(title: str, number: int) -> bytes:
+    """A feed that calls its book so."""
+    return numbered(["R1"], number).replace(b"</Product>", TITLE.format(title).encode())
+
+
+@contextmanager
+def titles_taken(inbox: Inbox, shop: Shop) -> Iterator[None]:
+    """The desk of the room is served to an inbox that hands titles over; at the end they are taken."""
+    with serving(inbox.room, ["--db", DATABASE], None) as desk:
+        inbox.set(DESK=f"http://127.0.0.1:{desk.port}", TITLES=shop.rows)
+        yield
+    shop.take()
+
+
+def with_titles(room: Room) -> Iterator[Outcome]:
+    """They go on: what was kept stays as it is, a repeat of an older message brings none back, and the next one's are
+    taken."""
+    shop, inbox = Shop(room), Inbox(room, 1)
+    inbox.state = shop.state / "north"
+    feeds = {"w1.xml": titled("Salt", 1), "w2.xml": titled("Salt and rope", 2)}
+    batch(room, AGREED.format("S", 1).encode())
+    with titles_taken(inbox, shop):
+        inbox.put(feeds)
+        inbox.run()
+    kept = files_in(shop.kept)
+    yield Outcome("renewed, titles: before", shop.titles(), {ISBN: [entry("north", 2, "Salt and rope")]})
+    status = desk_renew.renew(room, "--yes").status
+    yield Outcome("renewed, titles: what was kept", (status, files_in(shop.kept)), (0, kept))
+    with titles_taken(inbox, shop):
+        inbox.put({"again.xml": feeds["w1.xml"]})
+        yield Outcome("renewed, titles: a repeat", inbox.run(), said(f"again.xml: done: {HAD} 1; kept as w1.xml"))
+    yield Outcome("renewed, titles: none comes back", shop.titles(), {ISBN: [entry("north", 2, "Salt and rope")]})
+    with titles_taken(inbox, shop):
+        inbox.put({"w3.xml": titled("Rope", 3)})
+        yield Outcome("renewed, titles: the next message", inbox.run(), said("w3.xml: done: number 3 applied"))
+    yield Outcome("renewed, titles: its title", shop.titles(), {ISBN: [entry("north", 3, "Rope")]})

@@ -15,7 +15,7 @@ MAY_IMPORT: dict[str, set[str]] = {
     "programs/shared/command_lines": set(),
     "programs/shared/message_records": set(),
     "programs/shared/desk_batches": {"command_lines"},
-    "programs/shared/shop_files": {"command_lines"},
+    "programs/shared/shop_files": {"command_lines", "message_records"},
     "programs/desk-copy/desk_copy": {"command_lines"},
     "programs/desk-renew/desk_renew": {
         "command_lines",

@@ -1,7 +1,7 @@
 """Measures `onixdesk convert` on feeds that it makes as streams, of the products of the sample feeds in
 tests/feeds with a RecordReference for each: how many MB of XML it converts in a second of its processor
 time, and the greatest memory that it takes; and by terms of a shop that fit each Price of a reader how many times as
-long it takes, and how much memory.
+long it takes, and how much memory. Each is the quickest of three runs, without and with terms by turns.
 
     bench/feeds [--desk PROGRAM] [MEGABYTES]
 
@@ -12,7 +12,7 @@ for each MB of XML, which is more than they need.
 import argparse
 import sys
 import tempfile
-from collections.abc import Iterator
+from collections.abc import Iterable, Iterator
 from pathlib import Path
 from typing import NamedTuple
 
@@ -38,6 +38,9 @@ types = ["02"]
 net = "05"
 percent = "35"
 """
+
+# How often each feed is converted in either way.
+RUNS = 3
 
 # Products that are written at once, all with the same beginning of their references.
 AT_ONCE = 200
@@ -81,15 +84,28 @@ def measured(program: Path, feed: tuple[str, bytes, bytes], megabytes: int, *wor
     return Measured(sum(sizes) / 1_000_000, came.seconds, came.memory / 1_048_576)
 
 
+def quickest(runs: Iterable[Measured]) -> Measured:
+    """The time of the quickest run, and the most memory of all."""
+    found = [*runs]
+    return min(found, key=lambda run: run.seconds)._replace(memory=max(run.memory for run in found))
+
+
 def main() -> None:
     form = argparse.RawDescriptionHelpFormatter
     parser = argparse.ArgumentParser("bench/feeds", description=__doc__, formatter_class=form)
     parser.add_argument("--desk", metavar="PROGRAM", type=Path, default=ROOT / "crates/onixdesk/out/onixdesk")
     parser.add_argument("megabytes", metavar="MEGABYTES", type=int, nargs="?", default=2_000)
     given = parser.parse_args()
+    program = given.desk.resolve()
     for name, feed in FEEDS.items():
-        plain = measured(given.desk.resolve(), feed, given.megabytes)
-        by_terms = measured(given.desk.resolve(), feed, given.megabytes, "--terms", "terms.toml")
+        pairs = [
+            (
+                measured(program, feed, given.megabytes),
+                measured(program, feed, given.megabytes, "--terms", "terms.toml"),
+            )
+            for _ in range(RUNS)
+        ]
+        plain, by_terms = map(quickest, zip(*pairs))
         print(
             f"{name}: {plain.megabytes:.0f} MB, {plain.megabytes / plain.seconds:.1f} MB a second,"
             f" at most {plain.memory:.1f} MB of memory;"

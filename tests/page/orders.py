@@ -115,8 +115,8 @@ def save_to(browser: Browser, folder: Path) -> None:
 
 
 def saved(browser: Browser, folder: Path, name: str = "*.csv") -> str:
-    """The text of the one file of a folder, once it is there and whole."""
-    browser.wait(lambda: any(folder.glob(name)))
+    """The text of the one file of a folder, once it is there and whole: Chromium takes its name by an empty one first."""
+    browser.wait(lambda: any(path.stat().st_size > 0 for path in folder.glob(name)))
     [path] = folder.glob(name)
     return path.read_bytes().decode()
 

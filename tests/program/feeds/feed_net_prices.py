@@ -11,6 +11,9 @@ from tests.program.feeds.feed_prices import amount_of, days_of, key_of, quantity
 from tests.program.feeds.feed_terms import is_code, is_field, is_quantity
 from tests.program.feeds.feed_trees import Detail, Discount, Message, Price, Term
 
+# Prices of a SupplyDetail with their minimum quantities, by type and currency.
+Given = dict[tuple[str, str], list[tuple[Price, int]]]
+
 # In place of a percent: what the feed says.
 OF_FEED = "feed"
 
@@ -101,12 +104,17 @@ def computed_of(term: Term, price: Price, detail: Detail) -> list[Computed]:
     return [Computed(term.net, amount, minimum) for minimum, amount in found.items()]
 
 
-def is_held_back(one: Computed, price: Price, given: list[tuple[Price, int]], message: Message) -> bool:
+def grouped(written: list[Price], detail: Detail, message: Message) -> Given:
+    """The prices of a SupplyDetail that are written, with their minimum quantities, by type and currency."""
+    found: Given = {}
+    for price in written:
+        found.setdefault(key_of(price, message), []).append((price, minimum_of(quantity_of(price, detail))))
+    return found
+
+
+def is_held_back(one: Computed, price: Price, given: Given, message: Message) -> bool:
     """Whether a price of the feed has the same type and currency and does not outrank it."""
-    currency = key_of(price, message)[1]
-    for other, minimum in given:
-        if key_of(other, message) != (one.net, currency):
-            continue
+    for other, minimum in given.get((one.net, key_of(price, message)[1]), ()):
         if minimum < one.minimum or minimum == one.minimum and days_of(other)[0] <= days_of(price)[0]:
             return True
     return False
@@ -118,7 +126,7 @@ def outcome_of(
     detail: Detail,
     message: Message,
     supplier: str,
-    written: list[Price],
+    given: Given,
     closed: set[tuple[str, str]],
 ) -> Outcome:
     """What comes of a price of a SupplyDetail of which these are written, and those types and currencies closed."""
@@ -126,7 +134,6 @@ def outcome_of(
     term = next((each for each in terms if is_fitting(each, price, message, supplier)), None)
     if not term:
         return Outcome(any(price_type in each.types for each in terms), 0, False, [])
-    given = [(other, minimum_of(quantity_of(other, detail))) for other in written]
     computed = computed_of(term, price, detail)
     is_closed = (term.net, currency) in closed
     left = [one for one in computed if not is_closed and not is_held_back(one, price, given, message)]

@@ -4,7 +4,7 @@ it is refused."""
 import re
 from dataclasses import dataclass, field
 
-from tests.program.feeds.feed_net_prices import computed_record, outcome_of
+from tests.program.feeds.feed_net_prices import Given, computed_record, grouped, outcome_of
 from tests.program.feeds.feed_prices import (
     REGION,
     closes,
@@ -405,11 +405,11 @@ class Judge:
         priced = [price for price in detail.prices if not gives_nothing(price, unpriced)]
         closed = {key_of(price, self.message) for price in priced if closes(price, self.message, unpriced)}
         records = [(price, self.price(price, detail, closed)) for price in priced]
-        written = [price for price, its in records if its]
+        given = grouped([price for price, its in records if its], detail, self.message)
         supplier = ",".join(record[2:4])
         return [
             record,
-            *(one for price, its in records for one in self.computed(price, its, detail, supplier, written, closed)),
+            *(one for price, its in records for one in self.computed(price, its, detail, supplier, given, closed)),
         ]
 
     def computed(
@@ -418,13 +418,13 @@ class Judge:
         records: list[Record],
         detail: Detail,
         supplier: str,
-        written: list[Price],
+        given: Given,
         closed: set[tuple[str, str]],
     ) -> list[Record]:
         """The record of a price, if it is written, and behind it those that the terms compute of it."""
         if self.words.terms is None or not records:
             return records
-        found = outcome_of(self.words.terms, price, detail, self.message, supplier, written, closed)
+        found = outcome_of(self.words.terms, price, detail, self.message, supplier, given, closed)
         self.discounts += [UNFITTED] * found.is_unfitted
         if self.is_plain:
             return records

@@ -693,6 +693,8 @@ def another_question(site: Site, browser: Browser) -> Iterator[Outcome]:
         before = browser.run("return document.getElementById(arguments[0]).value", f"list-{name}")
         browser.call("put", f"list-{name}", value, "input")
         yield Outcome(f"another {name} is told", browser.one("#list-old").is_displayed(), True)
+        is_inert = browser.run("return document.getElementById('sums-part').inert")
+        yield Outcome(f"with another {name} nothing can be ordered", is_inert, True)
         # As where it changes between a press and the question that is asked before a file is saved.
         browser.run("document.getElementById('sums-part').inert = false; document.getElementById('csv-all').click()")
         told = saved_status(browser, "look them up again")

@@ -371,7 +371,6 @@ fn add_prices<'a>(
 // Adds what comes of the Prices of a SupplyDetail whose supplier has this identifier, with the
 // prices that the terms of the shop compute, if it has any.
 fn add_priced<'a>(
-    alloc: Global,
     choices: &SupplyChoices<'_>,
     supplier: Pair<'a>,
     context: &PriceContext<'_, '_, '_>,
@@ -394,12 +393,12 @@ fn add_priced<'a>(
         ++ priced_notes o (supply_choices_view choices.now).terms choices.now.is_plain
         (supply_choices_view choices.now).preferred elements.now)) }
 {
+    let alloc = *notes.allocator();
     let Some(terms) = choices.terms else {
         return add_prices(alloc, context, elements, fields, records, notes);
     };
     let supplier = supplier_of(alloc, supplier)?;
     add_computed_prices(
-        alloc,
         terms,
         supplier.as_ref(),
         choices.is_plain,
@@ -440,7 +439,7 @@ pub(crate) fn add_detail<'a>(
         let closed = closing_keys(alloc, &context_by(opening, &[], elements), elements, fields)?;
         let context = context_by(opening, closed.as_slice(), elements);
         add_priced(
-            alloc, choices, supplier, &context, elements, fields, records, notes,
+            choices, supplier, &context, elements, fields, records, notes,
         )?;
     }
     Ok(left_out)

@@ -468,7 +468,6 @@ fn add_records(
 /// Adds the records of the Prices of a SupplyDetail, each with those behind it that the terms
 /// compute, unless these are left out, and notes.
 pub(crate) fn add_computed_prices<'a>(
-    alloc: Global,
     terms: &Terms,
     supplier: Option<&Text>,
     is_plain: bool,
@@ -487,6 +486,7 @@ pub(crate) fn add_computed_prices<'a>(
         ++ terms_notes terms.now (option_copied supplier.entry) (context_view context.now)
         (composites (codes "Price") elements.now) is_plain)) }
 {
+    let alloc = *notes.allocator();
     let written = written_in(alloc, context, elements, fields, notes)?;
     let closed = closed_kinds(alloc, context.closed)?;
     let remarks = add_records(

@@ -550,7 +550,6 @@ fn write_price<'a>(
 // Adds what comes of a Price that is none other than the desk knows, or gives the reason for which
 // the desk would not take it.
 fn add_known<'a>(
-    alloc: Global,
     context: &PriceContext<'_, '_, '_>,
     elements: &Elements<'a>,
     area: &Area<'a>,
@@ -571,6 +570,7 @@ fn add_known<'a>(
         (outcome_of (last_reason (context_view context.now) elements.now)
         (context_view context.now) elements.now)) }
 {
+    let alloc = *notes.allocator();
     let left_out = write_price(alloc, context, elements, area, days, fields, records)?;
     if left_out.is_none() {
         push_territory_notes(notes, area)?;
@@ -602,7 +602,6 @@ fn add_priced<'a>(
     let dated = days_in(elements);
     match early_reason(&area, wrong_date(&dated), elements) {
         None => add_known(
-            alloc,
             context,
             elements,
             &area,

@@ -143,7 +143,6 @@ fn add_below<'a>(
 
 // Adds what comes of a Product with these identifiers, of which no own field empties it.
 fn add_sound<'a>(
-    alloc: Global,
     opening: &Opening,
     choices: &SupplyChoices<'_>,
     product: &Composite<'a>,
@@ -165,6 +164,7 @@ fn add_sound<'a>(
         → OnOk result (note_views notes.new.items ≡ note_views notes.old.items
         ++ notes_behind opening.now (supply_choices_view choices.now) product.now) }
 {
+    let alloc = *notes.allocator();
     let count = records.len();
     let elements = &product.below;
     add_own(&identifiers.pairs, elements, fields, records)?;
@@ -184,7 +184,6 @@ fn add_sound<'a>(
 
 // Adds what comes of a Product that has a RecordReference, behind the notes on its identifiers.
 fn add_standing<'a>(
-    alloc: Global,
     opening: &Opening,
     choices: &SupplyChoices<'_>,
     product: &Composite<'a>,
@@ -214,7 +213,6 @@ fn add_standing<'a>(
             Ok(Fate::Emptied)
         }
         None => add_sound(
-            alloc,
             opening,
             choices,
             product,
@@ -256,7 +254,6 @@ pub fn add_product<'a>(
     }
     let identifiers = take_identifiers(alloc, &product.below, notes)?;
     add_standing(
-        alloc,
         opening,
         choices,
         product,

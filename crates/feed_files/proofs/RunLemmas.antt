@@ -57,3 +57,10 @@ all_more (f ∷ ends) e = ap (λ b. is_converted f.ended && b) (all_more ends e)
     turned true b c = refl
     turned false true c = refl
     turned false false c = refl
+
+-- behind the last FILE all have ended
+pub all_ended : (a : Asking) (told : Option (List ℕ)) (before : Holdings) (names : List (List ℕ)) (left : Option (List ℕ)) (after : Holdings) (i : ℕ) (ends : List FileEnd) → i ≡ length names
+    → Continues a told before names left after (drop i names) ends → AreEnds a told before after names ends
+all_ended a told before names left after i ends at_end so_far =
+    let none : drop i names ≡ [] = ap (λ k. drop k names) at_end ∙ none_left names in
+    subst (AreEnds a told before after names) (append-nil ends) (so_far [] after (subst (λ rest. AreEnds a left after after rest []) (sym none) refl))

@@ -4,11 +4,10 @@ ghost use Rattle.std.specs.Prelude.{◌≡◌, ◌≢◌, ◌⊎◌, ◌≤◌, 
 ghost use Rattle.std.specs.Io.KnownBytes.{Appends};
 ghost use Rattle.program_files.specs.Holdings.{MayName, Names};
 ghost use Rattle.program_files.specs.PartFiles.{files_of, place};
-ghost use Rattle.program_files.specs.Texts.{with_file};
 ghost use Rattle.feed_conversion.specs.Views.{options_view};
-ghost use Rattle.feed_files.specs.Ends.{IsEnd, IsOfWrong, IsTaken, IsUnconverted, asking, file_end, is_converted};
-ghost use Rattle.feed_files.specs.Runs.{AllEnd, outputs, run_asking};
-ghost use Rattle.feed_files.specs.Titles.{EndsWith, TitlesEnd, are_converted};
+ghost use Rattle.feed_files.specs.Ends.{IsEnd, IsOfWrong, IsUnconverted, asking, file_end, is_converted};
+ghost use Rattle.feed_files.specs.Runs.{run_asking};
+ghost use Rattle.feed_files.specs.Titles.{EndsWith, TitlesEnd};
 
 use crate::collected::Collected;
 use crate::ended::Ended;
@@ -33,6 +32,13 @@ pub struct Run<'a> {
     pub options: Options<'a>,
     /// The folder that takes the messages, or none where they go to standard output.
     pub folder: Option<&'a str>,
+}
+
+// Where a run tells what it does not convert: standard error, and the summary behind its FILEs.
+#[derive(Drop)]
+struct Telling<'a, E> {
+    errors: &'a mut E,
+    summary: Summary,
 }
 
 // Writes lines. Those that cannot be written are lost: there is nowhere left to say so.
@@ -166,9 +172,9 @@ fn end_notes(notes: &mut Notes<'_>, read: &Result<u32, Fault>) {
 
 // Writes the notes of a FILE that was converted, and counts them. Where memory runs out, the
 // summary counts less.
-fn tell<E: Write>(notes: &Notes<'_>, summary: &mut Summary, errors: &mut E) {
-    write_lines(notes.text(), errors);
-    let _ = summary.add_all(notes.summary());
+fn tell<E: Write>(notes: &Notes<'_>, telling: &mut Telling<'_, E>) {
+    write_lines(notes.text(), telling.errors);
+    let _ = telling.summary.add_all(notes.summary());
 }
 
 // Converts a FILE to standard output.
@@ -179,8 +185,7 @@ fn convert_out<F: NamedFiles, R: Read, W: Write, E: Write>(
     reader: &mut R,
     options: &Options<'_>,
     output: &mut W,
-    summary: &mut Summary,
-    errors: &mut E,
+    telling: &mut Telling<'_, E>,
 ) -> Ended
     ensures { (written : List ℕ) × Appends (W.contents output.old) (W.contents output.new) written
         × IsEnd (asking (options_view options.now) None F.is_told) file.now (R.remaining reader.old)
@@ -201,20 +206,28 @@ fn convert_out<F: NamedFiles, R: Read, W: Write, E: Write>(
         fault,
     } = target;
     end_notes(&mut notes, &ended);
-    let ended = end_of_seen(alloc, &notes, &seen, options, &ended, &fault, errors);
+    let ended = end_of_seen(
+        alloc,
+        &notes,
+        &seen,
+        options,
+        &ended,
+        &fault,
+        telling.errors,
+    );
     if !ended.is_converted() {
         return ended;
     }
     match store.place(output) {
         Ok(()) => {
-            tell(&notes, summary, errors);
+            tell(&notes, telling);
             ended
         }
-        Err(fault) => report_fault(alloc, &fault, errors),
+        Err(fault) => report_fault(alloc, &fault, telling.errors),
     }
 }
 
-// Gives the files of a FILE their names, where it was converted.
+// Gives the files of a FILE their names, and says whether they have them.
 fn place_parts<F: NamedFiles, E: Write>(
     alloc: Global,
     files: &mut F,
@@ -222,44 +235,41 @@ fn place_parts<F: NamedFiles, E: Write>(
     folder: &str,
     name: &str,
     parts: u32,
-    ended: Ended,
     errors: &mut E,
-) -> Ended
-    ensures left { is_converted ended ≡ false
-        → (result ≡ ended) × (F.holds files.new ≡ F.holds files.old) }
-    ensures done { is_converted ended ≡ true → (result ≡ Ended.Fault)
-        ⊎ ((result ≡ ended) × (F.is_told ≡ true
+) -> bool
+    ensures done { result ≡ true → F.is_told ≡ true
         → Names (files_of (place folder.now name.now parts) (map F.text_of made.now.made.items))
-        (F.holds files.old) (F.holds files.new))) }
-    ensures may { F.is_told ≡ true → is_converted ended ≡ true
+        (F.holds files.old) (F.holds files.new) }
+    ensures may { F.is_told ≡ true
         → MayName (files_of (place folder.now name.now parts) (map F.text_of made.now.made.items))
         (F.holds files.old) (F.holds files.new) }
 {
-    if !ended.is_converted() {
-        return ended;
-    }
     match made.place(files, folder, name, parts) {
-        Ok(()) => ended,
-        Err(fault) => report_fault(alloc, &fault, errors),
+        Ok(()) => true,
+        Err(fault) => {
+            write_fault(alloc, &fault, errors);
+            false
+        }
     }
 }
 
-// Reads a FILE, and makes the files of its parts under hidden names.
-fn read_parts<'a, F: NamedFiles, R: Read, E: Write>(
+// Converts a FILE into a folder.
+fn convert_into<F: NamedFiles, R: Read, E: Write>(
     rt: &HostRuntime,
-    file: &'a str,
-    files: &F,
+    file: &str,
+    files: &mut F,
     reader: &mut R,
-    options: &'a Options<'a>,
+    options: &Options<'_>,
     folder: &str,
-    errors: &mut E,
-) -> (MadeFiles<F>, Notes<'a>, Ended)
-    ensures { IsTaken (with_file F.is_told) (options_view options.now) (R.remaining reader.old) []
-        (map F.text_of result.0.made.items) result.2 }
+    telling: &mut Telling<'_, E>,
+) -> Ended
+    ensures { IsEnd (asking (options_view options.now) (Some folder.now) F.is_told) file.now
+        (R.remaining reader.old) (file_end result [] (F.holds files.old) (F.holds files.new)) }
 {
     let alloc = rt.alloc();
+    let name = name_of(file);
     let target = Collected {
-        store: PartFiles::new(alloc, files, folder, name_of(file)),
+        store: PartFiles::new(alloc, files, folder, name),
         notes: Notes::new(alloc, file, options),
         fault: None,
     };
@@ -272,72 +282,28 @@ fn read_parts<'a, F: NamedFiles, R: Read, E: Write>(
         fault,
     } = target;
     end_notes(&mut notes, &ended);
-    let ended = end_of_seen(alloc, &notes, &seen, options, &ended, &fault, errors);
-    (store.finish(), notes, ended)
-}
-
-// Converts a FILE into a folder.
-fn convert_into<F: NamedFiles, R: Read, E: Write>(
-    rt: &HostRuntime,
-    file: &str,
-    files: &mut F,
-    reader: &mut R,
-    options: &Options<'_>,
-    folder: &str,
-    summary: &mut Summary,
-    errors: &mut E,
-) -> Ended
-    ensures { IsEnd (asking (options_view options.now) (Some folder.now) F.is_told) file.now
-        (R.remaining reader.old) (file_end result [] (F.holds files.old) (F.holds files.new)) }
-{
-    let (made, notes, read) = read_parts(rt, file, files, reader, options, folder, errors);
-    let name = name_of(file);
-    let parts = options.choices.parts;
-    let ended = place_parts(rt.alloc(), files, &made, folder, name, parts, read, errors);
-    if ended.is_converted() {
-        tell(&notes, summary, errors);
+    let errors = &mut *telling.errors;
+    let read = end_of_seen(alloc, &notes, &seen, options, &ended, &fault, errors);
+    let made = store.finish();
+    if !read.is_converted() {
+        made.discard(files);
+        return read;
     }
+    let is_placed = place_parts(
+        alloc,
+        files,
+        &made,
+        folder,
+        name,
+        options.choices.parts,
+        errors,
+    );
     made.discard(files);
-    ended
-}
-
-// Converts what a reader gives.
-fn convert_read<F: NamedFiles, R: Read, W: Write, E: Write>(
-    rt: &HostRuntime,
-    run: &Run<'_>,
-    file: &str,
-    files: &mut F,
-    reader: &mut R,
-    output: &mut W,
-    summary: &mut Summary,
-    errors: &mut E,
-) -> Ended
-    ensures { (written : List ℕ) × Appends (W.contents output.old) (W.contents output.new) written
-        × IsEnd (run_asking F.is_told run.now) file.now (R.remaining reader.old)
-        (file_end result written (F.holds files.old) (F.holds files.new)) }
-{
-    match run.folder {
-        Some(folder) => convert_into(
-            rt,
-            file,
-            files,
-            reader,
-            &run.options,
-            folder,
-            summary,
-            errors,
-        ),
-        None => convert_out(
-            rt,
-            file,
-            files,
-            reader,
-            &run.options,
-            output,
-            summary,
-            errors,
-        ),
+    if !is_placed {
+        return Ended::Fault;
     }
+    tell(&notes, telling);
+    read
 }
 
 // Says that a FILE is packed.
@@ -354,31 +320,6 @@ fn report_packed<E: Write>(alloc: Global, file: &str, errors: &mut E) -> Ended
     }
 }
 
-// Converts a FILE that is not standard input.
-fn convert_named<F: NamedFiles, W: Write, E: Write>(
-    rt: &HostRuntime,
-    run: &Run<'_>,
-    file: &str,
-    files: &mut F,
-    output: &mut W,
-    summary: &mut Summary,
-    errors: &mut E,
-) -> Ended
-    ensures { (written : List ℕ) × Appends (W.contents output.old) (W.contents output.new) written
-        × IsEnd (run_asking F.is_told run.now) file.now (F.holds files.old file.now)
-        (file_end result written (F.holds files.old) (F.holds files.new)) }
-{
-    if is_packed(file) {
-        return report_packed(rt.alloc(), file, errors);
-    }
-    match files.open(file) {
-        Ok(mut reader) => {
-            convert_read(rt, run, file, files, &mut reader, output, summary, errors)
-        }
-        Err(fault) => report_fault(rt.alloc(), &fault, errors),
-    }
-}
-
 // Converts one FILE.
 fn convert_file<F: NamedFiles, R: Read, W: Write, E: Write>(
     rt: &HostRuntime,
@@ -387,8 +328,7 @@ fn convert_file<F: NamedFiles, R: Read, W: Write, E: Write>(
     files: &mut F,
     input: &mut R,
     output: &mut W,
-    summary: &mut Summary,
-    errors: &mut E,
+    telling: &mut Telling<'_, E>,
 ) -> Ended
     ensures end { (bytes : Option (List ℕ)) × (written : List ℕ)
         × (file.now ≡ codes "-" → bytes ≡ R.remaining input.old)
@@ -398,10 +338,23 @@ fn convert_file<F: NamedFiles, R: Read, W: Write, E: Write>(
         (file_end result written (F.holds files.old) (F.holds files.new)) }
     ensures untouched { file.now ≢ codes "-" → input.new ≡ input.old }
 {
+    let options = &run.options;
     if file == STANDARD_INPUT {
-        convert_read(rt, run, file, files, input, output, summary, errors)
-    } else {
-        convert_named(rt, run, file, files, output, summary, errors)
+        return match run.folder {
+            Some(folder) => convert_into(rt, file, files, input, options, folder, telling),
+            None => convert_out(rt, file, files, input, options, output, telling),
+        };
+    }
+    if is_packed(file) {
+        return report_packed(rt.alloc(), file, telling.errors);
+    }
+    let mut reader = match files.open(file) {
+        Ok(reader) => reader,
+        Err(fault) => return report_fault(rt.alloc(), &fault, telling.errors),
+    };
+    match run.folder {
+        Some(folder) => convert_into(rt, file, files, &mut reader, options, folder, telling),
+        None => convert_out(rt, file, files, &mut reader, options, output, telling),
     }
 }
 
@@ -447,33 +400,6 @@ fn both(one: bool, other: bool) -> bool
     ensures { result ≡ (one && other) }
 {
     one && other
-}
-
-// Converts each FILE in turn, and gives the greatest status and whether each was converted.
-fn convert_each<F: NamedFiles, R: Read, W: Write, E: Write>(
-    rt: &HostRuntime,
-    run: &Run<'_>,
-    names: &[&str],
-    files: &mut F,
-    input: &mut R,
-    output: &mut W,
-    summary: &mut Summary,
-    errors: &mut E,
-) -> (u8, bool)
-    ensures end { AllEnd (run_asking F.is_told run.now) (R.remaining input.old)
-        (F.holds files.old) (F.holds files.new) (map (λ name. name.now) names.now)
-        (λ ends. Appends (W.contents output.old) (W.contents output.new) (outputs ends)
-        × (result.1 ≡ are_converted ends)) result.0 }
-    ensures most { result.0 ≤ 3 }
-{
-    let mut status = 0;
-    let mut are_converted = true;
-    for file in names {
-        let ended = convert_file(rt, run, file, files, input, output, summary, errors);
-        status = greater(status, ended.status());
-        are_converted = both(ended.is_converted(), are_converted);
-    }
-    (status, are_converted)
 }
 
 // Whether the folder that is to take messages is one; a line says so where it is none.
@@ -522,17 +448,18 @@ pub fn convert_files<F: NamedFiles, R: Read, W: Write, E: Write>(
     if !has_folder(alloc, run, files, errors) {
         return 3;
     }
-    let mut summary = Summary::new(alloc);
-    let (status, are_converted) = convert_each(
-        rt,
-        run,
-        names,
-        files,
-        input,
-        output,
-        &mut summary,
+    let mut telling = Telling {
         errors,
-    );
+        summary: Summary::new(alloc),
+    };
+    let mut status = 0;
+    let mut are_converted = true;
+    for file in names {
+        let ended = convert_file(rt, run, file, files, input, output, &mut telling);
+        status = greater(status, ended.status());
+        are_converted = both(ended.is_converted(), are_converted);
+    }
+    let Telling { errors, summary } = telling;
     write_summary(alloc, &summary, errors);
     match titles {
         None => status,

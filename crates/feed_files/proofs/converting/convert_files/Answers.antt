@@ -1,13 +1,57 @@
-use Rattle.std.proofs.Common.{◌≡◌, ◌∙◌, ℕ, List, [], Option, Some, None, inl, inr, map, true, refl}
+use Rattle.std.proofs.Common.{◌≡◌, ◌++◌, ◌∷◌, ◌∙◌, ℕ, suc, List, [], Option, Some, None, ap, arith, drop, inl, inr, map, refl, subst, sym, true}
 use Rattle.std.specs.Borrow.{Bor}
-use Rattle.std.specs.Prelude.{is_some, option_map}
+use Rattle.std.specs.Prelude.{◌&&◌, is_some, max, option_map, slice_index_or}
 use Rattle.std.specs.Io.KnownBytes.{Appends}
-use Rattle.std.proofs.KnownBytes.{Appends-nil}
+use Rattle.std.proofs.Math.Numerals.{add-one}
+use Rattle.std.proofs.KnownBytes.{Appends-nil, Appends-trans}
+use Rattle.std.proofs.lemmas.List.{length-map}
 use Rattle.program_files.specs.Holdings.{Holdings}
-use Rattle.feed_files.specs.Ends.{Asking}
-use Rattle.feed_files.specs.Runs.{run_asking}
+use Rattle.feed_files.specs.Ends.{Asking, file_end, is_converted}
+use Rattle.feed_files.specs.Runs.{run_asking, status_of_all}
 use Rattle.feed_files.specs.Titles.{EndsWith}
+use Rattle.feed_files.proofs.RunLemmas.{Continues, all_ended, all_more, continues_more, names_from, outputs_more, status_more}
 use Rattle.feed_files.proofs.converting.convert_files.Goals as goal
+
+abbrev nameless : Bor (List ℕ)
+nameless = record { ref_ptr = (0, 0); now = [] }
+
+pub loop-file-init : goal.loop-file-init
+loop-file-init g c = record {
+  ends = [];
+  so_far = λ more after are. are;
+  written = Appends-nil (g.W.Write.contents c.args.output.now);
+  all = refl;
+  status_is = refl;
+  most = omega arith;
+}
+
+pub loop-file-preserved : goal.loop-file-preserved
+loop-file-preserved g c =
+    let inv = c.loop-file.invariant in
+    let ran = c.convert_file-ended.ensures.end in
+    let i = c.loop-file.file-index in
+    let a = run_asking g.F.NamedFiles.is_told c.args.run.now in
+    let told = g.R.Read.remaining c.args.input.now in
+    let left = g.R.Read.remaining c.loop-file.input in
+    let still = g.R.Read.remaining c.convert_file-ended.new.input in
+    let before = g.F.NamedFiles.holds c.args.files.now in
+    let mid = g.F.NamedFiles.holds c.loop-file.files in
+    let names : List (List ℕ) = map (λ (f : Bor (List ℕ)). f.now) c.args.names.now in
+    let name : List ℕ = (slice_index_or c.args.names.now i nameless).now in
+    let e = file_end c.convert_file-ended.result ran.1 mid (g.F.NamedFiles.holds c.convert_file-ended.new.files) in
+    let more = inv.ends ++ e ∷ [] in
+    record {
+      ends = more;
+      so_far = subst (λ k. Continues a told before names still e.after (drop k names) more) (sym (add-one i))
+          (continues_more a told before names left mid (drop i names) inv.ends name (drop (suc i) names) ran.0 still e inv.so_far
+          (names_from c.args.names.now i nameless c.loop-file-test.true) ran.2
+          (λ other. (ap g.R.Read.remaining (c.convert_file-ended.ensures.untouched other), ran.3 other)) refl ran.5);
+      written = rw (outputs_more inv.ends e) (Appends-trans _ _ _ _ _ inv.written ran.4);
+      all = c.both-are_converted.ensures ∙ ap (λ b. b && c.loop-file.are_converted) c.is_converted.ensures
+          ∙ ap (λ b. is_converted c.convert_file-ended.result && b) inv.all ∙ sym (all_more inv.ends e);
+      status_is = c.greater-status.ensures.is ∙ ap (λ s. max s c.status.result) inv.status_is ∙ ap (λ s. max (status_of_all inv.ends) s) c.status.ensures.is ∙ sym (status_more inv.ends e);
+      most = c.greater-status.ensures.most inv.most c.status.ensures.most;
+    }
 
 named : (folder : Option (Bor (List ℕ))) → is_some folder ≡ true → is_some (option_map (λ (f : Bor (List ℕ)). f.now) folder) ≡ true
 named None is = is
@@ -28,12 +72,18 @@ returns-then-not-has_folder-clause-end g c =
 
 pub returns-in-None-clause-end : goal.returns-in-None-clause-end
 returns-in-None-clause-end g c =
-    let all = c.convert_each-status.ensures.end in
-    rw c.in-None.is (inl (all.0, all.1, all.2.0, all.3))
+    let inv = c.loop-file.invariant in
+    let count = length-map c.args.names.now (λ (f : Bor (List ℕ)). f.now) in
+    let ends = all_ended (run_asking g.F.NamedFiles.is_told c.args.run.now) (g.R.Read.remaining c.args.input.now) (g.F.NamedFiles.holds c.args.files.now) (map (λ (f : Bor (List ℕ)). f.now) c.args.names.now)
+    (g.R.Read.remaining c.loop-file.input) (g.F.NamedFiles.holds c.loop-file.files) c.loop-file.file-index inv.ends (omega (arith, count)) inv.so_far in
+    rw c.in-None.is (inl (inv.ends, ends, inv.written, inv.status_is))
 
 pub returns-clause-end : goal.returns-clause-end
 returns-clause-end g c =
-    let all = c.convert_each-status.ensures.end in
-    let between = g.F.NamedFiles.holds c.convert_each-status.new.files in
+    let inv = c.loop-file.invariant in
+    let count = length-map c.args.names.now (λ (f : Bor (List ℕ)). f.now) in
+    let between = g.F.NamedFiles.holds c.loop-file.files in
+    let ends = all_ended (run_asking g.F.NamedFiles.is_told c.args.run.now) (g.R.Read.remaining c.args.input.now) (g.F.NamedFiles.holds c.args.files.now) (map (λ (f : Bor (List ℕ)). f.now) c.args.names.now)
+    (g.R.Read.remaining c.loop-file.input) between c.loop-file.file-index inv.ends (omega (arith, count)) inv.so_far in
     let titled = c.titles_behind-titled.ensures in
-    rw c.in-Some.is (inl (between, c.convert_each-status.result.0, c.titles_behind-titled.result, (all.0, all.1, (all.2.0, (λ each. titled.end (all.2.1 ∙ each), λ other. titled.none (all.2.1 ∙ other))), all.3), c.greater.ensures.is))
+    rw c.in-Some.is (inl (between, c.loop-file.status, c.titles_behind-titled.result, (inv.ends, ends, (inv.written, (λ each. titled.end (inv.all ∙ each), λ other. titled.none (inv.all ∙ other))), inv.status_is), c.greater.ensures.is))

@@ -5,7 +5,7 @@ use Rattle.feed_files.specs.Ends.{FileEnd}
 use Rattle.feed_files.specs.Runs.{outputs, run_asking, status_of_all}
 use Rattle.feed_files.specs.Titles.{are_converted}
 use Rattle.feed_files.proofs.RunLemmas.{Continues}
-use Rattle.feed_files.proofs.converting.convert_each.Given as goal
+use Rattle.feed_files.proofs.converting.convert_files.Given as goal
 
 -- the FILEs so far have ended
 abbrev pub invariant-loop-file : goal.invariant-loop-file

@@ -19,7 +19,7 @@ pub trait Clients {
     ghost use Rattle.program_clients.specs.declared.clients.Protocol.{Protocol};
 
     // Whether some may send batches.
-    ghost takes_batches: { Bool };
+    ghost takes_batches: { Self → Bool };
 
     // What each client sends that is still to come, where that is known.
     ghost coming: { Self → Option (List (List ℕ)) };
@@ -38,13 +38,15 @@ pub trait Clients {
     /// Waits for the next client, and gives its protocol and the two ways of its connection, or
     /// `None` where it was gone before that was accepted.
     fn accept(&mut self) -> Result<Option<(Protocol, Self::Reader, Self::Writer)>, Fault>
-        ensures client { Accepts Self.Reader.remaining speaks Self.Writer.contents takes_batches
-            (coming self.old) (coming self.new) result }
+        ensures client { Accepts Self.Reader.remaining speaks Self.Writer.contents
+            (takes_batches self.old) (coming self.old) (coming self.new) result }
+        ensures takes { takes_batches self.new ≡ takes_batches self.old }
         ensures replied { KeepsReplies Self.Writer.contents
             (replied self.old) (replied self.new) result };
 
     /// Closes the connection of a client, which was served.
     fn disconnect(&mut self, reader: Self::Reader, writer: Self::Writer)
+        ensures takes { takes_batches self.new ≡ takes_batches self.old }
         ensures coming { coming self.new ≡ coming self.old }
         ensures replied { IsReplied (Self.Writer.contents writer)
             (replied self.old) (replied self.new) };

@@ -143,7 +143,7 @@ impl<'a> Clients for Doors<'a> {
     ghost use Rattle.std.specs.Prelude.{None, true};
     ghost use Rattle.program_clients.specs.Streams.{protocol_of};
 
-    ghost takes_batches = { true };
+    ghost takes_batches = { λ doors. true };
 
     // Of what a client sends and is sent over a socket no clause can say which bytes they are.
     ghost coming = { λ doors. None };

@@ -1,15 +1,16 @@
 //! Where a desk that serves is reached.
 
-use crate::clients::Clients;
+use crate::clients::{Clients, Protocol};
 use crate::doors::Doors;
 use crate::port::Port;
+use crate::timed::Timed;
 use program_lines::fault::Fault;
 use std::rt::HostRuntime;
 
 /// Where a desk that serves is reached: at a port, and at a socket for batches where one is named.
 /// A function over any entrances has no other clients than theirs.
 pub trait Entrances {
-    ghost use Rattle.std.specs.Prelude.{◌≡◌, false, true};
+    ghost use Rattle.std.specs.Prelude.{◌≡◌, IfOk, is_some};
     ghost use Rattle.program_clients.specs.Clients.{ClientTexts, OpensTo};
 
     // What each client sends that is still to come.
@@ -18,11 +19,8 @@ pub trait Entrances {
     // What each client was sent that was served, in order.
     ghost replied: { Self → ClientTexts };
 
-    /// The clients of a port.
-    type AtPort: Clients + Drop;
-
-    /// The clients of a port, and of a socket for batches.
-    type AtBoth: Clients + Drop;
+    /// The clients of what was opened.
+    type Opened: Clients + Drop;
 
     /// Binds a port, so that nobody else has it from then on. Whether it could be is told where it
     /// is opened.
@@ -30,31 +28,55 @@ pub trait Entrances {
         ensures coming { coming self.new ≡ coming self.old }
         ensures replied { replied self.new ≡ replied self.old };
 
-    /// Opens a port, the one that was bound where there is one.
-    fn open_port(&mut self, port: u16) -> Result<Self::AtPort, Fault>
-        ensures clients { OpensTo Self.AtPort.coming Self.AtPort.replied
+    /// Opens a port, the one that was bound where there is one, and where one is named a socket of
+    /// the file system for batches, which come at no port.
+    fn open(&mut self, port: u16, batches: Option<&str>) -> Result<Self::Opened, Fault>
+        ensures clients { OpensTo Self.Opened.coming Self.Opened.replied
             (coming self.old) (replied self.old) result }
+        ensures takes { IfOk result (λ clients.
+            Self.Opened.takes_batches clients ≡ is_some batches.entry) }
         ensures replied { replied self.new ≡ replied self.old };
 
-    /// The same, and a socket of the file system for batches.
-    fn open_both(&mut self, port: u16, socket: &str) -> Result<Self::AtBoth, Fault>
-        ensures clients { OpensTo Self.AtBoth.coming Self.AtBoth.replied
-            (coming self.old) (replied self.old) result }
-        ensures replied { replied self.new ≡ replied self.old };
+    /// Closes what was opened.
+    fn close(&mut self, clients: Self::Opened)
+        ensures { replied self.new ≡ Self.Opened.replied clients };
+}
 
-    /// Closes a port.
-    fn close_port(&mut self, clients: Self::AtPort)
-        ensures { replied self.new ≡ Self.AtPort.replied clients };
+/// What is listened at: a port, or a port and a socket for batches.
+#[derive(Drop)]
+pub enum Opened<'a> {
+    Port(Port<'a>),
+    Both(Doors<'a>),
+}
 
-    /// Closes a port and a socket.
-    fn close_both(&mut self, clients: Self::AtBoth)
-        ensures { replied self.new ≡ Self.AtBoth.replied clients };
+impl<'a> Clients for Opened<'a> {
+    ghost use Rattle.std.specs.Prelude.{None};
+    ghost use Rattle.program_clients.specs.Streams.{are_both, protocol_of};
 
-    /// No batch comes at a port.
-    ghost port_takes: { Self.AtPort.takes_batches ≡ false };
+    ghost takes_batches = { are_both };
 
-    /// Batches come at a socket.
-    ghost both_take: { Self.AtBoth.takes_batches ≡ true };
+    // Of what a client sends and is sent over a socket no clause can say which bytes they are.
+    ghost coming = { λ opened. None };
+
+    ghost replied = { λ opened. None };
+
+    ghost speaks = { λ way. protocol_of way.stream };
+
+    type Reader = Timed<'a>;
+
+    type Writer = Timed<'a>;
+
+    fn accept(&mut self) -> Result<Option<(Protocol, Timed<'a>, Timed<'a>)>, Fault> {
+        match self {
+            Opened::Port(port) => port.accept(),
+            Opened::Both(doors) => doors.accept(),
+        }
+    }
+
+    fn disconnect(&mut self, reader: Timed<'a>, writer: Timed<'a>) {
+        drop(writer);
+        reader.into_stream().shut_down();
+    }
 }
 
 /// The ports of 127.0.0.1, and the sockets of the file system.
@@ -82,39 +104,27 @@ impl<'a> HostEntrances<'a> {
 
 impl<'a> Entrances for HostEntrances<'a> {
     ghost use Rattle.std.specs.Prelude.{None};
-    ghost use Rattle.std.proofs.Common.{refl};
 
     // Of what a client sends and is sent over a socket no clause can say which bytes they are.
     ghost coming = { λ entrances. None };
 
     ghost replied = { λ entrances. None };
 
-    ghost port_takes = { refl };
-
-    ghost both_take = { refl };
-
-    type AtPort = Port<'a>;
-
-    type AtBoth = Doors<'a>;
+    type Opened = Opened<'a>;
 
     fn bind(&mut self, port: u16) {
         self.bound = Some(Port::open(self.rt, port));
     }
 
-    fn open_port(&mut self, port: u16) -> Result<Port<'a>, Fault> {
-        self.take_port(port)
-    }
-
-    fn open_both(&mut self, port: u16, socket: &str) -> Result<Doors<'a>, Fault> {
+    fn open(&mut self, port: u16, batches: Option<&str>) -> Result<Opened<'a>, Fault> {
         let port = self.take_port(port);
-        Doors::open(self.rt, port, socket)
+        match batches {
+            None => Ok(Opened::Port(port?)),
+            Some(socket) => Ok(Opened::Both(Doors::open(self.rt, port, socket)?)),
+        }
     }
 
-    fn close_port(&mut self, clients: Port<'a>) {
-        drop(clients);
-    }
-
-    fn close_both(&mut self, clients: Doors<'a>) {
+    fn close(&mut self, clients: Opened<'a>) {
         drop(clients);
     }
 }

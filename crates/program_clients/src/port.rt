@@ -61,7 +61,7 @@ impl<'a> Clients for Port<'a> {
     ghost use Rattle.std.specs.Prelude.{None, false};
     ghost use Rattle.program_clients.specs.Streams.{protocol_of};
 
-    ghost takes_batches = { false };
+    ghost takes_batches = { λ port. false };
 
     // Of what a client sends and is sent over a socket no clause can say which bytes they are.
     ghost coming = { λ port. None };

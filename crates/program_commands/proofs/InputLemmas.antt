@@ -1,5 +1,5 @@
 -- Of which files the texts are that were delivered.
-use Rattle.std.proofs.Common.{◌++◌, ◌∷◌, ℕ, List, [], Option, None, Some, refl, sym, subst, append_assoc, map}
+use Rattle.std.proofs.Common.{◌≢◌, ◌++◌, ◌∷◌, ℕ, List, [], Option, None, Some, codes, refl, sym, subst, append_assoc, map}
 use Rattle.std.specs.Borrow.{Bor}
 use Rattle.csv_records.specs.Streams.{IsTold}
 use Rattle.program_files.specs.Holdings.{Holdings}
@@ -9,6 +9,10 @@ use Rattle.program_commands.specs.Deliveries.{AreTexts, IsTextOf}
 pub told_text : (told : Option (List ℕ)) → (text : List ℕ) × IsTold told text
 told_text None = ([], tt)
 told_text (Some text) = (text, refl)
+
+-- the text of a file that is not the input, which tells what it told
+pub text_of_file : (holds : Holdings) (told : Option (List ℕ)) (name text : List ℕ) → name ≢ codes "-" → IsTold (holds name) text → IsTextOf holds told told name text
+text_of_file holds told name text other is = (λ same. absurd (other same), λ differs. (is, refl))
 
 -- the names that are lent
 abbrev pub names_of : List (Bor (List ℕ)) → List (List ℕ)

@@ -1,5 +1,7 @@
 -- One more connection of those that were served.
-use Rattle.std.proofs.Common.{◌≡◌, ◌++◌, ◌∷◌, ◌∙◌, [], inl, ℕ, Bool, List, arith, refl, sym, subst, ap, append-nil}
+use Rattle.std.proofs.Common.{◌≡◌, ◌++◌, ◌∷◌, ◌∙◌, [], inl, inr, ℕ, Bool, List, Option, arith, refl, sym, subst, ap, append-nil}
+use Rattle.std.specs.Io.KnownBytes.{Appends}
+use Rattle.std.proofs.KnownBytes.{Appends-trans}
 use Rattle.std.specs.List.{flat_map}
 use Rattle.std.proofs.lemmas.List.Concat.{flat_map-append}
 use Rattle.std.proofs.lemmas.List.Elements.{All-nil}
@@ -9,10 +11,12 @@ use Rattle.series_rules.specs.Steps.{Asked, Step}
 use Rattle.series_rules.specs.Views.{DeskKind, View}
 use Rattle.desk_http.specs.Writing.{WritesFront}
 use Rattle.program_clients.specs.Clients.{ClientTexts}
+use Rattle.program_clients.specs.declared.clients.Protocol.{Protocol}
 use Rattle.program_commands.proofs.ClientLemmas.{first_of, none_first, none_replied}
+use Rattle.program_commands.proofs.ConnectionLines.{lines_behind}
 use Rattle.program_commands.specs.Connections.{Connection, IsServed}
 use Rattle.program_commands.specs.Serving.{listening_line}
-use Rattle.program_commands.specs.TaskEnds.{ServeEnds}
+use Rattle.program_commands.specs.TaskEnds.{ConnectionsServed, ServeEnds}
 
 abbrev pub steps_of : List Connection → List Step
 steps_of served = flat_map (λ (c : Connection). c.steps) served
@@ -30,6 +34,23 @@ pub unserved_ends : (asked : List Step → Type 0) (written : List ℕ → Type 
     → ServeEnds asked written batches coming old old port count status
 unserved_ends asked written batches coming old port count status none three front =
     ([], first_of coming coming [] (none_first coming), none_replied old, (omega arith, All-nil (IsServed batches), none), inl (three, refl, front))
+
+-- clients were served behind the line of the port
+pub served_ends : {R : Type 0} (asked : List Step → Type 0) (was before holds : Option (List ℕ)) (speaks : R → Protocol) (batches : Bool) (coming old new : ClientTexts) (port count status : ℕ) → Appends was before (listening_line port)
+    → ConnectionsServed asked (Appends before holds) speaks batches coming old new count status → ServeEnds asked (Appends was holds) batches coming old new port count status
+served_ends asked was before holds speaks batches coming old new port count status line ended = (
+  ended.0,
+  ended.1,
+  ended.2,
+  ended.4,
+  inr (
+    lines_behind was before holds (listening_line port) ended.0 line ended.5.0,
+    elim ended.5.1 [
+      | inl done ↦ inl (done.0, done.1, Appends-trans was before holds _ _ line done.2)
+      | inr three ↦ inr three
+    ],
+  ),
+)
 
 -- the same of clients of whom the same is told
 pub serving_as : (asked : List Step → Type 0) (written : List ℕ → Type 0) (a b : Bool) (coming come old were new are : ClientTexts) (port count status : ℕ) → a ≡ b → coming ≡ come → old ≡ were → new ≡ are

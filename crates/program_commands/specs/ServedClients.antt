@@ -3,7 +3,7 @@ use Rattle.std.specs.Prelude.{◌≡◌, ◌⊎◌, ◌++◌, ℕ, Bool, List, [
 use Rattle.series_rules.specs.Steps.{Step}
 use Rattle.program_lines.specs.Printing.{WritesWhole}
 use Rattle.program_lines.specs.declared.fault.Fault.{Fault}
-use Rattle.program_clients.specs.Clients.{IsNext, IsReplied}
+use Rattle.program_clients.specs.Clients.{ClientTexts, IsNext, IsReplied}
 use Rattle.program_clients.specs.declared.clients.Protocol.{Protocol}
 use Rattle.program_clients.specs.declared.clients.Protocol.TheVariants as protocol
 use Rattle.program_commands.specs.Connections.{Connection, IsServed}
@@ -38,14 +38,14 @@ ServesNext asked speaks batches coming left were are written result =
 
 -- these connections are those of the first clients. Coming: what the clients send, where that is
 -- known
-abbrev pub AreFirst : Option (List (List ℕ)) → List Connection → Type 0
+abbrev pub AreFirst : ClientTexts → List Connection → Type 0
 AreFirst coming served =
     IfSome coming (λ clients. (rest : List (List ℕ))
     × (map (λ c. c.sent) served ++ map Some rest ≡ map Some clients))
 
 -- these connections received what was sent to clients meanwhile. Old, new: what the clients were
 -- sent that were served, in order, where that is known
-abbrev pub AreReplied : Option (List (List ℕ)) → Option (List (List ℕ)) → List Connection → Type 0
+abbrev pub AreReplied : ClientTexts → ClientTexts → List Connection → Type 0
 AreReplied old new served =
     IfSome new (λ replies. (before : List (List ℕ)) × (old ≡ Some before)
     × (map Some before ++ map (λ c. c.received) served ≡ map Some replies))

@@ -67,60 +67,9 @@ fn is_unprocessable(outcome: &Result<u16, HttpFault>) -> bool {
     matches!(outcome, Ok(422))
 }
 
-// Serves one connection as an exchange over HTTP, and writes its line.
-fn serve_exchange<D: Desk, R: Read, W: Write, I, O: Write, E>(
-    alloc: Global,
-    routes: &Routes,
-    desk: &mut D,
-    precedence: &Precedence,
-    client: &mut Client<R, W>,
-    streams: &mut Streams<I, O, E>,
-) -> Result<(), Fault>
-    ensures { ServesConnection (Asked D.seen precedence.now desk.old desk.new) Protocol.Exchange
-        (R.remaining client.old.reader)
-        (Appends (W.contents client.old.writer) (W.contents client.new.writer))
-        (Appends (O.contents streams.old.output) (O.contents streams.new.output)) result }
-{
-    let outcome = serve_routed(
-        alloc,
-        routes,
-        desk,
-        precedence,
-        &mut client.reader,
-        &mut client.writer,
-    );
-    streams.errors.is_unprocessable = is_unprocessable(&outcome);
-    print_line(&outcome, &mut streams.output)
-}
-
-// Serves one connection as a batch, the text to the end of what the client sends, and writes its
-// line; a line on `errors` says of each malformed request why, as far as there is room.
-fn serve_batch<D: Desk, R: Read, W: Write, I, O: Write, E: Write>(
-    alloc: Global,
-    desk: &mut D,
-    precedence: &Precedence,
-    client: &mut Client<R, W>,
-    streams: &mut Streams<I, O, E>,
-) -> Result<(), Fault>
-    ensures { ServesConnection (Asked D.seen precedence.now desk.old desk.new) Protocol.Batch
-        (R.remaining client.old.reader)
-        (Appends (W.contents client.old.writer) (W.contents client.new.writer))
-        (Appends (O.contents streams.old.output) (O.contents streams.new.output)) result }
-{
-    let outcome = answer_batch(
-        alloc,
-        desk,
-        precedence,
-        &mut client.reader,
-        &mut client.writer,
-        &mut streams.errors,
-    );
-    print_batch_line(&outcome, &mut streams.output)
-}
-
-/// Serves a client by its protocol, and writes the line of its connection. The routes are those of
-/// all exchanges. Of a batch a line on standard error says of each malformed request why, as far as
-/// there is room.
+/// Serves a client by its protocol, as an exchange over HTTP, or as the batch of what it sends to
+/// the end, and writes the line of its connection. The routes are those of all exchanges. Of a batch
+/// a line on standard error says of each malformed request why, as far as there is room.
 pub(crate) fn serve_connection<D: Desk, R: Read, W: Write, I, O: Write, E: Write>(
     alloc: Global,
     routes: &Routes,
@@ -135,7 +84,28 @@ pub(crate) fn serve_connection<D: Desk, R: Read, W: Write, I, O: Write, E: Write
         (Appends (O.contents streams.old.output) (O.contents streams.new.output)) result }
 {
     match client.protocol {
-        Protocol::Exchange => { serve_exchange(alloc, routes, desk, precedence, client, streams) }
-        Protocol::Batch => serve_batch(alloc, desk, precedence, client, streams),
+        Protocol::Exchange => {
+            let outcome = serve_routed(
+                alloc,
+                routes,
+                desk,
+                precedence,
+                &mut client.reader,
+                &mut client.writer,
+            );
+            streams.errors.is_unprocessable = is_unprocessable(&outcome);
+            print_line(&outcome, &mut streams.output)
+        }
+        Protocol::Batch => {
+            let outcome = answer_batch(
+                alloc,
+                desk,
+                precedence,
+                &mut client.reader,
+                &mut client.writer,
+                &mut streams.errors,
+            );
+            print_batch_line(&outcome, &mut streams.output)
+        }
     }
 }

@@ -57,39 +57,6 @@ fn text_from_reader<R: Read>(alloc: Global, reader: &mut R) -> Result<Vec<u8>, D
     }
 }
 
-// Delivers the message of a text of this name, writes the answer, and says whether that is a
-// refusal. Where the text is no message, a line on `errors` says why, as far as there is room.
-fn deliver_text<D: Desk, W: Write, E: Write>(
-    alloc: Global,
-    desk: &mut D,
-    precedence: &Precedence,
-    name: &str,
-    text: &[u8],
-    writer: &mut W,
-    errors: &mut Errors<E>,
-) -> Result<bool, DeliveryFault>
-    ensures { Delivers (Asked D.seen precedence.now desk.old desk.new)
-        (Appends (W.contents writer.old) (W.contents writer.new)) text.now result }
-{
-    let request = delivery_of(alloc, text)?;
-    let outcome = run_request(alloc, desk, precedence, &request, writer);
-    drop(request);
-    match outcome {
-        Ok(is_refused) => {
-            tell_delivery(alloc, is_refused, name, text, errors);
-            Ok(is_refused)
-        }
-        Err(fault) => Err(DeliveryFault::Request(fault)),
-    }
-}
-
-// Keeps what of a text is not UTF-8 that has no records.
-fn note_wrong<E>(delivered: &Result<bool, DeliveryFault>, text: &[u8], errors: &mut Errors<E>) {
-    if let Err(DeliveryFault::Records(_)) = delivered {
-        errors.wrong = wrong_byte(text);
-    }
-}
-
 /// Delivers the message that a reader of this name has, to its end or to one byte past 4,194,304,
 /// writes the answer, and says whether that is a refusal. Where it is no message, a line on
 /// `errors` says why, as far as there is room.
@@ -108,14 +75,26 @@ pub fn deliver_one<D: Desk, R: Read, W: Write, E: Write>(
         (Appends (W.contents writer.old) (W.contents writer.new)) text result }
     ensures taken { TakesAtMost (limit + 1) (R.remaining reader.old) (R.remaining reader.new) }
 {
-    match text_from_reader(alloc, reader) {
-        Ok(text) => {
-            let bytes = text.as_slice();
-            let delivered = deliver_text(alloc, desk, precedence, name, bytes, writer, errors);
-            note_wrong(&delivered, bytes, errors);
-            delivered
+    let text = match text_from_reader(alloc, reader) {
+        Ok(text) => text,
+        Err(fault) => return Err(fault),
+    };
+    let bytes = text.as_slice();
+    let request = match delivery_of(alloc, bytes) {
+        Ok(request) => request,
+        Err(fault) => {
+            errors.wrong = wrong_byte(bytes);
+            return Err(fault);
         }
-        Err(fault) => Err(fault),
+    };
+    let outcome = run_request(alloc, desk, precedence, &request, writer);
+    drop(request);
+    match outcome {
+        Ok(is_refused) => {
+            tell_delivery(alloc, is_refused, name, bytes, errors);
+            Ok(is_refused)
+        }
+        Err(fault) => Err(DeliveryFault::Request(fault)),
     }
 }
 
@@ -126,26 +105,6 @@ fn open_fault(fault: FileFault) -> DeliveryFault
     match fault {
         FileFault::Memory => DeliveryFault::Records(RecordFault::Memory),
         FileFault::File { .. } => DeliveryFault::Unreadable,
-    }
-}
-
-// Delivers the message in the file of this name.
-fn deliver_file<D: Desk, F: NamedFiles, W: Write, E: Write>(
-    alloc: Global,
-    desk: &mut D,
-    precedence: &Precedence,
-    files: &F,
-    name: &str,
-    writer: &mut W,
-    errors: &mut Errors<E>,
-) -> Result<bool, DeliveryFault>
-    ensures { (text : List ℕ) × IsTold (F.holds files.now name.now) text
-        × Delivers (Asked D.seen precedence.now desk.old desk.new)
-        (Appends (W.contents writer.old) (W.contents writer.new)) text result }
-{
-    match files.open(name) {
-        Ok(mut file) => deliver_one(alloc, desk, precedence, name, &mut file, writer, errors),
-        Err(fault) => Err(open_fault(fault)),
     }
 }
 
@@ -177,7 +136,10 @@ fn deliver_named<D: Desk, F: NamedFiles, R: Read, W: Write, E: Write>(
             errors,
         )
     } else {
-        deliver_file(alloc, desk, precedence, files, name, writer, errors)
+        match files.open(name) {
+            Ok(mut file) => deliver_one(alloc, desk, precedence, name, &mut file, writer, errors),
+            Err(fault) => Err(open_fault(fault)),
+        }
     }
 }
 

@@ -44,7 +44,7 @@ impl<'a> Clients for KnownClients<'a> {
     ghost use Rattle.program_commands.specs.ServedClients.{texts_of};
     ghost use Rattle.program_clients.specs.declared.clients.Protocol.TheVariants.{Exchange};
 
-    ghost takes_batches = { false };
+    ghost takes_batches = { λ clients. false };
 
     ghost coming = { λ clients. Some (map (λ bytes. bytes.now) clients.sent.now) };
 

@@ -1,7 +1,7 @@
 //! The command `serve`: the desk over HTTP at a port of 127.0.0.1, and for batches at a socket of
 //! the file system where one is named.
 
-ghost use Rattle.std.specs.Prelude.{◌≡◌, ◌≤◌, false, is_some, true};
+ghost use Rattle.std.specs.Prelude.{◌≡◌, ◌≤◌, is_some};
 ghost use Rattle.std.specs.Io.KnownBytes.{Appends};
 ghost use Rattle.program_commands.specs.ServedClients.{ServesNext};
 ghost use Rattle.series_rules.specs.Steps.{Asked};
@@ -45,10 +45,11 @@ fn serve_next<D: Desk, C: Clients, I, O: Write, E: Write>(
     clients: &mut C,
     streams: &mut Streams<I, O, E>,
 ) -> Result<(), Fault>
-    ensures { ServesNext (Asked D.seen precedence.now desk.old desk.new) C.speaks
-        C.takes_batches (C.coming clients.old) (C.coming clients.new)
+    ensures served { ServesNext (Asked D.seen precedence.now desk.old desk.new) C.speaks
+        (C.takes_batches clients.old) (C.coming clients.old) (C.coming clients.new)
         (C.replied clients.old) (C.replied clients.new)
         (Appends (O.contents streams.old.output) (O.contents streams.new.output)) result }
+    ensures takes { C.takes_batches clients.new ≡ C.takes_batches clients.old }
 {
     match clients.accept() {
         Ok(Some((protocol, reader, writer))) => {
@@ -100,8 +101,8 @@ pub fn serve_clients<D: Desk, C: Clients, I, O: Write, E: Write>(
     // batches.
     ensures end { ConnectionsServed (Asked D.seen precedence.now desk.old desk.new)
         (Appends (O.contents streams.old.output) (O.contents streams.new.output)) C.speaks
-        C.takes_batches (C.coming clients.old) (C.replied clients.old) (C.replied clients.new)
-        requests result }
+        (C.takes_batches clients.old) (C.coming clients.old)
+        (C.replied clients.old) (C.replied clients.new) requests result }
 {
     'serving: for _served in 0..requests {
         match serve_next(rt, routes, desk, precedence, clients, streams) {
@@ -119,36 +120,6 @@ fn print_listening<O: Write>(number: u16, output: &mut O) -> Result<(), Fault>
         (listening_line number) result }
 {
     print_number("listening ", u64::from(number), output)
-}
-
-// Says which port is listened at, and serves its clients.
-fn serve_at<D: Desk, C: Clients, I, O: Write, E: Write>(
-    rt: &HostRuntime,
-    routes: &Routes,
-    desk: &mut D,
-    precedence: &Precedence,
-    clients: &mut C,
-    place: Place<'_>,
-    streams: &mut Streams<I, O, E>,
-) -> u8
-    ensures status { result ≤ 3 }
-    ensures end { ServeEnds (Asked D.seen precedence.now desk.old desk.new)
-        (Appends (O.contents streams.old.output) (O.contents streams.new.output))
-        C.takes_batches (C.coming clients.old) (C.replied clients.old) (C.replied clients.new)
-        place.entry.port place.entry.requests result }
-{
-    match print_listening(place.port, &mut streams.output) {
-        Ok(()) => serve_clients(
-            rt,
-            routes,
-            desk,
-            precedence,
-            clients,
-            place.requests,
-            streams,
-        ),
-        Err(fault) => report(&fault, &mut streams.errors.writer),
-    }
 }
 
 // Reports that the port or the socket cannot be listened at, and in a second line why.
@@ -177,87 +148,6 @@ fn report_unopened<E: Write>(
     status
 }
 
-// Listens at a port, and serves by these routes. What cannot be listened at is reported, and nothing
-// is served.
-fn listen_at_port<D: Desk, N: Entrances, I, O: Write, E: Write>(
-    rt: &HostRuntime,
-    routes: &Routes,
-    desk: &mut D,
-    precedence: &Precedence,
-    entrances: &mut N,
-    place: Place<'_>,
-    streams: &mut Streams<I, O, E>,
-) -> u8
-    ensures status { result ≤ 3 }
-    ensures end { ServeEnds (Asked D.seen precedence.now desk.old desk.new)
-        (Appends (O.contents streams.old.output) (O.contents streams.new.output))
-        false (N.coming entrances.old) (N.replied entrances.old) (N.replied entrances.new)
-        place.entry.port place.entry.requests result }
-{
-    match entrances.open_port(place.port) {
-        Ok(mut clients) => {
-            let status = serve_at(rt, routes, desk, precedence, &mut clients, place, streams);
-            entrances.close_port(clients);
-            status
-        }
-        Err(fault) => report_unopened(rt, &fault, None, &mut streams.errors.writer),
-    }
-}
-
-// The same at a port and at a socket for batches.
-fn listen_at_both<D: Desk, N: Entrances, I, O: Write, E: Write>(
-    rt: &HostRuntime,
-    routes: &Routes,
-    desk: &mut D,
-    precedence: &Precedence,
-    entrances: &mut N,
-    place: Place<'_>,
-    socket: &str,
-    streams: &mut Streams<I, O, E>,
-) -> u8
-    ensures status { result ≤ 3 }
-    ensures end { ServeEnds (Asked D.seen precedence.now desk.old desk.new)
-        (Appends (O.contents streams.old.output) (O.contents streams.new.output))
-        true (N.coming entrances.old) (N.replied entrances.old) (N.replied entrances.new)
-        place.entry.port place.entry.requests result }
-{
-    match entrances.open_both(place.port, socket) {
-        Ok(mut clients) => {
-            let status = serve_at(rt, routes, desk, precedence, &mut clients, place, streams);
-            entrances.close_both(clients);
-            status
-        }
-        Err(fault) => report_unopened(rt, &fault, Some(socket), &mut streams.errors.writer),
-    }
-}
-
-// Listens where it is named, and serves by these routes.
-fn listen<D: Desk, N: Entrances, I, O: Write, E: Write>(
-    rt: &HostRuntime,
-    routes: &Routes,
-    desk: &mut D,
-    precedence: &Precedence,
-    entrances: &mut N,
-    place: Place<'_>,
-    streams: &mut Streams<I, O, E>,
-) -> u8
-    ensures status { result ≤ 3 }
-    ensures end { ServeEnds (Asked D.seen precedence.now desk.old desk.new)
-        (Appends (O.contents streams.old.output) (O.contents streams.new.output))
-        (is_some place.entry.batches) (N.coming entrances.old)
-        (N.replied entrances.old) (N.replied entrances.new)
-        place.entry.port place.entry.requests result }
-{
-    match place.batches {
-        None => listen_at_port(rt, routes, desk, precedence, entrances, place, streams),
-        Some(socket) => {
-            listen_at_both(
-                rt, routes, desk, precedence, entrances, place, socket, streams,
-            )
-        }
-    }
-}
-
 /// Listens at a port, the one that was bound where there is one, and at a socket for batches where
 /// one is named, writes `listening` and the number of the port, and serves so many connections: an
 /// exchange over HTTP at the port, a batch at the socket. Gives 0, or 3 after a fault of the port,
@@ -279,8 +169,30 @@ pub fn serve_desk<D: Desk, N: Entrances, I, O: Write, E: Write>(
         (N.replied entrances.old) (N.replied entrances.new)
         place.entry.port place.entry.requests result }
 {
-    match Routes::new(rt.alloc()) {
-        Ok(routes) => listen(rt, &routes, desk, precedence, entrances, place, streams),
-        Err(_) => report(&Fault::Memory, &mut streams.errors.writer),
+    let routes = match Routes::new(rt.alloc()) {
+        Ok(routes) => routes,
+        Err(_) => return report(&Fault::Memory, &mut streams.errors.writer),
+    };
+    let mut clients = match entrances.open(place.port, place.batches) {
+        Ok(clients) => clients,
+        Err(fault) => return report_unopened(rt, &fault, place.batches, &mut streams.errors.writer),
+    };
+    match print_listening(place.port, &mut streams.output) {
+        Ok(()) => {}
+        Err(fault) => {
+            entrances.close(clients);
+            return report(&fault, &mut streams.errors.writer);
+        }
     }
+    let status = serve_clients(
+        rt,
+        &routes,
+        desk,
+        precedence,
+        &mut clients,
+        place.requests,
+        streams,
+    );
+    entrances.close(clients);
+    status
 }

@@ -1,4 +1,4 @@
-use Rattle.std.proofs.Common.{◌≡◌, ◌++◌, ◌∷◌, ◌⊎◌, [], inl, inr, ⊎_elim, length, length-append, arith, refl, append-nil, subst, sym}
+use Rattle.std.proofs.Common.{◌≡◌, ◌++◌, ◌∷◌, ◌∙◌, ◌⊎◌, [], inl, inr, ⊎_elim, length, length-append, arith, refl, append-nil, subst, sym}
 use Rattle.std.proofs.KnownBytes.{Appends-nil, Appends-trans}
 use Rattle.std.proofs.lemmas.List.Elements.{All-nil, All-push}
 use Rattle.std.specs.Io.KnownBytes.{Appends}
@@ -19,7 +19,8 @@ pub serving-init : goal.serving-init
 serving-init g c = record {
   served = [];
   counted = refl;
-  all = All-nil (IsServed g.C.Clients.takes_batches);
+  all = All-nil (IsServed (g.C.Clients.takes_batches c.args.clients.now));
+  takes = refl;
   each = All-nil (λ (d : Connection). IsOf g.C.Clients.speaks d.ending);
   first = none_first (g.C.Clients.coming c.args.clients.now);
   replied = none_replied (g.C.Clients.replied c.args.clients.now);
@@ -30,12 +31,13 @@ serving-init g c = record {
 pub serving-preserved : goal.serving-preserved
 serving-preserved g c =
     let inv = c.serving.invariant in
-    let it = of_ok c.in-Ok.ensures in
+    let it = of_ok c.in-Ok.ensures.served in
     let one = it.connection in
     record {
       served = inv.served ++ one ∷ [];
       counted = omega (arith, inv.counted, length-append inv.served (one ∷ []));
-      all = All-push (IsServed g.C.Clients.takes_batches) inv.served one inv.all it.is_served;
+      takes = c.in-Ok.ensures.takes ∙ inv.takes;
+      all = All-push (IsServed (g.C.Clients.takes_batches c.args.clients.now)) inv.served one inv.all (subst (λ b. IsServed b one) inv.takes it.is_served);
       each = All-push (λ (d : Connection). IsOf g.C.Clients.speaks d.ending) inv.served one inv.each it.is_of;
       first = one_more_first (g.C.Clients.coming c.args.clients.now) (g.C.Clients.coming c.serving.clients) (g.C.Clients.coming c.serve_next.new.clients) inv.served one inv.first it.next;
       replied = one_more_replied (g.C.Clients.replied c.args.clients.now) (g.C.Clients.replied c.serving.clients) (g.C.Clients.replied c.serve_next.new.clients) inv.served one inv.replied it.replied;
@@ -61,7 +63,7 @@ returns-in-Err-clause-end g c =
       All-push (λ (d : Connection). IsOf g.C.Clients.speaks d.ending) inv.served one inv.each it.is_of,
       (
         omega (arith, inv.counted, length-append inv.served (one ∷ [])),
-        All-push (IsServed g.C.Clients.takes_batches) inv.served one inv.all it.is_served,
+        All-push (IsServed (g.C.Clients.takes_batches c.args.clients.now)) inv.served one inv.all (subst (λ b. IsServed b one) inv.takes it.is_served),
         one_more_asked seen rules c.args.desk.now c.serving.desk c.serve_next.new.desk inv.served one inv.asked it.were_asked,
       ),
       (cut_line _ _ _ inv.served one inv.lines it.line, inr c.report.ensures),
@@ -78,7 +80,7 @@ returns-in-Err-clause-end g c =
       ),
       (whole_lines _ _ inv.served (subst (Appends _ _) (append-nil (lines_of inv.served)) (Appends-trans _ _ _ _ _ inv.lines nobody.3)), inr c.report.ensures),
     ))
-    c.in-Err.ensures
+    c.in-Err.ensures.served
 
 pub returns-clause-end : goal.returns-clause-end
 returns-clause-end g c =

@@ -13,7 +13,8 @@ abbrev pub invariant-serving : goal.invariant-serving
 invariant-serving g l = record {
   served : List Connection;
   counted : length served ≡ l._served;
-  all : All (IsServed g.C.Clients.takes_batches) served;
+  takes : g.C.Clients.takes_batches l.clients ≡ g.C.Clients.takes_batches l.fn.clients;
+  all : All (IsServed (g.C.Clients.takes_batches l.fn.clients)) served;
   each : All (λ (c : Connection). IsOf g.C.Clients.speaks c.ending) served;
   first : AreFirstOf (g.C.Clients.coming l.fn.clients) (g.C.Clients.coming l.clients) served;
   replied : AreReplied (g.C.Clients.replied l.fn.clients) (g.C.Clients.replied l.clients) served;

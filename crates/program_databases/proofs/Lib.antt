@@ -1,3 +1,4 @@
+mod ContentLemmas
 mod PathLemmas
 mod SettledLemmas
 mod ViewLemmas

@@ -36,7 +36,7 @@ same_refl L = record { agreements = λ name. refl; firsts = λ series number. re
 -- ---- opened
 
 -- the trees that were found are those that the files hold
-found_trees : (image : Image) (d was : Trees) → ∥ HoldsDatabase image d ∥₁ → AreFoundAs image was → was ≡ d
+pub found_trees : (image : Image) (d was : Trees) → ∥ HoldsDatabase image d ∥₁ → AreFoundAs image was → was ≡ d
 found_trees image d was both found = ∥∥₁_elim both (Trees-set _ _) (found.1 d)
 
 no_bool : true ≡ false → ⊥

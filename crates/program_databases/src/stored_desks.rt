@@ -3,6 +3,7 @@
 use crate::database::creation_of;
 use crate::databases::{Databases, open_database};
 use crate::unopened::{Unopened, fault_of, migration_of};
+use desk_stops::laws::rows_have_one_content;
 use desk_store::{DeskStore, migrate_files_with};
 use onix_records::StoreFault;
 use program_desks::kept_desks::{Creation, KeepsDesks, Migration, OpenFault};
@@ -77,6 +78,10 @@ impl<O: Databases> KeepsDesks<DeskStore<FileStore<O::File>>> for StoredDesks<O> 
             Ok((answer, files)) => Ok((migration_of(answer), files)),
             Err((fault, left)) => Err((fault_of(rt, name, fault), Unopened::Left(left))),
         }
+    }
+
+    fn hold_one_content() {
+        rows_have_one_content();
     }
 
     ghost same = { one_way (λ desk. seen_in (file_state desk.tables.connection)) };

@@ -76,7 +76,7 @@ pub enum Migration {
 pub trait KeepsDesks<D: ListedDesk> {
     ghost use Rattle.std.specs.Prelude.{IfErr, IfOk};
     ghost use Rattle.series_rules.specs.Views.{DeskKind, View};
-    ghost use Rattle.program_desks.specs.DeskFiles.{DeskFiles, IsMigrated, LastsAlone, LeavesAs, OpensAs, SeenAs};
+    ghost use Rattle.program_desks.specs.DeskFiles.{DeskFiles, HoldOneContent, IsMigrated, LastsAlone, LeavesAs, OpensAs, SeenAs};
 
     /// Files that were closed.
     type Closed;
@@ -125,6 +125,10 @@ pub trait KeepsDesks<D: ListedDesk> {
         ensures ok { IfOk result (λ done. IsMigrated files self name.now creation
             done.0 done.1) }
         ensures err { IfErr result (λ e. files.unmigrated self name.now creation e.1) };
+
+    /// A law, without code: whatever lists of requests files are found to hold, the content is one.
+    fn hold_one_content()
+        ensures { HoldOneContent files };
 
     /// That is what is seen of it as a desk.
     ghost same: { SeenAs D.seen seen };

@@ -1,0 +1,42 @@
+-- Whatever lists of requests two files are found to hold, the content is one.
+use Rattle.std.proofs.Common.{◌∙◌, List, inl, inr, refl, subst, sym}
+use Rattle.sqlite_trees.specs.Tree.{Trees}
+use Rattle.sqlite_wal.specs.Recovery.{Image}
+use Rattle.desk_tables.specs.Schema.{schema_0}
+use Rattle.series_rules.specs.Content.{SameContent, same_trans}
+use Rattle.series_rules.specs.declared.requests.Request.{Request}
+use Rattle.desk_rows.specs.Desks.{AreRowsOf}
+use Rattle.desk_stops.proofs.ConnectionLaws.{empty_holds_no_rows}
+use Rattle.desk_stops.specs.Connections.{RowsHaveOneContent}
+use Rattle.desk_versions.proofs.EmptyFiles.{bare_database, nothing_found}
+use Rattle.desk_versions.specs.Openings.{AreEmptyFiles, AreFilesOf, AreFoundAs, HoldRowsOf}
+use Rattle.program_desks.specs.declared.kept_desks.Creation.{Creation}
+use Rattle.program_databases.proofs.ViewLemmas.{found_trees, same_refl}
+use Rattle.program_databases.specs.FileViews.{MayBeTaken, seen_image}
+
+same_sym : (L M : List Request) → SameContent L M → SameContent M L
+same_sym L M same = record { agreements = λ name. sym (same.agreements name); firsts = λ series number. sym (same.firsts series number) }
+
+module _ (one : RowsHaveOneContent) (image : Image) (d : Trees) (found : AreFoundAs image d) where
+  -- the trees that were found are the rows of each list that the files hold rows of
+  rows_of : (L : List Request) → HoldRowsOf image L → AreRowsOf d L
+  rows_of L (trees, both, rows) = subst (λ t. AreRowsOf t L) (sym (found_trees image trees d both found)) rows
+
+  -- empty files hold the rows of none
+  none_of : AreEmptyFiles image → (L : List Request) → AreRowsOf d L → ⊥
+  none_of (inl nothing) L rows =
+      empty_holds_no_rows d L (record { schema = schema_0; trees = d }, refl, bare_database d (nothing_found image nothing d found.0)) rows
+  none_of (inr (db, both, sound, emptied)) L rows =
+      empty_holds_no_rows d L (db, sym (found_trees image db.trees d both found), (emptied, sound)) rows
+
+  one_of : (L M : List Request) → AreFilesOf image L → AreFilesOf image M → SameContent L M
+  one_of L M (inl a) (inl b) = one d L M (rows_of L a) (rows_of M b)
+  one_of L M (inl a) (inr b) = absurd (none_of b.0 L (rows_of L a))
+  one_of L M (inr a) (inl b) = absurd (none_of a.0 M (rows_of M b))
+  one_of L M (inr a) (inr b) = subst (SameContent L) (a.1 ∙ sym b.1) (same_refl L)
+
+pub image_holds_one : RowsHaveOneContent → (image : Image) (creation : Creation) → MayBeTaken image creation → (L M : List Request)
+    → (seen_image image creation).stands_for L → (seen_image image creation).stands_for M → SameContent L M
+image_holds_one one image creation sound L M (one_list, files, same) (other, also, comes) =
+    same_trans L one_list M (same_sym one_list L same)
+    (same_trans one_list other M (one_of one image sound.found.0 sound.found.1 one_list other files also) comes)

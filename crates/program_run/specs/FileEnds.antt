@@ -9,6 +9,7 @@ use Rattle.program_desks.specs.DeskFiles.{DeskFiles}
 use Rattle.program_desks.specs.declared.files_left.FilesLeft.{FilesLeft}
 use Rattle.program_desks.specs.declared.kept_desks.Creation.TheVariants.{Never}
 use Rattle.program_words.specs.Asked.{Reads}
+use Rattle.program_words.specs.ConvertWords.{asked_view}
 use Rattle.program_run.specs.ConvertEnds.{ConvertEnds}
 use Rattle.program_run.specs.ListingEnds.{ListingEnds, SparesFiles}
 use Rattle.program_run.specs.OverFiles.{EndsOverFiles, IsUnserved, IsUntouched, MigrateEnds, creation_by}
@@ -84,12 +85,6 @@ module _ {M : Type 0} {m : DeskKind} (seen : M → View m) {K : Type 0} {k : Des
   abbrev pub IsQuiet : Type 0
   IsQuiet = IsApart × (are ≡ were)
 
-  -- nothing was done: with that status, nothing written or sent, no file of a desk touched, and
-  -- each name holds what it held
-  abbrev pub IsUndone : ℕ → ℕ → FilesLeft K N U C → Type 0
-  IsUndone own status left =
-      (status ≡ own) × written [] × IsUntouched left × IsQuiet
-
   -- how an action can end under those rules, with what it leaves of files. Only `export` into a
   -- folder and `convert` change what names hold, only `--batches` sends anything to a desk that is
   -- open, and only `serve` serves clients
@@ -113,7 +108,7 @@ module _ {M : Type 0} {m : DeskKind} (seen : M → View m) {K : Type 0} {k : Des
       × SendEnds told answers was_sent sent written socket.now status
   ActionEnds rules (Convert c) status left =
       (sent ≡ was_sent) × (are ≡ were) × IsUntouched left
-      × ConvertEnds is_told before after told written c status
+      × ConvertEnds is_told before after told written (asked_view c) status
   ActionEnds rules (CheckRules file) status left =
       IsQuiet × IsUntouched left × CheckEnds written (before file.now) status
   ActionEnds rules (CheckTerms file) status left =
@@ -121,14 +116,14 @@ module _ {M : Type 0} {m : DeskKind} (seen : M → View m) {K : Type 0} {k : Des
   ActionEnds rules (CheckTexts files) status left =
       IsQuiet × IsUntouched left × written []
 
-  -- how the program can end by what a command line asks: under its rules, or, where these cannot be
-  -- read, with nothing done
+  -- how the program can end by what a command line asks: under its rules; or, where these cannot be
+  -- read, nothing was done
   abbrev pub InvocationEnds : Invocation → ℕ → FilesLeft K N U C → Type 0
   InvocationEnds invocation status left =
       ((rules : List Rule) × ReadsRules before invocation.rules (Ok rules)
       × ActionEnds rules invocation.action status left)
       ⊎ ((fault : RulesFault) × ReadsRules before invocation.rules (Err fault)
-      × IsUndone (status_of fault) status left)
+      × (status ≡ status_of fault) × written [] × IsUntouched left × IsQuiet)
 
   -- how the program can end on these words, of which the first is its name: by what they ask; or
   -- with nothing done, where they are read as no command line

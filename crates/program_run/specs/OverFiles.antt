@@ -50,7 +50,7 @@ module _ {K : Type 0} {k : DeskKind} {C U N : Type 0} (files : DeskFiles K k C U
       × ends (files.found databases name creation) (files.unclosed left) own
   EndsOverFiles ends status (Unopened left) =
       (status ≡ 3) × written [] × files.spared databases name creation left
-  EndsOverFiles ends status (Untouched databases) = ⊥
+  EndsOverFiles ends status _ = ⊥
 
   -- How the command `migrate` can end over them. The desk was brought to the present version, and
   -- the line of that is written with 0, or a first part of it with 3; or the status is 3, nothing
@@ -61,8 +61,7 @@ module _ {K : Type 0} {k : DeskKind} {C U N : Type 0} (files : DeskFiles K k C U
       × PrintEnds 0 written (migration_line did) status
   MigrateEnds status (Unopened left) =
       (status ≡ 3) × written [] × files.unmigrated databases name creation left
-  MigrateEnds status (Unclosed left) = ⊥
-  MigrateEnds status (Untouched databases) = ⊥
+  MigrateEnds status _ = ⊥
 
 -- within a command: a desk was closed behind what ended with `own`, or its files could not be
 abbrev pub Closes : {K : Type 0} → {k : DeskKind} → {C U N : Type 0} → DeskFiles K k C U N
@@ -70,5 +69,4 @@ abbrev pub Closes : {K : Type 0} → {k : DeskKind} → {C U N : Type 0} → Des
 Closes files desk own status (Closed closed) =
     (status ≡ own) × LeavesAs desk (files.closed closed) × LastsAlone files closed
 Closes files desk own status (Unclosed left) = (status ≡ 3) × LeavesAs desk (files.unclosed left)
-Closes files desk own status (Unopened left) = ⊥
-Closes files desk own status (Untouched databases) = ⊥
+Closes files desk own status _ = ⊥

@@ -1,10 +1,8 @@
 //! The command `convert`.
 
-ghost use Rattle.std.specs.Prelude.{◌≡◌, ◌≤◌, None, Some, map, option_map};
+ghost use Rattle.std.specs.Prelude.{◌≡◌, ◌≤◌, option_map};
 ghost use Rattle.std.specs.Io.KnownBytes.{Appends};
-ghost use Rattle.feed_conversion.specs.Views.{options_view};
-ghost use Rattle.feed_files.specs.Ends.{asking};
-ghost use Rattle.feed_files.specs.Titles.{EndsWith};
+ghost use Rattle.program_words.specs.ConvertWords.{asked_view};
 ghost use Rattle.program_run.specs.ConvertEnds.{ConvertEnds, ConvertsBy};
 
 use crate::folders::tell_folder;
@@ -34,27 +32,34 @@ fn copied<'a>(choices: &Choices<'a>) -> Choices<'a>
     }
 }
 
-// Converts FILEs as a run says, and writes their titles where they are asked for.
+// Converts FILEs by these terms or by none, and writes their titles where they are asked for.
 fn convert_by<F: NamedFiles, R: Read, W: Write, E: Write>(
     rt: &HostRuntime,
-    run: &Run<'_>,
     conversion: &Conversion<'_>,
+    terms: Option<&Terms>,
     files: &mut F,
     streams: &mut Streams<R, W, E>,
 ) -> u8
     ensures status { result ≤ 3 }
-    ensures end { EndsWith (asking (options_view run.now.options)
-        (option_map (λ name. name.now) run.now.folder) F.is_told) (R.remaining streams.old.input)
-        (F.holds files.old) (F.holds files.new)
-        (map (λ file. file.now) conversion.now.files.items)
+    ensures end { ConvertsBy F.is_told (F.holds files.old) (F.holds files.new)
+        (R.remaining streams.old.input)
         (Appends (W.contents streams.old.output) (W.contents streams.new.output))
-        result (option_map (λ file. file.now) conversion.now.titles) }
+        (asked_view conversion.now) (option_map (λ terms. terms.now) terms.entry) result }
 {
+    let asked = &conversion.run;
+    let run = Run {
+        options: Options {
+            choices: copied(&asked.options.choices),
+            wrong: asked.options.wrong,
+            terms,
+        },
+        folder: asked.folder,
+    };
     let names = conversion.files.as_slice();
     let errors = &mut streams.errors.writer;
     let status = convert_files(
         rt,
-        run,
+        &run,
         conversion.titles,
         names,
         files,
@@ -64,57 +69,6 @@ fn convert_by<F: NamedFiles, R: Read, W: Write, E: Write>(
     );
     tell_folder(files, run.folder, errors);
     status
-}
-
-// Converts FILEs by no terms.
-fn convert_plain<F: NamedFiles, R: Read, W: Write, E: Write>(
-    rt: &HostRuntime,
-    conversion: &Conversion<'_>,
-    files: &mut F,
-    streams: &mut Streams<R, W, E>,
-) -> u8
-    ensures status { result ≤ 3 }
-    ensures end { ConvertsBy F.is_told (F.holds files.old) (F.holds files.new)
-        (R.remaining streams.old.input)
-        (Appends (W.contents streams.old.output) (W.contents streams.new.output))
-        conversion.now None result }
-{
-    let options = Options {
-        choices: copied(&conversion.run.options.choices),
-        wrong: conversion.run.options.wrong,
-        terms: None,
-    };
-    let run = Run {
-        options,
-        folder: conversion.run.folder,
-    };
-    convert_by(rt, &run, conversion, files, streams)
-}
-
-// Converts FILEs by these terms.
-fn convert_with_terms<F: NamedFiles, R: Read, W: Write, E: Write>(
-    rt: &HostRuntime,
-    conversion: &Conversion<'_>,
-    terms: Terms,
-    files: &mut F,
-    streams: &mut Streams<R, W, E>,
-) -> u8
-    ensures status { result ≤ 3 }
-    ensures end { ConvertsBy F.is_told (F.holds files.old) (F.holds files.new)
-        (R.remaining streams.old.input)
-        (Appends (W.contents streams.old.output) (W.contents streams.new.output))
-        conversion.now (Some terms) result }
-{
-    let options = Options {
-        choices: copied(&conversion.run.options.choices),
-        wrong: conversion.run.options.wrong,
-        terms: Some(&terms),
-    };
-    let run = Run {
-        options,
-        folder: conversion.run.folder,
-    };
-    convert_by(rt, &run, conversion, files, streams)
 }
 
 /// Converts FILEs, by the terms of a file where one is named, and writes their titles where they
@@ -129,13 +83,13 @@ pub(crate) fn convert<F: NamedFiles, R: Read, W: Write, E: Write>(
     ensures end { ConvertEnds F.is_told (F.holds files.old) (F.holds files.new)
         (R.remaining streams.old.input)
         (Appends (W.contents streams.old.output) (W.contents streams.new.output))
-        conversion.now result }
+        (asked_view conversion.now) result }
 {
     let Some(name) = conversion.terms else {
-        return convert_plain(rt, conversion, files, streams);
+        return convert_by(rt, conversion, None, files, streams);
     };
     match open_terms(rt.alloc(), files, name, &mut streams.errors.writer) {
-        Ok(terms) => convert_with_terms(rt, conversion, terms, files, streams),
+        Ok(terms) => convert_by(rt, conversion, Some(&terms), files, streams),
         Err(status) => status,
     }
 }

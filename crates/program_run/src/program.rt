@@ -2,7 +2,7 @@
 
 ghost use Rattle.std.specs.Prelude.{◌≡◌, ◌≤◌, IfErr, IfOk, map};
 ghost use Rattle.std.specs.Io.KnownBytes.{Appends};
-ghost use Rattle.program_run.specs.FileEnds.{ActionEnds, InvocationEnds, IsUnread, NewDeskEnds, ReadsRules, RunEnds, TaskLeads};
+ghost use Rattle.program_run.specs.FileEnds.{ActionEnds, IsUnread, NewDeskEnds, ReadsRules, RunEnds, TaskLeads};
 ghost use Rattle.program_words.specs.Asked.{Reads};
 ghost use Rattle.program_run.specs.OverFiles.{EndsOverFiles, IsUnserved, creation_by};
 
@@ -72,8 +72,9 @@ fn run_in_memory<F: NamedFiles, N: Entrances, R: Read, W: Write, E: Write>(
 fn run_in_file<
     D: ListedDesk,
     K: KeepsDesks<D>,
-    F: NamedFiles,
+    O,
     N: Entrances,
+    F: NamedFiles,
     R: Read,
     W: Write,
     E: Write,
@@ -83,22 +84,30 @@ fn run_in_file<
     databases: K,
     precedence: &Precedence,
     task: &Task<'_>,
-    files: &F,
-    entrances: &mut N,
-    streams: &mut Streams<R, W, E>,
+    machine: &mut Machine<O, N, F, R, W, E>,
 ) -> (u8, FilesLeft<K, K::Unopened, K::Unclosed, K::Closed>)
     ensures status { result.0 ≤ 3 }
+    ensures desks { machine.new.desks ≡ machine.old.desks }
+    ensures files { machine.new.files ≡ machine.old.files }
     // The command ends as over any desk, whose files are then closed; the status is 3 where they
     // could not be.
     ensures end { EndsOverFiles K.files databases db.now.name.now
         (creation_by db.now.is_existing)
-        (Appends (W.contents streams.old.output) (W.contents streams.new.output))
+        (Appends (W.contents machine.old.streams.output) (W.contents machine.new.streams.output))
         (TaskLeads precedence.now
-        (Appends (W.contents streams.old.output) (W.contents streams.new.output))
-        task.now (F.holds files.now) (R.remaining streams.old.input) (N.coming entrances.old)
-        (N.replied entrances.old) (N.replied entrances.new)) result.0 result.1 }
-    ensures unserved { IsUnserved (N.replied entrances.old) (N.replied entrances.new) result.1 }
+        (Appends (W.contents machine.old.streams.output) (W.contents machine.new.streams.output))
+        task.now (F.holds machine.old.files) (R.remaining machine.old.streams.input)
+        (N.coming machine.old.entrances)
+        (N.replied machine.old.entrances) (N.replied machine.new.entrances)) result.0 result.1 }
+    ensures unserved { IsUnserved
+        (N.replied machine.old.entrances) (N.replied machine.new.entrances) result.1 }
 {
+    let Machine {
+        entrances,
+        files,
+        streams,
+        ..
+    } = machine;
     bind_port(entrances, task);
     match databases.open(rt, db.name, creation_of(db), &mut streams.errors.writer) {
         Ok(mut desk) => {
@@ -147,9 +156,7 @@ fn run_action<
     } = machine;
     let status = match action {
         Action::InFile { db, task } => {
-            return run_in_file(
-                rt, db, databases, precedence, task, files, entrances, streams,
-            );
+            return run_in_file(rt, db, databases, precedence, task, machine);
         }
         Action::Listed { db, listing } => {
             return listing::list_file(rt, db, databases, *listing, files, streams);
@@ -186,52 +193,6 @@ fn rules_of<F: NamedFiles>(
         None => Ok(Precedence::none(alloc)),
         Some(name) => open_table(alloc, files, name),
     }
-}
-
-/// Does what a command line asks, under the rules of a file or under none. `databases` has the
-/// database file that it may name; of the machine `desks` has the open desk, and `files` opens FILEs
-/// and makes those of `convert` and `export`. Gives the exit status, and what is left of the two
-/// files of the database.
-///
-/// Each list of requests that the files held, with those that took effect, is what they hold then;
-/// what is written is of their answers; and a crash leaves just that.
-pub fn run_invocation<
-    D: ListedDesk,
-    K: KeepsDesks<D>,
-    O: OpenDesks,
-    N: Entrances,
-    F: NamedFiles,
-    R: Read,
-    W: Write,
-    E: Write,
->(
-    rt: &HostRuntime,
-    invocation: &Invocation<'_>,
-    databases: K,
-    machine: &mut Machine<O, N, F, R, W, E>,
-) -> (u8, FilesLeft<K, K::Unopened, K::Unclosed, K::Closed>)
-    ensures status { result.0 ≤ 3 }
-    ensures end { InvocationEnds ⟦<MemoryDesk as Desk>⟧.seen K.files databases
-        (O.answers machine.old.desks) (O.sent machine.old.desks) (O.sent machine.new.desks)
-        (N.coming machine.old.entrances)
-        (N.replied machine.old.entrances) (N.replied machine.new.entrances)
-        F.is_told (F.holds machine.old.files) (F.holds machine.new.files)
-        (Appends (W.contents machine.old.streams.output) (W.contents machine.new.streams.output))
-        (R.remaining machine.old.streams.input) invocation.now result.0 result.1 }
-{
-    let precedence = match rules_of(rt.alloc(), &machine.files, invocation.rules) {
-        Ok(precedence) => precedence,
-        Err(fault) => {
-            let name = invocation.rules.unwrap_or("");
-            let errors = &mut machine.streams.errors.writer;
-            let status = report_rules(&fault, name, errors);
-            checking::tell_cause(rt.alloc(), &machine.files, name, errors);
-            return (status, FilesLeft::Untouched(databases));
-        }
-    };
-    let ended = run_action(rt, &invocation.action, databases, &precedence, machine);
-    drop(precedence);
-    ended
 }
 
 // The invocation that the words ask for. If they ask for none, help or a fault of the command line
@@ -279,6 +240,9 @@ fn read_words<'a, R, W: Write, E: Write>(
 /// `databases` has the database file that the words may name; of the machine `desks` has the open
 /// desk, and `files` opens FILEs and makes those of `convert` and `export`. Beside the status comes
 /// what is left of the database's files.
+///
+/// Each list of requests that the files held, with those that took effect, is what they hold then;
+/// what is written is of their answers; and a crash leaves just that.
 pub fn run<
     D: ListedDesk,
     K: KeepsDesks<D>,
@@ -304,8 +268,21 @@ pub fn run<
         (R.remaining machine.old.streams.input) (map (λ word. word.now) words.now)
         result.0 result.1 }
 {
-    match read_words(rt.alloc(), words, &mut machine.streams) {
-        Ok(invocation) => run_invocation(rt, &invocation, databases, machine),
-        Err(status) => (status, FilesLeft::Untouched(databases)),
-    }
+    let invocation = match read_words(rt.alloc(), words, &mut machine.streams) {
+        Ok(invocation) => invocation,
+        Err(status) => return (status, FilesLeft::Untouched(databases)),
+    };
+    let precedence = match rules_of(rt.alloc(), &machine.files, invocation.rules) {
+        Ok(precedence) => precedence,
+        Err(fault) => {
+            let name = invocation.rules.unwrap_or("");
+            let errors = &mut machine.streams.errors.writer;
+            let status = report_rules(&fault, name, errors);
+            checking::tell_cause(rt.alloc(), &machine.files, name, errors);
+            return (status, FilesLeft::Untouched(databases));
+        }
+    };
+    let ended = run_action(rt, &invocation.action, databases, &precedence, machine);
+    drop(precedence);
+    ended
 }

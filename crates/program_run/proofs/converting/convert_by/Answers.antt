@@ -9,9 +9,18 @@ use Rattle.program_run.proofs.converting.convert_by.Goals as goal
 
 pub returns-clause-end : goal.returns-clause-end
 returns-clause-end g c =
-    subst (λ names. EndsWith (asking (options_view c.args.run.now.options) (option_map (λ (name : Bor (List ℕ)). name.now) c.args.run.now.folder) g.F.NamedFiles.is_told)
-    (g.R.Read.remaining c.args.streams.now.input) (g.F.NamedFiles.holds c.args.files.now)
-    (g.F.NamedFiles.holds c.convert_files-status.new.files) (map (λ (name : Bor (List ℕ)). name.now) names)
-    (Appends (g.W.Write.contents c.args.streams.now.output) (g.W.Write.contents c.convert_files-status.new.output)) c.convert_files-status.result
-    (option_map (λ (file : Bor (List ℕ)). file.now) c.args.conversion.now.titles))
-    c.as_slice-names.ensures.value c.convert_files-status.ensures.end
+    let conversion = c.args.conversion.now in
+    let told = g.F.NamedFiles.is_told in
+    let input = g.R.Read.remaining c.args.streams.now.input in
+    let before = g.F.NamedFiles.holds c.args.files.now in
+    let after = g.F.NamedFiles.holds c.convert_files-status.new.files in
+    let written = Appends (g.W.Write.contents c.args.streams.now.output) (g.W.Write.contents c.convert_files-status.new.output) in
+    let status = c.convert_files-status.result in
+    let folder = option_map (λ (name : Bor (List ℕ)). name.now) conversion.run.folder in
+    let titles = option_map (λ (file : Bor (List ℕ)). file.now) conversion.titles in
+    subst (λ choices. EndsWith (asking (options_view (record { choices = choices; wrong = conversion.run.options.wrong; terms = c.args.terms })) folder told)
+    input before after (map (λ (name : Bor (List ℕ)). name.now) conversion.files.items) written status titles)
+    c.copied.ensures
+    (subst (λ names. EndsWith (asking (options_view (record { choices = c.copied.result; wrong = conversion.run.options.wrong; terms = c.args.terms })) folder told)
+    input before after (map (λ (name : Bor (List ℕ)). name.now) names) written status titles)
+    c.as_slice-names.ensures.value c.convert_files-status.ensures.end)

@@ -17,12 +17,12 @@ returns-in-Ok-clause-end g c =
     let seen = g.K.KeepsDesks.seen in
     let first = c.in-Ok.desk in
     let last = c.run_task-status.new.desk in
-    let written = Appends (g.W.Write.contents c.args.streams.now.output) (g.W.Write.contents c.run_task-status.new.streams.output) in
+    let written = Appends (g.W.Write.contents c.args.machine.now.streams.output) (g.W.Write.contents c.run_task-status.new.streams.output) in
     let task = c.args.task.now in
-    let holds = g.F.NamedFiles.holds c.args.files.now in
-    let told = g.R.Read.remaining c.args.streams.now.input in
-    let coming = g.N.Entrances.coming c.args.entrances.now in
-    let were = g.N.Entrances.replied c.args.entrances.now in
+    let holds = g.F.NamedFiles.holds c.args.machine.now.files in
+    let told = g.R.Read.remaining c.args.machine.now.streams.input in
+    let coming = g.N.Entrances.coming c.args.machine.now.entrances in
+    let were = g.N.Entrances.replied c.args.machine.now.entrances in
     let are = g.N.Entrances.replied c.run_task-status.new.entrances in
     let ended = task_of (Asked theirs rules first last) written task holds told _ coming _ were are c.run_task-status.result c.bind_port.ensures.coming c.bind_port.ensures.replied c.run_task-status.ensures.end in
     let files = g.K.KeepsDesks.files in
@@ -36,14 +36,14 @@ returns-in-Ok-clause-end g c =
 pub returns-in-Err-clause-end : goal.returns-in-Err-clause-end
 returns-in-Err-clause-end g c = (
   c.report_unopened.ensures,
-  Appends-nil (g.W.Write.contents c.args.streams.now.output),
+  Appends-nil (g.W.Write.contents c.args.machine.now.streams.output),
   subst (λ by. g.K.KeepsDesks.files.spared c.args.databases c.args.db.now.name.now by c.in-Err.left) c.creation_of.ensures c.in-Err.ensures.err,
 )
 
 pub returns-in-Ok-clause-unserved : goal.returns-in-Ok-clause-unserved
 returns-in-Ok-clause-unserved g c =
     let replied = g.N.Entrances.replied in
-    after_opening g.K.KeepsDesks.files (g.K.KeepsDesks.seen c.run_task-status.new.desk) c.run_task-status.result c.close_desk.result.0 (replied c.args.entrances.now) (replied c.run_task-status.new.entrances) c.close_desk.result.1 c.close_desk.ensures.end
+    after_opening g.K.KeepsDesks.files (g.K.KeepsDesks.seen c.run_task-status.new.desk) c.run_task-status.result c.close_desk.result.0 (replied c.args.machine.now.entrances) (replied c.run_task-status.new.entrances) c.close_desk.result.1 c.close_desk.ensures.end
 
 pub returns-in-Err-clause-unserved : goal.returns-in-Err-clause-unserved
 returns-in-Err-clause-unserved g c = c.bind_port.ensures.replied

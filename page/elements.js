@@ -24,6 +24,12 @@ export function drawn(name, attributes = {}, ...children) {
   return built(document.createElementNS(DRAWING, name), attributes, children);
 }
 
+/** Puts children into a place that has others: for what is the same nothing is laid out anew. */
+export function refill(place, ...children) {
+  const made = element(place.localName, {}, ...children);
+  if (made.innerHTML !== place.innerHTML) place.replaceChildren(...made.childNodes);
+}
+
 function cell({ name, className }, content, isHeader) {
   const attributes = { role: isHeader ? "rowheader" : "cell", "data-column": name, class: className };
   if (isHeader) attributes.scope = "row";

@@ -45,7 +45,16 @@ export function kindOfHeading(name) {
   return words.some((word) => OTHER.includes(word)) ? "other" : undefined;
 }
 
-const isbnIn = (text) => bookIn(numbersIn(text))?.isbn;
+// The ISBNs of the fields that were looked at, since a key changes one of them; none is kept for long.
+const MOST_KNOWN = 5000;
+const known = new Map();
+
+function isbnIn(text) {
+  if (known.size > MOST_KNOWN) known.clear();
+  if (!known.has(text)) known.set(text, bookIn(numbersIn(text))?.isbn);
+  return known.get(text);
+}
+
 const valuesOf = (rows, at) => rows.map(({ fields }) => plain(fields[at] ?? "").trim());
 
 /** The columns in which at least half of the rows have an ISBN. */

@@ -27,6 +27,6 @@ export function fieldsOf(text, separator) {
 
 /** The sign that cuts at least half of the rows into fields; `undefined` where none does. */
 export function separatorOf(rows) {
-  const cuts = (sign) => rows.filter(({ row }) => fieldsOf(row, sign).length > 1).length;
+  const cuts = (sign) => rows.filter(({ row }) => row.includes(sign) && fieldsOf(row, sign).length > 1).length;
   return SEPARATORS.find((sign) => rows.length > 0 && 2 * cuts(sign) >= rows.length);
 }

@@ -7,7 +7,7 @@ import { Missing } from "./missing.js";
 import { Order } from "./order.js";
 import { Reports } from "./reports.js";
 import { loadRules } from "./rules.js";
-import { Scanner } from "./scan.js";
+import { placeOf, Scanner } from "./scan.js";
 import { areRenewed, loadSettings, loadWords } from "./settings.js";
 import { areTitlesKept } from "./titles.js";
 import { formatter, labelAll, say, sayCount, speak } from "./wording.js";
@@ -81,20 +81,6 @@ async function tellRenewed() {
   found("renewed").hidden = !(await areRenewed());
 }
 
-/** A bar code that is scanned is a line of the order list in its view, and is asked for in that of an article. */
-function scanIn(article, order) {
-  const view = () => readAddress(location.hash).view;
-  return {
-    field: found("isbn"),
-    begin: () => view() === "article" && article.beginIsbn(),
-    scanned: (code) => {
-      if (view() === "article") article.scanned(code);
-      else if (view() === "order") order.scanned(code);
-      else location.hash = addressOf("article", { isbn: code });
-    },
-  };
-}
-
 async function start() {
   const [{ settings, problems }, rules, hasTitles] = await Promise.all([loadSettings(), loadRules(), areTitlesKept()]);
   const words = await loadWords(settings.language);
@@ -110,7 +96,9 @@ async function start() {
   const article = new Article(settings, reports, watch, order);
   const views = { article, order, missing: new Missing(settings, reports, watch) };
   reports.subscribe(() => countMissing(settings, reports));
-  new Scanner(scanIn(article, order));
+  const view = () => readAddress(location.hash).view;
+  const open = (isbn) => { location.hash = addressOf("article", { isbn }); };
+  new Scanner(placeOf(view, { field: found("isbn"), article, order, open }));
   found("skip").addEventListener("click", (event) => {
     event.preventDefault();
     found("content").focus();

@@ -3,6 +3,7 @@
 import { ask } from "./desk.js";
 import { dayKeys, rangeKeys } from "./fields.js";
 import { othersAdmittable } from "./better.js";
+import { aMoment } from "./moments.js";
 import { keyOf } from "./offers.js";
 import { agree, lastAhead, LEFT_OUT, offersOfCalendar, orderedOf, unpricedIn } from "./order-answers.js";
 import { askedOn, MOST_COPIES, nextOfAll, nextQuantity, withAnswer } from "./quantities.js";
@@ -49,9 +50,6 @@ export function sharedWatch(watch) {
     };
   };
 }
-
-/** The time in which the browser hears a key and draws. */
-const aMoment = () => new Promise((resolve) => { setTimeout(resolve, 0); });
 
 /**
  * The questions of a list, over its `question` (day, country, currency, type), the `settings`, and while `signal`

@@ -128,7 +128,7 @@ export class OrderInput {
 
   /** Offers to take the first lines of what is left of a list that is too long. */
   #offerPiece() {
-    const count = Math.min(readList(this.#rest).count, MOST_LINES);
+    const count = this.#rest === "" ? 0 : Math.min(readList(this.#rest).count, MOST_LINES);
     found("piece").hidden = count === 0;
     found("take-piece").textContent = count === 0 ? "" : sayCount("order.takePiece", count);
   }

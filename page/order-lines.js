@@ -28,21 +28,22 @@ const IN_WORDS = new RegExp(String.raw`\d|(?<!\p{L})(?:${SPELLED.join("|")}|${UN
 const LABEL = /(?:[(]?(?:e-?)?(?:isbn|ean|gtin)(?:[- ]?1[034])?[)]?[ ]*[:=#.]?[ ]*|[(]01[)])$/i;
 const ADDRESS = /(?:\S+:\/\/|www\.)[^\s"]*$/i;
 const AROUND = new RegExp(`^[\\s${QUOTES}]+|[\\s${QUOTES}]+$`, "gu");
+const OPENED = new RegExp(`[\\s${QUOTES}(]*$`, "u");
+const CLOSED = new RegExp(`^[${QUOTES})\\]]+`, "u");
 
 const joined = (texts) => texts.filter((text) => text !== "").join(", ");
 const bare = (text) => text.replace(AROUND, "").replace(/^[\s:;,|]+|[\s;,|]+$/g, "").replace(AROUND, "");
 
 /** What stands before an ISBN, without its label, its quote and its address. */
 function beforeIsbn(text) {
-  const end = new RegExp(`[\\s${QUOTES}(]*$`, "u");
-  return bare(text.replace(ADDRESS, "").replace(end, "").replace(LABEL, ""));
+  return bare(text.replace(ADDRESS, "").replace(OPENED, "").replace(LABEL, ""));
 }
 
 /** What stands behind the closing quote or the rest of an address, and behind the same ISBN once more. */
 function behindIsbn(line, number) {
   const isAddress = ADDRESS.test(line.slice(0, number.start));
   const closed = line.slice(number.end).replace(isAddress ? /^[^\s;,"|]*/ : "", "");
-  const rest = closed.replace(new RegExp(`^[${QUOTES})\\]]+`, "u"), "");
+  const rest = closed.replace(CLOSED, "");
   const again = numbersIn(rest).find(({ isbn }) => isbn !== undefined);
   const isSame = again !== undefined && again.isbn === number.isbn;
   const isNext = isSame && /^[\s;,|"(]*$/.test(rest.slice(0, again.start));
@@ -163,15 +164,22 @@ function tableOf(filled, chosenFor) {
   const separator = separatorOf(filled);
   if (separator === undefined || (filled.length === 1 && severalIn(filled[0].row, numbersIn(filled[0].row)))) return {};
   const rows = filled.map((row) => ({ ...row, fields: fieldsOf(row.row, separator) }));
-  return { rows, columns: columnsOf(rows, chosenFor) };
+  return { rows, columns: columnsOf(rows, chosenFor), separator };
 }
 
-function booksOf(filled, { rows, columns }) {
+// The pieces of the rows that were read last, by the text of each, and what they were read by: a key changes one row of
+// a list, and to read a thousand takes longer than a key may.
+let known = { by: "", pieces: new Map() };
+
+/** The pieces of rows, of which those are read that the list before did not have. */
+function booksOf(filled, { rows, columns, separator }) {
   const lines = columns === undefined ? filled : rows.filter((row) => row !== columns.heading);
-  return lines.flatMap(({ row, fields = [], line }) => {
-    const pieces = fields.length > 1 ? [pieceOfRow(fields, columns)] : piecesOfLine(row);
-    return pieces.map((piece) => ({ ...piece, line }));
-  });
+  const by = JSON.stringify(columns && [separator, columns.isbn, columns.copies, columns.kinds, columns.isChosen]) ?? "";
+  const before = known.by === by ? known.pieces : new Map();
+  const read = ({ row, fields = [] }) => (fields.length > 1 ? [pieceOfRow(fields, columns)] : piecesOfLine(row));
+  const found = lines.map((line) => ({ ...line, pieces: before.get(line.row) ?? read(line) }));
+  known = { by, pieces: new Map(found.map(({ row, pieces }) => [row, pieces])) };
+  return found.flatMap(({ pieces, line }) => pieces.map((piece) => ({ ...piece, line })));
 }
 
 /** Rows without a first one that has no number, as one that names what stands below. */

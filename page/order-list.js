@@ -4,16 +4,17 @@ import { keyOf } from "./offers.js";
 import { filledRows } from "./list-rows.js";
 import { LEFT_OUT, rightKey, stateOf } from "./order-answers.js";
 
-const areSame = (one, other) => JSON.stringify(one) === JSON.stringify(other);
+const areSame = (one, other) => one === other || JSON.stringify(one) === JSON.stringify(other);
 
-/** What is known of a book that is among those that were answered, with the same copies. */
+/** What is known of a book that is among those that were answered, by their ISBNs, with the same copies. */
 function answerOf({ isbn, copies, wrong }, answered) {
-  if (wrong !== undefined) return {};
-  const same = answered.find((book) => book.isbn === isbn);
+  const same = wrong === undefined ? answered.get(isbn) : undefined;
   if (same === undefined) return {};
   const { titles, answer, right, change } = same;
   return { titles, ...(same.copies === copies ? { answer, right, change } : {}) };
 }
+
+const isAskable = ({ wrong }) => wrong === undefined;
 
 /** Whether a book of the list is what it was, with its answer: then its row need not be made anew. */
 function isKept(before, book, made) {
@@ -34,6 +35,8 @@ export class OrderList {
   #saved = new Map();
   #gone = new Set();
   #shop;
+  // The state of each book, with what it is of: a list of a thousand asks for each several times where it is drawn.
+  #states = new WeakMap();
 
   /** `shop` has from how many copies (`manyCopies`) and what sum on (`manyMoney`, in `currency`) a person looks. */
   constructor(shop = {}) {
@@ -46,7 +49,8 @@ export class OrderList {
    */
   begin(text, question, books, isSame = false) {
     const isAnswered = isSame && areSame(question, this.question);
-    const [before, answered] = isAnswered ? [this.books, this.askable()] : [[], []];
+    const before = isAnswered ? this.books : [];
+    const answered = new Map(before.filter(isAskable).map((book) => [book.isbn, book]));
     this.text = text;
     this.question = question;
     this.books = books.map((book, id) => {
@@ -86,9 +90,15 @@ export class OrderList {
   }
 
   stateOf(book) {
+    const { answer, change, right } = book;
+    const parts = [answer, answer?.copies, change, right, this.handOf(book), this.question];
+    const known = this.#states.get(book);
+    if (known !== undefined && parts.every((part, at) => part === known.parts[at])) return known.state;
     const { manyCopies, manyMoney, currency } = this.#shop;
     const money = this.question?.currency === currency ? manyMoney : undefined;
-    return stateOf(book, this.handOf(book), { copies: manyCopies, money, type: this.question?.type });
+    const state = stateOf(book, this.handOf(book), { copies: manyCopies, money, type: this.question?.type });
+    this.#states.set(book, { parts, state });
+    return state;
   }
 
   /** Notes in which way and when books of the order of a series, or, with `undefined`, of all left the page. */
@@ -120,8 +130,8 @@ export class OrderList {
 
   /** The books that are in no order, or are among those left out, with their lines of the text below its heading. */
   rest(leftOut = []) {
-    const ordered = this.ordered().map(({ book }) => book).filter((book) => !leftOut.includes(book));
-    const books = this.books.filter((book) => !ordered.includes(book));
+    const ordered = new Set(this.ordered().map(({ book }) => book));
+    const books = this.books.filter((book) => !ordered.has(book) || leftOut.includes(book));
     const lines = new Set(books.flatMap((book) => book.lines));
     const rows = filledRows(this.text).filter(({ line }) => lines.has(line) || line === this.heading);
     return { books, count: books.length, rows: rows.map(({ row }) => row) };
@@ -144,7 +154,7 @@ export class OrderList {
 
   /** The books that can be asked for, and those of them without an answer. */
   askable() {
-    return this.books.filter(({ wrong }) => wrong === undefined);
+    return this.books.filter(isAskable);
   }
 
   open() {

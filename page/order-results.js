@@ -1,10 +1,11 @@
 // What an order list shows of its answers: how far it is, the books that need a person, sums, and rows.
 
 import { found } from "./elements.js";
+import { someOf } from "./moments.js";
 import { hasCarriage } from "./order-carriage.js";
 import { needsList, sumsTable } from "./order-parts.js";
 import { sumsOf } from "./order-sums.js";
-import { drawTable, laterRows, noteSame, otherCopies, redraw } from "./order-table.js";
+import { drawTable, isLater, laterBooks, noteSame, otherCopies, redraw, rowIn } from "./order-table.js";
 import { kindOf } from "./price-types.js";
 import { formatter, say, sayCount } from "./wording.js";
 
@@ -86,6 +87,7 @@ export function showHands(count) {
 export function showAge(isOld) {
   found("list-old").hidden = !isOld;
   for (const id of PARTS) {
+    if (found(id).inert === isOld) continue;
     found(id).inert = isOld;
     found(id).classList.toggle("old", isOld);
   }
@@ -164,7 +166,8 @@ export class OrderResults {
     const held = heldField();
     const rows = list.rows();
     drawTable(found("list"), "list-heading", rows, this.#context(list));
-    this.#drawLater(list);
+    clearTimeout(this.#later);
+    this.#drawLater(list, laterBooks(found("list")));
     found("list-part").hidden = rows.length === 0;
     found("lines").classList.toggle("looked-up", rows.length > 0);
     found("list-retail").hidden = kindOf(list.question.type) !== "retail";
@@ -174,17 +177,15 @@ export class OrderResults {
   }
 
   /** Draws the rows that a long list has left for later, some at a time. */
-  #drawLater(list) {
-    clearTimeout(this.#later);
-    if (laterRows(found("list")).length === 0) return;
-    this.#later = setTimeout(() => {
-      const context = this.#context(list);
-      for (const row of laterRows(found("list"))) {
-        const book = list.books[Number(row.dataset.book)];
-        redraw(row, book, list.stateOf(book), context);
-      }
-      this.#drawLater(list);
-    }, 0);
+  #drawLater(list, books) {
+    if (books.length === 0) return;
+    this.#later = setTimeout(() => this.#drawLater(list, this.#drawSome(list, books.filter(isLater))), 0);
+  }
+
+  /** Draws the rows of books anew, as many as there is time for; gives the others. */
+  #drawSome(list, books) {
+    const context = this.#context(list);
+    return someOf(books, (book) => redraw(book, list.stateOf(book), context));
   }
 
   #marksOf(list) {
@@ -219,7 +220,7 @@ export class OrderResults {
 
   /** Draws the row of a book anew, and, where the list is whole, the sums. */
   drawBook(list, book) {
-    redraw(this.#rowOf(book), book, list.stateOf(book), this.#context(list));
+    redraw(book, list.stateOf(book), this.#context(list));
     if (!list.isAsking) this.#drawAbove(list);
   }
 
@@ -232,20 +233,22 @@ export class OrderResults {
     const { others = [] } = book.answer;
     const found = state.offer === undefined ? [] : Object.values(otherCopies(book, state.offer, context)).flat();
     const isBetter = found.length > 0;
-    const row = this.#rowOf(book);
-    if (others.length > 0 || isBetter) redraw(row, book, state, context);
-    else noteSame(row, book, context);
+    if (others.length > 0 || isBetter) redraw(book, state, context);
+    else noteSame(book, context);
   }
 
   /** Draws the row of a book soon, with those of others that are answered meanwhile. */
   drawSoon(list, book) {
     this.#waiting.add(book);
-    this.#timer ??= setTimeout(() => {
-      const context = this.#context(list);
-      for (const found of this.#waiting) redraw(this.#rowOf(found), found, list.stateOf(found), context);
-      showProgress(list);
-      this.#forget();
-    }, TOGETHER);
+    this.#timer ??= setTimeout(() => this.#drawWaiting(list), TOGETHER);
+  }
+
+  /** Draws the rows that wait, some at a time. */
+  #drawWaiting(list) {
+    const rest = this.#drawSome(list, [...this.#waiting]);
+    this.#waiting = new Set(rest);
+    showProgress(list);
+    this.#timer = rest.length === 0 ? undefined : setTimeout(() => this.#drawWaiting(list), 0);
   }
 
   #forget() {
@@ -254,13 +257,9 @@ export class OrderResults {
     this.#waiting.clear();
   }
 
-  #rowOf({ id }) {
-    return found("list").querySelector(`tr[data-book="${id}"]`);
-  }
-
   /** Leads to the field of a book's row by which its need is met. */
   #goTo(book, need) {
-    const row = this.#rowOf(book);
+    const row = rowIn(book);
     row.scrollIntoView({ block: "center" });
     const field = row.querySelector(`[data-field=${FIELD_OF[need] ?? "wholesaler"}]`) ?? row;
     field.focus({ preventScroll: true });

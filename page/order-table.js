@@ -6,7 +6,7 @@ import { catalogueLink } from "./catalogue.js";
 import { dayInShort } from "./days.js";
 import { elsewhereInWords, fallsInWords, onlyMoreInWords } from "./better.js";
 import { betterOf, copiesInWords } from "./decision.js";
-import { element, table, tableRow } from "./elements.js";
+import { element, found, table, tableRow } from "./elements.js";
 import { isBook } from "./isbn.js";
 import { keyOf } from "./offers.js";
 import { marksOf } from "./offers-table.js";
@@ -370,10 +370,19 @@ function rowOf(book, state, context) {
   };
 }
 
+/** A row by which its book is found, and the fields of which are known by it. */
+function named(row, { id }) {
+  row.id = `book-${id}`;
+  row.dataset.book = id;
+  return row;
+}
+
+/** The row of a book. */
+export const rowIn = ({ id }) => found(`book-${id}`);
+
 /** A row with its marks; where there is no offer, the reason for it has the room of what would be said of one. */
 function marked(row, book, { offer }, context) {
-  row.dataset.book = book.id;
-  row.tabIndex = -1;
+  named(row, book).tabIndex = -1;
   row.classList.toggle("with-own", row.querySelector(".own") !== null);
   row.classList.toggle("with-title", row.querySelector(".title:not(:empty)") !== null);
   if (offer !== undefined) row.dataset.series = offer.series;
@@ -402,12 +411,12 @@ function contentsOf(book, context) {
 
 function makeRow(book, state, context, columns = columnsOf(context)) {
   const row = marked(tableRow(columns, rowOf(book, state, context)), book, state, context);
-  noteSame(row, book, context);
+  noteSame(book, context, row);
   return row;
 }
 
 /** Notes that a row says what is known of its book by now, as where nothing better was found. */
-export function noteSame(row, book, context) {
+export function noteSame(book, context, row = rowIn(book)) {
   made.set(row, { book, contents: contentsOf(book, context) });
 }
 
@@ -431,33 +440,62 @@ function tableIn(place, heading, columns) {
   return whole;
 }
 
-/** Puts rows into the body of a table, where one that has its place stays: to move it would lay it out anew. */
-function putRows(body, rows) {
+// How many rows are a part of the table, which is kept apart from the others: what a key in a row changes is put into
+// layers anew for its own part alone.
+const A_PART = 25;
+
+const rowsIn = (whole) => [...whole.querySelectorAll("tbody > tr")];
+
+/** The part of a table that takes one more row at its end. */
+function lastPart(whole) {
+  const last = [...whole.tBodies].at(-1);
+  if (last !== undefined && last.rows.length < A_PART) return last;
+  whole.append(element("tbody", { role: "rowgroup" }));
+  return [...whole.tBodies].at(-1);
+}
+
+/** Takes a row out of its part, and the part out of its table where it was the last one. */
+function takeOut(row) {
+  const part = row.parentElement;
+  row.remove();
+  if (part?.firstElementChild === null) part.remove();
+}
+
+const rowBehind = (row) => row.nextElementSibling ?? row.parentElement.nextElementSibling?.firstElementChild ?? null;
+
+/** Puts rows into a table, where one that has its place stays: to move it would lay it out anew. */
+function putRows(whole, rows) {
   const kept = new Set(rows);
-  for (const row of [...body.rows]) if (!kept.has(row)) row.remove();
-  let next = body.firstElementChild;
+  rowsIn(whole).filter((row) => !kept.has(row)).forEach(takeOut);
+  let [next = null] = rowsIn(whole);
   for (const row of rows) {
-    if (row === next) next = next.nextElementSibling;
-    else body.insertBefore(row, next);
+    if (row === next) next = rowBehind(next);
+    else {
+      takeOut(row);
+      if (next === null) lastPart(whole).append(row);
+      else next.before(row);
+    }
   }
 }
 
-// How many rows are made at once: while a thousand are, no key is heard.
+// How many rows are made at once, of which the first are seen: while a thousand are, no key is heard.
 const AT_ONCE = 50;
 const LATER = "later";
 
 /** A row that is to be made later: the one that there is, or one that says nothing yet. */
 function laterRow(book, row = element("tr", { role: "row" })) {
   row.classList.add(LATER);
-  row.dataset.book = book.id;
   made.set(row, { book });
-  return row;
+  return named(row, book);
 }
 
-/** The next rows that are to be made. */
-export function laterRows(place) {
-  return [...place.querySelectorAll(`tr.${LATER}`)].slice(0, AT_ONCE);
+/** The books whose rows are to be made. */
+export function laterBooks(place) {
+  return rowsIn(place).filter(({ classList }) => classList.contains(LATER)).map((row) => made.get(row).book);
 }
+
+/** Whether the row of a book is still to be made. */
+export const isLater = (book) => rowIn(book)?.classList.contains(LATER) ?? false;
 
 /**
  * Draws the table of books with their states in a place, named by the heading with that id; rows that say the same still
@@ -468,11 +506,10 @@ export function drawTable(place, heading, rows, context) {
   const columns = columnsOf(context);
   const whole = tableIn(place, heading, columns);
   whole.style.setProperty("--name-length", String(longestName(rows, context)));
-  const [body] = whole.tBodies;
-  const known = new Map([...body.rows].map((row) => [made.get(row).book, row]));
+  const known = new Map(rowsIn(whole).map((row) => [made.get(row).book, row]));
   const isSame = (row, book) => row !== undefined && made.get(row).contents === contentsOf(book, context);
   let count = 0;
-  putRows(body, rows.map(({ book, state }) => {
+  putRows(whole, rows.map(({ book, state }) => {
     const row = known.get(book);
     if (isSame(row, book)) return row;
     count += 1;
@@ -482,7 +519,8 @@ export function drawTable(place, heading, rows, context) {
 }
 
 /** Draws the row of a book anew, where its field keeps the focus. */
-export function redraw(row, book, state, context) {
+export function redraw(book, state, context) {
+  const row = rowIn(book);
   const held = row.contains(document.activeElement) ? document.activeElement.dataset.field : undefined;
   const drawn = makeRow(book, state, context);
   row.replaceWith(drawn);

@@ -1,8 +1,9 @@
 // The view of an order list: its lines, what the desk answers about each book, and the orders of it.
 
 import { isAbandoned } from "./desk.js";
-import { found } from "./elements.js";
+import { found, refill } from "./elements.js";
 import { isbnsIn } from "./isbn-in-text.js";
+import { aMoment } from "./moments.js";
 import { eachOf, OrderAsking } from "./order-asking.js";
 import { FormerOrders } from "./order-before.js";
 import { hasCarriage } from "./order-carriage.js";
@@ -181,8 +182,8 @@ export class Order {
   /** Counts the lines, and dims what was looked up of others. */
   #noteChanges() {
     const { count, columns } = this.#input.read();
-    found("look-up").textContent = count === 0 ? say("order.lookUpNone") : sayCount("order.lookUp", count);
-    found("list-asked").replaceChildren(...this.#question.inWords());
+    refill(found("look-up"), count === 0 ? say("order.lookUpNone") : sayCount("order.lookUp", count));
+    refill(found("list-asked"), ...this.#question.inWords());
     const { books, question, text } = this.#list;
     const isOld = text !== this.#input.text || this.#columnsOf(columns) !== this.#list.columns;
     const isLookedUp = books.length > 0 && !isOld && this.#question.is(question);
@@ -230,7 +231,7 @@ export class Order {
   /** Asks for the books that have no answer yet. */
   #goOn() {
     const list = this.#list;
-    return this.#ask(async (asking) => {
+    return this.#ask(async (asking, signal) => {
       list.isAsking = true;
       forgetSaved();
       tell(say("article.asking"));
@@ -243,6 +244,9 @@ export class Order {
       const places = [document.body, ...["stop", "look-up", "lines"].map(found)];
       const isLost = places.includes(document.activeElement);
       this.#show();
+      // To lead to a place lays the page out, which takes as long as to draw it.
+      await aMoment();
+      signal.throwIfAborted();
       if (this.#isEntered) this.#results.goToWork(list);
       else if (isLost) this.#goToNeeds();
       this.#isEntered = false;
@@ -279,12 +283,13 @@ export class Order {
   async #ask(act) {
     this.#asking.abort();
     this.#asking = new AbortController();
+    const { signal } = this.#asking;
     this.#watch.up();
     showCopies(0, 0);
     try {
-      const asking = new OrderAsking(this.#list.question, this.#settings, this.#asking.signal, this.#watch);
-      await act(asking);
-      await this.#askTitles(this.#asking.signal);
+      const asking = new OrderAsking(this.#list.question, this.#settings, signal, this.#watch);
+      await act(asking, signal);
+      await this.#askTitles(signal);
       await this.#askBetter(asking);
     } catch (fault) {
       if (!isAbandoned(fault)) throw fault;

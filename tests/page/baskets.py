@@ -121,7 +121,7 @@ def from_a_till(site: Site, browser: Browser) -> Iterator[Outcome]:
     yield Outcome("till: gamma's form", texts[2], MARK + "\r\n".join(["ISBN|Copies|Second choice", *gamma, ""]))
     yield Outcome(f"till: {keys.count} keys are {MOST_TILL_KEYS} at most", keys.count <= MOST_TILL_KEYS, True)
     count = sum("/desk/articles/" in line for line in site.requests()[opened:])
-    print(f"page: three files of a till's export took {seconds:.0f} s, {load()}", flush=True)
+    print(f"page: three files of a till's export took {keys.count} keys and {seconds:.0f} s, {load()}", flush=True)
     took = busy + A_KEY * keys.count
     name = f"till: {took:.0f} seconds, {busy:.1f} of them the page's, are {MOST_TILL_SECONDS} at most"
     yield Outcome(name, took <= MOST_TILL_SECONDS, True)

@@ -1,4 +1,4 @@
-"""The desk on which order lists are tried: three wholesalers with net prices of five hundred books, and some books
+"""The desk on which order lists are tried: three wholesalers with net prices of a thousand books, and some books
 that need a person. What is expected of them is reckoned here, in decimals."""
 
 import json
@@ -14,7 +14,8 @@ WHOLESALERS = {"alpha": "Alpha Books", "beta": "Beta & Sons", "gamma": "Gamma"}
 SENDERS = {"alpha": "06,4100000000001", "beta": "06,4200000000002", "gamma": "06,4300000000003"}
 FREE_FROM = Decimal("50.00")
 
-BOOKS = 500
+# As many as a list may have lines.
+BOOKS = 1000
 
 
 def isbn_of(number: int) -> str:
@@ -72,7 +73,7 @@ HIDDEN = isbn_of(9016)
 # One that another wholesaler has in euros alone, and one that has a price in nine days.
 EUROS_ALONE = isbn_of(9017)
 LATER = isbn_of(9018)
-# A book whose price a case changes, so that the five hundred keep theirs.
+# A book whose price a case changes, so that the thousand keep theirs.
 CHANGING = isbn_of(9008)
 CHANGING_FROM, CHANGING_TO = Decimal("5.09"), Decimal("5.55")
 HOSTILE = "=cmd|' /C calc'!A0"

@@ -127,13 +127,17 @@ WIDE = 1104
 # A sheet of A4.
 SHEET = 794
 MARGIN = 24
+# As high as no picture is.
+TALL = 2000
 MOST_BYTES = 250_000
 
 
 def shot(browser: Browser, name: str, last: str, width: int = WIDTH) -> Outcome:
     """Takes what is shown, down to a last part, as a picture of the documents."""
-    browser.size(width, 700)
+    # What is not seen has no height of its own yet.
+    browser.size(width, TALL)
     browser.call("standStill")
+    browser.driver.execute_async_script("requestAnimationFrame(() => setTimeout(arguments[0]))")
     bottom = browser.run("return Math.ceil(arguments[0].getBoundingClientRect().bottom + scrollY)", browser.one(last))
     browser.size(width, bottom + MARGIN)
     browser.run("scrollTo(0, 0)")

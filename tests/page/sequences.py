@@ -68,6 +68,7 @@ SEQUENCES = [
     ),
 ]
 PICTURES = Sequence("pictures", pictures.CASES, is_whole=True)
+LONGEST = Sequence("the longest list", long_lists.OF_THE_LONGEST)
 
 # What the groups of a module build on, and is run before one of them.
 GROUND: dict[str, Check] = {

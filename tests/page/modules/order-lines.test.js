@@ -224,6 +224,33 @@ test("of too many lines there is the count alone", () => {
   assert.deepEqual([readList(lines(1001)).count, readList(lines(1001)).books], [1001, []]);
 });
 
+test("a row is read by the columns of its own list, whatever list had the same row before", () => {
+  const row = `${BOOK};12;3`;
+  const chosen = (copies) => () => ({ isbn: 0, copies });
+  assert.deepEqual(ordersOf(`ISBN;Stock;Order\n${row}`), [[BOOK, 3]]);
+  assert.deepEqual(ordersOf(`ISBN;Order;Stock\n${row}`), [[BOOK, 12]]);
+  assert.deepEqual(ordersOf(row, chosen(1)), [[BOOK, 12]]);
+  assert.deepEqual(ordersOf(row, chosen(2)), [[BOOK, 3]]);
+  assert.deepEqual(ordersOf(row, chosen(null)), [[BOOK, 1]]);
+  assert.equal(readList(`ISBN;Order;Year\n${row}`).books[0].note, "");
+  assert.equal(readList(`ISBN;Order;Place\n${row}`).books[0].note, "3");
+  // The same line, between tabulators in one list and none in the other.
+  const line = `${BOOK};4\t5`;
+  assert.deepEqual(ordersOf(`${line}\n${SECOND}\t9\n${THIRD}\t7`).slice(1), [[SECOND, 9], [THIRD, 7]]);
+  assert.deepEqual(ordersOf(`${line}\n${SECOND};6`, chosen(1))[1], [SECOND, 6]);
+});
+
+test("a list in which one row changes is read as one that nobody has read before", () => {
+  const rows = [`${BOOK} 2`, `${SECOND} 3`, `${SECOND} 3`, "978030640 6158 1", `${THIRD}`];
+  const linesOf = ({ books }) => books.map(({ isbn, copies, lines, parts: each, wrong }) => [isbn, copies, lines, each, wrong]);
+  readList(rows.join("\n"));
+  const others = [`${SECOND} 4`, ...rows];
+  assert.deepEqual(linesOf(readList(others.join("\n"))), [
+    [SECOND, 10, [1, 3, 4], [4, 3, 3], undefined], [BOOK, 2, [2], [2], undefined],
+    [undefined, 1, [5], [1], "isbn"], [THIRD, 1, [6], [1], undefined],
+  ]);
+});
+
 test("kinds of numbers, and where they stand", () => {
   const found = numbersIn(`order 12, ISBN ${BOOK}, tel. 0301234567`);
   const kinds = found.map(({ kind, start, end }) => [kind, start, end]);

@@ -47,3 +47,31 @@ test("whoever leaves the page is asked while a book is in no order and no hand h
   list.noteGone([list.books[0]]);
   assert.equal(list.isUnsaved(), false);
 });
+
+test("the state of a book is of what is known of it by now", () => {
+  const list = begin(new OrderList({ manyCopies: 50 }), [ONE]);
+  const [book] = list.books;
+  const needOf = () => list.stateOf(book).need;
+  const offer = (series, amount) => ({ series, place: 1, reference: series, availability: "21", amount });
+  const [north, south] = [offer("north", "5.000"), offer("south", null)];
+  assert.deepEqual(list.stateOf(book), {});
+  book.answer = { choice: null, offers: [south] };
+  assert.equal(needOf(), "unpriced");
+  book.answer.copies = [{ quantity: 5, offers: [{ ...south, amount: "6.000" }] }];
+  assert.equal(needOf(), "onlyMore");
+  book.answer = { choice: north, offers: [north, south] };
+  assert.deepEqual([needOf(), list.stateOf(book).offer], [undefined, north]);
+  book.change = { series: "north", amount: "4.000" };
+  assert.equal(needOf(), "changed");
+  list.confirm(book);
+  assert.equal(needOf(), undefined);
+  list.choose(book, LEFT_OUT);
+  assert.deepEqual(list.stateOf(book), { isByHand: true });
+  list.choose(book, undefined);
+  assert.equal(list.stateOf(book).offer, north);
+  // Another question has other prices, by which another one may be far.
+  book.answer = { choice: north, offers: [north], retail: [{ ...north, amount: "99.000" }] };
+  assert.equal(needOf(), "far");
+  list.question = { ...QUESTION, type: "02" };
+  assert.equal(needOf(), undefined);
+});

@@ -140,15 +140,20 @@ def called(lane: Callable[[], Counted]) -> Counted:
     return lane()
 
 
-def run_side_by_side(label: str, lanes: list[Callable[[], Counted]], most: int | None = None) -> int:
-    """Runs lanes side by side, prints what failed and the last line `LABEL: N cases, M failed`, and gives the status:
-    0; 1 where a case failed; 2 where none was tried."""
+def tell_all(label: str, found: Iterable[Counted]) -> int:
+    """Prints what failed and the last line `LABEL: N cases, M failed`, and gives the status: 0; 1 where a case failed;
+    2 where none was tried."""
     count = failed = 0
-    with ThreadPoolExecutor(most or os.cpu_count()) as pool:
-        for counted in pool.map(called, lanes):
-            count += counted.count
-            failed += len(counted.lines)
-            for line in counted.lines:
-                print(line, flush=True)
+    for counted in found:
+        count += counted.count
+        failed += len(counted.lines)
+        for line in counted.lines:
+            print(line, flush=True)
     print(f"{label}: {count} cases, {failed} failed")
     return 1 if failed else 0 if count else 2
+
+
+def run_side_by_side(label: str, lanes: list[Callable[[], Counted]], most: int | None = None) -> int:
+    """Runs lanes side by side in threads, and gives the status of all."""
+    with ThreadPoolExecutor(most or os.cpu_count()) as pool:
+        return tell_all(label, pool.map(called, lanes))

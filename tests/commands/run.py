@@ -1,22 +1,23 @@
 """Runs the tests of the built program, from outside: its words, streams, files and sockets.
 
-    tests/run [-k PATTERN].. [--case TEXT] [PROGRAM]
+    tests/run [-k PATTERN].. [--case TEXT] [--jobs N] [PROGRAM]
     tests/run --list
 
 PROGRAM is crates/onixdesk/out/onixdesk where none is named, and is then refused where a source has changed since it
 was built. With -k only the groups are run that have the text in their name, which --list tells, and with --case only
-those of their cases are counted. For each case that failed one line is written, and at the end
+those of their cases are counted. N processes, one for each processor and four at most where it is not said, try one
+group after the other each. For each case that failed one line is written, in the order of --list, and at the end
 `program: N cases, M failed`. Status 0; 1 where a case failed; 2 where no case was run or there is no such program.
 """
 
 import compileall
 import subprocess
 import sys
-from functools import partial
 
+from tests import processes
 from tests.program import groups
 from tests.program.room import Group
-from tests.running import PROGRAM, choice, command_line, count_all, run_side_by_side, why_not
+from tests.running import PROGRAM, choice, command_line, tell_all, why_not
 from tools.root import ROOT
 
 
@@ -25,8 +26,18 @@ def is_old() -> bool:
     return subprocess.run([ROOT / "tools/build", "sources"], stdout=subprocess.DEVNULL).returncode != 0
 
 
+def number_of_processes(text: str) -> int:
+    if (number := int(text)) < 1:
+        raise ValueError
+    return number
+
+
 def main() -> int:
-    given = command_line("tests/run", __doc__).parse_args()
+    parser = command_line("tests/run", __doc__)
+    parser.add_argument(
+        "--jobs", metavar="N", type=number_of_processes, default=processes.usual(), help="so many at a time"
+    )
+    given = parser.parse_args()
     chosen = choice(given)
     found = [group for group in groups() if chosen.has(group)]
     if given.list:
@@ -41,7 +52,7 @@ def main() -> int:
         return 2
     # Those that run under -B would compile their modules at each start, a quarter of what it takes.
     compileall.compile_dir(ROOT / "programs", quiet=2)
-    return run_side_by_side("program", [partial(count_all, [group], chosen.case) for group in found])
+    return tell_all("program", processes.tried(found, chosen.case, given.jobs))
 
 
 if __name__ == "__main__":

@@ -12,7 +12,7 @@ import subprocess
 import sys
 import threading
 import time
-from collections.abc import Mapping, Sequence
+from collections.abc import Callable, Mapping, Sequence
 from pathlib import Path
 
 from tools.root import PACKAGES, ROOT
@@ -38,6 +38,9 @@ Locale = frozenset[tuple[str, str]]
 # What starts programs, by its locale.
 FORKING: dict[Locale, tuple[socket.socket, subprocess.Popen[bytes]]] = {}
 LOCK = threading.Lock()
+
+# A process that tries groups of its own starts them by its own.
+os.register_at_fork(after_in_child=FORKING.clear)
 
 
 @functools.cache
@@ -93,9 +96,9 @@ def words_of(words: Sequence[Word | bytes], given: bytes, environment: Mapping[s
     return texts if texts[0] in programs() else None
 
 
-def sent(words: list[str], folder: Path, environment: Mapping[str, str], files: list[int]) -> None:
+def sent(words: list[str], folder: Path, environment: Mapping[str, str], stops: bool, files: list[int]) -> None:
     """Asks for a start, and lets go of its files."""
-    start = {"words": words, "folder": str(folder), "environment": dict(environment), "path": PACKAGES}
+    start = {"words": words, "folder": str(folder), "environment": dict(environment), "path": PACKAGES, "stops": stops}
     beside = [(socket.SOL_SOCKET, socket.SCM_RIGHTS, array.array("i", files))]
     forking(locale_of(environment)).sendmsg([json.dumps(start).encode()], beside)
     for file in files:
@@ -121,18 +124,26 @@ def read_all(files: list[int], seconds: float) -> list[bytes]:
 
 
 def run(
-    words: list[str], given: bytes, folder: Path, environment: Mapping[str, str], seconds: float
+    words: list[str],
+    given: bytes,
+    folder: Path,
+    environment: Mapping[str, str],
+    seconds: float,
+    go_on: Callable[[int], None] | None = None,
 ) -> tuple[int, bytes, bytes]:
-    """How a program ends that is given these few bytes, and what it writes."""
+    """How a program ends that is given these few bytes, and what it writes. With `go_on` it stops before it begins, and
+    that is called with the number of its process."""
     mine, its = socket.socketpair()
     (input, into), (out_of, output), (of_errors, errors) = os.pipe(), os.pipe(), os.pipe()
     os.write(into, given)
     os.close(into)
-    sent(words, folder, environment, [input, output, errors, its.detach()])
+    sent(words, folder, environment, go_on is not None, [input, output, errors, its.detach()])
     mine.settimeout(seconds)
     with mine, mine.makefile("r") as told:
         process = int(told.readline())
         try:
+            if go_on:
+                go_on(process)
             wrote, said = read_all([out_of, of_errors], seconds)
             return int(told.readline()), wrote, said
         except TimeoutError:

@@ -3,8 +3,9 @@ longer than what most cases have a program do, is then made once. forked_starts.
 
 It is run by Python's own words for these programs, `-E -s -S -B`, with the number of a socket and the programs. Each
 message at the socket is one start: in JSON the words of the program, or `-c`, a text of Python and its words, the
-folder and the environment in which it runs, and beside them its three streams and a socket for how it ends. There the
-number of its process is written, and its status once it has ended. It ends itself where nobody asks any more.
+folder and the environment in which it runs, and whether it stops before it begins, and beside them its three streams
+and a socket for how it ends. There the number of its process is written, and its status once it has ended. It ends
+itself where nobody asks any more.
 """
 
 import array
@@ -15,6 +16,8 @@ import importlib
 import json
 import os
 import runpy
+import selectors
+import signal
 import socket
 import sys
 import time
@@ -27,6 +30,9 @@ LATE = ("calendar", "csv", "encodings.idna", "gzip", "http.client", "lzma", "mul
 
 # The most bytes of a message, and how many files stand beside it.
 MOST, FILES = 1 << 18, 4
+
+# No file that this process has open has such a number.
+MOST_FILES = 1 << 16
 
 Start = dict[str, Any]
 
@@ -53,40 +59,58 @@ def received(control: socket.socket) -> tuple[Start, list[int]] | None:
     return start, [*files]
 
 
-def accept(control: socket.socket) -> tuple[Start, list[int]] | None:
-    """In a process of its own, each start that comes; nothing in this one, at the end."""
-    while came := received(control):
-        if os.fork() == 0:
-            control.close()
+def tell(answer: int, number: int) -> None:
+    # Who asked for it may have left.
+    with contextlib.suppress(OSError):
+        os.write(answer, f"{number}\n".encode())
+
+
+class Starts:
+    """What is asked for at the socket, and the processes that go on: each is waited for, and its end told."""
+
+    def __init__(self, control: socket.socket) -> None:
+        self.control = control
+        self.selector = selectors.DefaultSelector()
+        self.selector.register(control, selectors.EVENT_READ)
+
+    def begin(self) -> tuple[Start, list[int]] | None:
+        """In a process of its own the start that comes. In this one nothing, nor where none comes any more."""
+        if not (came := received(self.control)):
+            self.selector.unregister(self.control)
+            return None
+        if (process := os.fork()) == 0:
+            self.control.close()
+            self.selector.close()
             return came
-        for file in came[1]:
-            os.close(file)
-        with contextlib.suppress(ChildProcessError):
-            while os.waitpid(-1, os.WNOHANG)[0]:
-                pass
-    with contextlib.suppress(ChildProcessError):
-        while os.wait():
-            pass
-    return None
+        _start, (*streams, answer) = came
+        for stream in streams:
+            os.close(stream)
+        tell(answer, process)
+        self.selector.register(os.pidfd_open(process), selectors.EVENT_READ, (process, answer))
+        return None
 
+    def end(self, file: int, process: int, answer: int) -> None:
+        self.selector.unregister(file)
+        os.close(file)
+        tell(answer, os.waitstatus_to_exitcode(os.waitpid(process, 0)[1]))
+        os.close(answer)
 
-def watched(answer: int, streams: list[int]) -> None:
-    """Goes on in the process of the program alone. This one waits for it, and says how it ends."""
-    if (process := os.fork()) == 0:
-        return
-    for stream in streams:
-        os.close(stream)
-    os.write(answer, f"{process}\n".encode())
-    status = os.waitstatus_to_exitcode(os.waitpid(process, 0)[1])
-    os.write(answer, f"{status}\n".encode())
-    os._exit(0)
+    def next(self) -> tuple[Start, list[int]] | None:
+        """In a process of its own, each start that comes; nothing in this one, at the end."""
+        while self.selector.get_map():
+            for key, _events in self.selector.select():
+                if key.data:
+                    self.end(key.fd, *key.data)
+                elif came := self.begin():
+                    return came
+        return None
 
 
 def become(start: Start, streams: list[int]) -> None:
     """Gives this process what it would have been started with."""
     for number, stream in enumerate(streams):
         os.dup2(stream, number)
-    os.closerange(3, max(streams) + FILES)
+    os.closerange(3, MOST_FILES)
     os.chdir(start["folder"])
     # Where no locale is set Python sets one at its start.
     locale = {name: value for name, value in os.environ.items() if name == "LC_CTYPE"}
@@ -104,12 +128,12 @@ def main() -> Start | None:
     import_all(sys.argv[2:])
     # What is there already is not looked at again, and so not copied, in each process.
     gc.freeze()
-    came = accept(control)
-    if not came:
+    if not (came := Starts(control).next()):
         return None
-    start, (*streams, answer) = came
-    watched(answer, streams)
+    start, (*streams, _answer) = came
     become(start, streams)
+    if start["stops"]:
+        os.kill(os.getpid(), signal.SIGSTOP)
     return start
 
 

@@ -1,9 +1,9 @@
 """Trees of messages from a seed: right ones for the most part, and all that can be odd about them."""
 
 from collections.abc import Callable
-from random import Random
 from typing import TypeVar
 
+from tests.program.feeds.feed_names import Choosing
 from tests.program.feeds.feed_prices import DISCOUNTS
 from tests.program.feeds.feed_trees import (
     Detail,
@@ -123,13 +123,7 @@ def is_filled_in(territory: Territory) -> bool:
     return any([territory.included, territory.regions, territory.excluded, territory.excluded_regions])
 
 
-class Maker:
-    def __init__(self, random: Random) -> None:
-        self.random = random
-
-    def is_one_of(self, count: int) -> bool:
-        return self.random.randrange(count) == 0
-
+class Maker(Choosing):
     def some(self, make: Callable[[], Made], most: int, least: int = 0) -> list[Made]:
         return [make() for _ in range(self.random.randint(least, most))]
 

@@ -11,18 +11,28 @@ PREFIXES = ["o", "p", "onix", "ns0"]
 OTHER = "urn:other"
 
 
-class Names:
-    """Writes names so that they are in the namespace of the root, which is none where that is empty. What it chooses is
-    told by the seed."""
+class Choosing:
+    """What chooses as its seed tells."""
+
+    def __init__(self, random: Random) -> None:
+        self.random = random
+
+    def is_one_of(self, count: int) -> bool:
+        """As `randrange(count) == 0`, in half the time: feeds are made of hundreds of thousands of these."""
+        bits = count.bit_length()
+        while (number := self.random.getrandbits(bits)) >= count:
+            pass
+        return number == 0
+
+
+class Names(Choosing):
+    """Writes names so that they are in the namespace of the root, which is none where that is empty."""
 
     def __init__(self, random: Random, of_root: str) -> None:
-        self.random = random
+        super().__init__(random)
         self.of_root = of_root
         # What each prefix stands for here; the empty one is that of a name without a prefix.
         self.bound = {"": ""}
-
-    def is_one_of(self, count: int) -> bool:
-        return self.random.randrange(count) == 0
 
     def standing(self) -> list[str]:
         """The prefixes that stand for the namespace of the root here."""

@@ -5,6 +5,7 @@ It goes by what the documents say: fractions, and each price held against each o
 
 import re
 from fractions import Fraction
+from functools import cache
 from typing import NamedTuple
 
 from tests.program.feeds.feed_prices import amount_of, days_of, key_of, quantity_of
@@ -38,6 +39,8 @@ class Outcome(NamedTuple):
     written: list[Computed]
 
 
+# Many prices of a feed have few percents and amounts.
+@cache
 def percent_of(text: str, is_of_feed: bool = False) -> Fraction | None:
     """A percent of one to three digits and at most two decimals; in a feed zeros behind these count for nothing."""
     found = re.fullmatch(r"([0-9]{1,3})(?:\.([0-9]{1,2})(0*))?", text, re.ASCII)
@@ -78,6 +81,7 @@ def is_fitting(term: Term, price: Price, message: Message, supplier: str) -> boo
     )
 
 
+@cache
 def net_of(amount: str, percent: Fraction, tax: Fraction) -> int:
     """Hundredths of the currency, of which a half is rounded up; never more than the amount."""
     exact = Fraction(amount) * (100 - percent) / (100 + tax) * 100

@@ -3,7 +3,7 @@
 import codecs
 from bisect import bisect_right
 from collections.abc import Callable, Iterable
-from functools import partial
+from functools import cache, partial
 from html.entities import codepoint2name
 from random import Random
 from re import finditer
@@ -11,7 +11,7 @@ from typing import NamedTuple, TypeVar
 from xml.sax.saxutils import escape, quoteattr
 
 from tests.program.feeds.convert.case_files import SHORT_TAGS
-from tests.program.feeds.feed_names import Names
+from tests.program.feeds.feed_names import Choosing, Names
 from tests.program.feeds.feed_prices import DISCOUNTS
 from tests.program.feeds.feed_trees import (
     Detail,
@@ -70,6 +70,9 @@ ENCODINGS = [
 
 SPACES = [" ", "\n", "\t", "  \n ", "\r\n", "\r"]
 
+# What may stand between elements.
+BETWEEN = [*SPACES, "<!-- x -->"]
+
 # What a DOCTYPE may declare, which is passed over.
 DECLARATIONS = [
     '<!ENTITY own "Y">',
@@ -113,6 +116,12 @@ COUNTED_WITH_TERMS = COUNTED | {
     "Tax": "TaxRatePercent",
 }
 
+# The same as sets, without terms and with them.
+ALL_COUNTED = [
+    {name: frozenset(names.split()) for name, names in counted.items()} for counted in (COUNTED, COUNTED_WITH_TERMS)
+]
+NONE: frozenset[str] = frozenset()
+
 # Those of them that are counted alone, and are no strangers.
 COUNTED_ALONE = ["PublishingDetail", "SalesRights", *DISCOUNTS]
 
@@ -147,12 +156,21 @@ class Written(NamedTuple):
     again: int
 
 
-class Writer:
-    """Writes one message. What it chooses is told by the seed."""
+@cache
+def can_encode(codec: str, text: str) -> bool:
+    try:
+        text.encode(codec)
+    except UnicodeEncodeError:
+        return False
+    return True
+
+
+class Writer(Choosing):
+    """Writes one message."""
 
     def __init__(self, random: Random, has_terms: bool = False) -> None:
-        self.random = random
-        self.counted = COUNTED_WITH_TERMS if has_terms else COUNTED
+        super().__init__(random)
+        self.counted = ALL_COUNTED[has_terms]
         self.encoding = random.choice(ENCODINGS)
         self.is_short = random.random() < 0.5
         self.names = Names(
@@ -171,9 +189,6 @@ class Writer:
         self.count_of_again = 0
         self.is_unread = False
 
-    def is_one_of(self, count: int) -> bool:
-        return self.random.randrange(count) == 0
-
     def append(self, piece: str) -> None:
         self.parts.append(piece)
         self.length += len(piece)
@@ -188,11 +203,7 @@ class Writer:
         return self.names.prefixed(self.local(reference_name))
 
     def can_write(self, text: str) -> bool:
-        try:
-            text.encode(self.encoding.codec)
-        except UnicodeEncodeError:
-            return False
-        return True
+        return can_encode(self.encoding.codec, text)
 
     def character(self, character: str) -> str:
         number = ord(character)
@@ -222,7 +233,7 @@ class Writer:
     def passed_over(self) -> str:
         """An element that does not count: of no name that does, or of one that counts elsewhere alone, of the other kind
         of names or of another namespace too; with one in it that would count elsewhere."""
-        counted = self.counted.get(self.around[-1], "").split()
+        counted = self.counted.get(self.around[-1], NONE)
         counting = self.random.choice([name for name in COUNTING if name not in counted])
         tag = self.name(counting)
         inner = self.random.choice([f"<{tag}>7</{tag}>", self.in_another_namespace(counting)])
@@ -264,11 +275,11 @@ class Writer:
             if self.is_one_of(25):
                 self.append(self.passed_over())
             elif self.is_one_of(4):
-                self.append(self.random.choice([*SPACES, "<!-- x -->"]))
+                self.append(self.random.choice(BETWEEN))
 
     def weigh(self, name: str, text: str = "") -> None:
         """Adds the size of an element of that name and text, where it counts below what is written."""
-        if name in self.counted.get(self.around[-1], "").split():
+        if name in self.counted.get(self.around[-1], NONE):
             self.size += ELEMENT_BYTES + len(text.encode())
 
     def may_come_again(self) -> bool:

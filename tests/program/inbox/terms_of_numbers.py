@@ -11,7 +11,7 @@ from tests.program.feeds.convert.wanted_runs import FRAME, PRODUCT
 from tests.program.feeds.convert.case_files import SUPPLIER
 from tests.program.inbox.inbox_again import AGREED, desk_of
 from tests.program.inbox.inbox_numbers import KILLED, KILLING, LEAST, SHARES, Failing, steps
-from tests.program.inbox.inboxes import AGREEMENT, Inbox, ended, of_series, said, within
+from tests.program.inbox.inboxes import AGREEMENT, Inbox, of_series, said, within
 from tests.program.room import Group, Room
 from tests.program.serving import Serving, serving, standing_in
 from tests.running import Outcome
@@ -286,7 +286,7 @@ def killed(share: int, room: Room) -> Iterator[Outcome]:
             inbox = Inbox(room, desk.port, f"s{step}", SENDER=f"06,S{step}", TERMS=file)
             feed = priced(1, f"R{step}").replace(b"<IDValue>S<", b"<IDValue>S%d<" % step)
             inbox.put({"a.xml": feed})
-            status = ended(inbox.start(before=within(KILLING, str(step)))).status
+            status = inbox.run(before=within(KILLING, str(step))).status
             put_terms(room, FIFTY)
             came = inbox.run()
             inbox.put({"b.xml": feed + b"\n"})

@@ -89,7 +89,8 @@ def imported(tree: ast.AST) -> set[str]:
 
 def names_path(tree: ast.AST) -> bool:
     """Whether a module names `sys.path`."""
-    return any(ast.unparse(node) == "sys.path" for node in ast.walk(tree) if isinstance(node, ast.Attribute))
+    named = (node for node in ast.walk(tree) if isinstance(node, ast.Attribute) and node.attr == "path")
+    return any(isinstance(node.value, ast.Name) and node.value.id == "sys" for node in named)
 
 
 # A module in which programs run as if they were started, each with a path of its own.
@@ -99,9 +100,10 @@ HAS_PATH = "tests/program/forking.py"
 def imports(room: Room) -> Iterator[Outcome]:
     for package, others in MAY_IMPORT.items():
         allowed = others | {Path(package).name} | sys.stdlib_module_names
-        wrong = [(str(path), sorted(more)) for path, tree in trees(package) if (more := imported(tree) - allowed)]
+        parsed = [*trees(package)]
+        wrong = [(str(path), sorted(more)) for path, tree in parsed if (more := imported(tree) - allowed)]
         yield Outcome(f"{package}: what it imports", wrong, [])
-        named = [str(path) for path, tree in trees(package) if names_path(tree)]
+        named = [str(path) for path, tree in parsed if names_path(tree)]
         yield Outcome(f"{package}: sys.path", named, [HAS_PATH] if package == "tests" else [])
 
 

@@ -10,7 +10,7 @@ from tests.kills import SCENARIOS
 from tests.program import groups
 from tests.program.room import Room
 from tests.running import Outcome, pattern_of
-from tools.edits import PLANTED, planted
+from tools.edits import PLANTED, Edit, planted
 from tools.planted import OF_KILLS, OF_NODE, fault_of
 from tools.root import ROOT
 
@@ -46,9 +46,16 @@ def groups_that_see_them(_room: Room) -> Iterator[Outcome]:
         yield Outcome(f"planted: {fault.name}, groups that are not there", lacking, [])
 
 
+def judged(edit: Edit) -> set[str]:
+    """The modules that a fault is of: those that it changes, but of a source what judges all of them."""
+    if edit.path.parent.name == "sources":
+        return {"tools/reaching"}
+    return {*re.findall("^file: (.+)$", edit.text(), re.MULTILINE)}
+
+
 def modules(_room: Room) -> Iterator[Outcome]:
     """Each module with faults is listed, and has three at least."""
-    counts = Counter(path for edit in planted() for path in {*re.findall("^file: (.+)$", edit.text(), re.MULTILINE)})
+    counts = Counter(path for edit in planted() for path in judged(edit))
     page = PLANTED.joinpath("README.md").read_text(encoding="utf-8")
     listed = re.findall(r"^- (\S+/\S+): ", page, re.MULTILINE)
     yield Outcome("planted: the modules of the page", sorted(listed), sorted(counts))

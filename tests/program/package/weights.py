@@ -3,7 +3,7 @@
 from collections.abc import Iterator
 
 from bench.commands.weight import part_named
-from bench.figures.proved import Log, crate_rows, longest_chain, rows, table
+from bench.figures.proved import Log, crate_rows, longest_chain, rows, scheduled, table
 from tests.program.room import Room
 from tests.running import Outcome
 from tools.root import ROOT
@@ -55,14 +55,18 @@ def counts(room: Room) -> Iterator[Outcome]:
     (row,) = crate_rows(log)
     yield Outcome("bench/weight: no crate but that one", (row.name, row.functions, row.modules), ("csv_records", 3, 37))
     yield Outcome("bench/weight: a row of it", row.line(True) in table(log), True)
+    # Not each stands behind those that it is above.
     below: dict[str, list[str]] = {
         "onix_terms": [],
+        "desk_http": ["csv_records", "feed_xml"],
         "csv_records": [],
         "feed_xml": ["onix_terms"],
-        "desk_http": ["csv_records", "feed_xml"],
     }
     chain = ["csv_records", "desk_http"]
     yield Outcome("bench/weight: the longest chain", longest_chain(log, below), (2.0, chain))
+    # The proof of csv_records takes four minutes, its mutant behind it one, and the proof of onix_terms two.
+    clock = [scheduled(log, below, processors) for processors in (1, 2)]
+    yield Outcome("bench/weight: the clock on one processor, and on two", clock, [7.0, 5.0])
     room.write("log", LOG.partition("proofs: ")[0].encode())
     came = room.call([ROOT / "bench/weight", "--log", "log"])
     yield Outcome("bench/weight: no minutes are known", row.line(False) in came.output.decode().splitlines(), True)

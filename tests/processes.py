@@ -1,0 +1,132 @@
+"""Tries groups of cases in several processes side by side: in one, the Python of each group would wait for the others'."""
+
+import contextlib
+import multiprocessing
+import os
+from collections import deque
+from collections.abc import Iterator, Sequence
+from multiprocessing.connection import Connection, wait
+
+from tests.program import forked_starts
+from tests.running import Cases, Counted, count_all
+
+# More do not gain, since a case often runs a program that has a processor for itself.
+MOST = 4
+
+# A process has what this one has imported and read.
+FORK = multiprocessing.get_context("fork")
+
+
+def usual() -> int:
+    """How many processes there are where nobody says it: one for each processor."""
+    return min(MOST, len(os.sched_getaffinity(0)))
+
+
+def try_each(groups: Sequence[Cases], case: str, asked: Connection, others: list[Connection]) -> None:
+    """What such a process does: it tries each group whose place it is given, tells what came of it, and ends where no
+    more can come."""
+    # While it kept them open, the other processes would not see their end.
+    for connection in others:
+        connection.close()
+    try:
+        with contextlib.suppress(EOFError):
+            while True:
+                asked.send(count_all([groups[asked.recv()]], case))
+    finally:
+        # A process of this kind leaves out what is registered for the end.
+        forked_starts.end()
+
+
+class Worker:
+    """A process that tries one group after the other, and the place of the one that it tries now."""
+
+    def __init__(self, groups: Sequence[Cases], case: str, beside: "list[Worker]") -> None:
+        self.place = -1
+        self.asking, asked = FORK.Pipe()
+        others = [self.asking, *(worker.asking for worker in beside)]
+        self.process = FORK.Process(target=try_each, args=[groups, case, asked, others])
+        self.process.start()
+        asked.close()
+
+    def give(self, place: int) -> None:
+        self.place = place
+        self.asking.send(place)
+
+    def answer(self) -> Counted | None:
+        """What came of the group; nothing where the process has ended in the midst of it."""
+        try:
+            counted: Counted = self.asking.recv()
+        except (EOFError, OSError):
+            self.end()
+            return None
+        return counted
+
+    def end(self) -> None:
+        self.asking.close()
+        self.process.join()
+
+
+class Side:
+    """Groups that are tried by so many processes, and what came of those that are done, by their places."""
+
+    def __init__(self, groups: Sequence[Cases], case: str, most: int) -> None:
+        self.groups = groups
+        self.case = case
+        self.waiting = deque(range(len(groups)))
+        self.done: dict[int, Counted] = {}
+        self.workers: list[Worker] = []
+        for _ in range(min(most, len(groups))):
+            self.add()
+
+    def add(self) -> None:
+        """Starts a process and gives it the next group, if one is left."""
+        if self.waiting:
+            self.workers.append(Worker(self.groups, self.case, self.workers))
+            self.go_on(self.workers[-1])
+
+    def go_on(self, worker: Worker) -> None:
+        if self.waiting:
+            worker.give(self.waiting.popleft())
+        else:
+            self.workers.remove(worker)
+            worker.end()
+
+    def take(self, worker: Worker) -> None:
+        """Takes what came of a group. Where its process has ended, the group has failed, and another goes on."""
+        counted = worker.answer()
+        if counted is not None:
+            self.done[worker.place] = counted
+            self.go_on(worker)
+            return
+        lost = Counted()
+        lost.add(
+            self.groups[worker.place].id(),
+            f"wanted its cases to run, came the end of its process, status {worker.process.exitcode}",
+        )
+        self.done[worker.place] = lost
+        self.workers.remove(worker)
+        self.add()
+
+    def take_some(self) -> None:
+        """Waits for what comes next."""
+        if not self.workers:
+            raise RuntimeError("a group was given to no process")
+        ready = wait([worker.asking for worker in self.workers])
+        for worker in [worker for worker in self.workers if worker.asking in ready]:
+            self.take(worker)
+
+    def end(self) -> None:
+        for worker in self.workers:
+            worker.end()
+
+
+def tried(groups: Sequence[Cases], case: str, most: int) -> Iterator[Counted]:
+    """What comes of each group, in their order, while so many processes try them."""
+    side = Side(groups, case, most)
+    try:
+        for place in range(len(groups)):
+            while place not in side.done:
+                side.take_some()
+            yield side.done.pop(place)
+    finally:
+        side.end()

@@ -11,6 +11,7 @@ The status is the prover's; 2 where there is no such crate, or no toolchain.
 """
 
 import argparse
+import functools
 import importlib.util
 import os
 import subprocess
@@ -33,6 +34,8 @@ def toolchain() -> ModuleType | None:
         return None
     module = importlib.util.module_from_spec(spec)
     spec.loader.exec_module(module)
+    # A crate's stamp is made of those of all that it stands on, and each of these is asked for it many times.
+    module.Crate.stamp = functools.cache(module.Crate.stamp)
     return module
 
 

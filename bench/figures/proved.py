@@ -106,26 +106,55 @@ def rows(log: Log) -> list[Row]:
 
 
 def longest_chain(log: Log, below: dict[str, list[str]]) -> tuple[float, list[str]]:
-    """The crates, each of which stands on the one before it, whose proofs weigh most together, and what they weigh.
-    The libraries below each crate are told lowest first."""
+    """The crates, each of which stands on the one before it, whose proofs weigh most together, and what they weigh."""
     chains: dict[str, tuple[float, list[str]]] = {}
-    for crate, libraries in below.items():
-        weight, chain = max((chains[it] for it in libraries if it in chains), default=(0.0, []))
-        chains[crate] = weight + log.proofs[crate], [*chain, crate]
-    return max(chains.values(), default=(0.0, []))
+
+    def chain_to(crate: str) -> tuple[float, list[str]]:
+        if crate not in chains:
+            weight, chain = max((chain_to(it) for it in below[crate] if it in below), default=(0.0, []))
+            chains[crate] = weight + log.proofs[crate], [*chain, crate]
+        return chains[crate]
+
+    return max(map(chain_to, below), default=(0.0, []))
+
+
+def scheduled(log: Log, below: dict[str, list[str]], processors: int) -> float:
+    """How many minutes so many processors take by the clock if none waits without need: each proves the first crate
+    whose libraries are proved, or while there is none tries mutants, tests and programs of one that is."""
+    ends: dict[str, float] = {}
+    behind = {crate: log.weights[crate] - log.proofs[crate] for crate in below}
+    free = [0.0] * processors
+    while behind:
+        at = min(free)
+        begins = {
+            crate: max([at, *(ends[it] for it in libraries if it in below)])
+            for crate, libraries in below.items()
+            if crate not in ends and all(it in ends for it in libraries if it in below)
+        }
+        first = min(begins, key=lambda it: begins[it], default="")
+        proved = [it for it in behind if it in ends and (not first or ends[it] <= at)]
+        if proved and (not first or begins[first] > at):
+            most = max(proved, key=lambda it: behind[it])
+            free[free.index(at)] = max(at, ends[most]) + behind.pop(most)
+        else:
+            free[free.index(at)] = ends[first] = begins[first] + log.proofs[first]
+    return max(free) * log.minutes_of_all / log.weight_of_all if log.weight_of_all else 0.0
 
 
 def table(log: Log) -> list[str]:
-    """The rows of layers and those of crates as lines of Markdown, the longest chain of crates, and how many were kept,
-    of which a log has no counts."""
+    """The rows of layers and those of crates as lines of Markdown, the longest chain of crates, the clock on two
+    processors and on four, and how many were kept, of which a log has no counts."""
     has_minutes = log.minutes_of_all > 0
     lines = []
     for name, found in (("Layer", rows(log)), ("Crate", crate_rows(log))):
         head = f"| {name} | Functions | Goals answered by hand | Modules read |" + " Minutes |" * has_minutes
         lines += [head, "|---" * (head.count("|") - 1) + "|"]
         lines += [*(row.line(has_minutes) for row in found if row.modules or row.minutes), ""]
-    weight, chain = longest_chain(log, read_lines(ROOT.joinpath("crates.txt").read_text(encoding="utf-8")))
+    below = read_lines(ROOT.joinpath("crates.txt").read_text(encoding="utf-8"))
+    weight, chain = longest_chain(log, below)
     if weight:
         told = f"the longest chain: {weight:.2f} times the proofs of csv_records and onix_terms"
         lines.append(f"{told}: {', '.join(chain)}")
+        two, four = (scheduled(log, below, processors) for processors in (2, 4))
+        lines.append(f"by the clock, if no processor waits without need: {two:.1f} min on two, {four:.1f} on four")
     return [*lines, f"{len(log.functions)} crates were proved; {len(log.kept)} were kept, and are not counted."]

@@ -1,6 +1,6 @@
 -- How one FILE ends.
 use Rattle.std.proofs.Common.{◌≡◌, ◌<◌, ◌⊎◌, ◌∙◌, ℕ, List, [], Option, Some, None, Bool, true, false, Ok, Err, Result, inl, inr, refl, sym, subst}
-use Rattle.std.specs.Prelude.{IfErr, IfOk}
+use Rattle.std.specs.Prelude.{IfErr, IfOk, ⊤}
 use Rattle.std.specs.List.{concat, fold}
 use Rattle.program_files.specs.Holdings.{Holdings, MayName, NamedText, Names}
 use Rattle.program_files.specs.Names.{is_packed, name_of}
@@ -10,10 +10,22 @@ use Rattle.feed_conversion.specs.Conversion.{Options}
 use Rattle.feed_conversion.specs.Outcomes.{ExplainsFault, Yields}
 use Rattle.feed_conversion.specs.Packing.{Converted}
 use Rattle.feed_conversion.specs.declared.refusal.Fault.{Fault}
-use Rattle.feed_files.specs.Ends.{AreTold, Asking, IsEnd, IsOfWrong, IsTaken, IsUnconverted, asking, file_end, is_converted}
+use Rattle.feed_files.specs.Ends.{AreTold, Asking, IsEnd, IsOfWrong, IsRefusal, IsUnconverted, asking, file_end, is_converted}
 use Rattle.feed_files.specs.declared.ended.Ended.{Ended}
 use Rattle.feed_files.specs.declared.ended.Ended.TheVariants as ended
 use Rattle.feed_files.proofs.KeptLemmas.{all_told, files_told}
+
+-- what a store that had some texts has of a FILE of these bytes whose reading ended so: with those
+-- of its messages, where it was converted. With part: what it makes of one text more
+abbrev pub IsTaken : {T : Type 0} → (T → List ℕ → T) → Options → Option (List ℕ) → T → T → Ended
+    → Type 0
+IsTaken with_part o bytes before after ended.Refused =
+    (f : Fault) × IsRefusal f × ExplainsFault bytes o f
+IsTaken with_part o bytes before after ended.Packed = ⊥
+IsTaken with_part o bytes before after ended.Fault = ⊤
+IsTaken with_part o bytes before after converted =
+    (made : Converted) × Yields bytes o (Ok made) × IsOfWrong made.wrong converted
+    × (after ≡ fold with_part before made.parts)
 
 -- a FILE that was converted, so many of whose products are wrong
 pub converted_taken : {T : Type 0} (with_part : T → List ℕ → T) (o : Options) (bytes : Option (List ℕ)) (before after : T) (wrong : ℕ) (e : Ended) (made : Converted)

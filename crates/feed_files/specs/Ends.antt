@@ -2,7 +2,7 @@
 use Rattle.std.specs.Prelude.{◌≡◌, ◌<◌, ◌≤◌, ◌⊎◌, ℕ, ◌++◌, Bool, true, false, List, [], Option}
 use Rattle.std.specs.Prelude.{Some, None, ⊤, length}
 use Rattle.std.specs.Prelude.{Ok}
-use Rattle.std.specs.List.{concat, fold}
+use Rattle.std.specs.List.{concat}
 use Rattle.feed_xml.specs.declared.fault.Fault.TheVariants as document
 use Rattle.csv_records.specs.RecordTexts.{limit}
 use Rattle.program_files.specs.Holdings.{Holdings, MayName, NamedText, Names}
@@ -49,18 +49,6 @@ IsRefusal other = ⊤
 -- a FILE that was not converted ended so
 abbrev pub IsUnconverted : Fault → Ended → Type 0
 IsUnconverted f e = (e ≡ ended.Fault) ⊎ ((e ≡ ended.Refused) × IsRefusal f)
-
--- what a store that had some texts has of a FILE of these bytes whose reading ended so: with those
--- of its messages, where it was converted. With part: what it makes of one text more
-abbrev pub IsTaken : {T : Type 0} → (T → List ℕ → T) → Options → Option (List ℕ) → T → T → Ended
-    → Type 0
-IsTaken with_part o bytes before after ended.Refused =
-    (f : Fault) × IsRefusal f × ExplainsFault bytes o f
-IsTaken with_part o bytes before after ended.Packed = ⊥
-IsTaken with_part o bytes before after ended.Fault = ⊤
-IsTaken with_part o bytes before after converted =
-    (made : Converted) × Yields bytes o (Ok made) × IsOfWrong made.wrong converted
-    × (after ≡ fold with_part before made.parts)
 
 -- how a run is asked to convert, and whether it is told what files hold
 pub record Asking : Type 0 where

@@ -4,9 +4,9 @@ use Rattle.program_files.specs.PartFiles.{files_of, place}
 use Rattle.program_files.specs.Texts.{with_file}
 use Rattle.feed_conversion.specs.Conversion.{Options}
 use Rattle.feed_conversion.specs.Views.{options_view}
-use Rattle.feed_files.specs.Ends.{IsTaken, asking, is_converted}
+use Rattle.feed_files.specs.Ends.{asking, is_converted}
 use Rattle.feed_files.specs.declared.ended.Ended.TheVariants as ended
-use Rattle.feed_files.proofs.EndLemmas.{folder_end, read_taken, stopped_end}
+use Rattle.feed_files.proofs.EndLemmas.{IsTaken, folder_end, read_taken, stopped_end}
 use Rattle.feed_files.proofs.converting.convert_into.Given.{Over}
 use Rattle.feed_files.proofs.converting.convert_into.Goals.{After-finish-made}
 use Rattle.feed_files.proofs.converting.convert_into.Goals as goal

@@ -3,8 +3,8 @@ use Rattle.std.proofs.KnownBytes.{Appends-nil}
 use Rattle.program_files.specs.Texts.{told_texts, with_text}
 use Rattle.feed_conversion.specs.Conversion.{Options}
 use Rattle.feed_conversion.specs.Views.{options_view}
-use Rattle.feed_files.specs.Ends.{IsTaken, asking, is_converted}
-use Rattle.feed_files.proofs.EndLemmas.{out_done, out_failed, read_taken, stopped_end}
+use Rattle.feed_files.specs.Ends.{asking, is_converted}
+use Rattle.feed_files.proofs.EndLemmas.{IsTaken, out_done, out_failed, read_taken, stopped_end}
 use Rattle.feed_files.proofs.converting.convert_out.Given.{Over}
 use Rattle.feed_files.proofs.converting.convert_out.Goals.{After-end_of_seen-ended}
 use Rattle.feed_files.proofs.converting.convert_out.Goals as goal

@@ -8,7 +8,7 @@ use Rattle.std.proofs.lemmas.List.Folds.{list_all-append}
 use Rattle.std.proofs.lemmas.List.Sums.{fold-append}
 use Rattle.feed_outline.specs.Names.{Word}
 use Rattle.feed_xml.specs.declared.position.Position.{Position}
-use Rattle.feed_xml.specs.Grammar.{Token, raw, reference, cdata, comment, instruction, declaration, doctype, start, empty, end, spelling}
+use Rattle.feed_xml.specs.Grammar.{Token, raw, reference, opening, bracket, cdata, comment, instruction, declaration, doctype, start, empty, end, spelling}
 use Rattle.feed_xml.specs.Positions.{first_position, next_position, position_after, position_past}
 use Rattle.feed_xml.specs.Tree.{Content, nothing, leaf, element, tokens_of, HasLeaves}
 use Rattle.feed_xml.specs.Trees.{IsMisc, AreTyped, IsProlog, IsRoot, IsTree}
@@ -20,7 +20,7 @@ use Rattle.feed_outline.specs.Outline.{Line, line, outline, part, parts_of}
 use Rattle.feed_outline.specs.private.Growing.{Open, growing, open_at, no_lines, change, longer, waits_behind, opened, closed}
 use Rattle.feed_outline.specs.Sizes.{element_size, first_large, is_small, lines_size, nodes_size}
 use Rattle.feed_outline.specs.Spaces.{collapsed}
-use Rattle.feed_outline.specs.private.Feed.{feeding, handed, settled, spoken, moved, feed, feed_from, first_feed}
+use Rattle.feed_outline.specs.private.Feed.{Feed, feeding, handed, settled, spoken, moved, feed, feed_from, first_feed}
 use Rattle.feed_outline.specs.Roots.{root_of, root_place}
 use Rattle.feed_outline.proofs.ChangeLaws.{longer-nil, longer-append}
 use Rattle.feed_outline.proofs.InsideLaws.{IsClean, clean, inside_at, root_inside, passes, past-append}
@@ -111,7 +111,9 @@ root_feeds vocabulary after t d p (leaf (raw b) rest) h small = root_feeds vocab
 root_feeds vocabulary after t d p (leaf (reference body) rest) h small =
     ap (λ b. fold (feed vocabulary after) (moved (spelling (reference body)) (feeding t (Some (Ok d)) no_lines (b && true) p)) (tokens_of rest)) h.1
     ∙ root_feeds vocabulary after t d (position_after p (spelling (reference body))) rest h.2 small
-root_feeds vocabulary after t d p (leaf (cdata body) rest) h small = root_feeds vocabulary after t d (position_after p (spelling (cdata body))) rest h.2 small
+root_feeds vocabulary after t d p (leaf opening rest) h small = root_feeds vocabulary after t d (position_after p (spelling opening)) rest h.2 small
+root_feeds vocabulary after t d p (leaf (bracket count) rest) h small = root_feeds vocabulary after t d (position_after p (spelling (bracket count))) rest h.2 small
+root_feeds vocabulary after t d p (leaf (cdata count byte) rest) h small = root_feeds vocabulary after t d (position_after p (spelling (cdata count byte))) rest h.2 small
 root_feeds vocabulary after t d p (leaf (comment body) rest) h small = root_feeds vocabulary after t d (position_after p (spelling (comment body))) rest h.2 small
 root_feeds vocabulary after t d p (leaf (instruction body) rest) h small = root_feeds vocabulary after t d (position_after p (spelling (instruction body))) rest h.2 small
 root_feeds vocabulary after t d p (leaf (declaration body) rest) h small = absurd h.0
@@ -143,7 +145,9 @@ quiet_misc (instruction body) h = tt
 quiet_misc (declaration body) h = absurd h
 quiet_misc (doctype body) h = absurd h
 quiet_misc (reference body) h = absurd h
-quiet_misc (cdata body) h = absurd h
+quiet_misc opening h = absurd h
+quiet_misc (bracket count) h = absurd h
+quiet_misc (cdata count byte) h = absurd h
 quiet_misc (start name attributes space) h = absurd h
 quiet_misc (empty name attributes space) h = absurd h
 quiet_misc (end name space) h = absurd h
@@ -160,7 +164,9 @@ quiet_typed (comment body ∷ tokens) h = (tt, quiet_typed tokens h.1)
 quiet_typed (instruction body ∷ tokens) h = (tt, quiet_typed tokens h.1)
 quiet_typed (declaration body ∷ tokens) h = absurd h.0
 quiet_typed (reference body ∷ tokens) h = absurd h.0
-quiet_typed (cdata body ∷ tokens) h = absurd h.0
+quiet_typed (opening ∷ tokens) h = absurd h.0
+quiet_typed (bracket count ∷ tokens) h = absurd h.0
+quiet_typed (cdata count byte ∷ tokens) h = absurd h.0
 quiet_typed (start name attributes space ∷ tokens) h = absurd h.0
 quiet_typed (empty name attributes space ∷ tokens) h = absurd h.0
 quiet_typed (end name space ∷ tokens) h = absurd h.0
@@ -173,7 +179,9 @@ quiet_prolog (raw b ∷ tokens) h = quiet_typed (raw b ∷ tokens) h
 quiet_prolog (comment body ∷ tokens) h = quiet_typed (comment body ∷ tokens) h
 quiet_prolog (instruction body ∷ tokens) h = quiet_typed (instruction body ∷ tokens) h
 quiet_prolog (reference body ∷ tokens) h = absurd h.0
-quiet_prolog (cdata body ∷ tokens) h = absurd h.0
+quiet_prolog (opening ∷ tokens) h = absurd h.0
+quiet_prolog (bracket count ∷ tokens) h = absurd h.0
+quiet_prolog (cdata count byte ∷ tokens) h = absurd h.0
 quiet_prolog (start name attributes space ∷ tokens) h = absurd h.0
 quiet_prolog (empty name attributes space ∷ tokens) h = absurd h.0
 quiet_prolog (end name space ∷ tokens) h = absurd h.0
@@ -185,7 +193,9 @@ quiet_before vocabulary after t p (instruction body) h = refl
 quiet_before vocabulary after t p (declaration body) h = refl
 quiet_before vocabulary after t p (doctype body) h = refl
 quiet_before vocabulary after t p (reference body) h = absurd h
-quiet_before vocabulary after t p (cdata body) h = absurd h
+quiet_before vocabulary after t p opening h = absurd h
+quiet_before vocabulary after t p (bracket count) h = absurd h
+quiet_before vocabulary after t p (cdata count byte) h = absurd h
 quiet_before vocabulary after t p (start name attributes space) h = absurd h
 quiet_before vocabulary after t p (empty name attributes space) h = absurd h
 quiet_before vocabulary after t p (end name space) h = absurd h
@@ -202,7 +212,9 @@ quiet_behind vocabulary after t d p (instruction body) h = refl
 quiet_behind vocabulary after t d p (declaration body) h = refl
 quiet_behind vocabulary after t d p (doctype body) h = refl
 quiet_behind vocabulary after t d p (reference body) h = absurd h
-quiet_behind vocabulary after t d p (cdata body) h = absurd h
+quiet_behind vocabulary after t d p opening h = absurd h
+quiet_behind vocabulary after t d p (bracket count) h = absurd h
+quiet_behind vocabulary after t d p (cdata count byte) h = absurd h
 quiet_behind vocabulary after t d p (start name attributes space) h = absurd h
 quiet_behind vocabulary after t d p (empty name attributes space) h = absurd h
 quiet_behind vocabulary after t d p (end name space) h = absurd h
@@ -219,7 +231,9 @@ quiet_root (instruction body) tokens h = refl
 quiet_root (declaration body) tokens h = refl
 quiet_root (doctype body) tokens h = refl
 quiet_root (reference body) tokens h = absurd h
-quiet_root (cdata body) tokens h = absurd h
+quiet_root opening tokens h = absurd h
+quiet_root (bracket count) tokens h = absurd h
+quiet_root (cdata count byte) tokens h = absurd h
 quiet_root (start name attributes space) tokens h = absurd h
 quiet_root (empty name attributes space) tokens h = absurd h
 quiet_root (end name space) tokens h = absurd h
@@ -235,7 +249,9 @@ quiet_place p (instruction body) tokens h = refl
 quiet_place p (declaration body) tokens h = refl
 quiet_place p (doctype body) tokens h = refl
 quiet_place p (reference body) tokens h = absurd h
-quiet_place p (cdata body) tokens h = absurd h
+quiet_place p opening tokens h = absurd h
+quiet_place p (bracket count) tokens h = absurd h
+quiet_place p (cdata count byte) tokens h = absurd h
 quiet_place p (start name attributes space) tokens h = absurd h
 quiet_place p (empty name attributes space) tokens h = absurd h
 quiet_place p (end name space) tokens h = absurd h
@@ -284,7 +300,9 @@ root_at vocabulary after t d (empty n attributes space ∷ tokens) behind name i
     ∙ ap (λ ts. inside_at (fold after t (parts_of (nodes_in vocabulary d [] q inside))) d [] [] 0 (position_past q (ts ++ behind))) (sym r.2)
 root_at vocabulary after t d (raw b ∷ tokens) behind name inside p r h m e k small = absurd r
 root_at vocabulary after t d (reference body ∷ tokens) behind name inside p r h m e k small = absurd r
-root_at vocabulary after t d (cdata body ∷ tokens) behind name inside p r h m e k small = absurd r
+root_at vocabulary after t d (opening ∷ tokens) behind name inside p r h m e k small = absurd r
+root_at vocabulary after t d (bracket count ∷ tokens) behind name inside p r h m e k small = absurd r
+root_at vocabulary after t d (cdata count byte ∷ tokens) behind name inside p r h m e k small = absurd r
 root_at vocabulary after t d (comment body ∷ tokens) behind name inside p r h m e k small = absurd r
 root_at vocabulary after t d (instruction body ∷ tokens) behind name inside p r h m e k small = absurd r
 root_at vocabulary after t d (declaration body ∷ tokens) behind name inside p r h m e k small = absurd r
@@ -344,3 +362,20 @@ text_feeds vocabulary after t (Some (Ok d)) lines (o ∷ more) zero false p (b �
     let v = waits_behind o.waits (b ∷ []) in
     text_feeds vocabulary after t (Some (Ok d)) (change (longer o.waits (b ∷ [])) o.at lines) (open_at o.at v o.scope ∷ more) zero false p run
     ∙ ap (λ ls. feeding t (Some (Ok d)) (growing ls (open_at o.at (waits_behind v run) o.scope ∷ more) 0) false p) (sym (longer-append o.waits o.at (b ∷ []) run lines))
+
+-- ---- a stretch of a section
+
+pub section_bytes : (run : List ℕ) → flat_map spelling (map (cdata 0) run) ≡ run
+section_bytes [] = refl
+section_bytes (b ∷ run) = flat_map-cons spelling (cdata 0 b) (map (cdata 0) run) ∙ ap (λ (l : List ℕ). b ∷ l) (section_bytes run)
+
+-- each byte tells what one of a text does
+as_text : (vocabulary : List Word) {T : Type 0} (after : T → List Line → T) (f : Feed T) (run : List ℕ)
+    → fold (feed vocabulary after) f (map (cdata 0) run) ≡ fold (feed vocabulary after) f (map raw run)
+as_text vocabulary after f [] = refl
+as_text vocabulary after f (b ∷ run) = as_text vocabulary after (feed vocabulary after f (raw b)) run
+
+pub section_feeds : (vocabulary : List Word) {T : Type 0} (after : T → List Line → T) (t : T) (root : Option (Result Dialect Wrong)) (lines : List Line) (opens : List Open) (passed : ℕ) (k : Bool) (p : Position) (run : List ℕ)
+    → fold (feed vocabulary after) (feeding t root (growing lines opens passed) k p) (map (cdata 0) run) ≡ moved run (spoken root run true (feeding t root (growing lines opens passed) k p))
+section_feeds vocabulary after t root lines opens passed k p run =
+    as_text vocabulary after (feeding t root (growing lines opens passed) k p) run ∙ text_feeds vocabulary after t root lines opens passed k p run

@@ -7,7 +7,7 @@ use Rattle.std.proofs.lemmas.List.Folds.{list_all-append}
 use Rattle.std.proofs.lemmas.List.Sums.{fold-append}
 use Rattle.feed_outline.specs.Names.{Word}
 use Rattle.feed_xml.specs.declared.position.Position.{Position}
-use Rattle.feed_xml.specs.Grammar.{Token, raw, reference, cdata, comment, instruction, declaration, doctype, start, empty, end, spelling, is_space}
+use Rattle.feed_xml.specs.Grammar.{Token, raw, reference, opening, bracket, cdata, comment, instruction, declaration, doctype, start, empty, end, spelling, is_space}
 use Rattle.feed_xml.specs.Positions.{position_after, position_past}
 use Rattle.feed_xml.specs.Tree.{Content, nothing, leaf, element, tokens_of, IsLeaf, HasLeaves}
 use Rattle.feed_outline.specs.Namespaces.{Binding, Scope, scope, bindings_of}
@@ -46,7 +46,9 @@ pub pass_leaf : (vocabulary : List Word) {T : Type 0} (after : T → List Line �
     → feed vocabulary after (inside_at t d lines opens (suc passed) p) token ≡ inside_at t d lines opens (suc passed) (position_after p (spelling token))
 pass_leaf vocabulary after t d lines opens passed p (raw b) h k = refl
 pass_leaf vocabulary after t d lines opens passed p (reference body) h k = ap (λ b. moved (spelling (reference body)) (feeding t (Some (Ok d)) (growing lines opens (suc passed)) (b && true) p)) k
-pass_leaf vocabulary after t d lines opens passed p (cdata body) h k = refl
+pass_leaf vocabulary after t d lines opens passed p opening h k = refl
+pass_leaf vocabulary after t d lines opens passed p (bracket count) h k = refl
+pass_leaf vocabulary after t d lines opens passed p (cdata count byte) h k = refl
 pass_leaf vocabulary after t d lines opens passed p (comment body) h k = refl
 pass_leaf vocabulary after t d lines opens passed p (instruction body) h k = refl
 pass_leaf vocabulary after t d lines opens passed p (declaration body) h k = refl
@@ -73,7 +75,9 @@ passes vocabulary after t d lines opens passed p (element name attributes space 
 leaf_outline : (vocabulary : List Word) (depth : ℕ) (d : Dialect) (around : List Scope) (p : Position) (token : Token) (n : Nodes) → IsLeaf token → outline depth (leaf_nodes vocabulary d around p token n) ≡ outline depth (leaf_nodes vocabulary d around p token no_nodes) ++ outline depth n
 leaf_outline vocabulary depth d around p (raw b) n h = refl
 leaf_outline vocabulary depth d around p (reference body) n h = refl
-leaf_outline vocabulary depth d around p (cdata body) n h = refl
+leaf_outline vocabulary depth d around p opening n h = refl
+leaf_outline vocabulary depth d around p (bracket count) n h = refl
+leaf_outline vocabulary depth d around p (cdata count byte) n h = refl
 leaf_outline vocabulary depth d around p (comment body) n h = refl
 leaf_outline vocabulary depth d around p (instruction body) n h = refl
 leaf_outline vocabulary depth d around p (declaration body) n h = refl
@@ -110,7 +114,9 @@ leaf_step vocabulary after t d lines at w s more p token h k = go token h k
         let text = token_text (reference body) in
         ap (λ b. moved (spelling (reference body)) (feeding t (Some (Ok d)) (growing (change (longer w text) at lines) (open_at at (waits_behind w text) s ∷ more) 0) (b && true) p)) k
         ∙ spoken_at text (position_after p (spelling (reference body)))
-    go (cdata body) h k = spoken_at body (position_after p (spelling (cdata body)))
+    go opening h k = spoken_at [] (position_after p (spelling opening))
+    go (bracket count) h k = spoken_at (token_text (bracket count)) (position_after p (spelling (bracket count)))
+    go (cdata count byte) h k = spoken_at (token_text (cdata count byte)) (position_after p (spelling (cdata count byte)))
     go (comment body) h k = spoken_at [] (position_after p (spelling (comment body)))
     go (instruction body) h k = spoken_at [] (position_after p (spelling (instruction body)))
     go (declaration body) h k = spoken_at [] (position_after p (spelling (declaration body)))

@@ -5,7 +5,7 @@ use Rattle.std.specs.List.{AllByRecursion, list_all}
 use Rattle.std.proofs.lemmas.Bool.{and_from, and_parts}
 use Rattle.feed_outline.specs.Names.{Word}
 use Rattle.feed_xml.specs.declared.position.Position.{Position}
-use Rattle.feed_xml.specs.Grammar.{Token, raw, reference, cdata, comment, instruction, declaration, doctype, start, empty, end, spelling}
+use Rattle.feed_xml.specs.Grammar.{Token, raw, reference, opening, bracket, cdata, comment, instruction, declaration, doctype, start, empty, end, spelling}
 use Rattle.feed_xml.specs.Positions.{first_position, position_after}
 use Rattle.feed_xml.specs.Tree.{Content}
 use Rattle.feed_xml.specs.Trees.{IsRoot, IsTree}
@@ -23,7 +23,9 @@ some_root (start n attributes space ∷ tokens) behind name inside r e = cc
 some_root (empty n attributes space ∷ tokens) behind name inside r e = cc
 some_root (raw b ∷ tokens) behind name inside r e = absurd r
 some_root (reference body ∷ tokens) behind name inside r e = absurd r
-some_root (cdata body ∷ tokens) behind name inside r e = absurd r
+some_root (opening ∷ tokens) behind name inside r e = absurd r
+some_root (bracket count ∷ tokens) behind name inside r e = absurd r
+some_root (cdata count byte ∷ tokens) behind name inside r e = absurd r
 some_root (comment body ∷ tokens) behind name inside r e = absurd r
 some_root (instruction body ∷ tokens) behind name inside r e = absurd r
 some_root (declaration body ∷ tokens) behind name inside r e = absurd r
@@ -58,7 +60,9 @@ quiet_known (instruction body) h = refl
 quiet_known (declaration body) h = refl
 quiet_known (doctype body) h = refl
 quiet_known (reference body) h = absurd h
-quiet_known (cdata body) h = absurd h
+quiet_known opening h = absurd h
+quiet_known (bracket count) h = absurd h
+quiet_known (cdata count byte) h = absurd h
 quiet_known (start name attributes space) h = absurd h
 quiet_known (empty name attributes space) h = absurd h
 quiet_known (end name space) h = absurd h
@@ -90,7 +94,9 @@ known_from vocabulary after t d p [] (empty n attributes space ∷ root) behind 
 known_from vocabulary after t d p [] [] behind (token ∷ tokens) more name inside r q parts e k = absurd r
 known_from vocabulary after t d p [] (raw b ∷ root) behind (token ∷ tokens) more name inside r q parts e k = absurd r
 known_from vocabulary after t d p [] (reference body ∷ root) behind (token ∷ tokens) more name inside r q parts e k = absurd r
-known_from vocabulary after t d p [] (cdata body ∷ root) behind (token ∷ tokens) more name inside r q parts e k = absurd r
+known_from vocabulary after t d p [] (opening ∷ root) behind (token ∷ tokens) more name inside r q parts e k = absurd r
+known_from vocabulary after t d p [] (bracket count ∷ root) behind (token ∷ tokens) more name inside r q parts e k = absurd r
+known_from vocabulary after t d p [] (cdata count byte ∷ root) behind (token ∷ tokens) more name inside r q parts e k = absurd r
 known_from vocabulary after t d p [] (comment body ∷ root) behind (token ∷ tokens) more name inside r q parts e k = absurd r
 known_from vocabulary after t d p [] (instruction body ∷ root) behind (token ∷ tokens) more name inside r q parts e k = absurd r
 known_from vocabulary after t d p [] (declaration body ∷ root) behind (token ∷ tokens) more name inside r q parts e k = absurd r

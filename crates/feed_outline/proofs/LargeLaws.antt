@@ -4,7 +4,7 @@ use Rattle.std.specs.Prelude.{◌&&◌}
 use Rattle.std.proofs.lemmas.Bool.{lt-leb, leb-false}
 use Rattle.feed_outline.specs.Names.{Word}
 use Rattle.feed_xml.specs.declared.position.Position.{Position}
-use Rattle.feed_xml.specs.Grammar.{is_filled, Token, raw, reference, cdata, comment, instruction, declaration, doctype, start, empty, end, spelling}
+use Rattle.feed_xml.specs.Grammar.{is_filled, Token, raw, reference, opening, bracket, cdata, comment, instruction, declaration, doctype, start, empty, end, spelling}
 use Rattle.feed_outline.specs.declared.dialect.Wrong.{Wrong}
 use Rattle.feed_outline.specs.Dialect.{Dialect, counted}
 use Rattle.feed_outline.specs.Namespaces.{Binding, bindings_of}
@@ -84,7 +84,9 @@ stuck_told : (vocabulary : List Word) {T : Type 0} (after : T → List Line → 
     → IsStuck place (told vocabulary after (feeding t r g k p) token).child
 stuck_told vocabulary after t None g k p place (raw b) s = s
 stuck_told vocabulary after t None g k p place (reference body) s = s
-stuck_told vocabulary after t None g k p place (cdata body) s = s
+stuck_told vocabulary after t None g k p place opening s = s
+stuck_told vocabulary after t None g k p place (bracket count) s = s
+stuck_told vocabulary after t None g k p place (cdata count byte) s = s
 stuck_told vocabulary after t None g k p place (comment body) s = s
 stuck_told vocabulary after t None g k p place (instruction body) s = s
 stuck_told vocabulary after t None g k p place (declaration body) s = s
@@ -94,7 +96,9 @@ stuck_told vocabulary after t None g k p place (empty name attributes space) s =
 stuck_told vocabulary after t None g k p place (end name space) s = s
 stuck_told vocabulary after t (Some (Err w)) g k p place (raw b) s = s
 stuck_told vocabulary after t (Some (Err w)) g k p place (reference body) s = s
-stuck_told vocabulary after t (Some (Err w)) g k p place (cdata body) s = s
+stuck_told vocabulary after t (Some (Err w)) g k p place opening s = s
+stuck_told vocabulary after t (Some (Err w)) g k p place (bracket count) s = s
+stuck_told vocabulary after t (Some (Err w)) g k p place (cdata count byte) s = s
 stuck_told vocabulary after t (Some (Err w)) g k p place (comment body) s = s
 stuck_told vocabulary after t (Some (Err w)) g k p place (instruction body) s = s
 stuck_told vocabulary after t (Some (Err w)) g k p place (declaration body) s = s
@@ -104,7 +108,9 @@ stuck_told vocabulary after t (Some (Err w)) g k p place (empty name attributes 
 stuck_told vocabulary after t (Some (Err w)) g k p place (end name space) s = s
 stuck_told vocabulary after t (Some (Ok d)) g k p place (raw b) s = still_stuck place g _ (texted_more g.passed (token_text (raw b)) g.lines g.opens g.passed) s
 stuck_told vocabulary after t (Some (Ok d)) g k p place (reference body) s = still_stuck place g _ (texted_more g.passed (token_text (reference body)) g.lines g.opens g.passed) s
-stuck_told vocabulary after t (Some (Ok d)) g k p place (cdata body) s = still_stuck place g _ (texted_more g.passed (token_text (cdata body)) g.lines g.opens g.passed) s
+stuck_told vocabulary after t (Some (Ok d)) g k p place opening s = still_stuck place g _ (texted_more g.passed (token_text opening) g.lines g.opens g.passed) s
+stuck_told vocabulary after t (Some (Ok d)) g k p place (bracket count) s = still_stuck place g _ (texted_more g.passed (token_text (bracket count)) g.lines g.opens g.passed) s
+stuck_told vocabulary after t (Some (Ok d)) g k p place (cdata count byte) s = still_stuck place g _ (texted_more g.passed (token_text (cdata count byte)) g.lines g.opens g.passed) s
 stuck_told vocabulary after t (Some (Ok d)) g k p place (comment body) s = still_stuck place g _ (texted_more g.passed (token_text (comment body)) g.lines g.opens g.passed) s
 stuck_told vocabulary after t (Some (Ok d)) g k p place (instruction body) s = still_stuck place g _ (texted_more g.passed (token_text (instruction body)) g.lines g.opens g.passed) s
 stuck_told vocabulary after t (Some (Ok d)) g k p place (declaration body) s = still_stuck place g _ (texted_more g.passed (token_text (declaration body)) g.lines g.opens g.passed) s

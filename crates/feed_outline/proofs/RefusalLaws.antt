@@ -3,7 +3,7 @@ use Rattle.std.proofs.Common.{◌≡◌, ℕ, Bool, true, false, cond, List, [],
 use Rattle.std.specs.Prelude.{◌&&◌}
 use Rattle.feed_outline.specs.Names.{Word}
 use Rattle.feed_xml.specs.declared.position.Position.{Position}
-use Rattle.feed_xml.specs.Grammar.{Token, raw, reference, cdata, comment, instruction, declaration, doctype, start, empty, end, spelling}
+use Rattle.feed_xml.specs.Grammar.{Token, raw, reference, opening, bracket, cdata, comment, instruction, declaration, doctype, start, empty, end, spelling}
 use Rattle.feed_xml.specs.Positions.{position_after, position_past}
 use Rattle.feed_outline.specs.declared.dialect.Wrong.{Wrong}
 use Rattle.feed_outline.specs.Dialect.{Dialect, counted}
@@ -48,7 +48,9 @@ pub record Tells {T : Type 0} (r : Option (Result Dialect Wrong)) (k : Bool) (p 
 told_tells : (vocabulary : List Word) {T : Type 0} (after : T → List Line → T) (t : T) (r : Option (Result Dialect Wrong)) (g : Growing) (k : Bool) (p : Position) (token : Token) → Tells r k p token (told vocabulary after (feeding t r g k p) token)
 told_tells vocabulary after t None g k p (raw b) = record { root = refl; known = refl; place = refl }
 told_tells vocabulary after t None g k p (reference body) = record { root = refl; known = refl; place = refl }
-told_tells vocabulary after t None g k p (cdata body) = record { root = refl; known = refl; place = refl }
+told_tells vocabulary after t None g k p opening = record { root = refl; known = refl; place = refl }
+told_tells vocabulary after t None g k p (bracket count) = record { root = refl; known = refl; place = refl }
+told_tells vocabulary after t None g k p (cdata count byte) = record { root = refl; known = refl; place = refl }
 told_tells vocabulary after t None g k p (comment body) = record { root = refl; known = refl; place = refl }
 told_tells vocabulary after t None g k p (instruction body) = record { root = refl; known = refl; place = refl }
 told_tells vocabulary after t None g k p (declaration body) = record { root = refl; known = refl; place = refl }
@@ -58,7 +60,9 @@ told_tells vocabulary after t None g k p (empty name attributes space) = record 
 told_tells vocabulary after t None g k p (end name space) = record { root = refl; known = refl; place = refl }
 told_tells vocabulary after t (Some (Err w)) g k p (raw b) = record { root = refl; known = refl; place = refl }
 told_tells vocabulary after t (Some (Err w)) g k p (reference body) = record { root = refl; known = refl; place = refl }
-told_tells vocabulary after t (Some (Err w)) g k p (cdata body) = record { root = refl; known = refl; place = refl }
+told_tells vocabulary after t (Some (Err w)) g k p opening = record { root = refl; known = refl; place = refl }
+told_tells vocabulary after t (Some (Err w)) g k p (bracket count) = record { root = refl; known = refl; place = refl }
+told_tells vocabulary after t (Some (Err w)) g k p (cdata count byte) = record { root = refl; known = refl; place = refl }
 told_tells vocabulary after t (Some (Err w)) g k p (comment body) = record { root = refl; known = refl; place = refl }
 told_tells vocabulary after t (Some (Err w)) g k p (instruction body) = record { root = refl; known = refl; place = refl }
 told_tells vocabulary after t (Some (Err w)) g k p (declaration body) = record { root = refl; known = refl; place = refl }
@@ -68,7 +72,9 @@ told_tells vocabulary after t (Some (Err w)) g k p (empty name attributes space)
 told_tells vocabulary after t (Some (Err w)) g k p (end name space) = record { root = refl; known = refl; place = refl }
 told_tells vocabulary after t (Some (Ok d)) g k p (raw b) = record { root = refl; known = refl; place = refl }
 told_tells vocabulary after t (Some (Ok d)) g k p (reference body) = record { root = refl; known = refl; place = refl }
-told_tells vocabulary after t (Some (Ok d)) g k p (cdata body) = record { root = refl; known = refl; place = refl }
+told_tells vocabulary after t (Some (Ok d)) g k p opening = record { root = refl; known = refl; place = refl }
+told_tells vocabulary after t (Some (Ok d)) g k p (bracket count) = record { root = refl; known = refl; place = refl }
+told_tells vocabulary after t (Some (Ok d)) g k p (cdata count byte) = record { root = refl; known = refl; place = refl }
 told_tells vocabulary after t (Some (Ok d)) g k p (comment body) = record { root = refl; known = refl; place = refl }
 told_tells vocabulary after t (Some (Ok d)) g k p (instruction body) = record { root = refl; known = refl; place = refl }
 told_tells vocabulary after t (Some (Ok d)) g k p (declaration body) = record { root = refl; known = refl; place = refl }
@@ -128,7 +134,9 @@ root_further : (r : Option (Result Dialect Wrong)) (token : Token) (tokens : Lis
 root_further (Some r) token tokens = refl
 root_further None (raw b) tokens = refl
 root_further None (reference body) tokens = refl
-root_further None (cdata body) tokens = refl
+root_further None opening tokens = refl
+root_further None (bracket count) tokens = refl
+root_further None (cdata count byte) tokens = refl
 root_further None (comment body) tokens = refl
 root_further None (instruction body) tokens = refl
 root_further None (declaration body) tokens = refl

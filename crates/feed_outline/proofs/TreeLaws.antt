@@ -7,7 +7,7 @@ use Rattle.std.proofs.lemmas.List.Folds.{list_all-append}
 use Rattle.std.proofs.lemmas.List.Sums.{fold-append}
 use Rattle.feed_outline.specs.Names.{Word}
 use Rattle.feed_xml.specs.declared.position.Position.{Position}
-use Rattle.feed_xml.specs.Grammar.{Token, raw, reference, cdata, comment, instruction, declaration, doctype, start, empty, end, spelling}
+use Rattle.feed_xml.specs.Grammar.{Token, raw, reference, opening, bracket, cdata, comment, instruction, declaration, doctype, start, empty, end, spelling}
 use Rattle.feed_xml.specs.Positions.{first_position, position_after, position_past}
 use Rattle.feed_xml.specs.Tree.{Content, nothing, leaf, element, tokens_of}
 use Rattle.feed_xml.specs.Trees.{IsRoot, IsTree}
@@ -95,7 +95,9 @@ root_kept vocabulary after t d p (leaf (raw b) rest) place h large = root_kept v
 root_kept vocabulary after t d p (leaf (reference body) rest) place h large =
     rw (ap (λ b. fold (feed vocabulary after) (moved (spelling (reference body)) (feeding t (Some (Ok d)) no_lines (b && true) p)) (tokens_of rest)) h.1)
     (root_kept vocabulary after t d (position_after p (spelling (reference body))) rest place h.2 large)
-root_kept vocabulary after t d p (leaf (cdata body) rest) place h large = root_kept vocabulary after t d (position_after p (spelling (cdata body))) rest place h.2 large
+root_kept vocabulary after t d p (leaf opening rest) place h large = root_kept vocabulary after t d (position_after p (spelling opening)) rest place h.2 large
+root_kept vocabulary after t d p (leaf (bracket count) rest) place h large = root_kept vocabulary after t d (position_after p (spelling (bracket count))) rest place h.2 large
+root_kept vocabulary after t d p (leaf (cdata count byte) rest) place h large = root_kept vocabulary after t d (position_after p (spelling (cdata count byte))) rest place h.2 large
 root_kept vocabulary after t d p (leaf (comment body) rest) place h large = root_kept vocabulary after t d (position_after p (spelling (comment body))) rest place h.2 large
 root_kept vocabulary after t d p (leaf (instruction body) rest) place h large = root_kept vocabulary after t d (position_after p (spelling (instruction body))) rest place h.2 large
 root_kept vocabulary after t d p (leaf (declaration body) rest) place h large = absurd h.0
@@ -137,7 +139,9 @@ root_runs vocabulary after t d (empty n attributes space ∷ tokens) behind name
     )
 root_runs vocabulary after t d (raw b ∷ tokens) behind name inside p r e = absurd r
 root_runs vocabulary after t d (reference body ∷ tokens) behind name inside p r e = absurd r
-root_runs vocabulary after t d (cdata body ∷ tokens) behind name inside p r e = absurd r
+root_runs vocabulary after t d (opening ∷ tokens) behind name inside p r e = absurd r
+root_runs vocabulary after t d (bracket count ∷ tokens) behind name inside p r e = absurd r
+root_runs vocabulary after t d (cdata count byte ∷ tokens) behind name inside p r e = absurd r
 root_runs vocabulary after t d (comment body ∷ tokens) behind name inside p r e = absurd r
 root_runs vocabulary after t d (instruction body ∷ tokens) behind name inside p r e = absurd r
 root_runs vocabulary after t d (declaration body ∷ tokens) behind name inside p r e = absurd r
@@ -174,7 +178,9 @@ tokens_inside tokens name inside tree k =
     root_tokens (empty n attributes space ∷ tokens) name inside r k = ap (λ c. list_all is_known (tokens_of c)) r.1
     root_tokens (raw b ∷ tokens) name inside r k = absurd r
     root_tokens (reference body ∷ tokens) name inside r k = absurd r
-    root_tokens (cdata body ∷ tokens) name inside r k = absurd r
+    root_tokens (opening ∷ tokens) name inside r k = absurd r
+    root_tokens (bracket count ∷ tokens) name inside r k = absurd r
+    root_tokens (cdata count byte ∷ tokens) name inside r k = absurd r
     root_tokens (comment body ∷ tokens) name inside r k = absurd r
     root_tokens (instruction body ∷ tokens) name inside r k = absurd r
     root_tokens (declaration body ∷ tokens) name inside r k = absurd r
@@ -198,7 +204,9 @@ root_front (start n attributes space ∷ tokens) more r e = e
 root_front (empty n attributes space ∷ tokens) more r e = e
 root_front (raw b ∷ tokens) more r e = root_front tokens more r e
 root_front (reference body ∷ tokens) more r e = root_front tokens more r e
-root_front (cdata body ∷ tokens) more r e = root_front tokens more r e
+root_front (opening ∷ tokens) more r e = root_front tokens more r e
+root_front (bracket count ∷ tokens) more r e = root_front tokens more r e
+root_front (cdata count byte ∷ tokens) more r e = root_front tokens more r e
 root_front (comment body ∷ tokens) more r e = root_front tokens more r e
 root_front (instruction body ∷ tokens) more r e = root_front tokens more r e
 root_front (declaration body ∷ tokens) more r e = root_front tokens more r e
@@ -211,7 +219,9 @@ place_front p (start n attributes space ∷ tokens) more r e = refl
 place_front p (empty n attributes space ∷ tokens) more r e = refl
 place_front p (raw b ∷ tokens) more r e = place_front (position_after p (spelling (raw b))) tokens more r e
 place_front p (reference body ∷ tokens) more r e = place_front (position_after p (spelling (reference body))) tokens more r e
-place_front p (cdata body ∷ tokens) more r e = place_front (position_after p (spelling (cdata body))) tokens more r e
+place_front p (opening ∷ tokens) more r e = place_front (position_after p (spelling opening)) tokens more r e
+place_front p (bracket count ∷ tokens) more r e = place_front (position_after p (spelling (bracket count))) tokens more r e
+place_front p (cdata count byte ∷ tokens) more r e = place_front (position_after p (spelling (cdata count byte))) tokens more r e
 place_front p (comment body ∷ tokens) more r e = place_front (position_after p (spelling (comment body))) tokens more r e
 place_front p (instruction body ∷ tokens) more r e = place_front (position_after p (spelling (instruction body))) tokens more r e
 place_front p (declaration body ∷ tokens) more r e = place_front (position_after p (spelling (declaration body))) tokens more r e

@@ -2,10 +2,11 @@
 use Rattle.std.specs.Prelude.{ℕ, List, [], ◌∷◌, ◌++◌, Option, Some, None, unwrap_or, Bool, true}
 use Rattle.std.specs.Prelude.{is_some}
 use Rattle.feed_xml.specs.declared.position.Position.{Position}
-use Rattle.feed_xml.specs.Grammar.{Attribute, Token, raw, reference, cdata, start, empty, end}
-use Rattle.feed_xml.specs.Grammar.{spelling}
+use Rattle.feed_xml.specs.Grammar.{Attribute, Token, raw, reference, bracket, cdata, start, empty}
+use Rattle.feed_xml.specs.Grammar.{end, spelling}
 use Rattle.feed_xml.specs.Positions.{position_after, position_past}
 use Rattle.feed_xml.specs.References.{reference_text}
+use Rattle.feed_xml.specs.Sections.{bracket_text, section_text}
 use Rattle.feed_xml.specs.Tree.{Content, nothing, leaf, element, tokens_of}
 use Rattle.feed_outline.specs.Dialect.{Dialect, counted, format_of}
 use Rattle.feed_outline.specs.Names.{Word}
@@ -30,7 +31,8 @@ pub data Nodes : Type 0 where
 -- the characters that a token stands for
 abbrev pub token_text : Token → List ℕ
 token_text (raw b) = b ∷ []
-token_text (cdata body) = body
+token_text (bracket n) = bracket_text n
+token_text (cdata n b) = section_text n b
 token_text (reference body) = unwrap_or (reference_text body) []
 token_text other = []
 

@@ -2,6 +2,7 @@
 
 ghost use Rattle.std.specs.Prelude.{◌≡◌, [], IfOk, OnOk, true, unwrap_or, is_some};
 ghost use Rattle.feed_xml.specs.References.{reference_text};
+ghost use Rattle.feed_xml.specs.Sections.{section_text};
 ghost use Rattle.feed_xml.specs.View.{token_view};
 ghost use Rattle.feed_outline.specs.private.Feed.{feeding, first_feed, begun, ended, emptied, spoken, handed, settled, told, moved, is_sound, takes_more};
 ghost use Rattle.feed_outline.specs.private.Finishing.{finished, first_place_of, stopped};
@@ -15,7 +16,10 @@ use crate::message_reading::{Fault, Stopped};
 use crate::names::{Naming, Vocabulary};
 use crate::namespaces::bindings_of;
 use crate::refusal_hints::RefusalHints;
-use feed_xml::{Attributes, Bytes, Piece, Position, Sink, Stuck, Token, push_reference};
+use feed_xml::{
+    Attributes, Bytes, Piece, Position, Sink, Stuck, Token, bracket_text, push_reference,
+    push_section_byte,
+};
 use std::alloc::{AllocError, Global};
 use std::marker::Model;
 
@@ -70,6 +74,15 @@ fn reference_text(alloc: Global, body: &[u8]) -> Result<(Vec<u8>, bool), AllocEr
     let mut text = Vec::new(alloc);
     let known = push_reference(&mut text, body)?;
     Ok((text, known))
+}
+
+// What a byte of a section stands for that is no closing bracket, behind so many of them.
+fn section_text(alloc: Global, count: u8, byte: u8) -> Result<Vec<u8>, AllocError>
+    ensures { IfOk result (λ text. text.items ≡ section_text count byte) }
+{
+    let mut text = Vec::new(alloc);
+    push_section_byte(&mut text, count, byte)?;
+    Ok(text)
 }
 
 // Where the first of the lines stands.
@@ -278,6 +291,15 @@ impl<T: Taker + Drop> Outliner<T> {
         self.speak(&text, known)
     }
 
+    // Takes a byte of a section that is no closing bracket, behind so many of them.
+    fn speak_byte(&mut self, count: u8, byte: u8) -> Result<(), AllocError>
+        ensures { OnOk result (self.new
+            ≡ spoken self.old.root (section_text count byte) true self.old) }
+    {
+        let text = section_text(self.alloc, count, byte)?;
+        self.speak(&text, true)
+    }
+
     // Takes a token, but for its place.
     fn take_token(&mut self, token: Token<'_>) -> Result<(), AllocError>
         ensures { OnOk result (self.new
@@ -294,7 +316,9 @@ impl<T: Taker + Drop> Outliner<T> {
                 self.end()
             }
             Token::Reference(body) => self.refer(body),
-            Token::CData(body) => self.speak(body, true),
+            Token::Opening => self.speak(b"", true),
+            Token::Bracket(count) => self.speak(bracket_text(count), true),
+            Token::CData(count, byte) => self.speak_byte(count, byte),
             Token::Comment(_) => self.speak(b"", true),
             Token::Instruction(_) => self.speak(b"", true),
             Token::Declaration(_) => self.speak(b"", true),
@@ -359,6 +383,10 @@ impl<T: Taker + Drop> Sink for Outliner<T> {
     fn take(&mut self, piece: Piece<'_>, spelled: &[u8]) -> Result<bool, AllocError> {
         match piece {
             Piece::Text(run) => {
+                self.speak(run, true)?;
+                self.move_on(spelled)
+            }
+            Piece::Section(run) => {
                 self.speak(run, true)?;
                 self.move_on(spelled)
             }

@@ -1,10 +1,11 @@
 -- What is shown of a document: its text, and round brackets with a name for each element, behind
 -- which stand the name of its first attribute and the value of the attribute id.
 use Rattle.std.specs.Prelude.{ℕ, List, [], ◌∷◌, ◌++◌, codes, Option, Some, None}
-use Rattle.feed_xml.specs.Grammar.{Attribute, Token, raw, reference, cdata, comment, instruction}
-use Rattle.feed_xml.specs.Grammar.{declaration, doctype, start, empty, end}
+use Rattle.feed_xml.specs.Grammar.{Attribute, Token, raw, reference, opening, bracket, cdata}
+use Rattle.feed_xml.specs.Grammar.{comment, instruction, declaration, doctype, start, empty, end}
 use Rattle.feed_xml.specs.Distinct.{value_of}
 use Rattle.feed_xml.specs.References.{reference_text}
+use Rattle.feed_xml.specs.Sections.{bracket_text, section_text}
 
 abbrev pub or_mark : Option (List ℕ) → List ℕ
 or_mark (Some text) = text
@@ -31,7 +32,9 @@ id_shown list = value_shown (value_of (codes "id") list)
 abbrev pub shown : Token → List ℕ
 shown (raw b) = b ∷ []
 shown (reference body) = reference_shown body
-shown (cdata body) = body
+shown opening = []
+shown (bracket n) = bracket_text n
+shown (cdata n b) = section_text n b
 shown (comment body) = []
 shown (instruction body) = []
 shown (declaration body) = []

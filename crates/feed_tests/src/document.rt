@@ -5,7 +5,10 @@ ghost use Rattle.feed_xml.specs.View.{piece_view, token_view};
 ghost use Rattle.feed_tests.specs.Document.{after, shown, first_shown, id_shown, reference_shown};
 
 use crate::shown::Shown;
-use feed_xml::{Attributes, Fault, Piece, Sink, Stuck, Token, push_reference, read_document};
+use feed_xml::{
+    Attributes, Fault, Piece, Sink, Stuck, Token, bracket_text, push_reference, push_section_byte,
+    read_document,
+};
 use std::alloc::AllocError;
 use std::io;
 
@@ -95,7 +98,8 @@ impl Shown {
     {
         match token {
             Token::Reference(body) => self.push_reference(body),
-            Token::CData(body) => self.push(body),
+            Token::Bracket(count) => self.push(bracket_text(*count)),
+            Token::CData(count, byte) => push_section_byte(&mut self.bytes, *count, *byte),
             Token::Start(name, attributes, _) => self.push_tag(name, attributes),
             Token::Empty(name, attributes, _) => self.push_empty(name, attributes),
             Token::End(_, _) => self.push(")".as_bytes()),
@@ -108,6 +112,7 @@ impl Shown {
     {
         match piece {
             Piece::Text(run) => self.push(run),
+            Piece::Section(run) => self.push(run),
             Piece::Markup(token) => self.take_token(&token),
         }
     }

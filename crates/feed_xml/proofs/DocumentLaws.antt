@@ -11,12 +11,15 @@ use Rattle.feed_xml.specs.declared.stop.Stop.TheVariants.{Never}
 use Rattle.feed_xml.specs.declared.nesting.Nesting.{Nesting}
 use Rattle.feed_xml.specs.declared.place.Place.{Place}
 use Rattle.feed_xml.specs.declared.place.Prolog.{Prolog}
-use Rattle.feed_xml.specs.Grammar.{Token, raw, spelling, is_token, is_filled}
+use Rattle.feed_xml.specs.declared.place.Tail.{Tail}
+use Rattle.feed_xml.specs.declared.place.Tail.TheVariants.{Text, Section}
+use Rattle.feed_xml.specs.Grammar.{Token, raw, cdata, spelling, is_token, is_filled}
 use Rattle.feed_xml.specs.Reading.{token_at}
 use Rattle.feed_xml.specs.private.Bounds.{MeetsFrom, NoneStandsAt, NoneWillStand}
 use Rattle.feed_xml.specs.Pieces.{Begins, HasNoToken, Explains}
-use Rattle.feed_xml.proofs.PlaceLaws.{steps-append, past_is}
-use Rattle.feed_xml.specs.private.Places.{steps, is_nothing, is_closed, is_past, is_last, Completes, IsComplete, IsNeverComplete, first_place, last_nesting, last_place}
+use Rattle.feed_xml.specs.Sections.{AreIn, section_around, section_behind}
+use Rattle.feed_xml.proofs.PlaceLaws.{elsewhere, placed_in, steps-append, past_is}
+use Rattle.feed_xml.specs.private.Places.{section_of, steps, is_clear, is_nothing, is_closed, is_past, is_last, Completes, IsComplete, IsNeverComplete, first_place, last_nesting, last_place}
 use Rattle.feed_xml.specs.Documents.{IsNoText}
 use Rattle.std.specs.Prelude.{IfSome, not, OnOk}
 use Rattle.std.specs.Io.KnownBytes.{Consumes, IsAtEnd}
@@ -46,27 +49,29 @@ pub record Front (done all : List Token) (rest : List ℕ) : Type 0 where
   pub each : list_all is_token others ≡ true
 
 -- what begins with the spelling of some tokens is spelled by no others
-pub front_is : (done all : List Token) (rest : List ℕ) → list_all is_token done ≡ true → list_all is_token all ≡ true
+pub front_is : (section : Option ℕ) (done all : List Token) (rest : List ℕ) → list_all is_token done ≡ true → list_all is_token all ≡ true → AreIn section done → AreIn section all
     → flat_map spelling done ++ rest ≡ flat_map spelling all → Front done all rest
-front_is [] all rest d a e = record { others = all; parts = refl; spelled = e; each = a }
-front_is (t ∷ done) [] rest d a e =
+front_is section [] all rest d a i j e = record { others = all; parts = refl; spelled = e; each = a }
+front_is section (t ∷ done) [] rest d a i j e =
     absurd (omega (arith, ap length (ap (λ (l : List ℕ). l ++ rest) (sym (flat_map-cons spelling t done)) ∙ e), length-append (spelling t ++ flat_map spelling done) rest, length-append (spelling t) (flat_map spelling done), spelling_filled t))
-front_is (t ∷ done) (u ∷ all) rest d a e =
+front_is section (t ∷ done) (u ∷ all) rest d a i j e =
     let dp = and_parts (is_token t) (list_all is_token done) d in
     let ap' = and_parts (is_token u) (list_all is_token all) a in
     let left : flat_map spelling (t ∷ done) ++ rest ≡ spelling t ++ (flat_map spelling done ++ rest) =
     ap (λ (l : List ℕ). l ++ rest) (flat_map-cons spelling t done) ∙ append_assoc (spelling t) (flat_map spelling done) rest in
     let same : spelling t ++ (flat_map spelling done ++ rest) ≡ spelling u ++ flat_map spelling all = sym left ∙ e ∙ flat_map-cons spelling u all in
     let both : read_as t (flat_map spelling done ++ rest) ≡ read_as u (flat_map spelling all) =
-    sym (token_again t (flat_map spelling done ++ rest) dp.0) ∙ ap token_at same ∙ token_again u (flat_map spelling all) ap'.0 in
+    sym (token_again t (flat_map spelling done ++ rest) dp.0) ∙ ap (λ (s : Option ℕ). token_at s (spelling t ++ (flat_map spelling done ++ rest))) i.0 ∙ ap (token_at section) same
+    ∙ ap (λ (s : Option ℕ). token_at s (spelling u ++ flat_map spelling all)) (sym j.0) ∙ token_again u (flat_map spelling all) ap'.0 in
     let parts = same_token t u (flat_map spelling done ++ rest) (flat_map spelling all) both in
-    let more = front_is done all rest dp.1 ap'.1 parts.1 in
+    let others_in : AreIn (section_behind t) all = subst (λ (v : Token). AreIn (section_behind v) all) (sym parts.0) j.1 in
+    let more = front_is (section_behind t) done all rest dp.1 ap'.1 i.1 others_in parts.1 in
     record { others = more.others; parts = ap (λ (v : Token). v ∷ all) (sym parts.0) ∙ ap (λ (l : List Token). t ∷ l) more.parts; spelled = more.spelled; each = more.each }
 
 pub at_start : (bytes : List ℕ) (p : Place) → Advances bytes [] bytes p p
 at_start bytes p = record { spelled = refl; each = refl; leads = refl }
 
-pub advance_more : (bytes rest left : List ℕ) (tokens others : List Token) (p q r : Place) → Advances bytes tokens rest p q → Begins rest others left → steps q others ≡ Some r
+pub advance_more : (bytes rest left : List ℕ) (tokens others : List Token) (p q r : Place) → Advances bytes tokens rest p q → Begins (section_of q.tail) rest others left → steps q others ≡ Some r
     → Advances bytes (tokens ++ others) left p r
 advance_more bytes rest left tokens others p q r a b leads = record {
   spelled =
@@ -82,19 +87,20 @@ pub completes_rest : (bytes rest more : List ℕ) (tokens all : List Token) (p q
 completes_rest bytes rest more tokens all p q a c =
     let whole : flat_map spelling tokens ++ (rest ++ more) ≡ flat_map spelling all =
     sym (append_assoc (flat_map spelling tokens) rest more) ∙ ap (λ (l : List ℕ). l ++ more) (sym a.spelled) ∙ c.spelled in
-    let f = front_is tokens all (rest ++ more) a.each c.each whole in
+    let f = front_is (section_of p.tail) tokens all (rest ++ more) a.each c.each (placed_in p tokens q a.leads) (placed_in p all last_place c.ends) whole in
     let ends : steps p (tokens ++ f.others) ≡ Some last_place = ap (steps p) (sym f.parts) ∙ c.ends in
     let split : steps p (tokens ++ f.others) ≡ steps q f.others = steps-append p tokens f.others ∙ rw a.leads refl in
     (f.others, record { spelled = f.spelled; each = f.each; ends = sym split ∙ ends })
 
-none_ends : (q : Place) (rest : List ℕ) (others : List Token) → Completes q rest others → HasNoToken rest → others ≡ []
+none_ends : (q : Place) (rest : List ℕ) (others : List Token) → Completes q rest others → HasNoToken (section_of q.tail) rest → others ≡ []
 none_ends q rest [] c absent = refl
 none_ends q rest (t ∷ others) c absent =
     let parts = and_parts (is_token t) (list_all is_token others) c.each in
-    absurd (absent t (flat_map spelling others) parts.0 (c.spelled ∙ flat_map-cons spelling t others))
+    let within = placed_in q (t ∷ others) last_place c.ends in
+    absurd (absent t (flat_map spelling others) parts.0 within.0 (c.spelled ∙ flat_map-cons spelling t others))
 
 -- without a token and without bytes only the last place is an end
-pub at_end : (q : Place) (rest : List ℕ) (others : List Token) → Completes q rest others → HasNoToken rest → (rest ≡ []) × (q ≡ last_place)
+pub at_end : (q : Place) (rest : List ℕ) (others : List Token) → Completes q rest others → HasNoToken (section_of q.tail) rest → (rest ≡ []) × (q ≡ last_place)
 at_end q rest others c absent =
     let none = none_ends q rest others c absent in
     let ends : steps q [] ≡ Some last_place = ap (steps q) (sym none) ∙ c.ends in
@@ -103,24 +109,26 @@ at_end q rest others c absent =
     some_is : (x y : Place) → steps x [] ≡ Some y → x ≡ y
     some_is x y e = cc
 
-never_filled : (rest more : List ℕ) → Explains Never rest → rest ++ more ≡ [] → ⊥
-never_filled [] more absent e = absent (120 ∷ []) (raw 120) [] refl refl
-never_filled (b ∷ rest) more absent e = absurd cc
+never_filled : (section : Option ℕ) (rest more : List ℕ) → Explains section Never rest → rest ++ more ≡ [] → ⊥
+never_filled None [] more absent e = absent (120 ∷ []) (raw 120) [] refl refl refl
+never_filled None (b ∷ rest) more absent e = absurd cc
+never_filled (Some n) [] more absent e = absent (120 ∷ []) (cdata n 120) [] refl refl refl
+never_filled (Some n) (b ∷ rest) more absent e = absurd cc
 
-pub never_completes : (bytes rest : List ℕ) (tokens : List Token) (p q : Place) → Advances bytes tokens rest p q → Explains Never rest
+pub never_completes : (bytes rest : List ℕ) (tokens : List Token) (p q : Place) → Advances bytes tokens rest p q → Explains (section_of q.tail) Never rest
     → (more : List ℕ) (all : List Token) → ¬ (Completes p (bytes ++ more) all)
 never_completes bytes rest tokens p q a absent more all c =
     let d = completes_rest bytes rest more tokens all p q a c in
     let e = at_end q (rest ++ more) d.0 d.1 (absent more) in
-    never_filled rest more absent e.0
+    never_filled (section_of q.tail) rest more absent e.0
 
-pub misplaced : (bytes rest left : List ℕ) (tokens others : List Token) (p q : Place) → Advances bytes tokens rest p q → Begins rest others left → steps q others ≡ None
+pub misplaced : (bytes rest left : List ℕ) (tokens others : List Token) (p q : Place) → Advances bytes tokens rest p q → Begins (section_of q.tail) rest others left → steps q others ≡ None
     → (more : List ℕ) (all : List Token) → ¬ (Completes p (bytes ++ more) all)
 misplaced bytes rest left tokens others p q a b none more all c =
     let d = completes_rest bytes rest more tokens all p q a c in
     let whole : flat_map spelling others ++ (left ++ more) ≡ flat_map spelling d.0 =
     sym (append_assoc (flat_map spelling others) left more) ∙ ap (λ (l : List ℕ). l ++ more) (sym b.spelled) ∙ d.1.spelled in
-    let f = front_is others d.0 (left ++ more) b.each d.1.each whole in
+    let f = front_is (section_of q.tail) others d.0 (left ++ more) b.each d.1.each b.within (placed_in q d.0 last_place d.1.ends) whole in
     let ends : steps q (others ++ f.others) ≡ Some last_place = ap (steps q) (sym f.parts) ∙ d.1.ends in
     let split : steps q (others ++ f.others) ≡ None = steps-append q others f.others ∙ rw none refl in
     absurd (cc (sym split ∙ ends))
@@ -128,16 +136,20 @@ misplaced bytes rest left tokens others p q a b none more all c =
 -- ---- where reading stops
 
 -- the one token that follows may not stand here
-pub stuck_here : (q : Place) (rest behind : List ℕ) (token : Token) → Begins rest (token ∷ []) behind → steps q (token ∷ []) ≡ None → NoneWillStand q rest
-stuck_here q rest behind token b none more other f =
-    let spelled : rest ≡ spelling token ++ behind = b.spelled ∙ ap (λ (l : List ℕ). l ++ behind) (flat_map-cons spelling token [] ∙ append-nil (spelling token)) in
-    let here : rest ++ more ≡ spelling token ++ (behind ++ more) = ap (λ (l : List ℕ). l ++ more) spelled ∙ append_assoc (spelling token) behind more in
-    let both : read_as token (behind ++ more) ≡ read_as other f.0 =
-    sym (token_again token (behind ++ more) (and_parts (is_token token) (list_all is_token []) b.each).0) ∙ ap token_at (sym here ∙ f.1) ∙ token_again other f.0 f.2 in
-    ap (λ (t : Token). steps q (t ∷ [])) (sym (same_token token other (behind ++ more) f.0 both).0) ∙ none
+pub stuck_here : (q : Place) (rest behind : List ℕ) (token : Token) → Begins (section_of q.tail) rest (token ∷ []) behind → steps q (token ∷ []) ≡ None → NoneWillStand q rest
+stuck_here q rest behind token b none more other f = elsewhere q other same_so
+  where
+    same_so : section_around other ≡ section_of q.tail → steps q (other ∷ []) ≡ None
+    same_so around =
+        let spelled : rest ≡ spelling token ++ behind = b.spelled ∙ ap (λ (l : List ℕ). l ++ behind) (flat_map-cons spelling token [] ∙ append-nil (spelling token)) in
+        let here : rest ++ more ≡ spelling token ++ (behind ++ more) = ap (λ (l : List ℕ). l ++ more) spelled ∙ append_assoc (spelling token) behind more in
+        let both : read_as token (behind ++ more) ≡ read_as other f.0 =
+        sym (token_again token (behind ++ more) (and_parts (is_token token) (list_all is_token []) b.each).0) ∙ ap (λ (s : Option ℕ). token_at s (spelling token ++ (behind ++ more))) (b.within.0 ∙ sym around)
+        ∙ ap (token_at (section_around other)) (sym here ∙ f.1) ∙ token_again other f.0 f.2 in
+        ap (λ (t : Token). steps q (t ∷ [])) (sym (same_token token other (behind ++ more) f.0 both).0) ∙ none
 
-pub never_stands : (q : Place) (rest : List ℕ) → Explains Never rest → NoneWillStand q rest
-never_stands q rest absent more other f = absurd (absent more other f.0 f.2 f.1)
+pub never_stands : (q : Place) (rest : List ℕ) → Explains (section_of q.tail) Never rest → NoneWillStand q rest
+never_stands q rest absent more other f = elsewhere q other (λ around. absurd (absent more other f.0 f.2 around f.1))
 
 -- the same error of a function that returns something else
 pub other_err : {T U E : Type 0} (e f : E) → IsErrOf {T = T} (Err e) f → IsErrOf {T = U} (Err e) f
@@ -198,7 +210,7 @@ start_is (Three value) h = absurd cc
 
 -- all of the input was read, and does not end as a document does
 pub known_cut : (a b : Option (List ℕ)) (bytes window : List ℕ) (tokens : List Token) (q : Place) (part : Part) → Consumes a b bytes → IsAtEnd b → Advances bytes tokens window first_place q
-    → follow Whole bytes ≡ Some part → HasNoToken window → is_whole window q part ≡ false → IfSome a IsNeverComplete
+    → follow Whole bytes ≡ Some part → HasNoToken (section_of q.tail) window → is_whole window q part ≡ false → IfSome a IsNeverComplete
 known_cut None b bytes window tokens q part c end_here adv at_part none cut = tt
 known_cut (Some x) None bytes window tokens q part c end_here adv at_part none cut = absurd c
 known_cut (Some x) (Some y) bytes window tokens q part c end_here adv at_part none cut =
@@ -215,11 +227,11 @@ known_cut (Some x) (Some y) bytes window tokens q part c end_here adv at_part no
 
 -- all of the input was read, and no token begins what is left
 pub known_stuck : (a b : Option (List ℕ)) (bytes window : List ℕ) (tokens : List Token) (q : Place) → Consumes a b bytes → IsAtEnd b → Advances bytes tokens window first_place q
-    → HasNoToken window → IfSome a (MeetsFrom NoneStandsAt first_place tokens)
+    → HasNoToken (section_of q.tail) window → IfSome a (MeetsFrom NoneStandsAt first_place tokens)
 known_stuck None b bytes window tokens q c end_here adv none = tt
 known_stuck (Some x) b bytes window tokens q c end_here adv none =
     subst (MeetsFrom NoneStandsAt first_place tokens) (sym (known_told (Some x) b bytes c end_here))
-    (record { rest = window; place = q; leads = adv; meets = λ token f. absurd (none token f.0 f.2 f.1) })
+    (record { rest = window; place = q; leads = adv; meets = λ token f. elsewhere q token (λ around. absurd (none token f.0 f.2 around f.1)) })
 
 -- all of the input was read, and ends within a character
 pub known_half : (a b : Option (List ℕ)) (bytes : List ℕ) (part : Part) → Consumes a b bytes → IsAtEnd b → follow Whole bytes ≡ Some part → is_start part ≡ false → IfSome a IsNoText
@@ -256,16 +268,20 @@ closed_is p h =
     nothing [] k = refl
     nothing (x ∷ l) k = absurd cc
 
-abbrev place_so : Nesting → ℕ → Prolog → Place
-place_so elements count prolog = record { nesting = elements; brackets = count; prolog = prolog }
+clear_is : (t : Tail) → is_clear t ≡ true → t ≡ Text 0
+clear_is (Text n) h = ap (λ (k : ℕ). Text k) (eqb-true n 0 h)
+clear_is (Section n) h = absurd cc
+
+abbrev place_so : Nesting → Tail → Prolog → Place
+place_so elements tail prolog = record { nesting = elements; tail = tail; prolog = prolog }
 
 last_is : (q : Place) → is_last q ≡ true → q ≡ last_place
 last_is q h =
-    let parts = and_parts (is_closed q.nesting) (eqb q.brackets 0 && is_past q.prolog) h in
-    let others = and_parts (eqb q.brackets 0) (is_past q.prolog) parts.1 in
-    ap (λ (n : Nesting). place_so n q.brackets q.prolog) (closed_is q.nesting parts.0)
-    ∙ ap (λ (k : ℕ). place_so last_nesting k q.prolog) (eqb-true q.brackets 0 others.0)
-    ∙ ap (λ (p : Prolog). place_so last_nesting 0 p) (past_is q.prolog others.1)
+    let parts = and_parts (is_closed q.nesting) (is_clear q.tail && is_past q.prolog) h in
+    let others = and_parts (is_clear q.tail) (is_past q.prolog) parts.1 in
+    ap (λ (n : Nesting). place_so n q.tail q.prolog) (closed_is q.nesting parts.0)
+    ∙ ap (λ (t : Tail). place_so last_nesting t q.prolog) (clear_is q.tail others.0)
+    ∙ ap (λ (p : Prolog). place_so last_nesting (Text 0) p) (past_is q.prolog others.1)
 
 pub whole_document : (bytes window : List ℕ) (tokens : List Token) (q : Place) (part : Part) → Advances bytes tokens window first_place q → follow Whole bytes ≡ Some part → is_whole window q part ≡ true
     → IsComplete bytes tokens
@@ -288,10 +304,10 @@ a_round text window shown behind n tokens others p q r a is b dropped =
     let d : Advances window others behind q r = subst (λ (l : List ℕ). Advances window others l q r) same c in
     advance_further text window behind tokens others p q r a d
 
-pub a_none : (window shown behind : List ℕ) (n : ℕ) → shown ≡ window → behind ≡ drop n window → HasNoToken (drop n shown) → HasNoToken behind
-a_none window shown behind n is dropped none =
+pub a_none : (section : Option ℕ) (window shown behind : List ℕ) (n : ℕ) → shown ≡ window → behind ≡ drop n window → HasNoToken section (drop n shown) → HasNoToken section behind
+a_none section window shown behind n is dropped none =
     let same : drop n shown ≡ behind = ap (drop n) is ∙ sym dropped in
-    subst HasNoToken same none
+    subst (HasNoToken section) same none
 
 pub ok_then : {T E : Type 0} {P Q : Type 0} (r : Result T E) → OnOk r P → (P → Q) → OnOk r Q
 ok_then (Ok x) h f = f h
@@ -308,5 +324,5 @@ no_text (t ∷ tokens) e = absurd (omega (arith, ap length (e ∙ flat_map-cons 
 -- a text is a document in one way at most
 pub only_one : (bytes : List ℕ) (a b : List Token) → IsComplete bytes a → IsComplete bytes b → a ≡ b
 only_one bytes a b x y =
-    let f = front_is a b [] x.each y.each (append-nil (flat_map spelling a) ∙ sym x.spelled ∙ y.spelled) in
+    let f = front_is None a b [] x.each y.each (placed_in first_place a last_place x.ends) (placed_in first_place b last_place y.ends) (append-nil (flat_map spelling a) ∙ sym x.spelled ∙ y.spelled) in
     sym (f.parts ∙ ap (λ (l : List Token). a ++ l) (no_text f.others f.spelled) ∙ append-nil a)

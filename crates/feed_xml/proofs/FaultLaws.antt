@@ -14,7 +14,7 @@ use Rattle.feed_xml.specs.Faults.{IsOfEnd, IsOfPlace, IsOfReading, Tells}
 use Rattle.feed_xml.specs.Grammar.{Token}
 use Rattle.feed_xml.specs.private.Bounds.{IsDeepAt, IsGarbledBehind, IsLargeAt, IsLongAt, MeetsFrom, NoneStandsAt, NoneWillStand}
 use Rattle.feed_xml.specs.private.Faults.{IsUnknown, TellsText, TellsWindow, Took}
-use Rattle.feed_xml.specs.private.Places.{IsNeverComplete, first_place, steps}
+use Rattle.feed_xml.specs.private.Places.{IsNeverComplete, first_place, section_of, steps}
 use Rattle.feed_xml.specs.private.Windows.{Advances, BeginsAt}
 use Rattle.feed_xml.specs.Pieces.{Begins}
 use Rattle.feed_xml.proofs.DocumentLaws.{misplaced, stuck_here}
@@ -51,7 +51,7 @@ end_tells P (Err Memory) of w g cut half = absurd of
 
 -- what a token that may not stand tells
 pub place_tells : {S : Type 0} (after : S → Token → S) (goes_on : S → Bool) (window rest : List ℕ) (tokens : List Token) (from place : Place) (old new : S) (fault : Fault) → Advances window tokens rest from place
-    → new ≡ fold after old tokens → IsOfPlace fault → (fault ≡ Malformed → (token : Token) × (behind : List ℕ) × Begins rest (token ∷ []) behind × (steps place (token ∷ []) ≡ None))
+    → new ≡ fold after old tokens → IsOfPlace fault → (fault ≡ Malformed → (token : Token) × (behind : List ℕ) × Begins (section_of place.tail) rest (token ∷ []) behind × (steps place (token ∷ []) ≡ None))
     → (fault ≡ TooDeep → IsDeepAt place rest) → (fault ≡ LargeTag → IsLargeAt place rest) → TellsWindow after goes_on from window old new fault
 place_tells after goes_on window rest tokens from place old new Malformed leads sunk of malformed deep large =
     let m = malformed refl in (

@@ -11,7 +11,7 @@ use Rattle.feed_xml.specs.Grammar.{Token, spelling, is_token}
 use Rattle.feed_xml.specs.private.Bounds.{MeetsFrom, IsDeepAt, IsLargeAt, IsLongAt, NoneStandsAt, NoneWillStand}
 use Rattle.feed_xml.specs.Limits.{Follows}
 use Rattle.feed_xml.specs.Pieces.{Begins, HasNoToken}
-use Rattle.feed_xml.specs.private.Places.{first_place}
+use Rattle.feed_xml.specs.private.Places.{first_place, section_of}
 use Rattle.feed_xml.proofs.DocumentLaws.{advance_further, advance_longer}
 
 -- what holds of the rest holds of it with more behind it
@@ -53,14 +53,14 @@ known_limit Limit (Some x) (Some y) text window tokens q lasts c others adv m =
     subst (MeetsFrom Limit first_place (tokens ++ others)) (sym c) whole
 
 -- a piece that is a token
-pub piece_follows : (rest next : List ℕ) (tokens : List Token) (tag : Token)
-    → Begins rest tokens next → tokens ≡ tag ∷ [] → Follows tag rest
-piece_follows rest next tokens tag b is =
+pub piece_follows : (section : Option ℕ) (rest next : List ℕ) (tokens : List Token) (tag : Token)
+    → Begins section rest tokens next → tokens ≡ tag ∷ [] → Follows tag rest
+piece_follows section rest next tokens tag b is =
     let spelled : flat_map spelling tokens ≡ spelling tag =
     ap (flat_map spelling) is ∙ flat_map-cons spelling tag [] ∙ append-nil (spelling tag) in
     let each : list_all is_token (tag ∷ []) ≡ true = ap (list_all is_token) (sym is) ∙ b.each in
     (next, b.spelled ∙ ap (λ (l : List ℕ). l ++ next) spelled, (and_parts _ _ each).0)
 
 -- a window without a token
-pub long_window : (q : Place) (window : List ℕ) → 4194304 < length window → HasNoToken window → IsLongAt q window
+pub long_window : (q : Place) (window : List ℕ) → 4194304 < length window → HasNoToken (section_of q.tail) window → IsLongAt q window
 long_window q window long none = (window, [], sym (append-nil window), long, none)

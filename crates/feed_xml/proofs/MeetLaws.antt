@@ -2,13 +2,14 @@
 use Rattle.std.proofs.Common.{◌≡◌, ◌∙◌, ℕ, ◌≤◌, List, [], ◌∷◌, ◌++◌, length, Option, Some, None, refl, sym, subst, fold}
 use Rattle.feed_xml.specs.declared.place.Place.{Place}
 use Rattle.feed_xml.specs.EncodingNames.{OfText}
-use Rattle.feed_xml.specs.Grammar.{Token, raw, reference, cdata, comment, instruction, declaration, doctype, start, empty, end}
+use Rattle.feed_xml.specs.Grammar.{Token, raw, reference, opening, bracket, cdata, comment, instruction, declaration, doctype, start, empty, end}
 use Rattle.feed_xml.specs.Limits.{Bound, Meets, BeginsWith, Follows, NoneMayStand, open_behind, IsDeep, IsLarge, IsLong}
+use Rattle.feed_xml.specs.Pieces.{HasNoToken}
 use Rattle.feed_xml.specs.private.Bounds.{PlaceBound, MeetsFrom, NoneStandsAt, IsStart, IsDeepAt, IsLargeAt, IsLongAt}
 use Rattle.feed_xml.specs.private.Places.{first_nesting, first_place, steps}
 use Rattle.feed_xml.specs.private.Windows.{BeginsAt}
 use Rattle.feed_xml.proofs.FrontLaws.{front_of, open_all}
-use Rattle.feed_xml.proofs.PlaceLaws.{parts_of, steps-append}
+use Rattle.feed_xml.proofs.PlaceLaws.{parts_of, same_section, steps-append}
 use Rattle.feed_xml.proofs.TreeLaws.{leads_through}
 
 -- what is met at each place that tokens lead to
@@ -37,7 +38,9 @@ deep tokens p rest leads h = go h.0 h.1 (h.2, h.3)
     go : (tag : Token) → IsStart tag → Follows tag rest × (1000 ≤ length p.nesting.names) → IsDeep tokens rest
     go (raw b) is f = absurd is
     go (reference body) is f = absurd is
-    go (cdata body) is f = absurd is
+    go opening is f = absurd is
+    go (bracket count) is f = absurd is
+    go (cdata count byte) is f = absurd is
     go (comment body) is f = absurd is
     go (instruction body) is f = absurd is
     go (declaration body) is f = absurd is
@@ -50,7 +53,7 @@ large : Tells IsLargeAt IsLarge
 large tokens p rest leads h = h
 
 long : Tells IsLongAt IsLong
-long tokens p rest leads h = h
+long tokens p rest leads h = (h.0, h.1, h.2, h.3, subst (λ (o : Option ℕ). HasNoToken o h.0) (same_section tokens p leads) h.4)
 
 -- the same of the text that a reader has left
 pub of_all : (P Q : List ℕ → Type 0) (bytes : Option (List ℕ)) → ((text : List ℕ) → P text → Q text) → OfText P bytes → OfText Q bytes

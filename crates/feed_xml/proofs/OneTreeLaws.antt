@@ -1,7 +1,7 @@
 -- The tokens of a document are those of one tree.
 use Rattle.std.proofs.Common.{◌≡◌, ℕ, List, [], ◌∷◌, ◌++◌, refl, sym, ap, ◌∙◌, append_assoc, subst}
 use Rattle.std.specs.List.{AllByRecursion}
-use Rattle.feed_xml.specs.Grammar.{Attribute, Token, raw, reference, cdata, comment, instruction, declaration, doctype, start, empty, end}
+use Rattle.feed_xml.specs.Grammar.{Attribute, Token, raw, reference, opening, bracket, cdata, comment, instruction, declaration, doctype, start, empty, end}
 use Rattle.feed_xml.specs.Tree.{Content, nothing, leaf, element, tokens_of, IsLeaf, HasLeaves}
 use Rattle.feed_xml.specs.Trees.{IsMisc, AreTyped, IsProlog, IsRoot, IsTree}
 
@@ -16,7 +16,9 @@ tail_is x y xs ys e = cc
 leaf_end : (t : Token) (n c : List ℕ) → IsLeaf t → end n c ≡ t → ⊥
 leaf_end (raw b) n c h e = cc
 leaf_end (reference body) n c h e = cc
-leaf_end (cdata body) n c h e = cc
+leaf_end opening n c h e = cc
+leaf_end (bracket count) n c h e = cc
+leaf_end (cdata count byte) n c h e = cc
 leaf_end (comment body) n c h e = cc
 leaf_end (instruction body) n c h e = cc
 leaf_end (declaration body) n c h e = absurd h
@@ -28,7 +30,9 @@ leaf_end (end name space) n c h e = absurd h
 leaf_start : (t : Token) (n : List ℕ) (a : List Attribute) (s : List ℕ) → IsLeaf t → start n a s ≡ t → ⊥
 leaf_start (raw b) n a s h e = cc
 leaf_start (reference body) n a s h e = cc
-leaf_start (cdata body) n a s h e = cc
+leaf_start opening n a s h e = cc
+leaf_start (bracket count) n a s h e = cc
+leaf_start (cdata count byte) n a s h e = cc
 leaf_start (comment body) n a s h e = cc
 leaf_start (instruction body) n a s h e = cc
 leaf_start (declaration body) n a s h e = absurd h
@@ -93,7 +97,9 @@ IsNoTag t = IsTag t → ⊥
 misc_no_tag : (t : Token) → IsMisc t → IsNoTag t
 misc_no_tag (raw b) p h = h
 misc_no_tag (reference body) p h = h
-misc_no_tag (cdata body) p h = h
+misc_no_tag opening p h = h
+misc_no_tag (bracket count) p h = h
+misc_no_tag (cdata count byte) p h = h
 misc_no_tag (comment body) p h = h
 misc_no_tag (instruction body) p h = h
 misc_no_tag (declaration body) p h = h
@@ -111,7 +117,9 @@ typed_loose [] h = tt
 typed_loose (doctype body ∷ ts) h = (λ is. is, misc_loose ts h)
 typed_loose (raw b ∷ ts) h = (misc_no_tag (raw b) h.0, typed_loose ts h.1)
 typed_loose (reference body ∷ ts) h = absurd h.0
-typed_loose (cdata body ∷ ts) h = absurd h.0
+typed_loose (opening ∷ ts) h = absurd h.0
+typed_loose (bracket count ∷ ts) h = absurd h.0
+typed_loose (cdata count byte ∷ ts) h = absurd h.0
 typed_loose (comment body ∷ ts) h = (λ is. is, typed_loose ts h.1)
 typed_loose (instruction body ∷ ts) h = (λ is. is, typed_loose ts h.1)
 typed_loose (declaration body ∷ ts) h = absurd h.0
@@ -125,7 +133,9 @@ prolog_loose (declaration body ∷ ts) h = (λ is. is, typed_loose ts h)
 prolog_loose (doctype body ∷ ts) h = typed_loose (doctype body ∷ ts) h
 prolog_loose (raw b ∷ ts) h = typed_loose (raw b ∷ ts) h
 prolog_loose (reference body ∷ ts) h = absurd h.0
-prolog_loose (cdata body ∷ ts) h = absurd h.0
+prolog_loose (opening ∷ ts) h = absurd h.0
+prolog_loose (bracket count ∷ ts) h = absurd h.0
+prolog_loose (cdata count byte ∷ ts) h = absurd h.0
 prolog_loose (comment body ∷ ts) h = typed_loose (comment body ∷ ts) h
 prolog_loose (instruction body ∷ ts) h = typed_loose (instruction body ∷ ts) h
 prolog_loose (start name attributes space ∷ ts) h = absurd h.0
@@ -147,7 +157,9 @@ one_tree tokens n m a b t u = go t.root u.root t.is_root u.is_root (sym t.parts 
     go [] q h k e = absurd h
     go (raw c ∷ r) q h k e = absurd h
     go (reference c ∷ r) q h k e = absurd h
-    go (cdata c ∷ r) q h k e = absurd h
+    go (opening ∷ r) q h k e = absurd h
+    go (bracket count ∷ r) q h k e = absurd h
+    go (cdata count byte ∷ r) q h k e = absurd h
     go (comment c ∷ r) q h k e = absurd h
     go (instruction c ∷ r) q h k e = absurd h
     go (declaration c ∷ r) q h k e = absurd h
@@ -156,7 +168,9 @@ one_tree tokens n m a b t u = go t.root u.root t.is_root u.is_root (sym t.parts 
     go (r ∷ rs) [] h k e = absurd k
     go (r ∷ rs) (raw c ∷ q) h k e = absurd k
     go (r ∷ rs) (reference c ∷ q) h k e = absurd k
-    go (r ∷ rs) (cdata c ∷ q) h k e = absurd k
+    go (r ∷ rs) (opening ∷ q) h k e = absurd k
+    go (r ∷ rs) (bracket count ∷ q) h k e = absurd k
+    go (r ∷ rs) (cdata count byte ∷ q) h k e = absurd k
     go (r ∷ rs) (comment c ∷ q) h k e = absurd k
     go (r ∷ rs) (instruction c ∷ q) h k e = absurd k
     go (r ∷ rs) (declaration c ∷ q) h k e = absurd k

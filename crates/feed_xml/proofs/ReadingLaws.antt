@@ -11,7 +11,7 @@ use Rattle.feed_xml.specs.private.Windows.{Advances, BeginsAt, Grows, IsEnding, 
 use Rattle.feed_xml.specs.Grammar.{Token}
 use Rattle.feed_xml.specs.private.Bounds.{MeetsFrom, IsLongAt, NoneStandsAt}
 use Rattle.feed_xml.specs.Pieces.{HasNoToken}
-use Rattle.feed_xml.specs.private.Places.{Completes, IsComplete, IsNeverComplete, first_place}
+use Rattle.feed_xml.specs.private.Places.{Completes, IsComplete, IsNeverComplete, first_place, section_of}
 use Rattle.feed_xml.specs.Documents.{IsNoText}
 use Rattle.feed_xml.specs.Texts.{follow, is_start, IsSmall}
 use Rattle.feed_xml.proofs.Runs.{rest_is}
@@ -120,7 +120,7 @@ is_garbled told left window tokens q None is s =
     ∙ ap (option_and_then (λ (p : Part). follow p r.1)) r.4 in
     known_garbled told left (s.text ++ s.bad) (put_back told left s.text s.bad s.read) none
 
-pub is_cut : (told left : Option (List ℕ)) (window : List ℕ) (tokens : List Token) (q : Place) (part : Part) → State told left window tokens q (Some part) → IsAtEnd left → HasNoToken window
+pub is_cut : (told left : Option (List ℕ)) (window : List ℕ) (tokens : List Token) (q : Place) (part : Part) → State told left window tokens q (Some part) → IsAtEnd left → HasNoToken (section_of q.tail) window
     → is_whole window q part ≡ false → IfSome told IsNeverComplete
 is_cut told left window tokens q part s last none cut =
     known_cut told left s.text window tokens q part (nothing_bad told left s.text s.bad s.at_part.0 s.read) last s.advances s.at_part.1 none cut
@@ -206,12 +206,12 @@ ends_whole told left later before window shown tokens place was part piece next 
 
 pub ends_cut : (told left later : Option (List ℕ)) (before window shown : List ℕ) (tokens : List Token) (place : Place) (was : Option Part) (part : Part) (piece : List ℕ) (next : Option Part) (last : Part)
     → State told left before tokens place was → was ≡ Some part → Consumes left later piece → Grows before window part piece next → next ≡ Some last → IsAtEnd later → shown ≡ window
-    → IsEnding piece → HasNoToken before → is_whole shown place last ≡ false → IfSome told IsNeverComplete
+    → IsEnding piece → HasNoToken (section_of place.tail) before → is_whole shown place last ≡ false → IfSome told IsNeverComplete
 ends_cut told left later before window shown tokens place was part piece next last s is c g found end_here same ending_is none not_whole =
     let t = reads_on_at told left later before window tokens place was part piece next s is c g in
     let grows = subst (Grows before window part piece) found g in
     let kept_window = same_window before window piece part last grows ending_is in
-    is_cut told later window tokens place last (subst (λ (o : Option Part). State told later window tokens place o) found t) end_here (subst HasNoToken (sym kept_window) none)
+    is_cut told later window tokens place last (subst (λ (o : Option Part). State told later window tokens place o) found t) end_here (subst (HasNoToken (section_of place.tail)) (sym kept_window) none)
     (ap (λ (l : List ℕ). is_whole l place last) (sym same) ∙ not_whole)
 
 pub last_state : (told left later : Option (List ℕ)) (before window : List ℕ) (tokens : List Token) (place : Place) (was : Option Part) (part : Part) (piece : List ℕ) (next : Option Part) (last : Part)
@@ -223,7 +223,7 @@ last_state told left later before window tokens place was part piece next last s
 
 pub ends_stuck : (told left later : Option (List ℕ)) (before window : List ℕ) (tokens : List Token) (place : Place) (was : Option Part) (part : Part) (piece : List ℕ) (next : Option Part) (last : Part)
     → State told left before tokens place was → was ≡ Some part → Consumes left later piece → Grows before window part piece next → next ≡ Some last → IsAtEnd later
-    → IsEnding piece → HasNoToken before → IfSome told (MeetsFrom NoneStandsAt first_place tokens)
+    → IsEnding piece → HasNoToken (section_of place.tail) before → IfSome told (MeetsFrom NoneStandsAt first_place tokens)
 ends_stuck told left later before window tokens place was part piece next last s is c g found end_here ending_is none =
     let t = last_state told left later before window tokens place was part piece next last s is c g found ending_is in
     known_stuck told later t.text before tokens place (nothing_bad told later t.text t.bad t.at_part.0 t.read) end_here t.advances none

@@ -1,17 +1,18 @@
 -- Tokens: what is read is spelled so, what is spelled so is read, and both stay.
-use Rattle.std.proofs.Common.{◌≡◌, ℕ, suc, ◌<◌, length, length-append, true, false, cond, eqb, List, [], ◌∷◌, ◌++◌, inl, inr, Ok, Err, refl, sym, ap, subst, ◌∙◌, append_assoc, arith}
+use Rattle.std.proofs.Common.{◌≡◌, ℕ, suc, ◌<◌, length, length-append, Bool, true, false, cond, eqb, List, [], ◌∷◌, ◌++◌, inl, inr, Option, Some, None, Ok, Err, refl, sym, ap, subst, ◌∙◌, append_assoc, arith}
 use Rattle.std.specs.Prelude.{◌&&◌}
 use Rattle.std.specs.List.{list_all, flat_map}
 use Rattle.std.proofs.lemmas.List.Concat.{flat_map-cons}
-use Rattle.std.proofs.lemmas.Bool.{eqb-true, and_parts}
+use Rattle.std.proofs.lemmas.Bool.{eqb-true, and_parts, not-true}
 use Rattle.std.proofs.lemmas.Bool.Decides.{nat_tests}
 use Rattle.feed_xml.specs.declared.stop.Stop.TheVariants.{Never}
 use Rattle.std.specs.Prelude.{codes}
 use Rattle.std.specs.Str.{bytes_eq}
 use Rattle.std.proofs.lemmas.Slice.Eq.{bytes_eq-Decides}
-use Rattle.feed_xml.specs.Grammar.{target_of, is_named, is_space, starts_name, is_name_byte, is_name, is_filled, is_plain, is_free, is_reference, is_reference_byte, is_instruction, is_declaration, Attribute, attribute_text, is_attribute, Token, raw, reference, cdata, comment, instruction, declaration, doctype, start, empty, end, spelling, is_token}
+use Rattle.feed_xml.specs.Grammar.{target_of, is_named, is_space, starts_name, is_name_byte, is_name, is_filled, is_plain, is_free, is_reference, is_reference_byte, is_instruction, is_declaration, Attribute, attribute_text, is_attribute, Token, raw, reference, opening, bracket, cdata, comment, instruction, declaration, doctype, start, empty, end, spelling, is_token}
 use Rattle.feed_xml.specs.Steps.{Step, ◌>>=◌, run, literal, until, skim}
-use Rattle.feed_xml.specs.Reading.{doctype_at, name_at, attributes_at, end_at, close_at, start_at, instruction_at, comment_at, cdata_at, declaration_at, reference_at, markup_at, token_at}
+use Rattle.feed_xml.specs.Reading.{doctype_at, name_at, attributes_at, end_at, close_at, start_at, instruction_at, comment_at, opening_at, declaration_at, reference_at, markup_at, outside_at, section_at, token_at}
+use Rattle.feed_xml.specs.Sections.{section_around, section_byte}
 use Rattle.feed_xml.proofs.StepLaws.{bind_ok, ok_is, chosen, guard_ok, Stays, stays_bind, stays_if}
 use Rattle.feed_xml.proofs.AttributeLaws.{attributes_take, attributes_again, attributes_stay, Ends, at_most, fine}
 use Rattle.feed_xml.specs.declared.skim.Skim.TheVariants.{Outside}
@@ -19,9 +20,12 @@ use Rattle.feed_xml.specs.Skims.{is_skimmed}
 use Rattle.feed_xml.proofs.SkimLaws.{skim_takes, skim_again, skim_stays}
 use Rattle.feed_xml.proofs.PartLaws.{Stops, run_takes, run_again, run_stays, literal_takes, literal_again, literal_stays, name_takes, name_bytes, name_again, name_stays, space_stops, space_no_name, until_takes, until_again, until_stays, reference_refers}
 
--- the bytes behind a front are a token and what follows it
-abbrev pub Reads : List ℕ → Token × List ℕ → Type 0
-Reads bytes x = (bytes ≡ spelling x.0 ++ x.1) × (is_token x.0 ≡ true)
+-- the bytes behind a front, which stand in this section, if in one, are a token and what follows it
+abbrev pub ReadsIn : Option ℕ → List ℕ → Token × List ℕ → Type 0
+ReadsIn section bytes x = (bytes ≡ spelling x.0 ++ x.1) × (is_token x.0 ≡ true) × (section_around x.0 ≡ section)
+
+abbrev Reads : List ℕ → Token × List ℕ → Type 0
+Reads = ReadsIn None
 
 end_takes : (bytes : List ℕ) (x : Token × List ℕ) → end_at bytes ≡ Ok x → Reads (60 ∷ 47 ∷ bytes) x
 unfolding end_at
@@ -34,7 +38,7 @@ end_takes bytes x e =
     let t2 = literal_takes (62 ∷ []) b.0.1 c.0 c.1 in
     let made : Token × List ℕ = (end a.0.0 b.0.0, c.0.1) in
     subst (Reads (60 ∷ 47 ∷ bytes)) (ok_is made x c.2)
-    (ap (λ (l : List ℕ). 60 ∷ 47 ∷ l) (t0.0 ∙ ap (λ (l : List ℕ). a.0.0 ++ l) (t1.0 ∙ ap (λ (l : List ℕ). b.0.0 ++ l) t2.0) ∙ simp append_assoc), rw (t0.1, t1.1) refl)
+    (ap (λ (l : List ℕ). 60 ∷ 47 ∷ l) (t0.0 ∙ ap (λ (l : List ℕ). a.0.0 ++ l) (t1.0 ∙ ap (λ (l : List ℕ). b.0.0 ++ l) t2.0) ∙ simp append_assoc), rw (t0.1, t1.1) refl, refl)
 
 end_again : (name space rest : List ℕ) → is_name name ≡ true → list_all is_space space ≡ true
     → end_at ((name ++ (space ++ 62 ∷ [])) ++ rest) ≡ Ok (end name space, rest)
@@ -71,13 +75,13 @@ close_takes name attributes space (b ∷ bytes) x f e =
           let t = literal_takes (62 ∷ []) bytes a.0 a.1 in
           let made : Token × List ℕ = (empty name attributes space, a.0.1) in
           subst (Reads (tag_text name attributes space (b ∷ bytes))) (ok_is made x a.2)
-          (ap (tag_text name attributes space) (ap (λ (l : List ℕ). b ∷ l) t.0 ∙ ap (λ (k : ℕ). k ∷ 62 ∷ a.0.1) (eqb-true b 47 h.0)) ∙ simp append_assoc, rw (f.name, f.attributes, f.space) refl)
+          (ap (tag_text name attributes space) (ap (λ (l : List ℕ). b ∷ l) t.0 ∙ ap (λ (k : ℕ). k ∷ 62 ∷ a.0.1) (eqb-true b 47 h.0)) ∙ simp append_assoc, rw (f.name, f.attributes, f.space) refl, refl)
       | inr h ↦
           let a = bind_ok (literal (62 ∷ []) (b ∷ bytes)) (λ y. Ok (start name attributes space, y.1)) x h.1 in
           let t = literal_takes (62 ∷ []) (b ∷ bytes) a.0 a.1 in
           let made : Token × List ℕ = (start name attributes space, a.0.1) in
           subst (Reads (tag_text name attributes space (b ∷ bytes))) (ok_is made x a.2)
-          (ap (tag_text name attributes space) t.0 ∙ simp append_assoc, rw (f.name, f.attributes, f.space) refl)
+          (ap (tag_text name attributes space) t.0 ∙ simp append_assoc, rw (f.name, f.attributes, f.space) refl, refl)
     ]
 
 abbrev behind_space : List ℕ → List Attribute → List ℕ × List ℕ → Step Token
@@ -102,7 +106,7 @@ start_takes bytes x e =
     ap (λ (l : List ℕ). 60 ∷ l) (tn.0 ∙ ap (λ (l : List ℕ). n.0.0 ++ l) (ta.0 ∙ ap (λ (l : List ℕ). flat_map attribute_text a.0.0 ++ l) ts.0)) in
     let f : FineTag n.0.0 a.0.0 s.0.0 = record { name = tn.1; attributes = ta.1; space = ts.1 } in
     let read = close_takes n.0.0 a.0.0 s.0.0 s.0.1 x f s.2 in
-    (whole ∙ read.0, read.1)
+    (whole ∙ read.0, read.1, read.2)
 
 filled_stops : (before rest : List ℕ) → is_filled before ≡ true → list_all is_space before ≡ true → Stops is_name_byte (before ++ rest)
 filled_stops [] rest filled all = absurd cc
@@ -164,7 +168,7 @@ start_stays bytes more =
     (λ a. stays_bind more (run is_space a.1) (run is_space (a.1 ++ more)) (behind_space n.0 a.0) (run_stays is_space a.1 more)
     (λ s. close_stays n.0 a.0 s.0 s.1 more)))
 
--- ---- instructions, comments, CDATA, references
+-- ---- instructions, comments, sections, references
 
 abbrev judged : List ℕ × List ℕ → Step Token
 judged body = cond (is_instruction body.0) (Ok (instruction body.0, body.1)) (cond (is_declaration body.0) (Ok (declaration body.0, body.1)) (Err Never))
@@ -178,11 +182,11 @@ instruction_takes bytes x e =
     elim (chosen (is_instruction a.0.0) (Ok (instruction a.0.0, a.0.1)) (cond (is_declaration a.0.0) (Ok (declaration a.0.0, a.0.1)) (Err Never)) (Ok x) a.2) [
       | inl h ↦
           let made : Token × List ℕ = (instruction a.0.0, a.0.1) in
-          subst (Reads (60 ∷ 63 ∷ bytes)) (ok_is made x h.1) (spelled, rw (h.0, t.1) refl)
+          subst (Reads (60 ∷ 63 ∷ bytes)) (ok_is made x h.1) (spelled, rw (h.0, t.1) refl, refl)
       | inr h ↦
           let made : Token × List ℕ = (declaration a.0.0, a.0.1) in
           let g = guard_ok (is_declaration a.0.0) Never made x h.1 in
-          subst (Reads (60 ∷ 63 ∷ bytes)) g.1 (spelled, rw (g.0, t.1) refl)
+          subst (Reads (60 ∷ 63 ∷ bytes)) g.1 (spelled, rw (g.0, t.1) refl, refl)
     ]
 
 instruction_again : (body rest : List ℕ) → is_instruction body ≡ true → is_free (63 ∷ 62 ∷ []) body ≡ true → instruction_at ((body ++ 63 ∷ 62 ∷ []) ++ rest) ≡ Ok (instruction body, rest)
@@ -218,7 +222,7 @@ comment_takes bytes x e =
     let tc = literal_takes (62 ∷ []) b.0.1 c.0 c.1 in
     let made : Token × List ℕ = (comment b.0.0, c.0.1) in
     subst (Reads (60 ∷ 33 ∷ bytes)) (ok_is made x c.2)
-    (ap (λ (l : List ℕ). 60 ∷ 33 ∷ l) (ta.0 ∙ ap (λ (l : List ℕ). 45 ∷ 45 ∷ l) (tb.0 ∙ ap (λ (l : List ℕ). b.0.0 ++ 45 ∷ 45 ∷ l) tc.0 ∙ sym (append_assoc b.0.0 (45 ∷ 45 ∷ 62 ∷ []) c.0.1))), tb.1)
+    (ap (λ (l : List ℕ). 60 ∷ 33 ∷ l) (ta.0 ∙ ap (λ (l : List ℕ). 45 ∷ 45 ∷ l) (tb.0 ∙ ap (λ (l : List ℕ). b.0.0 ++ 45 ∷ 45 ∷ l) tc.0 ∙ sym (append_assoc b.0.0 (45 ∷ 45 ∷ 62 ∷ []) c.0.1))), tb.1, refl)
 
 comment_again : (body rest : List ℕ) → is_free (45 ∷ 45 ∷ []) body ≡ true → comment_at (45 ∷ 45 ∷ ((body ++ 45 ∷ 45 ∷ 62 ∷ []) ++ rest)) ≡ Ok (comment body, rest)
 unfolding comment_at
@@ -237,29 +241,22 @@ comment_stays bytes more =
 abbrev cdata_mark : List ℕ
 cdata_mark = 91 ∷ 67 ∷ 68 ∷ 65 ∷ 84 ∷ 65 ∷ 91 ∷ []
 
-cdata_takes : (bytes : List ℕ) (x : Token × List ℕ) → cdata_at bytes ≡ Ok x → Reads (60 ∷ 33 ∷ bytes) x
-unfolding cdata_at
-cdata_takes bytes x e =
-    let a = bind_ok (literal cdata_mark bytes) (λ m. until (93 ∷ 93 ∷ 62 ∷ []) m.1 >>= λ body. Ok (cdata body.0, body.1)) x e in
-    let b = bind_ok (until (93 ∷ 93 ∷ 62 ∷ []) a.0.1) (λ body. Ok (cdata body.0, body.1)) x a.2 in
+opening_takes : (bytes : List ℕ) (x : Token × List ℕ) → opening_at bytes ≡ Ok x → Reads (60 ∷ 33 ∷ bytes) x
+unfolding opening_at
+opening_takes bytes x e =
+    let a = bind_ok (literal cdata_mark bytes) (λ m. Ok (opening, m.1)) x e in
     let ta = literal_takes cdata_mark bytes a.0 a.1 in
-    let tb = until_takes (93 ∷ 93 ∷ 62 ∷ []) a.0.1 b.0 b.1 in
-    let made : Token × List ℕ = (cdata b.0.0, b.0.1) in
-    subst (Reads (60 ∷ 33 ∷ bytes)) (ok_is made x b.2)
-    (ap (λ (l : List ℕ). 60 ∷ 33 ∷ l) (ta.0 ∙ ap (λ (l : List ℕ). cdata_mark ++ l) (tb.0 ∙ sym (append_assoc b.0.0 (93 ∷ 93 ∷ 62 ∷ []) b.0.1))), tb.1)
+    let made : Token × List ℕ = (opening, a.0.1) in
+    subst (Reads (60 ∷ 33 ∷ bytes)) (ok_is made x a.2) (ap (λ (l : List ℕ). 60 ∷ 33 ∷ l) ta.0, refl, refl)
 
-cdata_again : (body rest : List ℕ) → is_free (93 ∷ 93 ∷ 62 ∷ []) body ≡ true → cdata_at (cdata_mark ++ ((body ++ 93 ∷ 93 ∷ 62 ∷ []) ++ rest)) ≡ Ok (cdata body, rest)
-unfolding cdata_at
-cdata_again body rest free =
-    let inside : until (93 ∷ 93 ∷ 62 ∷ []) ((body ++ 93 ∷ 93 ∷ 62 ∷ []) ++ rest) ≡ Ok (body, rest) =
-    ap (until (93 ∷ 93 ∷ 62 ∷ [])) (append_assoc body (93 ∷ 93 ∷ 62 ∷ []) rest) ∙ until_again 93 (93 ∷ 62 ∷ []) body rest free in
-    rw (literal_again cdata_mark ((body ++ 93 ∷ 93 ∷ 62 ∷ []) ++ rest), inside) refl
+opening_again : (rest : List ℕ) → opening_at (cdata_mark ++ rest) ≡ Ok (opening, rest)
+unfolding opening_at
+opening_again rest = rw (literal_again cdata_mark rest) refl
 
-cdata_stays : (bytes more : List ℕ) → Stays more (cdata_at bytes) (cdata_at (bytes ++ more))
-unfolding cdata_at
-cdata_stays bytes more =
-    stays_bind more (literal cdata_mark bytes) (literal cdata_mark (bytes ++ more)) (λ m. until (93 ∷ 93 ∷ 62 ∷ []) m.1 >>= λ body. Ok (cdata body.0, body.1)) (literal_stays cdata_mark bytes more)
-    (λ m. stays_bind more (until (93 ∷ 93 ∷ 62 ∷ []) m.1) (until (93 ∷ 93 ∷ 62 ∷ []) (m.1 ++ more)) (λ body. Ok (cdata body.0, body.1)) (until_stays (93 ∷ 93 ∷ 62 ∷ []) m.1 more) (λ body. refl))
+opening_stays : (bytes more : List ℕ) → Stays more (opening_at bytes) (opening_at (bytes ++ more))
+unfolding opening_at
+opening_stays bytes more =
+    stays_bind more (literal cdata_mark bytes) (literal cdata_mark (bytes ++ more)) (λ m. Ok (opening, m.1)) (literal_stays cdata_mark bytes more) (λ m. refl)
 
 abbrev doctype_mark : List ℕ
 doctype_mark = 68 ∷ 79 ∷ 67 ∷ 84 ∷ 89 ∷ 80 ∷ 69 ∷ []
@@ -277,7 +274,7 @@ doctype_takes bytes x e =
     let made : Token × List ℕ = (doctype b.0.0, b.0.1) in
     let g = guard_ok (is_named b.0.0) Never made x b.2 in
     subst (Reads (60 ∷ 33 ∷ bytes)) g.1
-    (ap (λ (l : List ℕ). 60 ∷ 33 ∷ l) (ta.0 ∙ ap (λ (l : List ℕ). doctype_mark ++ l) (tb.0 ∙ sym (append_assoc b.0.0 (62 ∷ []) b.0.1))), rw (g.0, tb.1) refl)
+    (ap (λ (l : List ℕ). 60 ∷ 33 ∷ l) (ta.0 ∙ ap (λ (l : List ℕ). doctype_mark ++ l) (tb.0 ∙ sym (append_assoc b.0.0 (62 ∷ []) b.0.1))), rw (g.0, tb.1) refl, refl)
 
 doctype_again : (body rest : List ℕ) → is_named body ≡ true → is_skimmed Outside body ≡ true → doctype_at (doctype_mark ++ ((body ++ 62 ∷ []) ++ rest)) ≡ Ok (doctype body, rest)
 unfolding doctype_at
@@ -296,12 +293,12 @@ declaration_takes : (bytes : List ℕ) (x : Token × List ℕ) → declaration_a
 unfolding declaration_at
 declaration_takes [] x e = absurd cc
 declaration_takes (b ∷ bytes) x e =
-    elim (chosen (eqb b 45) (comment_at (b ∷ bytes)) (cond (eqb b 68) (doctype_at (b ∷ bytes)) (cdata_at (b ∷ bytes))) (Ok x) e) [
+    elim (chosen (eqb b 45) (comment_at (b ∷ bytes)) (cond (eqb b 68) (doctype_at (b ∷ bytes)) (opening_at (b ∷ bytes))) (Ok x) e) [
       | inl h ↦ comment_takes (b ∷ bytes) x h.1
       | inr h ↦
-          elim (chosen (eqb b 68) (doctype_at (b ∷ bytes)) (cdata_at (b ∷ bytes)) (Ok x) h.1) [
+          elim (chosen (eqb b 68) (doctype_at (b ∷ bytes)) (opening_at (b ∷ bytes)) (Ok x) h.1) [
             | inl k ↦ doctype_takes (b ∷ bytes) x k.1
-            | inr k ↦ cdata_takes (b ∷ bytes) x k.1
+            | inr k ↦ opening_takes (b ∷ bytes) x k.1
           ]
     ]
 
@@ -309,8 +306,8 @@ declaration_stays : (bytes more : List ℕ) → Stays more (declaration_at bytes
 unfolding declaration_at
 declaration_stays [] more = tt
 declaration_stays (b ∷ bytes) more =
-    stays_if more (eqb b 45) (comment_at (b ∷ bytes)) (cond (eqb b 68) (doctype_at (b ∷ bytes)) (cdata_at (b ∷ bytes))) (comment_at (b ∷ (bytes ++ more))) (cond (eqb b 68) (doctype_at (b ∷ (bytes ++ more))) (cdata_at (b ∷ (bytes ++ more)))) (comment_stays (b ∷ bytes) more)
-    (stays_if more (eqb b 68) (doctype_at (b ∷ bytes)) (cdata_at (b ∷ bytes)) (doctype_at (b ∷ (bytes ++ more))) (cdata_at (b ∷ (bytes ++ more))) (doctype_stays (b ∷ bytes) more) (cdata_stays (b ∷ bytes) more))
+    stays_if more (eqb b 45) (comment_at (b ∷ bytes)) (cond (eqb b 68) (doctype_at (b ∷ bytes)) (opening_at (b ∷ bytes))) (comment_at (b ∷ (bytes ++ more))) (cond (eqb b 68) (doctype_at (b ∷ (bytes ++ more))) (opening_at (b ∷ (bytes ++ more)))) (comment_stays (b ∷ bytes) more)
+    (stays_if more (eqb b 68) (doctype_at (b ∷ bytes)) (opening_at (b ∷ bytes)) (doctype_at (b ∷ (bytes ++ more))) (opening_at (b ∷ (bytes ++ more))) (doctype_stays (b ∷ bytes) more) (opening_stays (b ∷ bytes) more))
 
 reference_takes : (bytes : List ℕ) (x : Token × List ℕ) → reference_at bytes ≡ Ok x → Reads (38 ∷ bytes) x
 unfolding reference_at
@@ -321,7 +318,7 @@ reference_takes bytes x e =
     let tb = literal_takes (59 ∷ []) a.0.1 b.0 b.1 in
     let made : Token × List ℕ = (reference a.0.0, b.0.1) in
     let g = guard_ok (is_reference a.0.0) Never made x b.2 in
-    subst (Reads (38 ∷ bytes)) g.1 (ap (λ (l : List ℕ). 38 ∷ l) (ta.0 ∙ ap (λ (l : List ℕ). a.0.0 ++ l) tb.0 ∙ sym (append_assoc a.0.0 (59 ∷ []) b.0.1)), g.0)
+    subst (Reads (38 ∷ bytes)) g.1 (ap (λ (l : List ℕ). 38 ∷ l) (ta.0 ∙ ap (λ (l : List ℕ). a.0.0 ++ l) tb.0 ∙ sym (append_assoc a.0.0 (59 ∷ []) b.0.1)), g.0, refl)
 
 reference_again : (body rest : List ℕ) → is_reference body ≡ true → reference_at ((body ++ 59 ∷ []) ++ rest) ≡ Ok (reference body, rest)
 unfolding reference_at
@@ -374,10 +371,10 @@ markup_is_start (b ∷ name) rest h =
     let no = name_no_mark b (name_bytes (b ∷ name) h).0 in
     rw (no.0, no.1, no.2) refl
 
-pub token_takes : (bytes : List ℕ) (x : Token × List ℕ) → token_at bytes ≡ Ok x → Reads bytes x
-unfolding token_at
-token_takes [] x e = absurd cc
-token_takes (b ∷ bytes) x e =
+outside_takes : (bytes : List ℕ) (x : Token × List ℕ) → outside_at bytes ≡ Ok x → Reads bytes x
+unfolding outside_at
+outside_takes [] x e = absurd cc
+outside_takes (b ∷ bytes) x e =
     elim (chosen (eqb b 60) (markup_at bytes) (cond (eqb b 38) (reference_at bytes) (Ok (raw b, bytes))) (Ok x) e) [
       | inl h ↦ subst (λ (k : ℕ). Reads (k ∷ bytes) x) (sym (eqb-true b 60 h.0)) (markup_takes bytes x h.1)
       | inr h ↦
@@ -385,9 +382,29 @@ token_takes (b ∷ bytes) x e =
             | inl k ↦ subst (λ (k : ℕ). Reads (k ∷ bytes) x) (sym (eqb-true b 38 k.0)) (reference_takes bytes x k.1)
             | inr k ↦
                 let made : Token × List ℕ = (raw b, bytes) in
-                subst (Reads (b ∷ bytes)) (ok_is made x k.1) (refl, rw (h.0, k.0) refl)
+                subst (Reads (b ∷ bytes)) (ok_is made x k.1) (refl, rw (h.0, k.0) refl, refl)
           ]
     ]
+
+-- a byte of a section
+byte_reads : (n b : ℕ) (bytes : List ℕ) → ReadsIn (Some n) (b ∷ bytes) (section_byte n b, bytes)
+byte_reads n b bytes = go (eqb b 93) refl
+  where
+    go : (t : Bool) → eqb b 93 ≡ t → ReadsIn (Some n) (b ∷ bytes) (cond t (bracket n) (cdata n b), bytes)
+    go true e = (ap (λ (k : ℕ). k ∷ bytes) (eqb-true b 93 e), refl, refl)
+    go false e = (refl, rw e refl, refl)
+
+section_takes : (n : ℕ) (bytes : List ℕ) (x : Token × List ℕ) → section_at n bytes ≡ Ok x → ReadsIn (Some n) bytes x
+unfolding section_at
+section_takes n [] x e = absurd cc
+section_takes n (b ∷ bytes) x e =
+    let made : Token × List ℕ = (section_byte n b, bytes) in
+    subst (ReadsIn (Some n) (b ∷ bytes)) (ok_is made x e) (byte_reads n b bytes)
+
+pub token_takes : (section : Option ℕ) (bytes : List ℕ) (x : Token × List ℕ) → token_at section bytes ≡ Ok x → ReadsIn section bytes x
+unfolding token_at
+token_takes None bytes x e = outside_takes bytes x e
+token_takes (Some n) bytes x e = section_takes n bytes x e
 
 fine_tag : (name : List ℕ) (attributes : List Attribute) (space : List ℕ) → (is_name name && (list_all is_attribute attributes && list_all is_space space)) ≡ true → FineTag name attributes space
 fine_tag name attributes space h =
@@ -398,13 +415,15 @@ fine_tag name attributes space h =
 plain_tests : (b : ℕ) → is_plain b ≡ true → (eqb b 60 ≡ false) × (eqb b 38 ≡ false)
 plain_tests b h = (grind (arith, nat_tests), grind (arith, nat_tests))
 
-pub token_again : (token : Token) (rest : List ℕ) → is_token token ≡ true → token_at (spelling token ++ rest) ≡ Ok (token, rest)
-unfolding token_at markup_at declaration_at
+pub token_again : (token : Token) (rest : List ℕ) → is_token token ≡ true → token_at (section_around token) (spelling token ++ rest) ≡ Ok (token, rest)
+unfolding token_at outside_at section_at markup_at declaration_at
 token_again (raw b) rest h =
     let t = plain_tests b h in
     rw (t.0, t.1) refl
 token_again (reference body) rest h = reference_again body rest h
-token_again (cdata body) rest h = cdata_again body rest h
+token_again opening rest h = opening_again rest
+token_again (bracket n) rest h = refl
+token_again (cdata n b) rest h = rw (not-true (eqb b 93) h) refl
 token_again (comment body) rest h = comment_again body rest h
 token_again (instruction body) rest h =
     let p = and_parts (is_instruction body) (is_free (63 ∷ 62 ∷ []) body) h in
@@ -427,9 +446,19 @@ token_again (end name space) rest h =
     let p = and_parts (is_name name) (list_all is_space space) h in
     end_again name space rest p.0 p.1
 
-pub token_stays : (bytes more : List ℕ) → Stays more (token_at bytes) (token_at (bytes ++ more))
-unfolding token_at
-token_stays [] more = tt
-token_stays (b ∷ bytes) more =
+outside_stays : (bytes more : List ℕ) → Stays more (outside_at bytes) (outside_at (bytes ++ more))
+unfolding outside_at
+outside_stays [] more = tt
+outside_stays (b ∷ bytes) more =
     stays_if more (eqb b 60) (markup_at bytes) (cond (eqb b 38) (reference_at bytes) (Ok (raw b, bytes))) (markup_at (bytes ++ more)) (cond (eqb b 38) (reference_at (bytes ++ more)) (Ok (raw b, bytes ++ more))) (markup_stays bytes more)
     (stays_if more (eqb b 38) (reference_at bytes) (Ok (raw b, bytes)) (reference_at (bytes ++ more)) (Ok (raw b, bytes ++ more)) (reference_stays bytes more) refl)
+
+section_stays : (n : ℕ) (bytes more : List ℕ) → Stays more (section_at n bytes) (section_at n (bytes ++ more))
+unfolding section_at
+section_stays n [] more = tt
+section_stays n (b ∷ bytes) more = refl
+
+pub token_stays : (section : Option ℕ) (bytes more : List ℕ) → Stays more (token_at section bytes) (token_at section (bytes ++ more))
+unfolding token_at
+token_stays None bytes more = outside_stays bytes more
+token_stays (Some n) bytes more = section_stays n bytes more

@@ -8,7 +8,7 @@ use Rattle.feed_xml.specs.declared.nesting.Nesting.{Nesting}
 use Rattle.feed_xml.specs.declared.place.Prolog.{Prolog}
 use Rattle.feed_xml.specs.declared.place.Prolog.TheVariants.{Front, Open, Closed}
 use Rattle.feed_xml.specs.Documents.{IsDocument, IsNoDocument}
-use Rattle.feed_xml.specs.Grammar.{Attribute, is_space, is_token, Token, raw, reference, cdata, comment, instruction, declaration, doctype, start, empty, end}
+use Rattle.feed_xml.specs.Grammar.{Attribute, is_space, is_token, Token, raw, reference, opening, bracket, cdata, comment, instruction, declaration, doctype, start, empty, end}
 use Rattle.feed_xml.specs.private.Places.{nested, nests, first_nesting, last_nesting, first_place, last_place, ordered, prolog_after, steps, IsComplete, IsNeverComplete}
 use Rattle.feed_xml.specs.Tree.{Content, nothing, leaf, element, tokens_of, IsLeaf, HasLeaves}
 use Rattle.feed_xml.specs.Trees.{IsMisc, AreTyped, IsProlog, IsRoot, IsTree, AreDocument}
@@ -51,7 +51,9 @@ inside_ends (suc fuel) [] n os lt h =
     absurd cc
 inside_ends (suc fuel) (raw b ∷ ts) n os lt h = add_leaf n os (raw b) ts tt (inside_ends fuel ts n os (omega (arith, lt)) h)
 inside_ends (suc fuel) (reference body ∷ ts) n os lt h = add_leaf n os (reference body) ts tt (inside_ends fuel ts n os (omega (arith, lt)) h)
-inside_ends (suc fuel) (cdata body ∷ ts) n os lt h = add_leaf n os (cdata body) ts tt (inside_ends fuel ts n os (omega (arith, lt)) h)
+inside_ends (suc fuel) (opening ∷ ts) n os lt h = add_leaf n os opening ts tt (inside_ends fuel ts n os (omega (arith, lt)) h)
+inside_ends (suc fuel) (bracket count ∷ ts) n os lt h = add_leaf n os (bracket count) ts tt (inside_ends fuel ts n os (omega (arith, lt)) h)
+inside_ends (suc fuel) (cdata count byte ∷ ts) n os lt h = add_leaf n os (cdata count byte) ts tt (inside_ends fuel ts n os (omega (arith, lt)) h)
 inside_ends (suc fuel) (comment body ∷ ts) n os lt h = add_leaf n os (comment body) ts tt (inside_ends fuel ts n os (omega (arith, lt)) h)
 inside_ends (suc fuel) (instruction body ∷ ts) n os lt h = add_leaf n os (instruction body) ts tt (inside_ends fuel ts n os (omega (arith, lt)) h)
 inside_ends (suc fuel) (declaration body ∷ ts) n os lt h = absurd (none_ends h)
@@ -99,7 +101,9 @@ misc_behind (raw b ∷ ts) h = go (is_space b) refl h (misc_behind ts)
     go true e k rest = (e, rest k)
     go false e k rest = absurd (none_ends k)
 misc_behind (reference body ∷ ts) h = absurd (none_ends h)
-misc_behind (cdata body ∷ ts) h = absurd (none_ends h)
+misc_behind (opening ∷ ts) h = absurd (none_ends h)
+misc_behind (bracket count ∷ ts) h = absurd (none_ends h)
+misc_behind (cdata count byte ∷ ts) h = absurd (none_ends h)
 misc_behind (comment body ∷ ts) h = (tt, misc_behind ts h)
 misc_behind (instruction body ∷ ts) h = (tt, misc_behind ts h)
 misc_behind (declaration body ∷ ts) h = absurd (none_ends h)
@@ -189,7 +193,9 @@ past_type : (ts : List Token) → ends_well (nests first_nesting ts) → closes_
 past_type [] h o = not_begun _ h
 past_type (raw b ∷ ts) h o = space_first _ b ts h (λ e k. grow _ _ (raw b) ts (λ l m. (e, m)) (past_type ts k o))
 past_type (reference body ∷ ts) h o = absurd (none_ends h)
-past_type (cdata body ∷ ts) h o = absurd (none_ends h)
+past_type (opening ∷ ts) h o = absurd (none_ends h)
+past_type (bracket count ∷ ts) h o = absurd (none_ends h)
+past_type (cdata count byte ∷ ts) h o = absurd (none_ends h)
 past_type (comment body ∷ ts) h o = grow _ _ (comment body) ts (λ l m. (tt, m)) (past_type ts h o)
 past_type (instruction body ∷ ts) h o = grow _ _ (instruction body) ts (λ l m. (tt, m)) (past_type ts h o)
 past_type (declaration body ∷ ts) h o = absurd (none_closes o)
@@ -202,7 +208,9 @@ past_front : (ts : List Token) → ends_well (nests first_nesting ts) → closes
 past_front [] h o = not_begun _ h
 past_front (raw b ∷ ts) h o = space_first _ b ts h (λ e k. grow _ _ (raw b) ts (λ l m. (e, m)) (past_front ts k o))
 past_front (reference body ∷ ts) h o = absurd (none_ends h)
-past_front (cdata body ∷ ts) h o = absurd (none_ends h)
+past_front (opening ∷ ts) h o = absurd (none_ends h)
+past_front (bracket count ∷ ts) h o = absurd (none_ends h)
+past_front (cdata count byte ∷ ts) h o = absurd (none_ends h)
 past_front (comment body ∷ ts) h o = grow _ _ (comment body) ts (λ l m. (tt, m)) (past_front ts h o)
 past_front (instruction body ∷ ts) h o = grow _ _ (instruction body) ts (λ l m. (tt, m)) (past_front ts h o)
 past_front (declaration body ∷ ts) h o = absurd (none_closes o)
@@ -215,7 +223,9 @@ from_front : (ts : List Token) → ends_well (nests first_nesting ts) → closes
 from_front [] h o = not_begun _ h
 from_front (raw b ∷ ts) h o = space_first _ b ts h (λ e k. grow AreTyped _ (raw b) ts (λ l m. (e, m)) (past_front ts k o))
 from_front (reference body ∷ ts) h o = absurd (none_ends h)
-from_front (cdata body ∷ ts) h o = absurd (none_ends h)
+from_front (opening ∷ ts) h o = absurd (none_ends h)
+from_front (bracket count ∷ ts) h o = absurd (none_ends h)
+from_front (cdata count byte ∷ ts) h o = absurd (none_ends h)
 from_front (comment body ∷ ts) h o = grow AreTyped _ (comment body) ts (λ l m. (tt, m)) (past_front ts h o)
 from_front (instruction body ∷ ts) h o = grow AreTyped _ (instruction body) ts (λ l m. (tt, m)) (past_front ts h o)
 from_front (declaration body ∷ ts) h o = grow AreTyped _ (declaration body) ts (λ l m. m) (past_front ts h o)
@@ -233,7 +243,9 @@ then_go p q xs ys h = nests-append p xs ys ∙ rw h refl
 leaf_stays : (n : List ℕ) (os : List (List ℕ)) (t : Token) → IsLeaf t → nested (inside_of (n ∷ os)) t ≡ Some (inside_of (n ∷ os))
 leaf_stays n os (raw b) h = refl
 leaf_stays n os (reference body) h = refl
-leaf_stays n os (cdata body) h = refl
+leaf_stays n os opening h = refl
+leaf_stays n os (bracket count) h = refl
+leaf_stays n os (cdata count byte) h = refl
 leaf_stays n os (comment body) h = refl
 leaf_stays n os (instruction body) h = refl
 leaf_stays n os (declaration body) h = absurd h
@@ -274,7 +286,9 @@ misc_first (instruction body ∷ ts) h =
 misc_first (declaration body ∷ ts) h = absurd h.0
 misc_first (doctype body ∷ ts) h = absurd h.0
 misc_first (reference body ∷ ts) h = absurd h.0
-misc_first (cdata body ∷ ts) h = absurd h.0
+misc_first (opening ∷ ts) h = absurd h.0
+misc_first (bracket count ∷ ts) h = absurd h.0
+misc_first (cdata count byte ∷ ts) h = absurd h.0
 misc_first (start name attributes space ∷ ts) h = absurd h.0
 misc_first (empty name attributes space ∷ ts) h = absurd h.0
 misc_first (end name space ∷ ts) h = absurd h.0
@@ -295,7 +309,9 @@ typed_first (doctype body ∷ ts) h =
     let s = misc_first ts h in
     record { nesting = s.nesting; last = s.last; order = s.order }
 typed_first (reference body ∷ ts) h = absurd h.0
-typed_first (cdata body ∷ ts) h = absurd h.0
+typed_first (opening ∷ ts) h = absurd h.0
+typed_first (bracket count ∷ ts) h = absurd h.0
+typed_first (cdata count byte ∷ ts) h = absurd h.0
 typed_first (start name attributes space ∷ ts) h = absurd h.0
 typed_first (empty name attributes space ∷ ts) h = absurd h.0
 typed_first (end name space ∷ ts) h = absurd h.0
@@ -320,7 +336,9 @@ prolog_first (doctype body ∷ ts) h =
     let s = misc_first ts h in
     record { nesting = s.nesting; last = s.last; order = s.order }
 prolog_first (reference body ∷ ts) h = absurd h.0
-prolog_first (cdata body ∷ ts) h = absurd h.0
+prolog_first (opening ∷ ts) h = absurd h.0
+prolog_first (bracket count ∷ ts) h = absurd h.0
+prolog_first (cdata count byte ∷ ts) h = absurd h.0
 prolog_first (start name attributes space ∷ ts) h = absurd h.0
 prolog_first (empty name attributes space ∷ ts) h = absurd h.0
 prolog_first (end name space ∷ ts) h = absurd h.0
@@ -333,7 +351,9 @@ misc_stays (instruction body ∷ ts) h = misc_stays ts h.1
 misc_stays (declaration body ∷ ts) h = absurd h.0
 misc_stays (doctype body ∷ ts) h = absurd h.0
 misc_stays (reference body ∷ ts) h = absurd h.0
-misc_stays (cdata body ∷ ts) h = absurd h.0
+misc_stays (opening ∷ ts) h = absurd h.0
+misc_stays (bracket count ∷ ts) h = absurd h.0
+misc_stays (cdata count byte ∷ ts) h = absurd h.0
 misc_stays (start name attributes space ∷ ts) h = absurd h.0
 misc_stays (empty name attributes space ∷ ts) h = absurd h.0
 misc_stays (end name space ∷ ts) h = absurd h.0
@@ -347,7 +367,9 @@ root_ends (start n attributes space ∷ tokens) name inside l h =
 root_ends (empty n attributes space ∷ tokens) name inside l h = ap (nests last_nesting) h.2
 root_ends (raw b ∷ tokens) name inside l h = absurd h
 root_ends (reference body ∷ tokens) name inside l h = absurd h
-root_ends (cdata body ∷ tokens) name inside l h = absurd h
+root_ends (opening ∷ tokens) name inside l h = absurd h
+root_ends (bracket count ∷ tokens) name inside l h = absurd h
+root_ends (cdata count byte ∷ tokens) name inside l h = absurd h
 root_ends (comment body ∷ tokens) name inside l h = absurd h
 root_ends (instruction body ∷ tokens) name inside l h = absurd h
 root_ends (declaration body ∷ tokens) name inside l h = absurd h
@@ -358,7 +380,9 @@ root_ends (end n space ∷ tokens) name inside l h = absurd h
 leaf_past : (t : Token) → IsLeaf t → ordered Closed t ≡ Some Closed
 leaf_past (raw b) h = refl
 leaf_past (reference body) h = refl
-leaf_past (cdata body) h = refl
+leaf_past opening h = refl
+leaf_past (bracket count) h = refl
+leaf_past (cdata count byte) h = refl
 leaf_past (comment body) h = refl
 leaf_past (instruction body) h = refl
 leaf_past (declaration body) h = absurd h
@@ -385,7 +409,9 @@ misc_past (instruction body ∷ ts) h = misc_past ts h.1
 misc_past (declaration body ∷ ts) h = absurd h.0
 misc_past (doctype body ∷ ts) h = absurd h.0
 misc_past (reference body ∷ ts) h = absurd h.0
-misc_past (cdata body ∷ ts) h = absurd h.0
+misc_past (opening ∷ ts) h = absurd h.0
+misc_past (bracket count ∷ ts) h = absurd h.0
+misc_past (cdata count byte ∷ ts) h = absurd h.0
 misc_past (start name attributes space ∷ ts) h = absurd h.0
 misc_past (empty name attributes space ∷ ts) h = absurd h.0
 misc_past (end name space ∷ ts) h = absurd h.0
@@ -398,7 +424,9 @@ root_past p (start n attributes space ∷ tokens) name inside l h =
 root_past p (empty n attributes space ∷ tokens) name inside l h = ap (prolog_after Closed) h.2
 root_past p (raw b ∷ tokens) name inside l h = absurd h
 root_past p (reference body ∷ tokens) name inside l h = absurd h
-root_past p (cdata body ∷ tokens) name inside l h = absurd h
+root_past p (opening ∷ tokens) name inside l h = absurd h
+root_past p (bracket count ∷ tokens) name inside l h = absurd h
+root_past p (cdata count byte ∷ tokens) name inside l h = absurd h
 root_past p (comment body ∷ tokens) name inside l h = absurd h
 root_past p (instruction body ∷ tokens) name inside l h = absurd h
 root_past p (declaration body ∷ tokens) name inside l h = absurd h
@@ -424,7 +452,7 @@ leads_through tokens d =
     steps_of first_place tokens last_place (record {
       distinct = d.distinct;
       nesting = tree_nests tokens d.name d.inside d.tree;
-      count = d.apart;
+      tail = d.apart;
       order = tree_order tokens d.name d.inside d.tree;
     })
 
@@ -436,7 +464,7 @@ are_document tokens each ends =
     record {
       each = each;
       distinct = parts.distinct;
-      apart = parts.count;
+      apart = parts.tail;
       name = s.name;
       inside = s.inside;
       tree = record {

@@ -30,6 +30,10 @@ module _ (b : ℕ) where
   abbrev pub is_plain : Bool
   is_plain = not ((b == 60) || (b == 38))
 
+  -- all but a closing bracket
+  abbrev pub is_unbracketed : Bool
+  is_unbracketed = not (b == 93)
+
   abbrev pub is_quote : Bool
   is_quote = (b == 34) || (b == 39)
 
@@ -53,6 +57,10 @@ module _ (b : ℕ) where
 abbrev pub begins_plain : List ℕ → Bool
 begins_plain [] = false
 begins_plain (b ∷ bytes) = is_plain b
+
+abbrev pub begins_unbracketed : List ℕ → Bool
+begins_unbracketed [] = false
+begins_unbracketed (b ∷ bytes) = is_unbracketed b
 
 abbrev pub begins_name : List ℕ → Bool
 begins_name [] = false
@@ -224,7 +232,12 @@ pub data Token : Type 0 where
   raw : ℕ → Token
   -- what stands between & and ;
   reference : List ℕ → Token
-  cdata : List ℕ → Token
+  -- the mark that begins a CDATA section
+  opening : Token
+  -- a closing bracket in a section, behind so many of them, two at most
+  bracket : ℕ → Token
+  -- any other byte in a section, behind so many closing brackets; a > behind two of them ends it
+  cdata : ℕ → ℕ → Token
   comment : List ℕ → Token
   instruction : List ℕ → Token
   -- the XML declaration
@@ -239,7 +252,9 @@ pub data Token : Type 0 where
 abbrev pub spelling : Token → List ℕ
 spelling (raw b) = b ∷ []
 spelling (reference body) = codes "&" ++ (body ++ codes ";")
-spelling (cdata body) = codes "<![CDATA[" ++ (body ++ codes "]]>")
+spelling opening = codes "<![CDATA["
+spelling (bracket n) = codes "]"
+spelling (cdata n b) = b ∷ []
 spelling (comment body) = codes "<!--" ++ (body ++ codes "-->")
 spelling (instruction body) = codes "<?" ++ (body ++ codes "?>")
 spelling (declaration body) = codes "<?" ++ (body ++ codes "?>")
@@ -254,7 +269,9 @@ spelling (end name space) = codes "</" ++ (name ++ (space ++ codes ">"))
 abbrev pub is_token : Token → Bool
 is_token (raw b) = is_plain b
 is_token (reference body) = is_reference body
-is_token (cdata body) = is_free (codes "]]>") body
+is_token opening = true
+is_token (bracket n) = true
+is_token (cdata n b) = is_unbracketed b
 is_token (comment body) = is_free (codes "--") body
 is_token (instruction body) = is_instruction body && is_free (codes "?>") body
 is_token (declaration body) = is_declaration body && is_free (codes "?>") body

@@ -1,5 +1,6 @@
 pub mod Characters
 pub mod Grammar
+pub mod Sections
 pub mod Texts
 pub mod Steps
 pub mod Reading

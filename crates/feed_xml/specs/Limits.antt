@@ -6,6 +6,7 @@ use Rattle.feed_xml.specs.Distinct.{is_large}
 use Rattle.feed_xml.specs.Documents.{AreFront}
 use Rattle.feed_xml.specs.Grammar.{Attribute, Token, start, end, spelling, is_token}
 use Rattle.feed_xml.specs.Pieces.{HasNoToken}
+use Rattle.feed_xml.specs.Sections.{section_past}
 use Rattle.feed_xml.specs.Texts.{IsText}
 
 -- what may be said of the first tokens of a text and of what follows them
@@ -55,7 +56,8 @@ NoneBegins front = (other : List ℕ) → ¬ (IsText (front ++ other))
 -- at which none ends
 abbrev pub IsGarbled : Bound
 IsGarbled tokens rest =
-    (good bad more : List ℕ) × (rest ≡ good ++ (bad ++ more)) × HasNoToken good × (length bad ≤ 4)
+    (good bad more : List ℕ) × (rest ≡ good ++ (bad ++ more))
+    × HasNoToken (section_past tokens) good × (length bad ≤ 4)
     × (NoneBegins (flat_map spelling tokens ++ (good ++ bad))
     ⊎ ((more ≡ []) × ¬ (IsText (flat_map spelling tokens ++ (good ++ bad)))))
 
@@ -63,4 +65,4 @@ IsGarbled tokens rest =
 abbrev pub IsLong : Bound
 IsLong tokens rest =
     (front : List ℕ) × (more : List ℕ) × (rest ≡ front ++ more) × (4194304 < length front)
-    × HasNoToken front
+    × HasNoToken (section_past tokens) front

@@ -1,12 +1,13 @@
 -- The token that bytes begin with.
 use Rattle.std.specs.Prelude.{ℕ, zero, suc, length, ◌&&◌, ◌==◌, List, [], ◌∷◌, ◌++◌, Ok, Err}
-use Rattle.std.specs.Prelude.{if◌then◌else◌, codes}
+use Rattle.std.specs.Prelude.{if◌then◌else◌, codes, Option, Some, None}
 use Rattle.feed_xml.specs.declared.stop.Stop.TheVariants.{More, Never}
 use Rattle.feed_xml.specs.Grammar.{is_space, is_name_byte, begins_name, is_name, is_filled, refers}
 use Rattle.feed_xml.specs.Grammar.{is_value_byte, is_reference_byte, is_reference, is_instruction}
 use Rattle.feed_xml.specs.Grammar.{is_declaration, is_named, quote_at, Attribute, Token, raw}
-use Rattle.feed_xml.specs.Grammar.{reference, cdata, comment, instruction, declaration, doctype}
+use Rattle.feed_xml.specs.Grammar.{reference, opening, comment, instruction, declaration, doctype}
 use Rattle.feed_xml.specs.Grammar.{start, empty, end}
+use Rattle.feed_xml.specs.Sections.{section_byte}
 use Rattle.feed_xml.specs.Steps.{Step, ◌>>=◌, run, literal, until, skim}
 use Rattle.feed_xml.specs.declared.skim.Skim.TheVariants.{Outside}
 
@@ -96,11 +97,10 @@ comment_at bytes = do
   close ← literal (codes ">") body.1
   Ok (comment body.0, close.1)
 
-unfoldable pub cdata_at : List ℕ → Step Token
-cdata_at bytes = do
-  open_mark ← literal (codes "[CDATA[") bytes
-  body ← until (codes "]]>") open_mark.1
-  Ok (cdata body.0, body.1)
+unfoldable pub opening_at : List ℕ → Step Token
+opening_at bytes = do
+  mark ← literal (codes "[CDATA[") bytes
+  Ok (opening, mark.1)
 
 unfoldable pub doctype_at : List ℕ → Step Token
 doctype_at bytes = do
@@ -113,7 +113,7 @@ declaration_at [] = Err More
 declaration_at (b ∷ bytes) =
     if b == 45 then comment_at (b ∷ bytes)
     else if b == 68 then doctype_at (b ∷ bytes)
-    else cdata_at (b ∷ bytes)
+    else opening_at (b ∷ bytes)
 
 -- what follows <
 unfoldable pub markup_at : List ℕ → Step Token
@@ -130,10 +130,20 @@ reference_at bytes = do
   close ← literal (codes ";") body.1
   if is_reference body.0 then Ok (reference body.0, close.1) else Err Never
 
--- the token that bytes begin with, and the bytes behind it
-unfoldable pub token_at : List ℕ → Step Token
-token_at [] = Err More
-token_at (b ∷ bytes) =
+-- the token that bytes outside of sections begin with, and the bytes behind it
+unfoldable pub outside_at : List ℕ → Step Token
+outside_at [] = Err More
+outside_at (b ∷ bytes) =
     if b == 60 then markup_at bytes
     else if b == 38 then reference_at bytes
     else Ok (raw b, bytes)
+
+-- the same in a section, behind so many closing brackets of it
+unfoldable pub section_at : ℕ → List ℕ → Step Token
+section_at n [] = Err More
+section_at n (b ∷ bytes) = Ok (section_byte n b, bytes)
+
+-- the same in a section, if they stand in one
+unfoldable pub token_at : Option ℕ → List ℕ → Step Token
+token_at None bytes = outside_at bytes
+token_at (Some n) bytes = section_at n bytes

@@ -1,10 +1,13 @@
 -- A document as a tree.
-use Rattle.std.specs.Prelude.{◌≡◌, ℕ, suc, true, ◌==◌, ◌&&◌, nat_lt, Option, Some, None, List, []}
-use Rattle.std.specs.Prelude.{◌∷◌, ◌++◌, option_and_then, if◌then◌else◌}
+use Rattle.std.specs.Prelude.{◌≡◌, ℕ, true, ◌==◌, ◌&&◌, Option, Some, None, List, [], ◌∷◌, ◌++◌}
+use Rattle.std.specs.Prelude.{option_and_then, option_map, if◌then◌else◌}
 use Rattle.std.specs.List.{AllByRecursion, list_all}
+use Rattle.feed_xml.specs.declared.place.Tail.{Tail}
+use Rattle.feed_xml.specs.declared.place.Tail.TheVariants.{Text, Section}
 use Rattle.feed_xml.specs.Distinct.{has_distinct}
-use Rattle.feed_xml.specs.Grammar.{is_space, Token, raw, comment, instruction, declaration, doctype}
-use Rattle.feed_xml.specs.Grammar.{start, empty, end, is_token}
+use Rattle.feed_xml.specs.Grammar.{is_space, Token, raw, opening, bracket, cdata, comment}
+use Rattle.feed_xml.specs.Grammar.{instruction, declaration, doctype, start, empty, end, is_token}
+use Rattle.feed_xml.specs.Sections.{ends_section, with_bracket}
 use Rattle.feed_xml.specs.Tree.{Content, nothing, tokens_of, HasLeaves}
 
 -- what may stand behind the root: white space, comments and instructions
@@ -45,27 +48,43 @@ pub record IsTree (tokens : List Token) (name : List ℕ) (inside : Content) : T
   pub prolog : IsProlog before
   pub misc : AllByRecursion IsMisc behind
 
--- How many closing brackets of a text stand before the next token, two at most. In a text no >
+-- How many closing brackets of a text stand before its next byte, two at most. In a text no >
 -- stands behind two of them.
-abbrev pub next_brackets : ℕ → Token → Option ℕ
-next_brackets n (raw b) =
-    if b == 93 then Some (if nat_lt n 2 then suc n else n)
+abbrev pub next_brackets : ℕ → ℕ → Option ℕ
+next_brackets n b =
+    if b == 93 then Some (with_bracket n)
     else if (b == 62) && (n == 2) then None
     else Some 0
-next_brackets n other = Some 0
 
--- that number behind these tokens, or none where a > stands behind two brackets
-abbrev pub brackets_after : ℕ → List Token → Option ℕ
-brackets_after n [] = Some n
-brackets_after n (token ∷ tokens) =
-    option_and_then (λ m. brackets_after m tokens) (next_brackets n token)
+-- behind a byte of a section that is no closing bracket
+abbrev pub tail_in : ℕ → ℕ → Tail
+tail_in n b = if ends_section n b then Text 0 else Section 0
+
+-- What stands before the next token: so many closing brackets of a text, two at most, or a section
+-- that is open, and so many in it. A section has nothing in it but its bytes, each of which tells
+-- the brackets before it, and they stand in no text.
+abbrev pub next_tail : Tail → Token → Option Tail
+next_tail (Text n) (raw b) = option_map Text (next_brackets n b)
+next_tail (Text n) opening = Some (Section 0)
+next_tail (Text n) (bracket m) = None
+next_tail (Text n) (cdata m b) = None
+next_tail (Text n) other = Some (Text 0)
+next_tail (Section n) (bracket m) = if n == m then Some (Section (with_bracket n)) else None
+next_tail (Section n) (cdata m b) = if n == m then Some (tail_in n b) else None
+next_tail (Section n) other = None
+
+-- the same behind these tokens, or none where one of them may not stand
+abbrev pub tail_after : Tail → List Token → Option Tail
+tail_after tail [] = Some tail
+tail_after tail (token ∷ tokens) =
+    option_and_then (λ next. tail_after next tokens) (next_tail tail token)
 
 -- The tokens are those of a document: a tree, of which each token is well formed, the attributes of
--- each tag have names of their own, and no text has ]]>.
+-- each tag have names of their own, no text has ]]>, and each section ends.
 pub record AreDocument (tokens : List Token) : Type 0 where
   pub each : list_all is_token tokens ≡ true
   pub distinct : list_all has_distinct tokens ≡ true
-  pub apart : brackets_after 0 tokens ≡ Some 0
+  pub apart : tail_after (Text 0) tokens ≡ Some (Text 0)
   pub name : List ℕ
   pub inside : Content
   pub tree : IsTree tokens name inside

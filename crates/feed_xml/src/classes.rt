@@ -4,7 +4,7 @@ ghost use Rattle.std.specs.Prelude.{◌≡◌, true};
 ghost use Rattle.std.specs.List.{list_all};
 ghost use Rattle.std.specs.Str.{chars};
 ghost use Rattle.feed_xml.specs.Characters.{are_of_name};
-ghost use Rattle.feed_xml.specs.Grammar.{is_space, starts_name, is_name_byte, is_plain, is_value_byte, is_quote, is_filled, begins_plain, begins_name, is_reference_byte, is_digit, is_hex_digit, is_name};
+ghost use Rattle.feed_xml.specs.Grammar.{is_space, starts_name, is_name_byte, is_plain, is_value_byte, is_quote, is_filled, begins_plain, is_unbracketed, begins_unbracketed, begins_name, is_reference_byte, is_digit, is_hex_digit, is_name};
 ghost use Rattle.feed_xml.specs.Kinds.{passes};
 ghost use Rattle.feed_xml.specs.private.NameCharacters.{is_ascii};
 
@@ -55,6 +55,13 @@ pub(crate) fn is_plain(b: u8) -> bool
 }
 
 #[inline]
+pub(crate) fn is_unbracketed(b: u8) -> bool
+    ensures { result ≡ is_unbracketed b }
+{
+    b != 93
+}
+
+#[inline]
 pub(crate) fn is_value_byte(quote: u8, b: u8) -> bool
     ensures { result ≡ is_value_byte quote b }
 {
@@ -100,6 +107,16 @@ pub(crate) fn begins_plain(bytes: &[u8]) -> bool
     match bytes {
         [] => false,
         [first, ..] => is_plain(*first),
+    }
+}
+
+#[inline]
+pub(crate) fn begins_unbracketed(bytes: &[u8]) -> bool
+    ensures { result ≡ begins_unbracketed bytes.now }
+{
+    match bytes {
+        [] => false,
+        [first, ..] => is_unbracketed(*first),
     }
 }
 

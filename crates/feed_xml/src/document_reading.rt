@@ -3,9 +3,9 @@
 ghost use Rattle.std.specs.Prelude.{◌≡◌, ◌≤◌, ◌<◌, ◌∷◌, ℕ, List, map, IfOk, IfErr, OnOk, OnErr, true, false, vec_len, IsErrOf, IfSome, [], length, take, drop, fold, Some, None};
 ghost use Rattle.std.specs.Io.KnownBytes.{Consumes, IsAtEnd};
 ghost use Rattle.feed_xml.specs.Grammar.{Token, raw};
-ghost use Rattle.feed_xml.specs.Pieces.{Begins, HasNoToken};
+ghost use Rattle.feed_xml.specs.Pieces.{Begins, Explains, HasNoToken};
 ghost use Rattle.feed_xml.specs.View.{piece_view};
-ghost use Rattle.feed_xml.specs.private.Places.{IsComplete, steps};
+ghost use Rattle.feed_xml.specs.private.Places.{IsComplete, section_of, steps};
 ghost use Rattle.feed_xml.specs.Documents.{IsDocument};
 ghost use Rattle.feed_xml.specs.private.Faults.{IsUnknown, TellsText, TellsWindow};
 ghost use Rattle.feed_xml.specs.private.Windows.{Advances, Grows, IsEnding, IsTold, is_whole};
@@ -28,6 +28,15 @@ use crate::texts::{Part, follow, is_start};
 use std::alloc::Global;
 use std::io::Read;
 
+// What the rest begins with at a place.
+fn next_piece<'a>(place: &Place, rest: &'a [u8]) -> Result<(Piece<'a>, &'a [u8]), Stop>
+    ensures ok { IfOk result (λ x. Begins (section_of place.now.tail) rest.now
+        (piece_view x.0) x.1.now) }
+    ensures err { IfErr result (λ e. Explains (section_of place.now.tail) e rest.now) }
+{
+    read_piece(place.section(), rest)
+}
+
 // Goes on by what the rest begins with, or of a stretch of text by as much as may stand here, and
 // gives it and what follows it.
 fn take_some<'a>(
@@ -36,11 +45,13 @@ fn take_some<'a>(
     rest: &'a [u8],
     next: &'a [u8],
 ) -> Result<(Piece<'a>, &'a [u8]), Fault>
-    requires { Begins rest.now (piece_view piece) next.now }
-    ensures begins { IfOk result (λ x. Begins rest.entry.now (piece_view x.0) x.1.now) }
+    requires { Begins (section_of place.old.tail) rest.now (piece_view piece) next.now }
+    ensures begins { IfOk result (λ x. Begins (section_of place.old.tail) rest.entry.now
+        (piece_view x.0) x.1.now) }
     ensures ok { IfOk result (λ x. steps place.old (piece_view x.0) ≡ Some place.new) }
     ensures malformed { IsErrOf result Fault.Malformed → (token : Token) × (behind : List ℕ)
-        × Begins rest.entry.now (token ∷ []) behind × (steps place.old (token ∷ []) ≡ None) }
+        × Begins (section_of place.old.tail) rest.entry.now (token ∷ []) behind
+        × (steps place.old (token ∷ []) ≡ None) }
     ensures deep { IsErrOf result Fault.TooDeep → IsDeepAt place.old rest.entry.now }
     ensures large { IsErrOf result Fault.LargeTag → IsLargeAt place.old rest.entry.now }
     ensures fault { IfErr result IsOfPlace }
@@ -49,6 +60,10 @@ fn take_some<'a>(
         Piece::Markup(token) => {
             place.take_markup(&token)?;
             Ok((Piece::Markup(token), next))
+        }
+        Piece::Section(run) => {
+            place.take_section(run)?;
+            Ok((Piece::Section(run), next))
         }
         Piece::Text(run) => match place.take_text(run) {
             Ok(()) => Ok((Piece::Text(run), next)),
@@ -64,12 +79,15 @@ fn take_front<'a>(
     run: &'a [u8],
     rest: &'a [u8],
 ) -> Result<(Piece<'a>, &'a [u8]), Fault>
-    requires begins { (next : List ℕ) × Begins rest.now (map raw run.now) next }
+    requires begins { (next : List ℕ)
+        × Begins (section_of place.old.tail) rest.now (map raw run.now) next }
     requires malformed { steps place.old (map raw run.now) ≡ None }
-    ensures begins { IfOk result (λ x. Begins rest.entry.now (piece_view x.0) x.1.now) }
+    ensures begins { IfOk result (λ x. Begins (section_of place.old.tail) rest.entry.now
+        (piece_view x.0) x.1.now) }
     ensures ok { IfOk result (λ x. steps place.old (piece_view x.0) ≡ Some place.new) }
     ensures malformed { IsErrOf result Fault.Malformed → (token : Token) × (behind : List ℕ)
-        × Begins rest.entry.now (token ∷ []) behind × (steps place.old (token ∷ []) ≡ None) }
+        × Begins (section_of place.old.tail) rest.entry.now (token ∷ []) behind
+        × (steps place.old (token ∷ []) ≡ None) }
     ensures deep { ¬ (IsErrOf result Fault.TooDeep) }
     ensures large { ¬ (IsErrOf result Fault.LargeTag) }
     ensures fault { IfErr result IsOfPlace }
@@ -108,13 +126,14 @@ fn drain<S: Sink>(window: &[u8], place: &mut Place, sink: &mut S) -> Result<usiz
     ensures whole { IfOk result (λ n. (tokens : List Token)
         × Advances window.now tokens (drop n window.now) place.old place.new
         × (sink.new ≡ fold S.after sink.old tokens)) }
-    ensures no_more { IfOk result (λ n. HasNoToken (drop n window.now)) }
+    ensures no_more { IfOk result (λ n. HasNoToken (section_of place.new.tail)
+        (drop n window.now)) }
     ensures fault { IfErr result
         (TellsWindow S.after S.goes_on place.old window.now sink.old sink.new) }
 {
     let mut rest = window;
     'reading: loop {
-        match read_piece(rest) {
+        match next_piece(place, rest) {
             Ok((piece, next)) => {
                 let (taken, behind) = match take_some(place, piece, rest, next) {
                     Ok(found) => found,

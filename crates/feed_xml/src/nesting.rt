@@ -128,7 +128,9 @@ impl Nesting {
         match token {
             Token::Comment(_) | Token::Instruction(_) => Ok(()),
             Token::Doctype(_) | Token::Declaration(_) => only_if(!self.begun),
-            Token::Reference(_) | Token::CData(_) => only_if(!self.names.is_nothing()),
+            Token::Reference(_) | Token::Opening | Token::Bracket(_) | Token::CData(_, _) => {
+                only_if(!self.names.is_nothing())
+            }
             Token::Start(name, _, _) => self.take_start(name),
             Token::Empty(_, _, _) => self.take_empty(),
             Token::End(name, _) => only_if(self.names.close(name)),

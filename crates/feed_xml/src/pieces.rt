@@ -1,22 +1,24 @@
-//! What bytes begin with: a stretch of text, or a token.
+//! What bytes begin with: a stretch of text or of a section, or a token.
 
-ghost use Rattle.std.specs.Prelude.{◌≡◌, ◌<◌, ◌++◌, true, false, IfOk, IfErr, length};
+ghost use Rattle.std.specs.Prelude.{◌≡◌, ◌<◌, ◌++◌, true, false, IfOk, IfErr, Some, None, length};
 ghost use Rattle.std.specs.List.{list_all};
-ghost use Rattle.feed_xml.specs.Grammar.{is_plain, begins_plain};
+ghost use Rattle.feed_xml.specs.Grammar.{is_plain, begins_plain, is_unbracketed, begins_unbracketed};
 ghost use Rattle.feed_xml.specs.Pieces.{Begins, Explains};
 ghost use Rattle.feed_xml.specs.View.{piece_view, token_view};
 ghost use Rattle.feed_xml.specs.Steps.{Gives};
-ghost use Rattle.feed_xml.specs.Reading.{token_at};
+ghost use Rattle.feed_xml.specs.Reading.{outside_at, section_at};
 
-use crate::classes::{begins_plain, is_plain};
+use crate::classes::{begins_plain, begins_unbracketed, is_plain, is_unbracketed};
 use crate::stop::Stop;
 use crate::tags::{Token, markup, reference};
 
-/// A stretch of text, or a token.
+/// A stretch of text or of a CDATA section, or a token.
 #[derive(Drop)]
 pub enum Piece<'a> {
     /// Bytes of a text, some of a run or all of it.
     Text(&'a [u8]),
+    /// Bytes of a section that are no closing brackets and stand behind none.
+    Section(&'a [u8]),
     /// Any other token.
     Markup(Token<'a>),
 }
@@ -38,11 +40,28 @@ fn plain(bytes: &[u8]) -> (&[u8], &[u8])
     bytes.split_at(at)
 }
 
+// The bytes up to a closing bracket.
+fn unbracketed(bytes: &[u8]) -> (&[u8], &[u8])
+    ensures whole { bytes.now ≡ result.0.now ++ result.1.now }
+    ensures each { list_all is_unbracketed result.0.now ≡ true }
+    ensures some { begins_unbracketed bytes.now ≡ true → length result.1.now < length bytes.now }
+{
+    let mut at = 0;
+    while at < bytes.len() {
+        if is_unbracketed(bytes[at]) {
+            at += 1;
+        } else {
+            return bytes.split_at(at);
+        }
+    }
+    bytes.split_at(at)
+}
+
 // The token that bytes begin with, where they begin with no plain byte.
-#[tactic(auto, unfolding(crate::specs::Reading::token_at))]
+#[tactic(auto, unfolding(crate::specs::Reading::outside_at))]
 fn markup_or_reference(bytes: &[u8]) -> Result<(Token<'_>, &[u8]), Stop>
     requires { begins_plain bytes.now ≡ false }
-    ensures { Gives (λ x. (token_view x.0, x.1.now)) result (token_at bytes.now) }
+    ensures { Gives (λ x. (token_view x.0, x.1.now)) result (outside_at bytes.now) }
 {
     match bytes {
         [] => Err(Stop::More),
@@ -52,10 +71,22 @@ fn markup_or_reference(bytes: &[u8]) -> Result<(Token<'_>, &[u8]), Stop>
     }
 }
 
-/// What bytes begin with.
-pub(crate) fn read_piece(bytes: &[u8]) -> Result<(Piece<'_>, &[u8]), Stop>
-    ensures ok { IfOk result (λ x. Begins bytes.now (piece_view x.0) x.1.now) }
-    ensures err { IfErr result (λ e. Explains e bytes.now) }
+// The byte of a section that bytes begin with, behind so many closing brackets of it.
+#[tactic(auto, unfolding(crate::specs::Reading::section_at))]
+fn section_byte(count: u8, bytes: &[u8]) -> Result<(Token<'_>, &[u8]), Stop>
+    ensures { Gives (λ x. (token_view x.0, x.1.now)) result (section_at count bytes.now) }
+{
+    match bytes {
+        [] => Err(Stop::More),
+        [b']', rest @ ..] => Ok((Token::Bracket(count), rest)),
+        [first, rest @ ..] => Ok((Token::CData(count, *first), rest)),
+    }
+}
+
+// What bytes outside of sections begin with.
+fn outside_piece(bytes: &[u8]) -> Result<(Piece<'_>, &[u8]), Stop>
+    ensures ok { IfOk result (λ x. Begins None bytes.now (piece_view x.0) x.1.now) }
+    ensures err { IfErr result (λ e. Explains None e bytes.now) }
 {
     if begins_plain(bytes) {
         let (run, rest) = plain(bytes);
@@ -63,5 +94,38 @@ pub(crate) fn read_piece(bytes: &[u8]) -> Result<(Piece<'_>, &[u8]), Stop>
     } else {
         let (token, rest) = markup_or_reference(bytes)?;
         Ok((Piece::Markup(token), rest))
+    }
+}
+
+// Whether bytes of a section begin with one that is no closing bracket and stands behind none.
+fn begins_stretch(count: u8, bytes: &[u8]) -> bool
+    ensures none { result ≡ true → count ≡ 0 }
+    ensures begins { result ≡ true → begins_unbracketed bytes.now ≡ true }
+{
+    count == 0 && begins_unbracketed(bytes)
+}
+
+// What bytes of a section begin with, behind so many closing brackets of it.
+fn section_piece(count: u8, bytes: &[u8]) -> Result<(Piece<'_>, &[u8]), Stop>
+    ensures ok { IfOk result (λ x. Begins (Some count) bytes.now (piece_view x.0) x.1.now) }
+    ensures err { IfErr result (λ e. Explains (Some count) e bytes.now) }
+{
+    if begins_stretch(count, bytes) {
+        let (run, rest) = unbracketed(bytes);
+        Ok((Piece::Section(run), rest))
+    } else {
+        let (token, rest) = section_byte(count, bytes)?;
+        Ok((Piece::Markup(token), rest))
+    }
+}
+
+/// What bytes begin with, in a section behind so many closing brackets of it, if they stand in one.
+pub(crate) fn read_piece(section: Option<u8>, bytes: &[u8]) -> Result<(Piece<'_>, &[u8]), Stop>
+    ensures ok { IfOk result (λ x. Begins section bytes.now (piece_view x.0) x.1.now) }
+    ensures err { IfErr result (λ e. Explains section e bytes.now) }
+{
+    match section {
+        None => outside_piece(bytes),
+        Some(count) => section_piece(count, bytes),
     }
 }

@@ -1,12 +1,13 @@
 //! Where tokens may stand.
 
-ghost use Rattle.std.specs.Prelude.{◌≡◌, ◌≤◌, ◌∷◌, [], Some, None, true, false, OnOk, OnErr, IfErr, IsErrOf, map, length};
+ghost use Rattle.std.specs.Prelude.{◌≡◌, ◌≤◌, ◌∷◌, [], ℕ, Some, None, true, false, OnOk, OnErr, IfErr, IsErrOf, map, length};
 ghost use Rattle.feed_xml.specs.Distinct.{are_many, is_large};
-ghost use Rattle.feed_xml.specs.Grammar.{raw, are_distinct};
+ghost use Rattle.feed_xml.specs.Grammar.{raw, cdata, are_distinct};
 ghost use Rattle.feed_xml.specs.private.Bounds.{IsStart};
-ghost use Rattle.feed_xml.specs.private.Fitting.{brackets_with, fitting};
-ghost use Rattle.feed_xml.specs.Trees.{brackets_after};
-ghost use Rattle.feed_xml.specs.private.Places.{is_nothing, further, ordered, prolog_after, steps, first_place, is_last};
+ghost use Rattle.feed_xml.specs.private.Fitting.{brackets_with, fitting, fitting_behind};
+ghost use Rattle.feed_xml.specs.Sections.{with_bracket};
+ghost use Rattle.feed_xml.specs.Trees.{next_tail, tail_after, tail_in};
+ghost use Rattle.feed_xml.specs.private.Places.{is_nothing, further, ordered, prolog_after, brackets_after, section_of, is_clear, steps, first_place, is_last};
 ghost use Rattle.feed_xml.specs.Distinct.{has_distinct};
 ghost use Rattle.feed_xml.specs.Faults.{IsOfPlace};
 ghost use Rattle.feed_xml.specs.View.{token_view};
@@ -15,13 +16,14 @@ use crate::attributes::Attributes;
 use crate::classes::is_space;
 use crate::fault::Fault;
 use crate::nesting::{MOST_OPEN, Nesting};
+use crate::sections::ends_section;
 use crate::tags::Token;
 use std::alloc::Global;
 
 // The bytes from the first closing bracket on.
 #[inline(always)]
 fn from_bracket(run: &[u8]) -> &[u8]
-    ensures same { brackets_after 0 (map raw result.now) ≡ brackets_after 0 (map raw run.now) }
+    ensures same { brackets_after 0 result.now ≡ brackets_after 0 run.now }
     ensures shorter { length result.now ≤ length run.now }
 {
     let mut rest = run;
@@ -37,8 +39,7 @@ fn from_bracket(run: &[u8]) -> &[u8]
 // The same, where none is counted so far.
 #[inline(always)]
 fn skip_uncounted(count: u8, run: &[u8]) -> &[u8]
-    ensures same { brackets_after count (map raw result.now)
-        ≡ brackets_after count (map raw run.now) }
+    ensures same { brackets_after count result.now ≡ brackets_after count run.now }
     ensures shorter { length result.now ≤ length run.now }
 {
     if count == 0 { from_bracket(run) } else { run }
@@ -46,7 +47,7 @@ fn skip_uncounted(count: u8, run: &[u8]) -> &[u8]
 
 // How many closing brackets of a text stand behind a run of it, two at most, unless it has a `]]>`.
 fn brackets_behind(before: u8, run: &[u8]) -> Option<u8>
-    ensures { result ≡ brackets_after before (map raw run.now) }
+    ensures { result ≡ brackets_after before run.now }
 {
     let mut count = before;
     let mut rest = skip_uncounted(count, run);
@@ -80,6 +81,137 @@ fn brackets_with(is_outside: bool, before: u8, byte: u8) -> Option<u8>
         None
     } else {
         Some(0)
+    }
+}
+
+// How many bytes of a text may stand behind so many closing brackets of it, from the first on.
+fn fitting(is_outside: bool, before: u8, run: &[u8]) -> usize
+    ensures { result ≡ fitting is_outside before run.now }
+{
+    let mut count = before;
+    let mut rest = run;
+    while let [b, tail @ ..] = rest {
+        let Some(next) = brackets_with(is_outside, count, *b) else {
+            return run.len() - rest.len();
+        };
+        count = next;
+        rest = tail;
+    }
+    run.len()
+}
+
+/// What stands before the next token.
+#[derive(Clone, Copy, Debug)]
+pub(crate) enum Tail {
+    /// So many closing brackets of a text, two at most.
+    Text(u8),
+    /// A CDATA section that is open, and so many closing brackets of it, two at most.
+    Section(u8),
+}
+
+// So many closing brackets and one more, two at most.
+fn with_bracket(count: u8) -> u8
+    ensures { result ≡ with_bracket count }
+{
+    if count < 2 { count + 1 } else { count }
+}
+
+// Behind a byte of a section that is no closing bracket.
+fn tail_in(count: u8, byte: u8) -> Tail
+    ensures { result ≡ tail_in count byte }
+{
+    if ends_section(count, byte) {
+        Tail::Text(0)
+    } else {
+        Tail::Section(0)
+    }
+}
+
+// Behind a token in a section, where that may stand there.
+fn tail_within(count: u8, token: &Token<'_>) -> Option<Tail>
+    ensures { result ≡ next_tail (Tail.Section count) (token_view token.now) }
+{
+    match token {
+        Token::Bracket(before) => {
+            if count == *before {
+                Some(Tail::Section(with_bracket(count)))
+            } else {
+                None
+            }
+        }
+        Token::CData(before, byte) => {
+            if count == *before {
+                Some(tail_in(count, *byte))
+            } else {
+                None
+            }
+        }
+        _ => None,
+    }
+}
+
+// Behind a token, where that may stand there.
+fn tail_with(before: Tail, token: &Token<'_>) -> Option<Tail>
+    ensures { result ≡ next_tail before (token_view token.now) }
+{
+    match before {
+        Tail::Section(count) => tail_within(count, token),
+        Tail::Text(_) => match token {
+            Token::Opening => Some(Tail::Section(0)),
+            Token::Bracket(_) | Token::CData(_, _) => None,
+            _ => Some(Tail::Text(0)),
+        },
+    }
+}
+
+// Behind a stretch of text behind so many closing brackets of one, where that may stand there.
+fn text_tail(count: u8, run: &[u8]) -> Option<Tail>
+    ensures { result ≡ tail_after (Tail.Text count) (map raw run.now) }
+{
+    match brackets_behind(count, run) {
+        Some(behind) => Some(Tail::Text(behind)),
+        None => None,
+    }
+}
+
+// Behind a stretch of text in a section, where none may stand.
+fn section_tail(count: u8, run: &[u8]) -> Option<Tail>
+    ensures { result ≡ tail_after (Tail.Section count) (map raw run.now) }
+{
+    match run {
+        [] => Some(Tail::Section(count)),
+        [_first, ..] => None,
+    }
+}
+
+// Behind a stretch of text, where that may stand there.
+fn tail_behind(before: Tail, run: &[u8]) -> Option<Tail>
+    ensures { result ≡ tail_after before (map raw run.now) }
+{
+    match before {
+        Tail::Text(count) => text_tail(count, run),
+        Tail::Section(count) => section_tail(count, run),
+    }
+}
+
+// Whether a section is open, and no closing bracket of it stands there.
+fn is_in_stretch(tail: Tail) -> bool
+    ensures held { result ≡ true → tail ≡ Tail.Section 0 }
+    ensures refused { result ≡ false → (b : ℕ) → next_tail tail (cdata 0 b) ≡ None }
+{
+    match tail {
+        Tail::Text(_) => false,
+        Tail::Section(count) => count == 0,
+    }
+}
+
+// Whether no closing bracket of a text stands there, and no section is open.
+fn is_clear(tail: Tail) -> bool
+    ensures { result ≡ is_clear tail }
+{
+    match tail {
+        Tail::Text(count) => count == 0,
+        Tail::Section(_) => false,
     }
 }
 
@@ -172,7 +304,7 @@ fn behind_token(prolog: Prolog, token: &Token<'_>) -> Option<Prolog>
 #[derive(Drop)]
 pub(crate) struct Place {
     nesting: Nesting,
-    brackets: u8,
+    tail: Tail,
     prolog: Prolog,
 }
 
@@ -183,7 +315,7 @@ impl Place {
     {
         Place {
             nesting: Nesting::first(alloc),
-            brackets: 0,
+            tail: Tail::Text(0),
             prolog: Prolog::Front,
         }
     }
@@ -192,7 +324,7 @@ impl Place {
     pub(crate) fn is_last(&self) -> bool
         ensures { result ≡ is_last self.now }
     {
-        self.nesting.is_closed() && (self.brackets == 0 && matches!(self.prolog, Prolog::Closed))
+        self.nesting.is_closed() && (is_clear(self.tail) && matches!(self.prolog, Prolog::Closed))
     }
 
     /// The name of the innermost element that is open.
@@ -210,11 +342,11 @@ impl Place {
         ensures large { ¬ (IsErrOf result Fault.LargeTag) }
         ensures fault { IfErr result IsOfPlace }
     {
-        match brackets_behind(self.brackets, run) {
+        match tail_behind(self.tail, run) {
             None => Err(Fault::Malformed),
-            Some(brackets) => {
+            Some(tail) => {
                 self.nesting.take_text(run)?;
-                self.brackets = brackets;
+                self.tail = tail;
                 self.prolog = behind_text(self.prolog, run);
                 Ok(())
             }
@@ -223,19 +355,39 @@ impl Place {
 
     /// How many bytes of a stretch of text may stand here, from its first on.
     pub(crate) fn fitting(&self, run: &[u8]) -> usize
-        ensures { result ≡ fitting (is_nothing self.now.nesting.names) self.now.brackets run.now }
+        ensures { result
+            ≡ fitting_behind (is_nothing self.now.nesting.names) self.now.tail run.now }
     {
-        let is_outside = self.nesting.is_outside();
-        let mut count = self.brackets;
-        let mut rest = run;
-        while let [b, tail @ ..] = rest {
-            let Some(next) = brackets_with(is_outside, count, *b) else {
-                return run.len() - rest.len();
-            };
-            count = next;
-            rest = tail;
+        match self.tail {
+            Tail::Text(count) => fitting(self.nesting.is_outside(), count, run),
+            Tail::Section(_) => 0,
         }
-        run.len()
+    }
+
+    /// In what section the next token stands: behind how many closing brackets of it, if in one.
+    pub(crate) fn section(&self) -> Option<u8>
+        ensures { result ≡ section_of self.now.tail }
+    {
+        match self.tail {
+            Tail::Text(_) => None,
+            Tail::Section(count) => Some(count),
+        }
+    }
+
+    /// Goes on by a stretch of a section.
+    pub(crate) fn take_section(&mut self, run: &[u8]) -> Result<(), Fault>
+        ensures ok { OnOk result (steps self.old (map (cdata 0) run.now) ≡ Some self.new) }
+        ensures malformed { OnErr result ((b : ℕ) → steps self.old (cdata 0 b ∷ []) ≡ None) }
+        ensures fault { IfErr result (λ fault. fault ≡ Fault.Malformed) }
+    {
+        if self.nesting.is_outside() {
+            return Err(Fault::Malformed);
+        }
+        if !is_in_stretch(self.tail) {
+            return Err(Fault::Malformed);
+        }
+        self.prolog = behind_text(self.prolog, run);
+        Ok(())
     }
 
     /// Goes on by a token.
@@ -250,10 +402,13 @@ impl Place {
     {
         check_tag(token)?;
         self.nesting.take_token(token)?;
+        let Some(tail) = tail_with(self.tail, token) else {
+            return Err(Fault::Malformed);
+        };
         let Some(prolog) = behind_token(self.prolog, token) else {
             return Err(Fault::Malformed);
         };
-        self.brackets = 0;
+        self.tail = tail;
         self.prolog = prolog;
         Ok(())
     }

@@ -2,7 +2,7 @@
 
 ghost use Rattle.std.specs.Prelude.{◌≡◌, ◌<◌, length};
 ghost use Rattle.feed_xml.specs.Steps.{Gives};
-ghost use Rattle.feed_xml.specs.Reading.{end_at, start_at, close_at, instruction_at, comment_at, cdata_at, doctype_at, declaration_at, markup_at, reference_at};
+ghost use Rattle.feed_xml.specs.Reading.{end_at, start_at, close_at, instruction_at, comment_at, opening_at, doctype_at, declaration_at, markup_at, reference_at};
 ghost use Rattle.feed_xml.specs.View.{token_view};
 
 use crate::attributes::{Attributes, read_attributes};
@@ -18,8 +18,13 @@ use crate::stop::Stop;
 pub enum Token<'a> {
     /// What stands between `&` and `;`.
     Reference(&'a [u8]),
-    /// What stands in a CDATA section.
-    CData(&'a [u8]),
+    /// The mark that begins a CDATA section.
+    Opening,
+    /// A closing bracket in a CDATA section, behind so many of them, two at most.
+    Bracket(u8),
+    /// Any other byte in a CDATA section, behind so many closing brackets. A `>` behind two of them
+    /// ends the section.
+    CData(u8, u8),
     /// What stands in a comment.
     Comment(&'a [u8]),
     /// What stands between `<?` and `?>`.
@@ -103,13 +108,12 @@ fn comment(bytes: &[u8]) -> Result<(Token<'_>, &[u8]), Stop>
     Ok((Token::Comment(body), rest))
 }
 
-#[tactic(auto, unfolding(crate::specs::Reading::cdata_at))]
-fn cdata(bytes: &[u8]) -> Result<(Token<'_>, &[u8]), Stop>
-    ensures { Gives (λ x. (token_view x.0, x.1.now)) result (cdata_at bytes.now) }
+#[tactic(auto, unfolding(crate::specs::Reading::opening_at))]
+fn opening(bytes: &[u8]) -> Result<(Token<'_>, &[u8]), Stop>
+    ensures { Gives (λ x. (token_view x.0, x.1.now)) result (opening_at bytes.now) }
 {
     let rest = literal(b"[CDATA[", bytes)?;
-    let (body, rest) = until(b"]]>", rest)?;
-    Ok((Token::CData(body), rest))
+    Ok((Token::Opening, rest))
 }
 
 #[tactic(auto, unfolding(crate::specs::Reading::doctype_at))]
@@ -133,7 +137,7 @@ fn declaration(bytes: &[u8]) -> Result<(Token<'_>, &[u8]), Stop>
         [] => Err(Stop::More),
         [b'-', ..] => comment(bytes),
         [b'D', ..] => doctype(bytes),
-        [_first, ..] => cdata(bytes),
+        [_first, ..] => opening(bytes),
     }
 }
 

@@ -6,7 +6,7 @@ use Rattle.feed_xml.specs.private.Windows.{Advances}
 use Rattle.feed_xml.specs.Grammar.{Token, start}
 use Rattle.feed_xml.specs.Limits.{Follows, IsGarbled}
 use Rattle.feed_xml.specs.Pieces.{HasNoToken}
-use Rattle.feed_xml.specs.private.Places.{first_place, steps}
+use Rattle.feed_xml.specs.private.Places.{first_place, section_of, steps}
 
 -- what may be said of a place and of what follows there
 abbrev pub PlaceBound : Type 1
@@ -44,7 +44,7 @@ IsLargeAt p rest = (tag : Token) × Follows tag rest × (is_large tag ≡ true)
 abbrev pub IsLongAt : Place → List ℕ → Type 0
 IsLongAt p rest =
     (front : List ℕ) × (more : List ℕ) × (rest ≡ front ++ more) × (4194304 < length front)
-    × HasNoToken front
+    × HasNoToken (section_of p.tail) front
 
 -- the text is none behind these tokens
 abbrev pub IsGarbledBehind : List Token → List ℕ → Type 0

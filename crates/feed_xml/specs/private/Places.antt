@@ -7,12 +7,14 @@ use Rattle.feed_xml.specs.declared.nesting.Nesting.{Nesting}
 use Rattle.feed_xml.specs.declared.place.Place.{Place}
 use Rattle.feed_xml.specs.declared.place.Prolog.{Prolog}
 use Rattle.feed_xml.specs.declared.place.Prolog.TheVariants.{Front, Open, Closed}
+use Rattle.feed_xml.specs.declared.place.Tail.{Tail}
+use Rattle.feed_xml.specs.declared.place.Tail.TheVariants.{Text, Section}
 use Rattle.feed_xml.specs.Texts.{IsText}
 use Rattle.feed_xml.specs.Distinct.{has_distinct}
-use Rattle.feed_xml.specs.Grammar.{is_space, Token, raw, reference, cdata, comment}
+use Rattle.feed_xml.specs.Grammar.{is_space, Token, raw, reference, opening, bracket, cdata, comment}
 use Rattle.feed_xml.specs.Grammar.{instruction, declaration, doctype, start, empty, end, spelling}
 use Rattle.feed_xml.specs.Grammar.{is_token}
-use Rattle.feed_xml.specs.Trees.{brackets_after}
+use Rattle.feed_xml.specs.Trees.{next_brackets, tail_after}
 
 abbrev pub is_nothing : List (List ℕ) → Bool
 is_nothing [] = true
@@ -37,7 +39,9 @@ opened name p = if is_closed p then None else Some (record { names = name ∷ p.
 abbrev pub nested : Nesting → Token → Option Nesting
 nested p (raw b) = if is_nothing p.names && not (is_space b) then None else Some p
 nested p (reference body) = if is_nothing p.names then None else Some p
-nested p (cdata body) = if is_nothing p.names then None else Some p
+nested p opening = if is_nothing p.names then None else Some p
+nested p (bracket n) = if is_nothing p.names then None else Some p
+nested p (cdata n b) = if is_nothing p.names then None else Some p
 nested p (comment body) = Some p
 nested p (instruction body) = Some p
 nested p (declaration body) = if p.begun then None else Some p
@@ -79,19 +83,31 @@ abbrev pub prolog_after : Prolog → List Token → Option Prolog
 prolog_after p [] = Some p
 prolog_after p (token ∷ tokens) = option_and_then (λ q. prolog_after q tokens) (ordered p token)
 
-abbrev pub place_from : Option Nesting → Option ℕ → Option Prolog → Option Place
-place_from (Some nesting) (Some brackets) (Some prolog) =
-    Some (record { nesting = nesting; brackets = brackets; prolog = prolog })
-place_from (Some nesting) (Some brackets) None = None
+-- how many closing brackets of a text stand behind these bytes of it, or none where a > stands
+-- behind two of them
+abbrev pub brackets_after : ℕ → List ℕ → Option ℕ
+brackets_after n [] = Some n
+brackets_after n (b ∷ run) = option_and_then (λ m. brackets_after m run) (next_brackets n b)
+
+-- in what section the next token stands
+abbrev pub section_of : Tail → Option ℕ
+section_of (Text n) = None
+section_of (Section n) = Some n
+
+abbrev pub place_from : Option Nesting → Option Tail → Option Prolog → Option Place
+place_from (Some nesting) (Some tail) (Some prolog) =
+    Some (record { nesting = nesting; tail = tail; prolog = prolog })
+place_from (Some nesting) (Some tail) None = None
 place_from (Some nesting) None prolog = None
-place_from None brackets prolog = None
+place_from None tail prolog = None
 
 -- Tokens take one place to another: so they are nested, their attributes have names of their own,
--- no text has ]]>, a declaration stands at the front alone, and there is one DOCTYPE at most.
+-- no text has ]]>, a section has nothing in it but its bytes, a declaration stands at the front
+-- alone, and there is one DOCTYPE at most.
 abbrev pub steps : Place → List Token → Option Place
 steps p tokens =
     if list_all has_distinct tokens
-    then place_from (nests p.nesting tokens) (brackets_after p.brackets tokens)
+    then place_from (nests p.nesting tokens) (tail_after p.tail tokens)
     (prolog_after p.prolog tokens)
     else None
 
@@ -103,18 +119,23 @@ last_nesting = record { names = []; begun = true }
 
 -- where a document begins
 abbrev pub first_place : Place
-first_place = record { nesting = first_nesting; brackets = 0; prolog = Front }
+first_place = record { nesting = first_nesting; tail = Text 0; prolog = Front }
 
 abbrev pub last_place : Place
-last_place = record { nesting = last_nesting; brackets = 0; prolog = Closed }
+last_place = record { nesting = last_nesting; tail = Text 0; prolog = Closed }
 
 -- the root's tag was read
 abbrev pub is_past : Prolog → Bool
 is_past Closed = true
 is_past other = false
 
+-- no closing bracket of a text stands there, and no section is open
+abbrev pub is_clear : Tail → Bool
+is_clear (Text n) = n == 0
+is_clear (Section n) = false
+
 abbrev pub is_last : Place → Bool
-is_last p = is_closed p.nesting && ((p.brackets == 0) && is_past p.prolog)
+is_last p = is_closed p.nesting && (is_clear p.tail && is_past p.prolog)
 
 -- from this place on the bytes are these tokens, to where a document may end
 pub record Completes (p : Place) (bytes : List ℕ) (tokens : List Token) : Type 0 where

@@ -6,6 +6,7 @@ use Rattle.feed_xml.specs.declared.texts.Part.TheVariants.{Whole}
 use Rattle.feed_xml.specs.Grammar.{Token}
 use Rattle.feed_xml.specs.Pieces.{HasNoToken}
 use Rattle.feed_xml.specs.private.Faults.{TellsText}
+use Rattle.feed_xml.specs.private.Places.{section_of}
 use Rattle.feed_xml.specs.private.Decoders.{decoded_rest, text_from, text_left}
 use Rattle.feed_xml.proofs.DocumentLaws.{a_none, ok_then}
 use Rattle.feed_xml.proofs.EncodingLaws.{begun}
@@ -83,8 +84,8 @@ module _ (g : Over) (c : In_ok-drop_front g) where
       w.2 ∙ ap (λ s. fold g.S.Sink.after s w.0) c.loop.invariant.sunk ∙ sym (fold-append g.S.Sink.after c.args.sink.now c.loop.invariant.tokens w.0)
 
   -- no token is whole in what is left
-  none_left : HasNoToken window
-  none_left = a_none c.loop.window.items c.deref.result.now window c.in_ok-count.count c.deref.ensures.value c.in_ok-drop_front.ensures.rest c.in_ok-count.ensures.no_more
+  none_left : HasNoToken (section_of c.drain.new.place.tail) window
+  none_left = a_none (section_of c.drain.new.place.tail) c.loop.window.items c.deref.result.now window c.in_ok-count.count c.deref.ensures.value c.in_ok-drop_front.ensures.rest c.in_ok-count.ensures.no_more
 
 pub returns-in_default-clause-fault : goal.returns-in_default-clause-fault
 returns-in_default-clause-fault g c =

@@ -6,7 +6,7 @@ use Rattle.feed_xml.proofs.laws.tokens_are_read.Goals as goal
 
 pub returns : goal.returns
 returns c = record {
-  takes = λ bytes rest token e. token_takes bytes (token, rest) e;
+  takes = λ section bytes rest token e. token_takes section bytes (token, rest) e;
   again = token_again;
-  never = λ bytes more e. never_stays more (token_at bytes) (token_at (bytes ++ more)) (token_stays bytes more) e;
+  never = λ section bytes more e. never_stays more (token_at section bytes) (token_at section (bytes ++ more)) (token_stays section bytes more) e;
 }

@@ -1,10 +1,9 @@
-use Rattle.std.proofs.Common.{◌≡◌, length, map}
-use Rattle.feed_xml.specs.Grammar.{raw}
-use Rattle.feed_xml.specs.Trees.{brackets_after}
+use Rattle.std.proofs.Common.{◌≡◌, length}
+use Rattle.feed_xml.specs.private.Places.{brackets_after}
 use Rattle.feed_xml.proofs.place.brackets_behind.Given as goal
 
 abbrev pub invariant-loop-rest : goal.invariant-loop-rest
-invariant-loop-rest l = brackets_after l.count (map raw l.rest) ≡ brackets_after l.fn.before (map raw l.run)
+invariant-loop-rest l = brackets_after l.count l.rest ≡ brackets_after l.fn.before l.run
 
 abbrev pub decreases-loop-rest : goal.decreases-loop-rest
 decreases-loop-rest l = length l.rest

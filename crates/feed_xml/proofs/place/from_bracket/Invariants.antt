@@ -1,11 +1,10 @@
-use Rattle.std.proofs.Common.{◌≡◌, ◌≤◌, length, map}
-use Rattle.feed_xml.specs.Grammar.{raw}
-use Rattle.feed_xml.specs.Trees.{brackets_after}
+use Rattle.std.proofs.Common.{◌≡◌, ◌≤◌, length}
+use Rattle.feed_xml.specs.private.Places.{brackets_after}
 use Rattle.feed_xml.proofs.place.from_bracket.Given as goal
 
 abbrev pub invariant-loop-rest : goal.invariant-loop-rest
 invariant-loop-rest l = record {
-  same : brackets_after 0 (map raw l.rest) ≡ brackets_after 0 (map raw l.run);
+  same : brackets_after 0 l.rest ≡ brackets_after 0 l.run;
   shorter : length l.rest ≤ length l.run;
 }
 

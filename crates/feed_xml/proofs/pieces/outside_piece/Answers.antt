@@ -1,15 +1,15 @@
 use Rattle.std.proofs.lemmas.Result.{err_from_is_err_and}
 use Rattle.std.proofs.Common.{sym, ◌∙◌}
-use Rattle.feed_xml.proofs.PieceLaws.{token_begins, text_begins, fails}
-use Rattle.feed_xml.proofs.pieces.read_piece.Goals as goal
+use Rattle.feed_xml.proofs.PieceLaws.{outside_begins, text_begins, outside_fails}
+use Rattle.feed_xml.proofs.pieces.outside_piece.Goals as goal
 
 pub returns-in_err-token-clause-err : goal.returns-in_err-token-clause-err
 returns-in_err-token-clause-err c =
     let p = err_from_is_err_and c.from_residual.result c.from_residual.ensures.1 in
-    rw (p.1, p.2) (fails c.in_err-token.field-0.0 c.args.bytes.now c.in_err-token.ensures)
+    rw (p.1, p.2) (outside_fails c.in_err-token.field-0.0 c.args.bytes.now c.in_err-token.ensures)
 
 pub returns-in_ok-token-clause-ok : goal.returns-in_ok-token-clause-ok
-returns-in_ok-token-clause-ok c = token_begins c.args.bytes.now c.in_ok-token.rest.now _ c.in_ok-token.ensures
+returns-in_ok-token-clause-ok c = outside_begins c.args.bytes.now c.in_ok-token.rest.now _ c.in_ok-token.ensures
 
 pub returns-then-begins_plain-clause-ok : goal.returns-then-begins_plain-clause-ok
 returns-then-begins_plain-clause-ok c = text_begins c.args.bytes.now c.plain.result.0.now c.plain.result.1.now c.plain.ensures.whole c.plain.ensures.each (c.plain.ensures.some (sym c.begins_plain.ensures ∙ c.if-begins_plain.true))

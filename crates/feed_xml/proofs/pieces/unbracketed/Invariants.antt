@@ -1,0 +1,13 @@
+use Rattle.std.proofs.Common.{◌≡◌, ◌-◌, ◌≤◌, true, length, take}
+use Rattle.std.specs.List.{list_all}
+use Rattle.feed_xml.specs.Grammar.{is_unbracketed}
+use Rattle.feed_xml.proofs.pieces.unbracketed.Given as goal
+
+abbrev pub invariant-loop-at : goal.invariant-loop-at
+invariant-loop-at l = record {
+  within : l.at ≤ length l.bytes;
+  each : list_all is_unbracketed (take l.at l.bytes) ≡ true;
+}
+
+abbrev pub decreases-loop-at : goal.decreases-loop-at
+decreases-loop-at l = length l.bytes - l.at

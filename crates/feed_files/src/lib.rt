@@ -26,4 +26,3 @@ mod watched;
 pub use converting::{Run, convert_files};
 pub use ended::Ended;
 pub use fault::write_fault;
-pub use program_files::STANDARD_INPUT;

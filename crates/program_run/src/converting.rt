@@ -46,14 +46,13 @@ fn convert_by<F: NamedFiles, R: Read, W: Write, E: Write>(
         (Appends (W.contents streams.old.output) (W.contents streams.new.output))
         (asked_view conversion.now) (option_map (λ terms. terms.now) terms.entry) result }
 {
-    let asked = &conversion.run;
     let run = Run {
         options: Options {
-            choices: copied(&asked.options.choices),
-            wrong: asked.options.wrong,
+            choices: copied(&conversion.options.choices),
+            wrong: conversion.options.wrong,
             terms,
         },
-        folder: asked.folder,
+        folder: conversion.folder,
     };
     let names = conversion.files.as_slice();
     let errors = &mut streams.errors.writer;

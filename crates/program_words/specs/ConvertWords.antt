@@ -33,8 +33,8 @@ pub record Asked : Type 0 where
 -- what is asked, without where it lies in memory
 abbrev pub asked_view : Conversion → Asked
 asked_view c = record {
-  options = options_view c.run.options;
-  folder = option_map (λ name. name.now) c.run.folder;
+  options = options_view c.options;
+  folder = option_map (λ name. name.now) c.folder;
   terms = option_map (λ name. name.now) c.terms;
   titles = option_map (λ name. name.now) c.titles;
   files = map (λ name. name.now) c.files.items;

@@ -13,12 +13,12 @@ ghost use Rattle.program_words.specs.Words.{words_in};
 use crate::arguments::{text_in, texts_in};
 use clap::ArgMatches;
 use feed_conversion::{Allowed, Options};
-use feed_files::{Run, STANDARD_INPUT};
 use feed_mapping::{Choices, Pair};
 use onix_records::fields::is_clean;
 use onix_terms::code::Code2;
 use onix_terms::digits::read_digits;
 use onix_terms::number::Number;
+use program_files::STANDARD_INPUT;
 use std::alloc::{AllocError, Global};
 
 /// The type of identifier that is preferred without `--id-type`: GLN.
@@ -69,8 +69,11 @@ const IDENTIFIER: &str =
 /// What `convert` is asked to do.
 #[derive(Drop)]
 pub struct Conversion<'a> {
-    pub run: Run<'a>,
-    /// The file of the shop's terms, where they are given; the options of the run have none yet.
+    /// How each message is converted: without terms, since their file is not read yet.
+    pub options: Options<'a>,
+    /// The folder that takes the messages, or none where they go to standard output.
+    pub folder: Option<&'a str>,
+    /// The file of the shop's terms, where they are given.
     pub terms: Option<&'a str>,
     /// The file that takes the titles, where they are asked for.
     pub titles: Option<&'a str>,
@@ -340,7 +343,8 @@ pub fn conversion_of<'a>(
         return Err(BadWords::InputTitles);
     }
     Ok(Conversion {
-        run: Run { options, folder },
+        options,
+        folder,
         terms: text_in(words, "terms"),
         titles,
         files,

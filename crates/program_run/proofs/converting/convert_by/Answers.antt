@@ -16,11 +16,11 @@ returns-clause-end g c =
     let after = g.F.NamedFiles.holds c.convert_files-status.new.files in
     let written = Appends (g.W.Write.contents c.args.streams.now.output) (g.W.Write.contents c.convert_files-status.new.output) in
     let status = c.convert_files-status.result in
-    let folder = option_map (λ (name : Bor (List ℕ)). name.now) conversion.run.folder in
+    let folder = option_map (λ (name : Bor (List ℕ)). name.now) conversion.folder in
     let titles = option_map (λ (file : Bor (List ℕ)). file.now) conversion.titles in
-    subst (λ choices. EndsWith (asking (options_view (record { choices = choices; wrong = conversion.run.options.wrong; terms = c.args.terms })) folder told)
+    subst (λ choices. EndsWith (asking (options_view (record { choices = choices; wrong = conversion.options.wrong; terms = c.args.terms })) folder told)
     input before after (map (λ (name : Bor (List ℕ)). name.now) conversion.files.items) written status titles)
     c.copied.ensures
-    (subst (λ names. EndsWith (asking (options_view (record { choices = c.copied.result; wrong = conversion.run.options.wrong; terms = c.args.terms })) folder told)
+    (subst (λ names. EndsWith (asking (options_view (record { choices = c.copied.result; wrong = conversion.options.wrong; terms = c.args.terms })) folder told)
     input before after (map (λ (name : Bor (List ℕ)). name.now) names) written status titles)
     c.as_slice-names.ensures.value c.convert_files-status.ensures.end)

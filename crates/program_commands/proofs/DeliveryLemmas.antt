@@ -19,7 +19,7 @@ use Rattle.desk_batch.specs.declared.batch.RequestFault.{RequestFault}
 use Rattle.desk_batch.specs.declared.batch.RequestFault.TheVariants as request_fault
 use Rattle.program_commands.specs.Deliveries.{AreTexts, Delivers, IsUnasked, ReadFits, delivery_of}
 use Rattle.program_commands.proofs.TalkEnds.{deliveries_end, talk_status}
-use Rattle.program_commands.specs.TaskEnds.{DeliverEnds}
+use Rattle.program_commands.specs.CommandEnds.{DeliverEnds}
 use Rattle.program_commands.specs.declared.deliver.DeliveryFault.{DeliveryFault}
 use Rattle.program_commands.specs.declared.deliver.DeliveryFault.TheVariants as fault
 

@@ -5,7 +5,7 @@ use Rattle.series_rules.specs.Steps.{Step}
 use Rattle.series_rules.specs.declared.requests.Request.TheVariants.{AskGaps}
 use Rattle.desk_batch.specs.declared.batch.RequestFault.{RequestFault}
 use Rattle.program_commands.proofs.TalkEnds.{request_ended, request_stopped, requests_end}
-use Rattle.program_commands.specs.TaskEnds.{GapsEnds}
+use Rattle.program_commands.specs.CommandEnds.{GapsEnds}
 use Rattle.program_commands.specs.Unknown.{GapsGive}
 
 module _ (asked : List Step → Type 0) (written : List ℕ → Type 0) where

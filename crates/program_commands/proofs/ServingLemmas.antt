@@ -16,7 +16,7 @@ use Rattle.program_commands.proofs.ClientLemmas.{first_of, none_first, none_repl
 use Rattle.program_commands.proofs.ConnectionLines.{lines_behind}
 use Rattle.program_commands.specs.Connections.{Connection, IsServed}
 use Rattle.program_commands.specs.Serving.{listening_line}
-use Rattle.program_commands.specs.TaskEnds.{ConnectionsServed, ServeEnds}
+use Rattle.program_commands.specs.CommandEnds.{ConnectionsServed, ServeEnds}
 
 abbrev pub steps_of : List Connection → List Step
 steps_of served = flat_map (λ (c : Connection). c.steps) served

@@ -11,7 +11,7 @@ use Rattle.desk_batch.specs.declared.batch.BatchFault.{BatchFault}
 use Rattle.desk_batch.specs.declared.batch.BatchFault.TheVariants as batch_fault
 use Rattle.desk_batch.specs.declared.batch.RequestFault.{RequestFault}
 use Rattle.desk_batch.specs.declared.batch.RequestFault.TheVariants as request_fault
-use Rattle.program_commands.specs.TaskEnds.{RequestsEnd, batch_status}
+use Rattle.program_commands.specs.CommandEnds.{RequestsEnd, batch_status}
 
 -- the status of a talk by how it stopped
 abbrev pub talk_status : List Step → Stop → ℕ

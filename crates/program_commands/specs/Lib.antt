@@ -4,4 +4,4 @@ pub mod Serving
 pub mod Connections
 pub mod ServedClients
 pub mod Sending
-pub mod TaskEnds
+pub mod CommandEnds

@@ -6,7 +6,7 @@ ghost use Rattle.std.specs.Io.KnownBytes.{Appends};
 ghost use Rattle.csv_records.specs.Streams.{IsTold};
 ghost use Rattle.series_rules.specs.Steps.{Asked};
 ghost use Rattle.desk_batch.specs.Batch.{RunsBatch};
-ghost use Rattle.program_commands.specs.TaskEnds.{BatchEnds};
+ghost use Rattle.program_commands.specs.CommandEnds.{BatchEnds};
 
 use crate::faults::fault_of_batch;
 use crate::malformed::{tell_refusals, tell_untold};

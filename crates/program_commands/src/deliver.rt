@@ -6,7 +6,7 @@ ghost use Rattle.csv_records.specs.RecordTexts.{limit};
 ghost use Rattle.csv_records.specs.Streams.{IsTold, TakesAtMost};
 ghost use Rattle.series_rules.specs.Steps.{Asked};
 ghost use Rattle.program_commands.specs.Deliveries.{Delivers, IsRead, IsTextOf, IsUnasked, ReadFits};
-ghost use Rattle.program_commands.specs.TaskEnds.{DeliverEnds};
+ghost use Rattle.program_commands.specs.CommandEnds.{DeliverEnds};
 
 use crate::faults::fault_of_request;
 use crate::malformed::{tell_delivery, tell_end};

@@ -5,7 +5,7 @@ ghost use Rattle.std.specs.Io.KnownBytes.{Appends};
 ghost use Rattle.onix_terms.specs.SeriesName.{series_name_of};
 ghost use Rattle.series_rules.specs.Steps.{Asked};
 ghost use Rattle.program_commands.specs.Unknown.{GapsGive, UnknownFits};
-ghost use Rattle.program_commands.specs.TaskEnds.{GapsEnds};
+ghost use Rattle.program_commands.specs.CommandEnds.{GapsEnds};
 
 use crate::faults::fault_of_request;
 use crate::streams::Streams;

@@ -6,7 +6,7 @@ ghost use Rattle.std.specs.Prelude.{[], Some, false, length, map};
 ghost use Rattle.series_rules.specs.Steps.{Asked};
 ghost use Rattle.program_clients.specs.Clients.{IsReplied};
 ghost use Rattle.program_commands.specs.ServedClients.{texts_of};
-ghost use Rattle.program_commands.specs.TaskEnds.{ConnectionsServed};
+ghost use Rattle.program_commands.specs.CommandEnds.{ConnectionsServed};
 
 use crate::serve::serve_clients;
 use crate::streams::Streams;

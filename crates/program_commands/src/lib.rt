@@ -1,10 +1,10 @@
 //! The commands of the program that are put to a desk, each over any desk: `batch`, `deliver`,
-//! `gaps` and `serve`, each connection of which is served in `connection`; `task` gives them one,
-//! and `faults` has what can go wrong with their requests. `sending` sends a batch to a desk that
-//! is open. `checked_texts` reads texts and asks no desk, `malformed` says behind the answers why
-//! requests were refused so, and `unread` why a file is not read or a text has no records. `front`
-//! keeps the first bytes of a connection, or a posted message. `known_clients` shows that there are
-//! clients of whom it is known what they send. `streams` has what a command reads and writes.
+//! `gaps` and `serve`, each connection of which is served in `connection`; `faults` has what can go
+//! wrong with their requests. `sending` sends a batch to a desk that is open. `checked_texts` reads
+//! texts and asks no desk, `malformed` says behind the answers why requests were refused so, and
+//! `unread` why a file is not read or a text has no records. `front` keeps the first bytes of a
+//! connection, or a posted message. `known_clients` shows that there are clients of whom it is known
+//! what they send. `streams` has what a command reads and writes.
 #![tactic(auto)]
 
 pub mod batch;
@@ -19,5 +19,4 @@ mod malformed;
 pub mod sending;
 pub mod serve;
 pub mod streams;
-pub mod task;
 mod unread;

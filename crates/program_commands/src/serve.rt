@@ -7,7 +7,7 @@ ghost use Rattle.program_commands.specs.ServedClients.{ServesNext};
 ghost use Rattle.series_rules.specs.Steps.{Asked};
 ghost use Rattle.program_lines.specs.Printing.{WritesWhole};
 ghost use Rattle.program_commands.specs.Serving.{listening_line};
-ghost use Rattle.program_commands.specs.TaskEnds.{ConnectionsServed, ServeEnds};
+ghost use Rattle.program_commands.specs.CommandEnds.{ConnectionsServed, ServeEnds};
 
 use crate::connection::{Client, print_line, serve_connection};
 use crate::front::Front;

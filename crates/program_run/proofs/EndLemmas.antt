@@ -16,10 +16,10 @@ use Rattle.program_desks.specs.DeskFiles.{DeskFiles, LeavesAs, OpensAs}
 use Rattle.program_desks.specs.declared.files_left.FilesLeft.{FilesLeft}
 use Rattle.program_desks.specs.declared.kept_desks.Creation.{Creation}
 use Rattle.program_desks.specs.declared.files_left.FilesLeft.TheVariants.{Closed, Unclosed, Unopened, Untouched}
-use Rattle.program_run.specs.FileEnds.{TaskLeads}
+use Rattle.program_run.specs.FileEnds.{TaskEnds, TaskLeads}
 use Rattle.program_run.specs.OverFiles.{Closes, EndsOverFiles, IsUnserved}
 use Rattle.program_commands.proofs.TalkEnds.{batch_as, talks_as}
-use Rattle.program_commands.specs.TaskEnds.{GapsEnds, RequestsEnd, TaskEnds}
+use Rattle.program_commands.specs.CommandEnds.{GapsEnds, RequestsEnd}
 use Rattle.program_words.specs.declared.invocation.Task.{Task}
 use Rattle.program_words.specs.declared.invocation.Task.TheVariants as task
 

@@ -1,8 +1,9 @@
 -- How the program ends by what it is asked, with what it leaves of the files of a desk.
-use Rattle.std.specs.Prelude.{◌≡◌, ◌⊎◌, ℕ, Bool, List, [], Result, Ok, Err, Option, Some, None, string_bytes}
+use Rattle.std.specs.Prelude.{◌≡◌, ◌⊎◌, ℕ, Bool, List, [], Result, Ok, Err, Option, Some, None, is_some, map, string_bytes}
 use Rattle.std.specs.Borrow.{Bor}
+use Rattle.onix_terms.specs.SeriesName.{series_name_of}
 use Rattle.price_rules.specs.declared.precedence.Rule.{Rule}
-use Rattle.series_rules.specs.Steps.{Leads}
+use Rattle.series_rules.specs.Steps.{Leads, Step}
 use Rattle.series_rules.specs.Views.{DeskKind, View}
 use Rattle.program_files.specs.Holdings.{Holdings}
 use Rattle.program_desks.specs.DeskFiles.{DeskFiles}
@@ -18,19 +19,34 @@ use Rattle.program_clients.specs.Clients.{ClientTexts}
 use Rattle.program_clients.specs.Sent.{Message}
 use Rattle.program_rules.specs.RulesFile.{CheckEnds, ReadsTable, status_of}
 use Rattle.program_rules.specs.TermsRead.{CheckTermsEnds}
+use Rattle.program_commands.specs.CommandEnds.{BatchEnds, DeliverEnds, GapsEnds, ServeEnds}
 use Rattle.program_commands.specs.Sending.{SendEnds}
-use Rattle.program_commands.specs.TaskEnds.{TaskEnds}
 use Rattle.program_words.specs.declared.invocation.Action.{Action}
 use Rattle.program_words.specs.declared.invocation.Action.TheVariants.{CheckRules, CheckTerms, CheckTexts, Convert, InMemory, InFile, Listed, Migrate, Send}
 use Rattle.program_words.specs.declared.invocation.Invocation.{Invocation}
 use Rattle.program_words.specs.declared.invocation.Reading.{Reading}
 use Rattle.program_words.specs.declared.invocation.Reading.TheVariants as reading
 use Rattle.program_words.specs.declared.invocation.Task.{Task}
+use Rattle.program_words.specs.declared.invocation.Task.TheVariants as task
 use Rattle.program_rules.specs.declared.rules.RulesFault.{RulesFault}
 
--- Of a command under these rules. Written: these bytes were written. Holds: what names hold. Told:
--- what the input tells of its bytes. Coming: what the clients send of a desk that serves; were,
--- are: what those that were served were sent, before and after
+-- How a command over a desk can end with this status. Asked: the desk was asked these steps.
+-- Written: these bytes were written. Holds: what names hold. Told: what the input tells of its
+-- bytes. Coming: what the clients send of a desk that serves; were, are: what those that were
+-- served were sent, before and after
+abbrev pub TaskEnds : (List Step → Type 0) → (List ℕ → Type 0) → Task → Holdings
+    → Option (List ℕ) → ClientTexts → ClientTexts → ClientTexts → ℕ → Type 0
+TaskEnds asked written task.Batch holds told coming were are status =
+    (are ≡ were) × BatchEnds asked written told status
+TaskEnds asked written (task.Deliver names) holds told coming were are status =
+    (are ≡ were)
+    × DeliverEnds asked written holds told (map (λ name. name.now) names.items) status
+TaskEnds asked written (task.Gaps name) holds told coming were are status =
+    (are ≡ were) × GapsEnds asked written (series_name_of name.now) status
+TaskEnds asked written (task.Serve port requests batches) holds told coming were are status =
+    ServeEnds asked written (is_some batches) coming were are port requests status
+
+-- of a command under these rules, by the same
 module _ (rules : List Rule) (written : List ℕ → Type 0) (task : Task) (holds : Holdings)
     (told : Option (List ℕ)) (coming were are : ClientTexts) where
   -- how it can end over a desk that was seen as `old` at first and as `new` at last: what it asked

@@ -9,6 +9,7 @@ ghost use Rattle.program_run.specs.OverFiles.{EndsOverFiles, IsUnserved, creatio
 use crate::closing::close_desk;
 use crate::machine::Machine;
 use crate::opening::{creation_of, report_unopened};
+use crate::task::{bind_port, run_task};
 use crate::{converting, help, listing, migrating};
 use desk_memory::MemoryDesk;
 use price_rules::precedence::Precedence;
@@ -17,7 +18,6 @@ use program_clients::open_desks::OpenDesks;
 use program_commands::checked_texts::check_texts;
 use program_commands::sending::send_input;
 use program_commands::streams::Streams;
-use program_commands::task::{bind_port, run_task};
 use program_desks::files_left::FilesLeft;
 use program_desks::kept_desks::KeepsDesks;
 use program_files::NamedFiles;

@@ -1,9 +1,8 @@
 -- How each command over a desk ends: what was asked of the desk, and what was written.
-use Rattle.std.specs.Prelude.{◌≡◌, ◌≤◌, ◌⊎◌, ◌++◌, ◌∷◌, ℕ, All, Bool, List, [], Option, Some, None, Result, Ok, Err, is_some, length, map, nat_eq, nat_lt, if◌then◌else◌}
+use Rattle.std.specs.Prelude.{◌≡◌, ◌≤◌, ◌⊎◌, ◌++◌, ◌∷◌, ℕ, All, Bool, List, [], Option, Some, None, Result, Ok, Err, length, map, nat_eq, nat_lt, if◌then◌else◌}
 use Rattle.std.specs.List.{flat_map}
 use Rattle.csv_records.specs.Streams.{IsTold}
 use Rattle.program_files.specs.Holdings.{Holdings}
-use Rattle.onix_terms.specs.SeriesName.{series_name_of}
 use Rattle.series_rules.specs.Steps.{Step}
 use Rattle.series_rules.specs.declared.answers.Answer.TheVariants.{UnknownSeries}
 use Rattle.series_rules.specs.declared.requests.Request.{Request}
@@ -21,8 +20,6 @@ use Rattle.program_lines.specs.Printing.{PrintEnds}
 use Rattle.program_commands.specs.Serving.{listening_line}
 use Rattle.program_clients.specs.Clients.{ClientTexts}
 use Rattle.program_clients.specs.declared.clients.Protocol.{Protocol}
-use Rattle.program_words.specs.declared.invocation.Task.{Task}
-use Rattle.program_words.specs.declared.invocation.Task.TheVariants as task
 
 -- the status of requests that were asked: 0, or 1 where an answer is a refusal, or 3 before the end
 abbrev pub batch_status : Result ℕ BatchFault → ℕ
@@ -84,15 +81,3 @@ module _ (asked : List Step → Type 0) (written : List ℕ → Type 0) where
       × ConnectionsEnd asked batches count served
       × (((status ≡ 3) × (served ≡ []) × WritesFront written (listening_line port))
       ⊎ EndsServing (λ lines. written (listening_line port ++ lines)) count served status)
-
-  -- how a command can end with this status. Holds: what names hold. Told: what the input tells of
-  -- its bytes. Coming, old, new: as of serving
-  abbrev pub TaskEnds : Task → Holdings → Option (List ℕ) → ClientTexts → ClientTexts → ClientTexts
-      → ℕ → Type 0
-  TaskEnds task.Batch holds told coming old new status = (new ≡ old) × BatchEnds told status
-  TaskEnds (task.Deliver names) holds told coming old new status =
-      (new ≡ old) × DeliverEnds holds told (map (λ name. name.now) names.items) status
-  TaskEnds (task.Gaps name) holds told coming old new status =
-      (new ≡ old) × GapsEnds (series_name_of name.now) status
-  TaskEnds (task.Serve port requests batches) holds told coming old new status =
-      ServeEnds (is_some batches) coming old new port requests status

@@ -2,8 +2,8 @@ use Rattle.std.proofs.Common.{List, map, refl, subst, ℕ}
 use Rattle.std.specs.Borrow.{Bor}
 use Rattle.std.specs.Io.KnownBytes.{Appends}
 use Rattle.series_rules.specs.Steps.{Asked}
-use Rattle.program_commands.specs.TaskEnds.{DeliverEnds}
-use Rattle.program_commands.proofs.task.run_task.Goals as goal
+use Rattle.program_commands.specs.CommandEnds.{DeliverEnds}
+use Rattle.program_run.proofs.task.run_task.Goals as goal
 
 pub returns-in-Batch-clause-end : goal.returns-in-Batch-clause-end
 returns-in-Batch-clause-end g c = rw c.in-Batch.is (refl, c.answer_input.ensures.end)

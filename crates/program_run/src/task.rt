@@ -3,15 +3,15 @@
 ghost use Rattle.std.specs.Prelude.{◌≡◌, ◌≤◌};
 ghost use Rattle.std.specs.Io.KnownBytes.{Appends};
 ghost use Rattle.series_rules.specs.Steps.{Asked};
-ghost use Rattle.program_commands.specs.TaskEnds.{TaskEnds};
+ghost use Rattle.program_run.specs.FileEnds.{TaskEnds};
 
-use crate::batch::answer_input;
-use crate::deliver::deliver_files;
-use crate::gaps::ask_gaps;
-use crate::serve::{Place, serve_desk};
-use crate::streams::Streams;
 use price_rules::precedence::Precedence;
 use program_clients::entrances::Entrances;
+use program_commands::batch::answer_input;
+use program_commands::deliver::deliver_files;
+use program_commands::gaps::ask_gaps;
+use program_commands::serve::{Place, serve_desk};
+use program_commands::streams::Streams;
 use program_files::NamedFiles;
 use program_words::invocation::Task;
 use series_rules::desk::Desk;
@@ -20,7 +20,7 @@ use std::rt::HostRuntime;
 
 /// Binds the port at which a command serves, before its desk is opened, so that nobody else has it
 /// meanwhile and clients wait; whether it could be is told behind the faults of the desk.
-pub fn bind_port<N: Entrances>(entrances: &mut N, task: &Task<'_>)
+pub(crate) fn bind_port<N: Entrances>(entrances: &mut N, task: &Task<'_>)
     ensures coming { N.coming entrances.new ≡ N.coming entrances.old }
     ensures replied { N.replied entrances.new ≡ N.replied entrances.old }
 {
@@ -30,7 +30,7 @@ pub fn bind_port<N: Entrances>(entrances: &mut N, task: &Task<'_>)
 }
 
 /// Runs a command over a desk, and gives its status.
-pub fn run_task<D: Desk, F: NamedFiles, N: Entrances, R: Read, W: Write, E: Write>(
+pub(crate) fn run_task<D: Desk, F: NamedFiles, N: Entrances, R: Read, W: Write, E: Write>(
     rt: &HostRuntime,
     desk: &mut D,
     precedence: &Precedence,

@@ -1,7 +1,10 @@
 //! Where the command `serve` is reached with `--batches`: a port of 127.0.0.1, and a socket of the
 //! file system.
 
-use crate::clients::{Clients, Protocol};
+ghost use Rattle.std.specs.Prelude.{true};
+ghost use Rattle.program_clients.specs.Streams.{AcceptsStream};
+
+use crate::clients::Protocol;
 use crate::port::{Port, is_lost};
 use crate::sockets;
 use crate::timed::{Stream, Timed};
@@ -137,26 +140,11 @@ impl<'a> Doors<'a> {
         }
         Err(Fault::Socket)
     }
-}
 
-impl<'a> Clients for Doors<'a> {
-    ghost use Rattle.std.specs.Prelude.{None, true};
-    ghost use Rattle.program_clients.specs.Streams.{protocol_of};
-
-    ghost takes_batches = { λ doors. true };
-
-    // Of what a client sends and is sent over a socket no clause can say which bytes they are.
-    ghost coming = { λ doors. None };
-
-    ghost replied = { λ doors. None };
-
-    ghost speaks = { λ way. protocol_of way.stream };
-
-    type Reader = Timed<'a>;
-
-    type Writer = Timed<'a>;
-
-    fn accept(&mut self) -> Result<Option<(Protocol, Timed<'a>, Timed<'a>)>, Fault> {
+    /// Waits for the next client, as `Clients::accept`.
+    pub fn accept(&mut self) -> Result<Option<(Protocol, Timed<'a>, Timed<'a>)>, Fault>
+        ensures { AcceptsStream true result }
+    {
         let (protocol, stream) = match self.next_client()? {
             Client::Port(stream) => (Protocol::Exchange, Stream::Port(stream)),
             Client::Batches(stream) => (Protocol::Batch, Stream::Socket(stream)),
@@ -166,10 +154,5 @@ impl<'a> Clients for Doors<'a> {
             Some((reader, writer)) => Ok(Some((protocol, reader, writer))),
             None => Ok(None),
         }
-    }
-
-    fn disconnect(&mut self, reader: Timed<'a>, writer: Timed<'a>) {
-        drop(writer);
-        reader.into_stream().shut_down();
     }
 }

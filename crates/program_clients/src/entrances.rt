@@ -105,7 +105,7 @@ impl<'a> HostEntrances<'a> {
 impl<'a> Entrances for HostEntrances<'a> {
     ghost use Rattle.std.specs.Prelude.{None};
 
-    // Of what a client sends and is sent over a socket no clause can say which bytes they are.
+    // As for `Opened`, whose clients these are.
     ghost coming = { λ entrances. None };
 
     ghost replied = { λ entrances. None };

@@ -1,6 +1,9 @@
 //! A port of 127.0.0.1, whose clients come over sockets.
 
-use crate::clients::{Clients, Protocol};
+ghost use Rattle.std.specs.Prelude.{false};
+ghost use Rattle.program_clients.specs.Streams.{AcceptsStream};
+
+use crate::clients::Protocol;
 use crate::timed::{Stream, Timed};
 use program_lines::fault::Fault;
 use std::io::{self, ErrorKind};
@@ -55,26 +58,11 @@ impl<'a> Port<'a> {
             Err(_) => Err(Fault::Port(number)),
         }
     }
-}
 
-impl<'a> Clients for Port<'a> {
-    ghost use Rattle.std.specs.Prelude.{None, false};
-    ghost use Rattle.program_clients.specs.Streams.{protocol_of};
-
-    ghost takes_batches = { λ port. false };
-
-    // Of what a client sends and is sent over a socket no clause can say which bytes they are.
-    ghost coming = { λ port. None };
-
-    ghost replied = { λ port. None };
-
-    ghost speaks = { λ way. protocol_of way.stream };
-
-    type Reader = Timed<'a>;
-
-    type Writer = Timed<'a>;
-
-    fn accept(&mut self) -> Result<Option<(Protocol, Timed<'a>, Timed<'a>)>, Fault> {
+    /// Waits for the next client, as `Clients::accept`.
+    pub fn accept(&mut self) -> Result<Option<(Protocol, Timed<'a>, Timed<'a>)>, Fault>
+        ensures { AcceptsStream false result }
+    {
         match self.listener.accept() {
             Ok((stream, _)) => match Timed::both(self.rt, Stream::Port(stream), self.limit) {
                 Some((reader, writer)) => Ok(Some((Protocol::Exchange, reader, writer))),
@@ -88,10 +76,5 @@ impl<'a> Clients for Port<'a> {
                 }
             }
         }
-    }
-
-    fn disconnect(&mut self, reader: Timed<'a>, writer: Timed<'a>) {
-        drop(writer);
-        reader.into_stream().shut_down();
     }
 }

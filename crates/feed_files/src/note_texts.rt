@@ -247,7 +247,7 @@ fn words_of_price(kind: Wrong, text: &[u8]) -> Option<Words> {
     let words = match kind {
         Wrong::OldElement => old_element(text),
         Wrong::ComesAgain => with_text("", " comes again, and does not repeat"),
-        Wrong::NoTerritory => plain("no Territory"),
+        Wrong::NoTerritory => plain("it is empty, or has no Territory"),
         Wrong::EmptyTerritory => plain("its Territory is empty"),
         Wrong::CountryAsRegion => with_text("", " is a country, and stands among regions"),
         Wrong::DateRole => date_role(text),

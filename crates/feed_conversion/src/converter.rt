@@ -193,8 +193,8 @@ fn add_large_product<T: Target>(
     }
 }
 
-// Takes a product that is too large as it is: without the prices that the terms of the shop compute,
-// or smaller still.
+// Takes a product that is too large as it is: without the prices that the terms of the shop
+// compute, or smaller still.
 fn add_smaller<T: Target>(
     alloc: Global,
     options: &Options<'_>,

@@ -15,9 +15,9 @@ use feed_mapping::laws::{no_term_says_nothing, parts_say_the_same, records_are_p
 /// The products of a message, each once and in order, stand in its parts, one part after the other
 /// and each in the first of its variants that is not too large, as many as there is room for, with
 /// the notes of that variant. The desk takes each part with just its products: its text is UTF-8
-/// and at most 4,194,304 bytes, and the records that are read of it are a message, of at most 20,000
-/// records, whose header has the part's number. Where there are terms of the shop, the types of their
-/// net prices are codes, as those of each table are.
+/// and at most 4,194,304 bytes, and the records that are read of it are a message, of at most
+/// 20,000 records, whose header has the part's number. Where there are terms of the shop, the types
+/// of their net prices are codes, as those of each table are.
 pub fn products_stand_in_parts()
     ensures { (o : Options) (nodes : Nodes) (made : Converted) → HaveCodes o.terms
         → conversion o nodes ≡ Ok made → AreParts o nodes made }
@@ -35,8 +35,8 @@ pub fn what_has_room_is_placed()
         → map (λ p. p.product) (flat_map (λ p. p) are.parts) ≡ products_in nodes }
 {}
 
-/// With a table of no term what comes of a message is what comes of it without terms: the same parts
-/// and notes, or the same refusal.
+/// With a table of no term what comes of a message is what comes of it without terms: the same
+/// parts and notes, or the same refusal.
 pub fn no_term_converts_as_none()
     ensures { (o : Options) (nodes : Nodes)
         → conversion (by_terms (Some []) o) nodes ≡ conversion (by_terms None o) nodes }

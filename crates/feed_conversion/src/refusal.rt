@@ -15,8 +15,8 @@ pub enum Refusal {
     Header(HeaderRefusal, Items<u8>, Position),
     /// It has a second Header, which stands at the place.
     SecondHeader(Position),
-    /// A stranger stands at the place, or in the Header that stands there: an element that is called
-    /// as one that counts in its place, and does not count.
+    /// A stranger stands at the place, or in the Header that stands there: an element that is
+    /// called as one that counts in its place, and does not count.
     OtherNamespace(Position),
     /// So many are wrong of so many Products, the first of which has this RecordReference and
     /// stands at the place.

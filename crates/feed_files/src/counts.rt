@@ -14,7 +14,8 @@ pub struct ProductCounts {
     pub(crate) has_lost_prices: bool,
     /// How many of its elements come again though they do not repeat.
     pub(crate) again: u64,
-    /// Whether it is written for the world by a ProductSupply without a Market, and has SalesRights.
+    /// Whether it is written for the world by a ProductSupply without a Market, and has
+    /// SalesRights.
     pub(crate) has_rights: bool,
 }
 

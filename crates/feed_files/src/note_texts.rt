@@ -28,7 +28,8 @@ const LONG_MARKETS: &str = "its Markets together have more than 1024 bytes";
 const NO_IDENTIFIER: &str = "without thirteen digits of type 03 or 15: nobody finds it by an ISBN";
 
 const OTHER_NAMESPACE: &str =
-    "an element below it is in another namespace, of the other kind of names, or in other letters than one that counts there";
+    "an element below it is in another namespace, of the other kind of names, or in other letters \
+    than one that counts there";
 
 const BESIDE_DATES: &str =
     "a Price of its type and currency is left out for its PriceDates, and may stand in its place";

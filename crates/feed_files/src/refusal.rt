@@ -19,10 +19,13 @@ const NO_HEADER: &str = "no Header before the first Product, and so neither a se
 const MENDED: &str = "; the sender has to mend it, or --wrong all lets them through";
 
 const OTHER_NAMESPACE: &str =
-    "an element is in another namespace, of the other kind of names, or in other letters than one that counts in its place";
+    "an element is in another namespace, of the other kind of names, or in other letters than one \
+    that counts in its place";
 
 const AGREED: &str =
-    "the number of parts is a part of the agreement on the series, and with another one its numbers no longer follow each other: agree on --parts before the first message, or see Large messages in ONIX.md";
+    "the number of parts is a part of the agreement on the series, and with another one its \
+    numbers no longer follow each other: agree on --parts before the first message, or see Large \
+    messages in ONIX.md";
 
 /// What is known of a FILE that was not converted, beside its fault.
 #[derive(Clone, Copy)]

@@ -44,8 +44,8 @@ fn push_address(line: &mut String, address: &[u8]) -> Result<(), AllocError> {
     line.push_str("\"")
 }
 
-/// Adds how a stranger is called: its name, and where they differ the addresses of its namespace and
-/// of the root's.
+/// Adds how a stranger is called: its name, and where they differ the addresses of its namespace
+/// and of the root's.
 pub(crate) fn push_called(line: &mut String, called: &[u8]) -> Result<(), AllocError> {
     if called.is_empty() {
         return Ok(());

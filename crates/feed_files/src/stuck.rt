@@ -5,7 +5,8 @@ use feed_outline::StuckAt;
 use std::alloc::AllocError;
 
 const WRONG_TAG: &str =
-    "a tag that is not well-formed, as an attribute without quotation marks, or a \"<\" in a text: write &lt;";
+    "a tag that is not well-formed, as an attribute without quotation marks, or a \"<\" in a text: \
+    write &lt;";
 
 const TWICE: &str = "a tag that has an attribute twice";
 

@@ -84,7 +84,8 @@ pub enum Foreign {
 pub enum Wrong {
     /// A Price or SupplyDetail with an element of ONIX 2.1, whose name is the text.
     OldElement,
-    /// A Price or Market in which an element that does not repeat comes again: the text is its name.
+    /// A Price or Market in which an element that does not repeat comes again: the text is its
+    /// name.
     ComesAgain,
     /// A Market without a Territory.
     NoTerritory,
@@ -93,7 +94,8 @@ pub enum Wrong {
     /// A region, the text, that is the two letters of a country: of a Price or Market, or of a
     /// Territory that is written without it.
     CountryAsRegion,
-    /// A Price with a PriceDate whose role, the text, does not count; it is empty where it has none.
+    /// A Price with a PriceDate whose role, the text, does not count; it is empty where it has
+    /// none.
     DateRole,
     /// A Price with two PriceDates that give two first or two last days.
     OtherDay,

@@ -106,6 +106,12 @@ CASES = [
         ["--terms", "absent.toml", "-o", ".", FEED],
         Ran(2, b"", b"onixdesk: file: absent.toml\n"),
     ),
+    Case(
+        "a bad command line goes before terms that cannot be read",
+        {FEED: PRICED},
+        ["--terms", "absent.toml", "--parts", "0", "-o", ".", FEED],
+        Ran(2),
+    ),
     Case("a file of nothing", {FEED: b""}, ["-o", ".", FEED], Ran(1, b"", b"onixdesk: feed.xml:1:1: refused\n")),
 ]
 

@@ -8,7 +8,7 @@ ghost use Rattle.std.specs.Str.{bytes_eq};
 ghost use Rattle.feed_mapping.specs.Elements.{element_view};
 ghost use Rattle.feed_mapping.specs.DateViews.{dated_view, days_read};
 ghost use Rattle.feed_mapping.specs.PriceViews.{text_view};
-ghost use Rattle.feed_mapping.specs.Dates.{and_days, are_one, date_in, days_by_role, unless_again, parsed_day, days_in, days_of, parsed_days, wrong_date, digits_by, digits_in, format_in, formats, graver, in_day, in_format, in_month, in_year, is_time, or_days, role_days, two_days};
+ghost use Rattle.feed_mapping.specs.Dates.{and_days, are_one, date_in, days_by_role, unless_again, parsed_day, days_in, days_of, parsed_days, wrong_date, digits_in, format_in, formats, graver, in_day, in_format, in_month, in_year, is_time, or_days, role_days, two_days};
 ghost use Rattle.feed_mapping.specs.Notes.{reason_view, wrong};
 ghost use Rattle.feed_mapping.specs.Records.{first_some};
 
@@ -55,73 +55,39 @@ fn is_time(text: &[u8]) -> bool
     }
 }
 
-// The digits of YYYYMMDD, behind which nothing stands or a time.
-fn plain_day(text: &[u8]) -> Option<[u8; 8]>
-    ensures { result ≡ digits_by is_time (codes "YYYYMMDD") text.now }
+// The digits of YYYYMMDD or YYYY-MM-DD, behind which nothing stands or a time.
+fn day_digits(text: &[u8]) -> Option<[u8; 8]>
+    ensures { result ≡ digits_in is_time ("YYYYMMDD" ∷ "YYYY-MM-DD" ∷ []) text.now }
 {
-    if text.len() < 8 || !is_time(&text[8..]) {
-        return None;
+    match text {
+        [a, b, c, d, e, f, g, h, behind @ ..] if is_time(behind) => {
+            Some([*a, *b, *c, *d, *e, *f, *g, *h])
+        }
+        [a, b, c, d, b'-', e, f, b'-', g, h, behind @ ..] if is_time(behind) => {
+            Some([*a, *b, *c, *d, *e, *f, *g, *h])
+        }
+        _ => None,
     }
-    Some([
-        text[0], text[1], text[2], text[3], text[4], text[5], text[6], text[7],
-    ])
-}
-
-// The digits of YYYY-MM-DD, behind which nothing stands or a time.
-fn hyphened_day(text: &[u8]) -> Option<[u8; 8]>
-    ensures { result ≡ digits_by is_time (codes "YYYY-MM-DD") text.now }
-{
-    if text.len() < 10 || text[4] != b'-' || text[7] != b'-' || !is_time(&text[10..]) {
-        return None;
-    }
-    Some([
-        text[0], text[1], text[2], text[3], text[5], text[6], text[8], text[9],
-    ])
 }
 
 // A day, as the first and the last.
 fn in_day(text: &[u8]) -> Option<Days>
     ensures { result ≡ in_day text.now }
 {
-    let digits = match plain_day(text) {
-        Some(digits) => digits,
-        None => hyphened_day(text)?,
-    };
-    let day = parsed_day(&digits)?;
+    let day = parsed_day(&day_digits(text)?)?;
     Some(Days {
         first: Some(day),
         last: Some(day),
     })
 }
 
-// The digits of YYYYMM.
-fn plain_month(text: &[u8]) -> Option<[u8; 6]>
-    ensures { result ≡ digits_by (bytes_eq []) (codes "YYYYMM") text.now }
-{
-    if text.len() != 6 {
-        return None;
-    }
-    Some([text[0], text[1], text[2], text[3], text[4], text[5]])
-}
-
-// The digits of YYYY-MM.
-fn hyphened_month(text: &[u8]) -> Option<[u8; 6]>
-    ensures { result ≡ digits_by (bytes_eq []) (codes "YYYY-MM") text.now }
-{
-    if text.len() != 7 || text[4] != b'-' {
-        return None;
-    }
-    Some([text[0], text[1], text[2], text[3], text[5], text[6]])
-}
-
-// The digits of a month.
+// The digits of YYYYMM or YYYY-MM.
 fn month_digits(text: &[u8]) -> Option<[u8; 6]>
-    ensures { result
-        ≡ digits_in (bytes_eq []) ("YYYYMM" ∷ "YYYY-MM" ∷ []) text.now }
+    ensures { result ≡ digits_in (bytes_eq []) ("YYYYMM" ∷ "YYYY-MM" ∷ []) text.now }
 {
-    match plain_month(text) {
-        Some(digits) => Some(digits),
-        None => hyphened_month(text),
+    match text {
+        [a, b, c, d, e, f] | [a, b, c, d, b'-', e, f] => Some([*a, *b, *c, *d, *e, *f]),
+        _ => None,
     }
 }
 
@@ -139,16 +105,10 @@ fn last_of_month(month: &[u8; 6]) -> Option<Day>
     ensures { result ≡ first_some (map (λ last. parsed_day (month.now ++ codes last))
         ("31" ∷ "30" ∷ "29" ∷ "28" ∷ [])) }
 {
-    if let Some(day) = day_in_month(month, b"31") {
-        return Some(day);
-    }
-    if let Some(day) = day_in_month(month, b"30") {
-        return Some(day);
-    }
-    if let Some(day) = day_in_month(month, b"29") {
-        return Some(day);
-    }
-    day_in_month(month, b"28")
+    let shortest = former(day_in_month(month, b"28"), None);
+    let shorter = former(day_in_month(month, b"29"), shortest);
+    let longer = former(day_in_month(month, b"30"), shorter);
+    former(day_in_month(month, b"31"), longer)
 }
 
 // The first and the last day of a month.
@@ -168,10 +128,10 @@ fn in_month(text: &[u8]) -> Option<Days>
 fn year_digits(text: &[u8]) -> Option<[u8; 4]>
     ensures { result ≡ digits_in (bytes_eq []) ("YYYY" ∷ []) text.now }
 {
-    if text.len() != 4 {
-        return None;
+    match text {
+        [a, b, c, d] => Some([*a, *b, *c, *d]),
+        _ => None,
     }
-    Some([text[0], text[1], text[2], text[3]])
 }
 
 // The day of a year, by the four digits of its month and its number.

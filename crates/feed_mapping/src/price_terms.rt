@@ -1,8 +1,8 @@
 //! What the terms of the shop see of the Prices of a SupplyDetail, and what comes of them by these.
 
 ghost use Rattle.std.specs.Prelude.{◌≡◌, ◌≤◌, ◌++◌, ◌∷◌, [], ℕ, List, IfOk, OnOk, true, codes, length, map, replicate, if◌then◌else◌};
-ghost use Rattle.std.specs.List.{flat_map, list_all};
-ghost use Rattle.std.specs.Str.{bytes_eq, is_utf8};
+ghost use Rattle.std.specs.List.{flat_map};
+ghost use Rattle.std.specs.Str.{bytes_eq};
 ghost use Rattle.feed_outline.specs.Names.{stranger_apart};
 ghost use Rattle.std.specs.Option.{option_copied, option_to_list};
 ghost use Rattle.feed_mapping.specs.Elements.{composites, element_view};
@@ -11,29 +11,25 @@ ghost use Rattle.feed_mapping.specs.Outcomes.{all_notes, outcome_notes, outcome_
 ghost use Rattle.feed_mapping.specs.PartyViews.{pair_view};
 ghost use Rattle.feed_mapping.specs.Prices.{PriceContext as Seen, context_view};
 ghost use Rattle.feed_mapping.specs.PriceTerms.{AreWritten, all_given, closed_kinds, code_in, discount_in, elements_in, given_in, given_of, is_garbled, is_mixed, is_of_terms, is_seen, kind_of, outcome_in, records_with, all_remark_notes, remark_notes, supplier_of, tax_in, terms_notes};
-ghost use Rattle.feed_mapping.specs.Records.{parsed};
 ghost use Rattle.feed_mapping.specs.declared.notes.Foreign.TheVariants as other;
 ghost use Rattle.feed_terms.specs.HeldBack.{is_held_back};
 ghost use Rattle.feed_terms.specs.WithTerms.{HavePrices, remarks_of, with_terms};
-ghost use Rattle.onix_records.specs.Price.{price_of};
 
 use crate::elements::{Composite, first_composite, next_composite, text_or_empty};
 use crate::identifiers::is_there;
 use crate::notes::{Foreign, Note, Reason, push_note};
 use crate::parties::Pair;
 use crate::price_keys::Key;
-use crate::prices::{PriceContext, add_price, parse_fields};
+use crate::prices::{PriceContext, add_price, price_in};
 use crate::records::{parsed_code, parsed_currency, utf8_text};
 use csv_records::buffer::RecordBuffer;
 use csv_records::fields::FieldBuffer;
-use csv_records::record::Record;
 use feed_outline::{Elements, Line};
 use feed_terms::percent::Percent;
 use feed_terms::price::{Discount, GivenPrice, Kind, code_said};
 use feed_terms::table::Terms;
 use feed_terms::with_terms::{Remarks, add_with_terms};
 use onix_records::parts::Price;
-use onix_records::row::{Opening, RowFault};
 use onix_terms::items::Items;
 use onix_terms::text::Text;
 use std::alloc::{AllocError, Global};
@@ -193,26 +189,6 @@ fn given_of(alloc: Global, price: Price, elements: &Elements<'_>) -> Result<Give
         tax: tax_in(elements),
         garbled: is_garbled(elements),
     })
-}
-
-// The Price that is read of a record.
-fn price_in(
-    alloc: Global,
-    opening: &Opening,
-    price_record: &Record<'_>,
-) -> Result<Option<Price>, AllocError>
-    ensures { (fields : List (List ℕ)) → price_record.now ≡ codes "Price" ∷ fields
-        → list_all is_utf8 fields ≡ true
-        → IfOk result (λ price. price ≡ parsed (price_of opening.now) fields) }
-{
-    let Some((_, behind)) = price_record.split_first() else {
-        return Ok(None);
-    };
-    match parse_fields(alloc, opening, &behind) {
-        Ok(price) => Ok(Some(price)),
-        Err(RowFault::Wrong) => Ok(None),
-        Err(RowFault::Memory) => Err(AllocError),
-    }
 }
 
 // Of the Prices of a SupplyDetail those that are written: the record of each and what the terms see

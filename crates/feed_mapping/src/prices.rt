@@ -414,8 +414,8 @@ fn fill_price(
     }
 }
 
-/// The Price that the desk reads of fields that are UTF-8.
-pub(crate) fn parse_fields(
+// The Price that the desk reads of fields that are UTF-8.
+fn parse_fields(
     alloc: Global,
     opening: &Opening,
     from: &Record<'_>,
@@ -428,19 +428,22 @@ pub(crate) fn parse_fields(
     read_price(alloc, opening, &fields)
 }
 
-// Whether the desk reads a Price of the record in the list.
-fn is_taken(alloc: Global, opening: &Opening, fields: &FieldBuffer) -> Result<bool, AllocError>
-    ensures { (behind : List (List ℕ)) → fields.now ≡ codes "Price" ∷ behind
-        → list_all is_utf8 behind ≡ true
-        → IfOk result (λ is. is ≡ is_some (parsed (price_of opening.now) behind)) }
+/// The Price that the desk reads of a record, where it takes that.
+pub(crate) fn price_in(
+    alloc: Global,
+    opening: &Opening,
+    price_record: &Record<'_>,
+) -> Result<Option<Price>, AllocError>
+    ensures { (fields : List (List ℕ)) → price_record.now ≡ codes "Price" ∷ fields
+        → list_all is_utf8 fields ≡ true
+        → IfOk result (λ price. price ≡ parsed (price_of opening.now) fields) }
 {
-    let record = fields.as_record();
-    let Some((_, behind)) = record.split_first() else {
-        return Ok(false);
+    let Some((_, behind)) = price_record.split_first() else {
+        return Ok(None);
     };
     match parse_fields(alloc, opening, &behind) {
-        Ok(_) => Ok(true),
-        Err(RowFault::Wrong) => Ok(false),
+        Ok(price) => Ok(Some(price)),
+        Err(RowFault::Wrong) => Ok(None),
         Err(RowFault::Memory) => Err(AllocError),
     }
 }
@@ -459,7 +462,7 @@ fn take_price(
         (map (λ t. t.now) texts.now ++ option_to_list (text_view minimum.entry)))) }
 {
     match fill_price(fields, texts, minimum) {
-        Ok(()) => is_taken(alloc, opening, fields),
+        Ok(()) => Ok(price_in(alloc, opening, &fields.as_record())?.is_some()),
         Err(RowFault::Wrong) => Ok(false),
         Err(RowFault::Memory) => Err(AllocError),
     }

@@ -1,8 +1,10 @@
 -- What is made of one element more.
-use Rattle.std.proofs.Common.{◌≡◌, List, ◌∷◌, ◌++◌, Bool, true, false, Option, Some, None, map, refl, sym, ap, ◌∙◌, append_assoc}
+use Rattle.std.proofs.Common.{◌≡◌, ℕ, List, [], ◌∷◌, ◌++◌, Bool, true, false, Option, Some, None, map, refl, sym, ap, ◌∙◌, append_assoc}
 use Rattle.std.specs.Prelude.{◌||◌}
 use Rattle.std.specs.List.{flat_map}
-use Rattle.std.specs.Option.{option_or}
+use Rattle.std.specs.Borrow.{Bor}
+use Rattle.std.specs.Option.{option_or, unwrap_or}
+use Rattle.feed_mapping.specs.PriceViews.{text_view}
 use Rattle.feed_mapping.specs.Records.{first_some}
 use Rattle.feed_mapping.specs.Elements.{Composite}
 
@@ -30,3 +32,8 @@ or-none (Some a) = refl
 pub or-false : (x : Bool) → (x || false) ≡ x
 or-false true = refl
 or-false false = refl
+
+-- a text, else the empty one
+pub text-or-none : (text : Option (Bor (List ℕ))) (none own : Bor (List ℕ)) → none.now ≡ [] → own ≡ unwrap_or text none → own.now ≡ unwrap_or (text_view text) []
+text-or-none None none own empty is = cc
+text-or-none (Some text) none own empty is = cc

@@ -4,19 +4,17 @@ ghost use Rattle.std.specs.Prelude.{◌≡◌, ◌++◌, ◌∷◌, ◌+◌, ◌
 ghost use Rattle.std.specs.List.{list_all};
 ghost use Rattle.std.specs.Option.{option_copied, unwrap_or};
 ghost use Rattle.std.specs.Str.{is_utf8};
-ghost use Rattle.feed_mapping.specs.Details.{context_by, context_in, default_minimum, old_supply, detail_fields, detail_outcome, detail_reasons, detail_reason, first_detail_reason, identifier_reasons, name_reason, price_in, priced_notes, priced_records, prices_in, supplier_id, supplier_in, unpriced_in, unpriced_price};
+ghost use Rattle.feed_mapping.specs.Details.{context_by, context_in, default_minimum, old_supply, detail_fields, detail_outcome, detail_reasons, detail_reason, first_detail_reason, identifier_reasons, name_reason, price_in, priced_notes, priced_records, prices_in, supplier_id, unpriced_in, unpriced_price};
 ghost use Rattle.feed_mapping.specs.Elements.{composites, first, text_or_empty, below_of};
 ghost use Rattle.feed_mapping.specs.Notes.{note_views, reason_view, wrong};
 ghost use Rattle.feed_mapping.specs.Outcomes.{all_notes, all_records, notes_below, outcome_reason, outcome_records, written_unless};
 ghost use Rattle.feed_mapping.specs.PartyViews.{pair_view};
 ghost use Rattle.feed_mapping.specs.PriceViews.{reason_read, text_view};
 ghost use Rattle.feed_mapping.specs.Prices.{context_view};
-ghost use Rattle.feed_mapping.specs.Records.{first_some, parsed, parsed_term, invalid};
+ghost use Rattle.feed_mapping.specs.Records.{first_some, parsed};
 ghost use Rattle.feed_mapping.specs.SupplyChoices.{supply_choices_view};
 ghost use Rattle.feed_mapping.specs.declared.notes.Wrong.TheVariants as bad;
-ghost use Rattle.onix_records.specs.Fields.{optional};
 ghost use Rattle.onix_records.specs.declared.row.Opening.{Opening as Said};
-ghost use Rattle.onix_terms.specs.Code.{code2_of};
 ghost use Rattle.onix_records.specs.Detail.{detail_of};
 ghost use Rattle.onix_records.specs.Gives.{Gives};
 ghost use Rattle.feed_outline.specs.Views.{line_views};
@@ -30,7 +28,7 @@ use crate::price_terms::{add_computed_prices, supplier_of};
 use crate::prices::{
     PriceContext, add_price, because_old, closing_keys, fill_record, first_with_text,
 };
-use crate::records::{former, is_field, may_be_empty, parsed_code, parsed_quantity, unless};
+use crate::records::{first_reason, is_field, may_be_empty, parsed_code, parsed_quantity, unless};
 use crate::supply_choices::SupplyChoices;
 use csv_records::buffer::RecordBuffer;
 use csv_records::fields::FieldBuffer;
@@ -193,83 +191,30 @@ fn write_detail<'a>(
     Ok(Some(detail_reason(supplier, elements)))
 }
 
-// A text, empty where there is none.
-fn text_or_none<'a>(text: Option<&'a [u8]>) -> &'a [u8]
-    ensures { result.now ≡ unwrap_or (text_view text.entry) [] }
-{
-    match text {
-        Some(text) => text,
-        None => b"",
-    }
-}
-
 // What is wrong with the identifier of a supplier, who has this name.
 fn identifier_reason<'a>(supplier: Pair<'a>, name: &[u8]) -> Option<Reason<'a>>
     ensures { reason_read result
         ≡ first_some (identifier_reasons (pair_view supplier.entry) name.now) }
 {
     if !is_there(supplier) {
-        return former(unless(!name.is_empty(), Wrong::Supplier, b""), None);
+        return first_reason(&[unless(!name.is_empty(), Wrong::Supplier, b"")]);
     }
     let id_type = supplier.id_type;
-    let typed = unless(parsed_code(id_type).is_some(), Wrong::SupplierType, id_type);
     let id_value = supplier.id_value;
-    let valued = unless(is_field(id_value), Wrong::SupplierValue, id_value);
-    former(typed, former(valued, None))
-}
-
-// That the SupplierRole is no code.
-fn role_reason<'a>(elements: &Elements<'a>) -> Option<Reason<'a>>
-    ensures { reason_read result
-        ≡ invalid (parsed_term code2_of) bad.SupplierRole
-        (text_or_empty (codes "SupplierRole") (supplier_in elements.now)) }
-{
-    let below = elements_in(b"Supplier", elements);
-    let role = text_or_empty(b"SupplierRole", &below);
-    unless(parsed_code(role).is_some(), Wrong::SupplierRole, role)
-}
-
-// What is wrong with the identifier of the supplier, or that there is neither one nor a name.
-fn supplier_reason<'a>(supplier: Pair<'a>, elements: &Elements<'a>) -> Option<Reason<'a>>
-    ensures { reason_read result
-        ≡ first_some (identifier_reasons (pair_view supplier.entry)
-        (text_or_empty (codes "SupplierName") (supplier_in elements.now))) }
-{
-    let below = elements_in(b"Supplier", elements);
-    identifier_reason(supplier, text_or_empty(b"SupplierName", &below))
+    first_reason(&[
+        unless(parsed_code(id_type).is_some(), Wrong::SupplierType, id_type),
+        unless(is_field(id_value), Wrong::SupplierValue, id_value),
+    ])
 }
 
 // That the desk would not take the SupplierName.
-fn name_reason<'a>(elements: &Elements<'a>) -> Option<Reason<'a>>
-    ensures { reason_read result
-        ≡ name_reason (text_or_empty (codes "SupplierName") (supplier_in elements.now)) }
+fn name_reason<'a>(name: &'a [u8]) -> Option<Reason<'a>>
+    ensures { reason_read result ≡ name_reason name.now }
 {
-    let below = elements_in(b"Supplier", elements);
-    let name = text_or_empty(b"SupplierName", &below);
     if name.is_empty() {
         return None;
     }
     unless(is_field(name), Wrong::SupplierName, name)
-}
-
-// That the ProductAvailability is no code.
-fn availability_reason<'a>(elements: &Elements<'a>) -> Option<Reason<'a>>
-    ensures { reason_read result
-        ≡ invalid (parsed_term code2_of) bad.Availability
-        (text_or_empty (codes "ProductAvailability") elements.now) }
-{
-    let text = text_or_empty(b"ProductAvailability", elements);
-    unless(parsed_code(text).is_some(), Wrong::Availability, text)
-}
-
-// That the UnpricedItemType is no code.
-fn unpriced_reason<'a>(elements: &Elements<'a>) -> Option<Reason<'a>>
-    ensures { reason_read result
-        ≡ invalid (optional (parsed_term code2_of)) bad.Unpriced
-        (unwrap_or (unpriced_in elements.now) []) }
-{
-    let text = text_or_none(unpriced_in(elements));
-    unless(may_be_empty(text, parsed_code(text)), Wrong::Unpriced, text)
 }
 
 // The first field of a SupplyDetail that the desk would not take.
@@ -277,11 +222,23 @@ fn field_reason<'a>(supplier: Pair<'a>, elements: &Elements<'a>) -> Option<Reaso
     ensures { (preferred : List ℕ) → pair_view supplier.entry ≡ supplier_id preferred elements.now
         → reason_read result ≡ first_some (detail_reasons preferred elements.now) }
 {
-    let last = former(unpriced_reason(elements), None);
-    let there = former(availability_reason(elements), last);
-    let named = former(name_reason(elements), there);
-    let identified = former(supplier_reason(supplier, elements), named);
-    former(role_reason(elements), identified)
+    let below = elements_in(b"Supplier", elements);
+    let role = text_or_empty(b"SupplierRole", &below);
+    let name = text_or_empty(b"SupplierName", &below);
+    let availability = text_or_empty(b"ProductAvailability", elements);
+    let unpriced = unpriced_in(elements).unwrap_or(b"");
+    let is_unpriced = may_be_empty(unpriced, parsed_code(unpriced));
+    first_reason(&[
+        unless(parsed_code(role).is_some(), Wrong::SupplierRole, role),
+        identifier_reason(supplier, name),
+        name_reason(name),
+        unless(
+            parsed_code(availability).is_some(),
+            Wrong::Availability,
+            availability,
+        ),
+        unless(is_unpriced, Wrong::Unpriced, unpriced),
+    ])
 }
 
 // Why a SupplyDetail that the desk would not take is left out.

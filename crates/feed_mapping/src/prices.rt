@@ -23,7 +23,7 @@ ghost use Rattle.feed_outline.specs.Nodes.{Nodes};
 use crate::dates::{Dated, Days, days_in};
 use crate::discounts::push_discounts;
 use crate::elements::{Composite, first_composite, next_composite, text_or_empty};
-use crate::notes::{Foreign, Note, Reason, ReasonKind, Wrong, push_reason};
+use crate::notes::{Foreign, Note, Reason, Wrong, push_reason};
 use crate::price_amounts::{amount_written, long_amount, no_charge};
 use crate::price_keys::{Key, has_key, key_in};
 use crate::reasons::{field_reason, or_price};
@@ -160,10 +160,7 @@ fn because<'a>(kind: Foreign, text: Option<&'a [u8]>) -> Option<Reason<'a>>
     ensures { reason_read result ≡ option_map (foreign kind) (text_view text.entry) }
 {
     match text {
-        Some(text) => Some(Reason {
-            kind: ReasonKind::Foreign(kind),
-            text,
-        }),
+        Some(text) => Some(Reason::foreign(kind, text)),
         None => None,
     }
 }
@@ -173,10 +170,7 @@ pub(crate) fn because_old(text: Option<&'static [u8]>) -> Option<Reason<'static>
     ensures { reason_read result ≡ option_map (wrong OldElement) (text_view text.entry) }
 {
     match text {
-        Some(text) => Some(Reason {
-            kind: ReasonKind::Wrong(Wrong::OldElement),
-            text,
-        }),
+        Some(text) => Some(Reason::wrong(Wrong::OldElement, text)),
         None => None,
     }
 }
@@ -415,11 +409,7 @@ fn fill_price(
 }
 
 // The Price that the desk reads of fields that are UTF-8.
-fn parse_fields(
-    alloc: Global,
-    opening: &Opening,
-    from: &Record<'_>,
-) -> Result<Price, RowFault>
+fn parse_fields(alloc: Global, opening: &Opening, from: &Record<'_>) -> Result<Price, RowFault>
     ensures { list_all is_utf8 from.now ≡ true
         → Gives result (parsed (price_of opening.now) from.now) }
 {
@@ -510,10 +500,7 @@ fn closed_reason(
     if !has_key(&key, context.closed) {
         return None;
     }
-    Some(Reason {
-        kind: ReasonKind::Foreign(Foreign::BesideDates),
-        text: b"",
-    })
+    Some(Reason::foreign(Foreign::BesideDates, b""))
 }
 
 // Adds the record of a Price with these days in this territory, or gives the reason for which it is

@@ -8,9 +8,8 @@ ghost use Rattle.feed_mapping.specs.Notes.{note_views, reason_view};
 ghost use Rattle.feed_mapping.specs.PriceViews.{reason_read};
 ghost use Rattle.std.specs.Prelude.{[], not};
 ghost use Rattle.feed_mapping.specs.Products.{MayBe, are_some, beside_isbn, graded, identifiers_in, digit_byte, dropping, has_isbn, has_strange_identifier, identifier_note, identifier_notes, is_blank, is_deletion, is_gtin_type, is_hyphen, is_isbn, is_strange, is_thirteen, notification_in, or_reference, own_reasons, pair_reason, product_record, reference_in, right_pair, right_pairs, thirteen_of, type_of, value_of, without_marks, written_value};
-ghost use Rattle.feed_mapping.specs.Records.{first_some, option_filter, parsed_term, unless, invalid};
+ghost use Rattle.feed_mapping.specs.Records.{first_some, option_filter, unless};
 ghost use Rattle.feed_mapping.specs.declared.notes.Wrong.TheVariants as bad;
-ghost use Rattle.onix_terms.specs.Code.{code2_of};
 ghost use Rattle.std.specs.Prelude.{◌&&◌, codes};
 ghost use Rattle.std.specs.Str.{bytes_eq};
 ghost use Rattle.feed_outline.specs.Composites.{has_stranger};
@@ -18,7 +17,7 @@ ghost use Rattle.feed_outline.specs.Names.{stranger};
 
 use crate::elements::{Composite, next_composite, text_or_empty};
 use crate::notes::{Foreign, Note, Reason, ReasonKind, Wrong, push_note};
-use crate::records::{former, is_field, parsed_code, push_texts, unless, utf8_text};
+use crate::records::{first_reason, is_field, parsed_code, push_texts, unless, utf8_text};
 use csv_records::fields::FieldBuffer;
 use feed_outline::{Elements, Line, has_stranger};
 use onix_terms::ascii::are_digits;
@@ -176,13 +175,14 @@ pub fn thirteen_written(
 fn pair_reason<'a>(id_type: &'a [u8], written: &[u8], stands: &'a [u8]) -> Option<Reason<'a>>
     ensures { reason_read result ≡ pair_reason id_type.now written.now stands.now }
 {
-    let typed = unless(
-        parsed_code(id_type).is_some(),
-        Wrong::IdentifierType,
-        id_type,
-    );
-    let valued = unless(is_field(written), Wrong::IdentifierValue, stands);
-    former(typed, former(valued, None))
+    first_reason(&[
+        unless(
+            parsed_code(id_type).is_some(),
+            Wrong::IdentifierType,
+            id_type,
+        ),
+        unless(is_field(written), Wrong::IdentifierValue, stands),
+    ])
 }
 
 // What is wrong with an identifier is foreign beside one by which the product is found.
@@ -392,15 +392,6 @@ fn is_strange(elements: &Elements<'_>) -> bool
     }
 }
 
-// That the NotificationType is no code.
-fn notification_reason<'a>(elements: &Elements<'a>) -> Option<Reason<'a>>
-    ensures { reason_read result
-        ≡ invalid (parsed_term code2_of) bad.NotificationType (notification_in elements.now) }
-{
-    let text = notification_in(elements);
-    unless(parsed_code(text).is_some(), Wrong::NotificationType, text)
-}
-
 // That no identifier is left.
 fn left_reason(pairs: &FieldBuffer, elements: &Elements<'_>) -> Option<Reason<'static>>
     ensures { reason_read result
@@ -410,18 +401,14 @@ fn left_reason(pairs: &FieldBuffer, elements: &Elements<'_>) -> Option<Reason<'s
     unless(are_left, Wrong::NoIdentifierLeft, b"")
 }
 
-// That an element is of another namespace.
-fn strange_reason(elements: &Elements<'_>) -> Option<Reason<'static>>
-    ensures { reason_read result ≡ unless (not (is_strange elements.now)) bad.OtherNamespace [] }
-{
-    unless(!is_strange(elements), Wrong::OtherNamespace, b"")
-}
-
 /// Why a Product with these types and values is emptied, whatever its supplies are.
 pub(crate) fn own_reason<'a>(pairs: &FieldBuffer, elements: &Elements<'a>) -> Option<Reason<'a>>
     ensures { reason_read result ≡ first_some (own_reasons pairs.now elements.now) }
 {
-    let strange = former(strange_reason(elements), None);
-    let left = former(left_reason(pairs, elements), strange);
-    former(notification_reason(elements), left)
+    let text = notification_in(elements);
+    first_reason(&[
+        unless(parsed_code(text).is_some(), Wrong::NotificationType, text),
+        left_reason(pairs, elements),
+        unless(!is_strange(elements), Wrong::OtherNamespace, b""),
+    ])
 }

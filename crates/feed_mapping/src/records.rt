@@ -7,7 +7,7 @@ ghost use Rattle.std.specs.Str.{is_utf8};
 ghost use Rattle.onix_records.specs.Fields.{value_or_default, unless_empty};
 ghost use Rattle.feed_mapping.specs.Notes.{reason_view};
 ghost use Rattle.feed_mapping.specs.PriceViews.{reason_read};
-ghost use Rattle.feed_mapping.specs.Records.{is_field, parsed_term, unless};
+ghost use Rattle.feed_mapping.specs.Records.{first_some, is_field, parsed_term, unless};
 ghost use Rattle.onix_terms.specs.Amount.{amount_of};
 ghost use Rattle.onix_terms.specs.Code.{code2_of, currency_of};
 ghost use Rattle.onix_terms.specs.Quantity.{quantity_of};
@@ -106,6 +106,16 @@ pub(crate) fn former<'a>(one: Option<Reason<'a>>, other: Option<Reason<'a>>) -> 
     match one {
         Some(reason) => Some(reason),
         None => other,
+    }
+}
+
+/// The first of some reasons that holds.
+pub(crate) fn first_reason<'a>(reasons: &[Option<Reason<'a>>]) -> Option<Reason<'a>>
+    ensures { reason_read result ≡ first_some (map reason_read reasons.now) }
+{
+    match reasons {
+        [] => None,
+        [first, others @ ..] => former(*first, first_reason(others)),
     }
 }
 

@@ -1,13 +1,11 @@
 //! The supplies of a Product.
 
-ghost use Rattle.std.specs.Prelude.{◌≡◌, ◌++◌, ◌<◌, [], None, IfOk, OnOk, codes};
+ghost use Rattle.std.specs.Prelude.{◌≡◌, ◌++◌, ◌<◌, None, IfOk, OnOk, codes};
 ghost use Rattle.feed_mapping.specs.Elements.{Element, composites, element_view};
-ghost use Rattle.feed_mapping.specs.Notes.{foreign, note_views, reason_view, wrong};
+ghost use Rattle.feed_mapping.specs.Notes.{note_views, reason_view};
 ghost use Rattle.feed_mapping.specs.Outcomes.{Outcome, all_notes, all_records, notes_below, outcome_notes, outcome_reason, outcome_records};
 ghost use Rattle.feed_mapping.specs.PriceViews.{reason_read};
 ghost use Rattle.feed_mapping.specs.Records.{option_filter};
-ghost use Rattle.feed_mapping.specs.declared.notes.Foreign.TheVariants as other;
-ghost use Rattle.feed_mapping.specs.declared.notes.Wrong.TheVariants as bad;
 ghost use Rattle.feed_mapping.specs.Supplies.{detail_in, details_in, detailed_outcome, first_lost, first_reason, is_lost, none_left, supplies_reason, supply_in, supply_outcome};
 ghost use Rattle.feed_mapping.specs.SupplyChoices.{supply_choices_view};
 
@@ -77,24 +75,6 @@ fn add_details<'a>(
     Ok(())
 }
 
-fn no_detail() -> Reason<'static>
-    ensures { reason_view result ≡ foreign other.NoSupplyDetail [] }
-{
-    Reason {
-        kind: ReasonKind::Foreign(Foreign::NoSupplyDetail),
-        text: b"",
-    }
-}
-
-fn no_detail_left() -> Reason<'static>
-    ensures { reason_view result ≡ wrong bad.NoDetailLeft [] }
-{
-    Reason {
-        kind: ReasonKind::Wrong(Wrong::NoDetailLeft),
-        text: b"",
-    }
-}
-
 // Adds the records of a ProductSupply that has SupplyDetails, and notes on what is left out below
 // it, or gives the reason for which it is left out: the notes count only where it is not.
 fn add_detailed<'a>(
@@ -125,7 +105,7 @@ fn add_detailed<'a>(
     add_details(alloc, opening, choices, elements, fields, records, notes)?;
     if records.len() == with_market {
         records.truncate(count);
-        return Ok(Some(no_detail_left()));
+        return Ok(Some(Reason::wrong(Wrong::NoDetailLeft, b"")));
     }
     Ok(None)
 }
@@ -153,7 +133,7 @@ fn add_supply<'a>(
         (supply_outcome opening.now (supply_choices_view choices.now) elements.now)) }
 {
     if next_composite(b"SupplyDetail", elements).is_none() {
-        return Ok(Some(no_detail()));
+        return Ok(Some(Reason::foreign(Foreign::NoSupplyDetail, b"")));
     }
     add_detailed(alloc, opening, choices, elements, fields, records, notes)
 }

@@ -72,13 +72,7 @@ static TERMS_WORDS: [Word; 9] = words! {
 };
 
 /// The same, and those that say something to the terms of the shop.
-#[tactic(
-    auto,
-    unfolding(
-        crate::specs::Vocabulary::desk_vocabulary,
-        crate::specs::Vocabulary::terms_vocabulary
-    )
-)]
+#[tactic(auto, unfolding(crate::specs::Vocabulary::desk_vocabulary, crate::specs::Vocabulary::terms_vocabulary))]
 pub fn terms_vocabulary() -> Vocabulary
     ensures { vocabulary_view result ≡ terms_vocabulary }
 {

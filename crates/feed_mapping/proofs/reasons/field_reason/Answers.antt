@@ -1,0 +1,50 @@
+use Rattle.std.proofs.Common.{◌≡◌, ◌∙◌, ◌∷◌, [], Option, refl, subst, sym}
+use Rattle.std.specs.Option.{unwrap_or}
+use Rattle.onix_records.specs.Fields.{optional, or_default}
+use Rattle.onix_terms.specs.Amount.{amount_of}
+use Rattle.onix_terms.specs.Code.{code2_of, currency_of}
+use Rattle.onix_terms.specs.Quantity.{quantity_of}
+use Rattle.feed_mapping.specs.Elements.{text_at}
+use Rattle.feed_mapping.specs.Notes.{Reason}
+use Rattle.feed_mapping.specs.PriceViews.{reason_read}
+use Rattle.feed_mapping.specs.Prices.{amount_written, own_minimum}
+use Rattle.feed_mapping.specs.Records.{first_some, invalid, parsed_term}
+use Rattle.feed_mapping.specs.Territories.{Area, AreRenamed, area_in, area_reason}
+use Rattle.feed_mapping.specs.declared.notes.Wrong.TheVariants as bad
+use Rattle.feed_mapping.proofs.ElementLaws.{text-or-none}
+use Rattle.feed_mapping.proofs.reasons.field_reason.Goals as goal
+
+same-five : {a b c d e v w x y z : Option Reason} → a ≡ v → b ≡ w → c ≡ x → d ≡ y → e ≡ z → first_some (a ∷ b ∷ c ∷ d ∷ e ∷ []) ≡ first_some (v ∷ w ∷ x ∷ y ∷ z ∷ [])
+same-five v w x y z = cc
+
+pub returns : goal.returns
+returns c at renamed =
+    let nodes = c.args.elements.now in
+    let header = c.args.opening.now.header in
+    let amount : reason_read c.unless.result ≡ invalid (parsed_term amount_of) bad.Amount (amount_written nodes) =
+    let text = c.amount_written-amount.ensures in
+    let read = c.parsed_amount.ensures in
+    let is = c.is_some.ensures in
+    let made = c.unless.ensures in cc in
+    let typed : reason_read c.unless-2.result ≡ invalid (or_default (parsed_term code2_of) header.default_type) bad.PriceType (text_at "PriceType" nodes) =
+    let text = c.text_or_empty-type_text.ensures in
+    let read = c.parsed_code.ensures in
+    let own = c.value_or_default-price_type.ensures in
+    let is = c.is_some-2.ensures in
+    let made = c.unless-2.ensures in cc in
+    let coded : reason_read c.unless-3.result ≡ invalid (or_default (parsed_term currency_of) header.default_currency) bad.Currency (text_at "CurrencyCode" nodes) =
+    let text = c.text_or_empty-currency_text.ensures in
+    let read = c.parsed_currency.ensures in
+    let own = c.value_or_default-currency.ensures in
+    let is = c.is_some-3.ensures in
+    let made = c.unless-3.ensures in cc in
+    let placed : reason_read c.in_ok-area_reason.field-0 ≡ area_reason (area_in nodes) =
+    let made = c.in_ok-area_reason.ensures (subst (λ (a : Area). AreRenamed c.args.renamed.now a) (sym at) renamed) in cc in
+    let minimum : c.unwrap_or-minimum.result.now ≡ unwrap_or (own_minimum nodes) [] =
+    let text = text-or-none c.own_minimum.result _ c.unwrap_or-minimum.result refl c.unwrap_or-minimum.ensures in
+    let there = c.own_minimum.ensures in cc in
+    let counted : reason_read c.unless-4.result ≡ invalid (optional (parsed_term quantity_of)) bad.Quantity (unwrap_or (own_minimum nodes) []) =
+    let read = c.parsed_quantity.ensures in
+    let may = c.may_be_empty-is_minimum.ensures in
+    let made = c.unless-4.ensures in cc in
+    c.first_reason.ensures ∙ same-five amount typed coded placed counted

@@ -47,7 +47,7 @@ class Example(NamedTuple):
 def examples() -> list[Example]:
     found = []
     for lines in blocks(DOCUMENT):
-        if element := re.match("<([A-Za-z]+)>", lines[0]):
+        if element := re.match("<([A-Za-z]+)/?>", lines[0]):
             xml = [line for line in lines if line.lstrip().startswith("<")]
             found.append(Example(element[1], "\n".join(xml), lines[len(xml) :]))
     return found

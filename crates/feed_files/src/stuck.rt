@@ -18,6 +18,7 @@ fn why_before(begins: &[u8], is_token: bool) -> &'static str {
         [b'<', b'?', ..] if is_token => "an XML declaration behind something, if only a blank line",
         [b'<', b'?', ..] => "an XML declaration that is not well-formed, as one without a version",
         [b'<', b'!', b'-', ..] => COMMENT,
+        [b'<', b'!', b'[', ..] => "a CDATA section before the root",
         [b'<', b'!', ..] if is_token => "a second DOCTYPE",
         [b'<', b'!', ..] => "a DOCTYPE that is not well-formed",
         [b'<', ..] if is_token => TWICE,
@@ -32,6 +33,7 @@ fn why_behind(begins: &[u8]) -> &'static str {
         [b'<', b'?', ..] => "an XML declaration behind the root, as of a second document",
         [b'<', b'/', ..] => "an end tag behind the root",
         [b'<', b'!', b'-', ..] => COMMENT,
+        [b'<', b'!', b'[', ..] => "a CDATA section behind the root",
         [b'<', ..] => "an element behind the root, as of a second document",
         _ => "text behind the root",
     }
@@ -43,6 +45,7 @@ fn why_within(begins: &[u8], is_token: bool) -> &'static str {
         [b'&', ..] => "a \"&\" that begins no reference: write &amp;",
         [b'<', b'?', ..] => "an XML declaration within the root",
         [b'<', b'!', b'-', ..] => COMMENT,
+        [b'<', b'!', b'[', ..] => "a CDATA section that is not well-formed",
         [b'<', b'!', ..] => "a DOCTYPE within the root",
         [b'<', ..] if is_token => TWICE,
         [b'<', ..] => WRONG_TAG,

@@ -14,10 +14,11 @@ from tests.running import Outcome
 
 FRAME = FRAMES["products"]
 
-# What a conversion may take of memory.
+# What a conversion may take of memory, and what one may that keeps a text of 4,194,304 bytes until it refuses it.
 MEMORY = 16 * 1_048_576
+MEMORY_OF_TEXT = 2 * MEMORY
 
-# Pieces of sections, three of lengths that are odd, so that what is read at once ends at each byte of them.
+# Pieces of sections, all of odd lengths, so that what is read at once ends at each byte of them.
 PIECES = ["x", "]", "]]x", "]x]> ", "&<]]]\n<"]
 
 LONG = 9_000_000
@@ -43,7 +44,7 @@ def that_counts(room: Room) -> Iterator[Outcome]:
     room.write(FEED, feed)
     yield Outcome("a section of 9 MB that counts", convert(room, FEED), Ran(1, b"", why))
     came = measured(room, iter([feed]))
-    yield Outcome("a section of 9 MB that counts, memory", came.memory <= 2 * MEMORY or came.memory, True)
+    yield Outcome("a section of 9 MB that counts, memory", came.memory <= MEMORY_OF_TEXT or came.memory, True)
 
 
 def without_end(room: Room) -> Iterator[Outcome]:

@@ -162,8 +162,9 @@ class StandIn(http.server.BaseHTTPRequestHandler):
 
 @contextlib.contextmanager
 def standing_in(handler: type[StandIn], port: int = 0) -> Iterator[int]:
-    """A server that replies so, at the port that is given: this one, or one that no other program has."""
-    with http.server.ThreadingHTTPServer((HOST, port), handler) as server:
+    """A server that replies so, at the port that is given: this one, or one that no other program has. Who asks has one
+    connection at a time; a thread for each would take twice what a reply does."""
+    with http.server.HTTPServer((HOST, port), handler) as server:
         thread = threading.Thread(target=server.serve_forever, args=[LOOK])
         thread.start()
         try:

@@ -6,8 +6,9 @@
 PROGRAM is crates/onixdesk/out/onixdesk where none is named, and is then refused where a source has changed since it
 was built. With -k only the groups are run that have the text in their name, which --list tells, and with --case only
 those of their cases are counted. N processes, one for each processor and four at most where it is not said, try one
-group after the other each. For each case that failed one line is written, in the order of --list, and at the end
-`program: N cases, M failed`. Status 0; 1 where a case failed; 2 where no case was run or there is no such program.
+group after the other each, in folders in memory where there is enough (tests/program/places.py), or where TMPDIR says.
+For each case that failed one line is written, in the order of --list, and at the end `program: N cases, M failed`.
+Status 0; 1 where a case failed; 2 where no case was run or there is no such program.
 """
 
 import compileall
@@ -15,7 +16,7 @@ import subprocess
 import sys
 
 from tests import processes
-from tests.program import groups
+from tests.program import groups, places
 from tests.program.room import Group
 from tests.running import PROGRAM, choice, command_line, tell_all, why_not
 from tools.root import ROOT
@@ -44,6 +45,7 @@ def main() -> int:
         print("\n".join(group.id() for group in found))
         return 0
     Group.program = (given.program or PROGRAM).resolve()
+    Group.place = places.usual()
     why = why_not(Group.program, [])
     if not why and not given.program and is_old():
         why = f"a source has changed since {PROGRAM} was built"

@@ -122,13 +122,14 @@ class Room:
 class Group(Cases):
     """Cases over a room of their own."""
 
-    # The program that is tested.
+    # The program that is tested, and the folder in which rooms are made, or none for the usual one.
     program = PROGRAM
+    place: str | None = None
 
     def __init__(self, name: str, check: Callable[[Room], Iterator[Outcome]]) -> None:
         super().__init__(name, getattr(check, "func", check).__module__)
         self.check = check
 
     def outcomes(self) -> Iterator[Outcome]:
-        with tempfile.TemporaryDirectory(prefix="onixdesk-") as folder:
+        with tempfile.TemporaryDirectory(prefix="onixdesk-", dir=self.place) as folder:
             yield from self.check(Room(self.program, Path(folder)))

@@ -7,9 +7,11 @@ import signal
 import time
 from collections.abc import Callable, Iterator
 from functools import partial
+from types import SimpleNamespace
 from unittest.mock import patch
 
 from tests import processes
+from tests.program import places
 from tests.program.room import SECONDS, Room
 from tests.running import Cases, Counted, Outcome, count_all, left_out, tell_all
 from tools.edits import why_not
@@ -118,6 +120,33 @@ def what_is_told(_room: Room) -> Iterator[Outcome]:
         with contextlib.redirect_stdout(io.StringIO()) as output:
             status = tell_all("all", found)
         yield Outcome(f"runner: what is told of {len(found)} groups", (status, output.getvalue()), told)
+
+
+def found(flags: int, size: int) -> SimpleNamespace:
+    """What is said of a file system of so many free bytes."""
+    return SimpleNamespace(f_flag=flags, f_bavail=size >> 12, f_frsize=1 << 12)
+
+
+def where_rooms_are(room: Room) -> Iterator[Outcome]:
+    """They are in memory, where programs run there, and both that file system and the machine have the room."""
+    most = 1 << 20
+    for name, flags, size, left, wanted in [
+        ("enough", 0, most, 2 * most, True),
+        ("a file system that is too small", 0, most - 4096, 2 * most, False),
+        ("a machine that is too small", 0, most, 2 * most - 1, False),
+        ("one that runs no programs", os.ST_NOEXEC, most, 2 * most, False),
+        ("one that is read alone", os.ST_RDONLY, most, 2 * most, False),
+    ]:
+        with patch("os.statvfs", return_value=found(flags, size)), patch.object(places, "available", lambda: left):
+            yield Outcome(f"rooms: {name}", places.has_room(room.folder, most), wanted)
+    yield Outcome("rooms: no such folder", places.has_room(room.path("none"), 0), False)
+    with patch.object(places, "has_room", lambda *_: True):
+        for folder, is_in_memory in ((None, True), (str(room.folder), False)):
+            others = {name: value for name, value in os.environ.items() if name != "TMPDIR"}
+            with patch.dict(os.environ, others | ({"TMPDIR": folder} if folder else {}), clear=True):
+                yield Outcome(
+                    f"rooms: TMPDIR is {folder and 'set'}", places.usual() == str(places.MEMORY), is_in_memory
+                )
 
 
 SOURCE = "fn one() -> u8 {\n    1\n}\n"

@@ -47,12 +47,12 @@ PROGRAMS = {
     "systemctl": f"""cd ROOM; word=$1; shift
 case $word in
 list-units) [ ! -e pid ] || echo "onixdesk.service loaded active running onixdesk"; exit ;;
-stop) [ "$1" = onixdesk.service ] || exit 0; kill "$(cat pid)"; while [ -e pid ]; do sleep 0.1; done ;;
+stop) [ "$1" = onixdesk.service ] || exit 0; kill "$(cat pid)"; while [ -e pid ]; do sleep 0.02; done ;;
 start) [ "$1" = onixdesk.service ] || exit 0
     rm -f {SOCKET} lines
     set -- --db {DESK} serve --port PORT --batches {SOCKET}
     sh -c 'onixdesk "$@" & echo $! >pid; wait $!; rm pid' sh "$@" >lines 2>&1 </dev/null &
-    until grep -qs listening lines && [ -S {SOCKET} ]; do sleep 0.1; done ;;
+    until grep -qs listening lines && [ -S {SOCKET} ]; do sleep 0.02; done ;;
 esac""",
     # Where no number is given the feeds have a date in place of one.
     "converter": CONVERTER.replace("number-3", "number-20250401"),

@@ -71,7 +71,7 @@ def server(room: Room, port: int, *words: str) -> Iterator[None]:
             with contextlib.suppress(OSError):
                 connected(port).close()
                 break
-            time.sleep(0.1)
+            time.sleep(0.01)
         yield
     finally:
         process.send_signal(signal.SIGTERM)

@@ -260,7 +260,7 @@ def killed(room: Room) -> Iterator[Outcome]:
     process_of = Path("/proc", began.read_text().strip())
     end = time.monotonic() + SECONDS
     while process_of.exists() and time.monotonic() < end:
-        time.sleep(0.1)
+        time.sleep(0.01)
     yield Outcome("packed: what is left of it", (found, process_of.exists()), ([], False))
 
 

@@ -112,7 +112,7 @@ def building(room: Room) -> subprocess.Popen[bytes]:
     build = subprocess.Popen([room.path("tools/build")], env=environment(room), stderr=subprocess.PIPE)
     until = time.monotonic() + SECONDS
     while not room.path("proved").exists() and time.monotonic() < until:
-        time.sleep(0.05)
+        time.sleep(0.01)
     return build
 
 

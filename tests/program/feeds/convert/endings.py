@@ -263,11 +263,11 @@ def started(room: Room) -> subprocess.Popen[bytes]:
     assert process.stdin
     process.stdin.write(LARGE.removesuffix(REST))
     process.stdin.flush()
-    for _ in range(SECONDS * 10):
+    for _ in range(SECONDS * 100):
         # The name that a run before it has left is written anew, and is no whole part meanwhile.
         if first_parts(room.path("out")).items() - before.items() and len(names(room.path("out"))) == 2:
             break
-        time.sleep(0.1)
+        time.sleep(0.01)
     return process
 
 

@@ -164,10 +164,10 @@ def came_meanwhile(room: Room) -> Iterator[Outcome]:
     products = "".join(PRODUCT.format(f"R{number:05}") for number in range(20_000))
     process.stdin.write(f"{FRAME.before}{products}".encode())
     process.stdin.flush()
-    for _ in range(SECONDS * 10):
+    for _ in range(SECONDS * 100):
         if names(room.path("out")):
             break
-        time.sleep(0.1)
+        time.sleep(0.01)
     room.write("out/message.part-02.csv", b"other")
     _, errors = process.communicate(FRAME.behind.encode(), timeout=SECONDS)
     wanted = 3, said(["out/message.part-02.csv: already exists, with different content"])

@@ -12,9 +12,12 @@ def matches(pattern: str, text: str) -> bool:
     return re.fullmatch(pattern, text, re.ASCII) is not None
 
 
+CONTROL = re.compile(r"[\x00-\x1f\x7f]")
+
+
 def is_field(text: str) -> bool:
     """At most 1,024 bytes, and no control character of ASCII."""
-    return len(text.encode()) <= 1024 and not any(ord(letter) < 32 or ord(letter) == 127 for letter in text)
+    return len(text.encode()) <= 1024 and (text.isprintable() or not CONTROL.search(text))
 
 
 def is_filled(text: str) -> bool:

@@ -231,28 +231,41 @@ fn whole_of(alloc: Global, terms: &Terms, detail: &Detail) -> Result<RecordBuffe
     Ok(output)
 }
 
+// Writes these records, and behind them those that were made all at once, where they differ.
+fn tell_records(
+    rt: &HostRuntime,
+    written: &RecordBuffer,
+    whole: &RecordBuffer,
+) -> Result<(), io::Error> {
+    let alloc = rt.alloc();
+    let text = write_records(alloc, &written.as_records())?;
+    print!(rt; "{text}")?;
+    let same = write_records(alloc, &whole.as_records())?;
+    if same.as_str() != text.as_str() {
+        print!(rt; "all at once: {same}")?;
+    }
+    Ok(())
+}
+
+// Writes how many Prices were held back, free or unfitted, where some were.
+fn tell_counts(rt: &HostRuntime, written: &Written) -> Result<(), io::Error> {
+    let held = written.held;
+    let free = written.free;
+    let unfitted = written.unfitted;
+    if held > 0 || free > 0 || unfitted > 0 {
+        println!(rt; "held {held}, free {free}, unfitted {unfitted}")?;
+    }
+    Ok(())
+}
+
 // Writes what comes of the Prices of the lines behind a table.
 fn tell_detail(rt: &HostRuntime, terms: &Terms, lines: &str) -> Result<(), io::Error> {
     let alloc = rt.alloc();
     let detail = detail_of(alloc, lines)?;
     let written = written_of(alloc, terms, &detail)?;
-    let text = write_records(alloc, &written.records.as_records())?;
-    print!(rt; "{text}")?;
     let whole = whole_of(alloc, terms, &detail)?;
-    let same = write_records(alloc, &whole.as_records())?;
-    if same.as_str() != text.as_str() {
-        print!(rt; "all at once: {same}")?;
-    }
-    let Written {
-        held,
-        free,
-        unfitted,
-        ..
-    } = written;
-    if held > 0 || free > 0 || unfitted > 0 {
-        println!(rt; "held {held}, free {free}, unfitted {unfitted}")?;
-    }
-    Ok(())
+    tell_records(rt, &written.records, &whole)?;
+    tell_counts(rt, &written)
 }
 
 // Writes which terms an earlier one takes all prices of.

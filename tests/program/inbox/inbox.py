@@ -365,18 +365,22 @@ def what_changes_meanwhile(change: str, room: Room) -> Iterator[Outcome]:
 def conversions_that_do_not_end(room: Room) -> Iterator[Outcome]:
     """One that takes too long, and one that is killed: their files are refused, so that they hold up no other."""
     batch(room, AGREEMENT)
-    goes_on = room.path("goes-on")
+    began, goes_on = room.path("began"), room.path("goes-on")
+    # Its sleep goes on, and would keep the streams of the inbox open, and its lock.
     program = script(
         room,
         "converter",
-        f'for word; do :; done; case $(cat "$word") in long) sleep 60; touch {goes_on} ;;'
+        f'for word; do :; done; case $(cat "$word") in'
+        f" long) echo $$ >{began}; sleep 60 </dev/null >/dev/null 2>&1 3>&- 4>&-; touch {goes_on} ;;"
         " big) kill -KILL $$ ;; stopped) kill -TERM $$ ;; esac",
     )
     inbox = Inbox(room, 1, CONVERSION_SECONDS=1)
     inbox.put({"a.xml": b"long"})
     wanted = said("a.xml: refused: its conversion took more than 1 s", status=1)
     yield Outcome("inbox: a conversion that does not end", inbox.run("--converter", program), wanted)
-    yield Outcome("inbox: a conversion that does not end is ended", goes_on.exists(), False)
+    process = Path("/proc", began.read_text().strip())
+    found = process.exists(), goes_on.exists()
+    yield Outcome("inbox: a conversion that does not end is ended", found, (False, False))
     inbox.set(CONVERSION_SECONDS=SECONDS)
     inbox.put({"b.xml": b"big"})
     line = "b.xml: refused: its conversion was killed, as happens if it takes more memory than the unit allows"

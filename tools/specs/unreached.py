@@ -9,10 +9,6 @@ from tools.specs.definitions import File, Name, imported, names_in, read_crate
 from tools.specs.page import crates
 
 
-# What is left there until its crate is proved for another reason, as docs/DECISIONS.md says.
-LEFT = {Name("feed_files", "Ends", "IsTaken")}
-
-
 def is_reached(file: File, word: str, found: set[Name]) -> bool:
     """Whether it is among those found; what is written as an operator has another name where it stands."""
     return "◌" in word or Name(file.crate, file.name, word) in found
@@ -36,13 +32,12 @@ def unreached(root: Path) -> list[Name]:
         if name not in found:
             found.add(name)
             left += uses.get(name, ())
-    lost = [
+    return [
         Name(file.crate, file.name, word)
         for file in files
         for word in file.comments
         if not is_reached(file, word, found)
     ]
-    return [name for name in lost if name not in LEFT]
 
 
 if __name__ == "__main__":

@@ -10,16 +10,17 @@ from multiprocessing.connection import Connection, wait
 from tests.program import forked_starts
 from tests.running import Cases, Counted, count_all
 
-# More do not gain, since a case often runs a program that has a processor for itself.
-MOST = 4
+# Three for each two processors, since a group now and then waits for what takes none, as for a client that is silent;
+# more do not gain, since a case often runs a program that has a processor for itself.
+MOST = 6
 
 # A process has what this one has imported and read.
 FORK = multiprocessing.get_context("fork")
 
 
 def usual() -> int:
-    """How many processes there are where nobody says it: one for each processor."""
-    return min(MOST, len(os.sched_getaffinity(0)))
+    """How many processes there are where nobody says it."""
+    return min(MOST, max(1, 3 * len(os.sched_getaffinity(0)) // 2))
 
 
 def try_each(groups: Sequence[Cases], case: str, asked: Connection, others: list[Connection]) -> None:

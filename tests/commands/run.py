@@ -5,10 +5,10 @@
 
 PROGRAM is crates/onixdesk/out/onixdesk where none is named, and is then refused where a source has changed since it
 was built. With -k only the groups are run that have the text in their name, which --list tells, and with --case only
-those of their cases are counted. N processes, one for each processor and four at most where it is not said, try one
-group after the other each, in folders in memory where there is enough (tests/program/places.py), or where TMPDIR says.
-For each case that failed one line is written, in the order of --list, and at the end `program: N cases, M failed`.
-Status 0; 1 where a case failed; 2 where no case was run or there is no such program.
+those of their cases are counted. N processes, three for each two processors and six at most where it is not said, try
+one group after the other each, in folders in memory where there is enough (tests/program/places.py), or where TMPDIR
+says. For each case that failed one line is written, in the order of --list, and at the end `program: N cases, M
+failed`. Status 0; 1 where a case failed; 2 where no case was run or there is no such program.
 """
 
 import compileall

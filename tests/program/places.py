@@ -7,8 +7,8 @@ from pathlib import Path
 # A file system in memory, as Linux has it in most places; in a container it may be small, or run no programs.
 MEMORY = Path("/dev/shm")
 
-# How many bytes the rooms of a run may have at a time, several times what they were seen to have.
-MOST = 2 << 30
+# How many bytes the rooms of a run may have at a time: six times what they were seen to have.
+MOST = 1 << 30
 
 
 def available() -> int:

@@ -234,9 +234,10 @@ pub data Token : Type 0 where
   reference : List ℕ → Token
   -- the mark that begins a CDATA section
   opening : Token
-  -- a closing bracket in a section, behind so many of them, two at most
+  -- a closing bracket in a section, with the number of them before it, two at most
   bracket : ℕ → Token
-  -- any other byte in a section, behind so many closing brackets; a > behind two of them ends it
+  -- any other byte in a section, behind the number of closing brackets before it; a > behind two of
+  -- them ends it
   cdata : ℕ → ℕ → Token
   comment : List ℕ → Token
   instruction : List ℕ → Token

@@ -47,7 +47,7 @@ attribute_at before bytes = do
       )
       else Err Never
 
--- Attributes, as long as a name follows the white space, of so many bytes at most.
+-- Attributes, as long as a name follows the white space, of as many bytes as there is fuel for.
 unfoldable pub attributes_within : ℕ → List ℕ → Step (List Attribute)
 attributes_within zero bytes = Err Never
 attributes_within (suc n) bytes = do
@@ -138,7 +138,7 @@ outside_at (b ∷ bytes) =
     else if b == 38 then reference_at bytes
     else Ok (raw b, bytes)
 
--- the same in a section, behind so many closing brackets of it
+-- the same in a section, by the number of closing brackets of it before that
 unfoldable pub section_at : ℕ → List ℕ → Step Token
 section_at n [] = Err More
 section_at n (b ∷ bytes) = Ok (section_byte n b, bytes)

@@ -3,7 +3,7 @@ use Rattle.std.specs.Prelude.{◌≡◌, ℕ, suc, Bool, ◌&&◌, ◌==◌, nat
 use Rattle.std.specs.Prelude.{Option, Some, None, fold, if◌then◌else◌}
 use Rattle.feed_xml.specs.Grammar.{Token, opening, bracket, cdata}
 
--- so many closing brackets and one more, two at most
+-- one closing bracket more, two at most
 abbrev pub with_bracket : ℕ → ℕ
 with_bracket n = if nat_lt n 2 then suc n else n
 
@@ -11,7 +11,7 @@ with_bracket n = if nat_lt n 2 then suc n else n
 abbrev pub ends_section : ℕ → ℕ → Bool
 ends_section n b = (n == 2) && (b == 62)
 
--- a byte of a section behind so many closing brackets
+-- a byte of a section, by the number of closing brackets before it
 abbrev pub section_byte : ℕ → ℕ → Token
 section_byte n b = if b == 93 then bracket n else cdata n b
 
@@ -40,8 +40,8 @@ AreIn section (token ∷ tokens) =
 
 -- ---- what the bytes of a section stand for
 
--- What a closing bracket stands for behind so many of them. Two may be the beginning of the end: a
--- third one tells that the first is text.
+-- What a closing bracket stands for, by the number of them before it. Two may be the beginning of
+-- the end: a third one tells that the first is text.
 abbrev pub bracket_text : ℕ → List ℕ
 bracket_text n = if n == 2 then codes "]" else []
 
@@ -49,7 +49,7 @@ bracket_text n = if n == 2 then codes "]" else []
 abbrev pub held_text : ℕ → List ℕ
 held_text n = if n == 0 then [] else if n == 1 then codes "]" else codes "]]"
 
--- what any other byte stands for behind so many closing brackets: these, which are no beginning of
+-- what any other byte stands for: the closing brackets before it, which are no beginning of
 -- the end, and itself, unless it ends the section
 abbrev pub section_text : ℕ → ℕ → List ℕ
 section_text n b = if ends_section n b then [] else held_text n ++ b ∷ []

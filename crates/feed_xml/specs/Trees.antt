@@ -60,9 +60,9 @@ next_brackets n b =
 abbrev pub tail_in : ℕ → ℕ → Tail
 tail_in n b = if ends_section n b then Text 0 else Section 0
 
--- What stands before the next token: so many closing brackets of a text, two at most, or a section
--- that is open, and so many in it. A section has nothing in it but its bytes, each of which tells
--- the brackets before it, and they stand in no text.
+-- What stands before the next token: the number of closing brackets of a text, two at most, or a
+-- section that is open, and the number of them in it. A section has nothing in it but its bytes,
+-- each of which tells the brackets before it, and they stand in no text.
 abbrev pub next_tail : Tail → Token → Option Tail
 next_tail (Text n) (raw b) = option_map Text (next_brackets n b)
 next_tail (Text n) opening = Some (Section 0)

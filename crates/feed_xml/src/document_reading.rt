@@ -101,7 +101,7 @@ fn take_front<'a>(
     Ok((Piece::Text(front), behind(rest, fitting)))
 }
 
-// The first bytes, so many of them.
+// The first bytes, as many as the count says.
 fn first(bytes: &[u8], count: usize) -> &[u8]
     requires { count ≤ length bytes.now }
     ensures { result.now ≡ take count bytes.now }
@@ -251,7 +251,7 @@ fn front(head: &[u8]) -> &[u8]
     }
 }
 
-// The bytes behind so many.
+// The bytes behind the first ones, as many as the count says.
 fn behind(bytes: &[u8], count: usize) -> &[u8]
     requires { count ≤ length bytes.now }
     ensures { result.now ≡ drop count bytes.now }
@@ -425,7 +425,7 @@ fn chunk_buffer(alloc: Global) -> Result<Vec<u8>, Fault>
     }
 }
 
-// Lets go of so many bytes at the front.
+// Lets go of the bytes at the front, as many as the count says.
 fn drop_front(alloc: Global, bytes: &mut Vec<u8>, count: usize) -> Result<(), Fault>
     requires { count ≤ length bytes.old.items }
     ensures rest { OnOk result (bytes.new.items ≡ drop count bytes.old.items) }

@@ -71,7 +71,7 @@ fn markup_or_reference(bytes: &[u8]) -> Result<(Token<'_>, &[u8]), Stop>
     }
 }
 
-// The byte of a section that bytes begin with, behind so many closing brackets of it.
+// The byte of a section that bytes begin with, and the number of closing brackets before it.
 #[tactic(auto, unfolding(crate::specs::Reading::section_at))]
 fn section_byte(count: u8, bytes: &[u8]) -> Result<(Token<'_>, &[u8]), Stop>
     ensures { Gives (λ x. (token_view x.0, x.1.now)) result (section_at count bytes.now) }
@@ -105,7 +105,7 @@ fn begins_stretch(count: u8, bytes: &[u8]) -> bool
     count == 0 && begins_unbracketed(bytes)
 }
 
-// What bytes of a section begin with, behind so many closing brackets of it.
+// What bytes of a section begin with, by the number of closing brackets of it before them.
 fn section_piece(count: u8, bytes: &[u8]) -> Result<(Piece<'_>, &[u8]), Stop>
     ensures ok { IfOk result (λ x. Begins (Some count) bytes.now (piece_view x.0) x.1.now) }
     ensures err { IfErr result (λ e. Explains (Some count) e bytes.now) }
@@ -119,7 +119,7 @@ fn section_piece(count: u8, bytes: &[u8]) -> Result<(Piece<'_>, &[u8]), Stop>
     }
 }
 
-/// What bytes begin with, in a section behind so many closing brackets of it, if they stand in one.
+/// What bytes begin with; in a section by the number of closing brackets of it before them.
 pub(crate) fn read_piece(section: Option<u8>, bytes: &[u8]) -> Result<(Piece<'_>, &[u8]), Stop>
     ensures ok { IfOk result (λ x. Begins section bytes.now (piece_view x.0) x.1.now) }
     ensures err { IfErr result (λ e. Explains section e bytes.now) }

@@ -75,7 +75,7 @@ fn brackets_with(is_outside: bool, before: u8, byte: u8) -> Option<u8>
         return None;
     }
     if byte == b']' {
-        return Some(if before < 2 { before + 1 } else { before });
+        return Some(with_bracket(before));
     }
     if byte == b'>' && before == 2 {
         None
@@ -84,7 +84,8 @@ fn brackets_with(is_outside: bool, before: u8, byte: u8) -> Option<u8>
     }
 }
 
-// How many bytes of a text may stand behind so many closing brackets of it, from the first on.
+// How many bytes of a text may stand there, from the first on, by the number of its closing
+// brackets before them.
 fn fitting(is_outside: bool, before: u8, run: &[u8]) -> usize
     ensures { result ≡ fitting is_outside before run.now }
 {
@@ -103,13 +104,13 @@ fn fitting(is_outside: bool, before: u8, run: &[u8]) -> usize
 /// What stands before the next token.
 #[derive(Clone, Copy, Debug)]
 pub(crate) enum Tail {
-    /// So many closing brackets of a text, two at most.
+    /// The number of closing brackets of a text, two at most.
     Text(u8),
-    /// A CDATA section that is open, and so many closing brackets of it, two at most.
+    /// A CDATA section that is open, with the number of its closing brackets, two at most.
     Section(u8),
 }
 
-// So many closing brackets and one more, two at most.
+// One closing bracket more, two at most.
 fn with_bracket(count: u8) -> u8
     ensures { result ≡ with_bracket count }
 {
@@ -164,7 +165,7 @@ fn tail_with(before: Tail, token: &Token<'_>) -> Option<Tail>
     }
 }
 
-// Behind a stretch of text behind so many closing brackets of one, where that may stand there.
+// Behind a stretch of text, by the closing brackets of one before it, where that may stand there.
 fn text_tail(count: u8, run: &[u8]) -> Option<Tail>
     ensures { result ≡ tail_after (Tail.Text count) (map raw run.now) }
 {

@@ -5,15 +5,15 @@ ghost use Rattle.feed_xml.specs.Sections.{bracket_text, ends_section, held_text,
 
 use std::alloc::AllocError;
 
-/// Whether a byte behind so many closing brackets ends a section.
+/// Whether a byte ends a section, by the number of closing brackets before it.
 pub(crate) fn ends_section(count: u8, byte: u8) -> bool
     ensures { result ≡ ends_section count byte }
 {
     count == 2 && byte == b'>'
 }
 
-/// What a closing bracket of a section stands for behind so many of them. Two may be the beginning
-/// of its end: a third one tells that the first is text.
+/// What a closing bracket of a section stands for, by the number of them before it. Two may be the
+/// beginning of its end: a third one tells that the first is text.
 pub fn bracket_text(count: u8) -> &'static [u8]
     ensures { result.now ≡ bracket_text count }
 {
@@ -37,8 +37,8 @@ fn held_text(count: u8) -> &'static [u8]
     }
 }
 
-/// Adds what any other byte of a section stands for behind so many closing brackets: these, which
-/// are no beginning of the end, and itself, unless it ends the section.
+/// Adds what any other byte of a section stands for: the closing brackets before it, as many as the
+/// count says, which are no beginning of the end, and itself, unless it ends the section.
 pub fn push_section_byte(out: &mut Vec<u8>, count: u8, byte: u8) -> Result<(), AllocError>
     ensures { OnOk result (out.new.items ≡ out.old.items ++ section_text count byte) }
 {

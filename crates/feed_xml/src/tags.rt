@@ -20,10 +20,10 @@ pub enum Token<'a> {
     Reference(&'a [u8]),
     /// The mark that begins a CDATA section.
     Opening,
-    /// A closing bracket in a CDATA section, behind so many of them, two at most.
+    /// A closing bracket in a CDATA section, with the number of them before it, two at most.
     Bracket(u8),
-    /// Any other byte in a CDATA section, behind so many closing brackets. A `>` behind two of them
-    /// ends the section.
+    /// Any other byte in a CDATA section, behind the number of closing brackets before it. A `>`
+    /// behind two of them ends the section.
     CData(u8, u8),
     /// What stands in a comment.
     Comment(&'a [u8]),

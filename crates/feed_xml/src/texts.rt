@@ -7,7 +7,8 @@ ghost use Rattle.feed_xml.specs.private.Passed.{Passes};
 use crate::characters::is_char;
 
 /// Where the next byte stands: at the first one of a character, or behind some of its bytes, with
-/// what these come to. With two bytes and more stands the least code point that needs so many.
+/// what these come to. With two bytes and more stands the least code point of a character of that
+/// length.
 #[derive(Clone, Copy)]
 pub(crate) enum Part {
     Whole,

@@ -54,14 +54,6 @@ module _ (b : ℕ) where
   abbrev pub is_encoding_byte : Bool
   is_encoding_byte = (is_letter || is_digit) || ((b == 46) || ((b == 95) || (b == 45)))
 
-abbrev pub begins_plain : List ℕ → Bool
-begins_plain [] = false
-begins_plain (b ∷ bytes) = is_plain b
-
-abbrev pub begins_unbracketed : List ℕ → Bool
-begins_unbracketed [] = false
-begins_unbracketed (b ∷ bytes) = is_unbracketed b
-
 abbrev pub begins_name : List ℕ → Bool
 begins_name [] = false
 begins_name (b ∷ bytes) = starts_name b

@@ -1,12 +1,12 @@
 //! Kinds of bytes.
 
-ghost use Rattle.std.specs.Prelude.{◌≡◌, true};
+ghost use Rattle.std.specs.Prelude.{◌≡◌, ◌<◌, ◌+◌, ◌++◌, length, true};
 ghost use Rattle.std.specs.List.{list_all};
 ghost use Rattle.std.specs.Str.{chars};
 ghost use Rattle.feed_xml.specs.Characters.{are_of_name};
-ghost use Rattle.feed_xml.specs.Grammar.{is_space, starts_name, is_name_byte, is_plain, is_value_byte, is_quote, is_filled, begins_plain, is_unbracketed, begins_unbracketed, begins_name, is_reference_byte, is_digit, is_hex_digit, is_name};
-ghost use Rattle.feed_xml.specs.Kinds.{passes};
-ghost use Rattle.feed_xml.specs.private.NameCharacters.{is_ascii};
+ghost use Rattle.feed_xml.specs.Grammar.{is_space, starts_name, is_name_byte, is_plain, is_value_byte, is_quote, is_filled, is_unbracketed, begins_name, is_reference_byte, is_digit, is_hex_digit, is_name};
+ghost use Rattle.feed_xml.specs.Kinds.{passes, first_passes};
+ghost use Rattle.feed_xml.specs.Positions.{has_column, is_continuation};
 
 use crate::characters::are_of_name;
 
@@ -20,6 +20,11 @@ pub(crate) enum Kind {
     Reference,
     Digit,
     HexDigit,
+    Unbracketed,
+    /// The bytes that are characters by themselves.
+    Ascii,
+    /// The bytes each of which has a column of its own.
+    Column,
 }
 
 #[inline]
@@ -75,6 +80,22 @@ pub(crate) fn is_quote(b: u8) -> bool
     b == 34 || b == 39
 }
 
+// Whether a byte goes on with a character.
+#[inline(always)]
+pub(crate) fn is_continuation(b: u8) -> bool
+    ensures { result ≡ is_continuation b }
+{
+    b >= 128 && b < 192
+}
+
+// Whether a byte begins a character of the same line.
+#[inline(always)]
+fn has_column(b: u8) -> bool
+    ensures { result ≡ has_column b }
+{
+    b != b'\n' && !is_continuation(b)
+}
+
 #[inline(always)]
 pub(crate) fn passes(kind: Kind, b: u8) -> bool
     ensures { result ≡ passes kind b }
@@ -87,6 +108,9 @@ pub(crate) fn passes(kind: Kind, b: u8) -> bool
         Kind::Reference => is_reference_byte(b),
         Kind::Digit => is_digit(b),
         Kind::HexDigit => is_hex_digit(b),
+        Kind::Unbracketed => is_unbracketed(b),
+        Kind::Ascii => b < 128,
+        Kind::Column => has_column(b),
     }
 }
 
@@ -100,23 +124,14 @@ pub(crate) fn is_filled(bytes: &[u8]) -> bool
     }
 }
 
-#[inline]
-pub(crate) fn begins_plain(bytes: &[u8]) -> bool
-    ensures { result ≡ begins_plain bytes.now }
+// Whether the first of the bytes is of the kind.
+#[inline(always)]
+pub(crate) fn first_passes(kind: Kind, bytes: &[u8]) -> bool
+    ensures { result ≡ first_passes kind bytes.now }
 {
     match bytes {
         [] => false,
-        [first, ..] => is_plain(*first),
-    }
-}
-
-#[inline]
-pub(crate) fn begins_unbracketed(bytes: &[u8]) -> bool
-    ensures { result ≡ begins_unbracketed bytes.now }
-{
-    match bytes {
-        [] => false,
-        [first, ..] => is_unbracketed(*first),
+        [first, ..] => passes(kind, *first),
     }
 }
 
@@ -166,19 +181,23 @@ pub(crate) fn all_pass(kind: Kind, bytes: &[u8]) -> bool
     true
 }
 
-// Whether each of the bytes is a character by itself.
+/// The bytes of a kind at the front, as many as there are, and those behind them.
 #[inline(always)]
-fn are_ascii(bytes: &[u8]) -> bool
-    ensures { result ≡ list_all is_ascii bytes.now }
+pub(crate) fn split_run(kind: Kind, bytes: &[u8]) -> (&[u8], &[u8])
+    ensures whole { bytes.now ≡ result.0.now ++ result.1.now }
+    ensures size { length bytes.now ≡ length result.0.now + length result.1.now }
+    ensures each { list_all (passes kind) result.0.now ≡ true }
+    ensures some { first_passes kind bytes.now ≡ true → length result.1.now < length bytes.now }
 {
-    let mut rest = bytes;
-    while let [b, tail @ ..] = rest {
-        if *b >= 128 {
-            return false;
+    let mut at = 0;
+    while at < bytes.len() {
+        if passes(kind, bytes[at]) {
+            at += 1;
+        } else {
+            return bytes.split_at(at);
         }
-        rest = tail;
     }
-    true
+    bytes.split_at(at)
 }
 
 // Whether the characters of the bytes, which may be those of a name, are so. Most names are of
@@ -188,7 +207,7 @@ fn have_name_chars(bytes: &[u8]) -> bool
     requires all { list_all is_name_byte bytes.now ≡ true }
     ensures { result ≡ are_of_name (chars bytes.now) }
 {
-    are_ascii(bytes) || are_of_name(bytes)
+    all_pass(Kind::Ascii, bytes) || are_of_name(bytes)
 }
 
 /// Whether this is a name, each of whose bytes may stand in one.

@@ -1,11 +1,11 @@
 //! Encodings.
 
-ghost use Rattle.std.specs.Prelude.{◌≡◌, ◌<◌, ◌≤◌, ◌++◌, OnOk, IfOk, encode_utf8, length, true};
-ghost use Rattle.std.specs.List.{flat_map, list_all};
+ghost use Rattle.std.specs.Prelude.{◌≡◌, ◌<◌, ◌≤◌, ◌++◌, OnOk, IfOk, encode_utf8, length};
+ghost use Rattle.std.specs.List.{flat_map};
 ghost use Rattle.feed_xml.specs.Encodings.{windows_code, windows_codes, latin9_code, code_of, byte_text, unit_of, is_lead, is_trail};
 ghost use Rattle.feed_xml.specs.private.Decoders.{after_unit, after_pair, after_byte, held16, text16, held_behind, text_from, ending, ending16};
-ghost use Rattle.feed_xml.specs.private.NameCharacters.{is_ascii};
 
+use crate::classes::{Kind, split_run};
 use std::alloc::AllocError;
 
 /// How the characters of a text are written as bytes.
@@ -123,22 +123,6 @@ fn push_code(out: &mut Vec<u8>, code: u32) -> Result<(), AllocError>
     out.extend_from_slice(c.encode_utf8(&mut bytes).as_bytes())
 }
 
-// The ASCII that bytes begin with, and what stands behind it.
-fn split_ascii(bytes: &[u8]) -> (&[u8], &[u8])
-    ensures whole { bytes.now ≡ result.0.now ++ result.1.now }
-    ensures ascii { list_all is_ascii result.0.now ≡ true }
-{
-    let mut at = 0;
-    while at < bytes.len() {
-        if bytes[at] < 128 {
-            at += 1;
-        } else {
-            return bytes.split_at(at);
-        }
-    }
-    bytes.split_at(at)
-}
-
 // Adds the ASCII that bytes begin with, at once since it is its own text, and gives what stands
 // behind it.
 #[tactic(auto, using(crate::proofs::AsciiLaws::ascii_first))]
@@ -151,7 +135,7 @@ fn push_ascii<'a>(
         ≡ out.old.items ++ flat_map (byte_text encoding) bytes.now) }
     ensures shorter { IfOk result (λ rest. length rest.now ≤ length bytes.now) }
 {
-    let (ascii, rest) = split_ascii(bytes);
+    let (ascii, rest) = split_run(Kind::Ascii, bytes);
     out.extend_from_slice(ascii)?;
     Ok(rest)
 }

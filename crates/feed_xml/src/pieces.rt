@@ -1,14 +1,13 @@
 //! What bytes begin with: a stretch of text or of a section, or a token.
 
-ghost use Rattle.std.specs.Prelude.{◌≡◌, ◌<◌, ◌++◌, true, false, IfOk, IfErr, Some, None, length};
-ghost use Rattle.std.specs.List.{list_all};
-ghost use Rattle.feed_xml.specs.Grammar.{is_plain, begins_plain, is_unbracketed, begins_unbracketed};
+ghost use Rattle.std.specs.Prelude.{◌≡◌, true, false, IfOk, IfErr, Some, None};
+ghost use Rattle.feed_xml.specs.Kinds.{first_passes};
 ghost use Rattle.feed_xml.specs.Pieces.{Begins, Explains};
 ghost use Rattle.feed_xml.specs.View.{piece_view, token_view};
 ghost use Rattle.feed_xml.specs.Steps.{Gives};
 ghost use Rattle.feed_xml.specs.Reading.{outside_at, section_at};
 
-use crate::classes::{begins_plain, begins_unbracketed, is_plain, is_unbracketed};
+use crate::classes::{Kind, first_passes, split_run};
 use crate::stop::Stop;
 use crate::tags::{Token, markup, reference};
 
@@ -23,44 +22,10 @@ pub enum Piece<'a> {
     Markup(Token<'a>),
 }
 
-// The bytes up to `<` or `&`.
-fn plain(bytes: &[u8]) -> (&[u8], &[u8])
-    ensures whole { bytes.now ≡ result.0.now ++ result.1.now }
-    ensures each { list_all is_plain result.0.now ≡ true }
-    ensures some { begins_plain bytes.now ≡ true → length result.1.now < length bytes.now }
-{
-    let mut at = 0;
-    while at < bytes.len() {
-        if is_plain(bytes[at]) {
-            at += 1;
-        } else {
-            return bytes.split_at(at);
-        }
-    }
-    bytes.split_at(at)
-}
-
-// The bytes up to a closing bracket.
-fn unbracketed(bytes: &[u8]) -> (&[u8], &[u8])
-    ensures whole { bytes.now ≡ result.0.now ++ result.1.now }
-    ensures each { list_all is_unbracketed result.0.now ≡ true }
-    ensures some { begins_unbracketed bytes.now ≡ true → length result.1.now < length bytes.now }
-{
-    let mut at = 0;
-    while at < bytes.len() {
-        if is_unbracketed(bytes[at]) {
-            at += 1;
-        } else {
-            return bytes.split_at(at);
-        }
-    }
-    bytes.split_at(at)
-}
-
 // The token that bytes begin with, where they begin with no plain byte.
 #[tactic(auto, unfolding(crate::specs::Reading::outside_at))]
 fn markup_or_reference(bytes: &[u8]) -> Result<(Token<'_>, &[u8]), Stop>
-    requires { begins_plain bytes.now ≡ false }
+    requires { first_passes Kind.Plain bytes.now ≡ false }
     ensures { Gives (λ x. (token_view x.0, x.1.now)) result (outside_at bytes.now) }
 {
     match bytes {
@@ -88,8 +53,8 @@ fn outside_piece(bytes: &[u8]) -> Result<(Piece<'_>, &[u8]), Stop>
     ensures ok { IfOk result (λ x. Begins None bytes.now (piece_view x.0) x.1.now) }
     ensures err { IfErr result (λ e. Explains None e bytes.now) }
 {
-    if begins_plain(bytes) {
-        let (run, rest) = plain(bytes);
+    if first_passes(Kind::Plain, bytes) {
+        let (run, rest) = split_run(Kind::Plain, bytes);
         Ok((Piece::Text(run), rest))
     } else {
         let (token, rest) = markup_or_reference(bytes)?;
@@ -100,9 +65,9 @@ fn outside_piece(bytes: &[u8]) -> Result<(Piece<'_>, &[u8]), Stop>
 // Whether bytes of a section begin with one that is no closing bracket and stands behind none.
 fn begins_stretch(count: u8, bytes: &[u8]) -> bool
     ensures none { result ≡ true → count ≡ 0 }
-    ensures begins { result ≡ true → begins_unbracketed bytes.now ≡ true }
+    ensures begins { result ≡ true → first_passes Kind.Unbracketed bytes.now ≡ true }
 {
-    count == 0 && begins_unbracketed(bytes)
+    count == 0 && first_passes(Kind::Unbracketed, bytes)
 }
 
 // What bytes of a section begin with, by the number of closing brackets of it before them.
@@ -111,7 +76,7 @@ fn section_piece(count: u8, bytes: &[u8]) -> Result<(Piece<'_>, &[u8]), Stop>
     ensures err { IfErr result (λ e. Explains (Some count) e bytes.now) }
 {
     if begins_stretch(count, bytes) {
-        let (run, rest) = unbracketed(bytes);
+        let (run, rest) = split_run(Kind::Unbracketed, bytes);
         Ok((Piece::Section(run), rest))
     } else {
         let (token, rest) = section_byte(count, bytes)?;

@@ -1,48 +1,15 @@
 //! Lines and columns.
 
-ghost use Rattle.std.specs.Prelude.{◌≡◌, ◌<◌, ◌≤◌, ◌+◌, ◌^◌, ◌++◌, IfSome, length, true};
-ghost use Rattle.std.specs.List.{list_all};
-ghost use Rattle.feed_xml.specs.Positions.{first_position, has_column, is_continuation, next_position, position_after};
+ghost use Rattle.std.specs.Prelude.{◌≡◌, ◌<◌, ◌≤◌, ◌+◌, ◌^◌, IfSome};
+ghost use Rattle.feed_xml.specs.Positions.{first_position, next_position, position_after};
+
+use crate::classes::{Kind, is_continuation, split_run};
 
 /// A place in a text: its line and its column, both from 1. The column counts characters.
 #[derive(Clone, Copy, Debug, PartialEq, Eq)]
 pub struct Position {
     pub line: u64,
     pub column: u64,
-}
-
-// Whether a byte goes on with a character.
-#[inline(always)]
-fn is_continuation(b: u8) -> bool
-    ensures { result ≡ is_continuation b }
-{
-    b >= 128 && b < 192
-}
-
-// Whether a byte begins a character of the same line.
-#[inline(always)]
-fn has_column(b: u8) -> bool
-    ensures { result ≡ has_column b }
-{
-    b != b'\n' && !is_continuation(b)
-}
-
-// The bytes at the front each of which has a column of its own, and those behind them.
-#[inline(always)]
-fn split_columns(bytes: &[u8]) -> (&[u8], &[u8])
-    ensures whole { bytes.now ≡ result.0.now ++ result.1.now }
-    ensures size { length bytes.now ≡ length result.0.now + length result.1.now }
-    ensures each { list_all has_column result.0.now ≡ true }
-{
-    let mut at = 0;
-    while at < bytes.len() {
-        if has_column(bytes[at]) {
-            at += 1;
-        } else {
-            return bytes.split_at(at);
-        }
-    }
-    bytes.split_at(at)
 }
 
 impl Position {
@@ -89,7 +56,7 @@ impl Position {
         let mut rest = bytes;
         while let [b, tail @ ..] = rest {
             let next = place.after_byte(*b);
-            let (columns, behind) = split_columns(tail);
+            let (columns, behind) = split_run(Kind::Column, tail);
             place = Position {
                 line: next.line,
                 column: next.column + columns.len() as u64,

@@ -11,5 +11,7 @@ returns-in_err-token-clause-err c =
 pub returns-in_ok-token-clause-ok : goal.returns-in_ok-token-clause-ok
 returns-in_ok-token-clause-ok c = outside_begins c.args.bytes.now c.in_ok-token.rest.now _ c.in_ok-token.ensures
 
-pub returns-then-begins_plain-clause-ok : goal.returns-then-begins_plain-clause-ok
-returns-then-begins_plain-clause-ok c = text_begins c.args.bytes.now c.plain.result.0.now c.plain.result.1.now c.plain.ensures.whole c.plain.ensures.each (c.plain.ensures.some (sym c.begins_plain.ensures ∙ c.if-begins_plain.true))
+pub returns-then-first_passes-clause-ok : goal.returns-then-first_passes-clause-ok
+returns-then-first_passes-clause-ok c =
+    let s = c.split_run.ensures in
+    text_begins c.args.bytes.now c.split_run.result.0.now c.split_run.result.1.now s.whole s.each (s.some (sym c.first_passes.ensures ∙ c.if-first_passes.true))

@@ -13,5 +13,5 @@ returns-in_ok-token-clause-ok c = section_begins c.args.count c.args.bytes.now c
 pub returns-then-begins_stretch-clause-ok : goal.returns-then-begins_stretch-clause-ok
 returns-then-begins_stretch-clause-ok c =
     let e = c.begins_stretch.ensures in
-    let u = c.unbracketed.ensures in
-    stretch_begins c.args.count c.args.bytes.now c.unbracketed.result.0.now c.unbracketed.result.1.now (e.none c.if-begins_stretch.true) u.whole u.each (u.some (e.begins c.if-begins_stretch.true))
+    let s = c.split_run.ensures in
+    stretch_begins c.args.count c.args.bytes.now c.split_run.result.0.now c.split_run.result.1.now (e.none c.if-begins_stretch.true) s.whole s.each (s.some (e.begins c.if-begins_stretch.true))

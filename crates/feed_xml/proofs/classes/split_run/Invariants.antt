@@ -1,12 +1,12 @@
 use Rattle.std.proofs.Common.{◌≡◌, ◌-◌, ◌≤◌, true, length, take}
 use Rattle.std.specs.List.{list_all}
-use Rattle.feed_xml.specs.Positions.{has_column}
-use Rattle.feed_xml.proofs.position.split_columns.Given as goal
+use Rattle.feed_xml.specs.Kinds.{passes}
+use Rattle.feed_xml.proofs.classes.split_run.Given as goal
 
 abbrev pub invariant-loop-at : goal.invariant-loop-at
 invariant-loop-at l = record {
   within : l.at ≤ length l.bytes;
-  each : list_all has_column (take l.at l.bytes) ≡ true;
+  each : list_all (passes l.kind) (take l.at l.bytes) ≡ true;
 }
 
 abbrev pub decreases-loop-at : goal.decreases-loop-at

@@ -1,7 +1,11 @@
 -- A run of bytes that pass, as a loop reads it.
 use Rattle.std.proofs.Common.{◌≡◌, ℕ, ◌+◌, ◌<◌, ◌≤◌, Bool, true, false, ◌-◌, ◌≢◌, List, [], ◌∷◌, ◌++◌, length, get_or, take, drop, Ok, Err, refl, sym, ap, ◌∙◌, append_assoc, add-one, arith, drop-cons}
 use Rattle.std.proofs.lemmas.List.{append-nil, take_more, drop_all, take_all, length-drop}
-use Rattle.std.proofs.lemmas.Bool.{eq-eqb, ne_eqb}
+use Rattle.std.proofs.lemmas.Bool.{and_parts, eq-eqb, ne_eqb}
+use Rattle.std.specs.List.{list_all}
+use Rattle.feed_xml.specs.declared.classes.Kind.{Kind}
+use Rattle.feed_xml.specs.Grammar.{is_filled}
+use Rattle.feed_xml.specs.Kinds.{passes, first_passes}
 use Rattle.feed_xml.specs.declared.stop.Stop.TheVariants.{More, Never}
 use Rattle.feed_xml.specs.Steps.{Step, ◌>>=◌, run, literal, until}
 
@@ -17,37 +21,23 @@ pub no_front : (read : Step (List ℕ)) → with_front [] read ≡ read
 no_front (Ok x) = refl
 no_front (Err f) = refl
 
-pub run_init : (p : ℕ → Bool) (bytes : List ℕ) → with_front (take 0 bytes) (run p (drop 0 bytes)) ≡ run p bytes
-run_init p bytes = no_front (run p bytes)
-
-pub run_more : (p : ℕ → Bool) (bytes : List ℕ) (at : ℕ) → at < length bytes → p (get_or bytes at 0) ≡ true
-    → with_front (take at bytes) (run p (drop at bytes)) ≡ run p bytes
-    → with_front (take (at + 1) bytes) (run p (drop (at + 1) bytes)) ≡ run p bytes
+-- A run ends before the first byte that does not pass.
+pub run_split : (kind : Kind) (front rest : List ℕ) → list_all (passes kind) front ≡ true → first_passes kind rest ≡ false → is_filled rest ≡ true
+    → run (passes kind) (front ++ rest) ≡ Ok (front, rest)
 unfolding run
-run_more p bytes at lt passes so_far =
-    let front : take (at + 1) bytes ≡ take at bytes ++ get_or bytes at 0 ∷ [] = take_more bytes at 0 lt in
-    let rest : drop at bytes ≡ get_or bytes at 0 ∷ drop (at + 1) bytes = rw add-one (drop-cons bytes at 0 lt) in
-    let one : with_front (take at bytes) (run p (drop at bytes)) ≡ with_front (take (at + 1) bytes) (run p (drop (at + 1) bytes)) =
-    rw (rest, passes, front) (regroup (take at bytes) (get_or bytes at 0) (run p (drop (at + 1) bytes))) in
-    sym one ∙ so_far
+run_split kind [] [] each ends some = absurd cc
+run_split kind [] (b ∷ rest) each ends some = rw ends refl
+run_split kind (c ∷ front) rest each ends some =
+    let t = and_parts (passes kind c) (list_all (passes kind) front) each in
+    rw (t.0, run_split kind front rest t.1 ends some) refl
 
-pub run_stop : (p : ℕ → Bool) (bytes : List ℕ) (at : ℕ) → at < length bytes → p (get_or bytes at 0) ≡ false
-    → with_front (take at bytes) (run p (drop at bytes)) ≡ run p bytes
-    → run p bytes ≡ Ok (take at bytes, drop at bytes)
+pub run_short : (p : ℕ → Bool) (front rest : List ℕ) → list_all p front ≡ true → is_filled rest ≡ false → run p (front ++ rest) ≡ Err More
 unfolding run
-run_stop p bytes at lt fails so_far =
-    let rest : drop at bytes ≡ get_or bytes at 0 ∷ drop (at + 1) bytes = rw add-one (drop-cons bytes at 0 lt) in
-    let one : run p (drop at bytes) ≡ Ok ([], drop at bytes) = rw (rest, fails) refl in
-    sym so_far ∙ rw (one, append-nil) refl
-
-pub run_end : (p : ℕ → Bool) (bytes : List ℕ) (at : ℕ) → length bytes ≤ at
-    → with_front (take at bytes) (run p (drop at bytes)) ≡ run p bytes
-    → run p bytes ≡ Err More
-unfolding run
-run_end p bytes at le so_far =
-    let none : drop at bytes ≡ [] = drop_all at bytes le in
-    let one : with_front (take at bytes) (run p (drop at bytes)) ≡ Err More = rw none refl in
-    sym so_far ∙ one
+run_short p [] [] each none = refl
+run_short p [] (b ∷ rest) each none = absurd cc
+run_short p (c ∷ front) rest each none =
+    let t = and_parts (p c) (list_all p front) each in
+    rw (t.0, run_short p front rest t.1 none) refl
 
 -- a slice from a place on is all of what is left
 pub rest_is : (bytes : List ℕ) (at : ℕ) → take (length bytes - at) (drop at bytes) ≡ drop at bytes

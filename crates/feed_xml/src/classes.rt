@@ -1,6 +1,6 @@
 //! Kinds of bytes.
 
-ghost use Rattle.std.specs.Prelude.{◌≡◌, ◌<◌, ◌+◌, ◌++◌, length, true};
+ghost use Rattle.std.specs.Prelude.{◌≡◌, ◌<◌, ◌+◌, ◌++◌, length, true, false};
 ghost use Rattle.std.specs.List.{list_all};
 ghost use Rattle.std.specs.Str.{chars};
 ghost use Rattle.feed_xml.specs.Characters.{are_of_name};
@@ -188,6 +188,7 @@ pub(crate) fn split_run(kind: Kind, bytes: &[u8]) -> (&[u8], &[u8])
     ensures size { length bytes.now ≡ length result.0.now + length result.1.now }
     ensures each { list_all (passes kind) result.0.now ≡ true }
     ensures some { first_passes kind bytes.now ≡ true → length result.1.now < length bytes.now }
+    ensures ends { first_passes kind result.1.now ≡ false }
 {
     let mut at = 0;
     while at < bytes.len() {

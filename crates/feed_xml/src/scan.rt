@@ -6,7 +6,7 @@ ghost use Rattle.feed_xml.specs.Steps.{Gives, run, literal, until};
 ghost use Rattle.feed_xml.specs.Grammar.{quote_at};
 ghost use Rattle.feed_xml.specs.Reading.{name_at};
 
-use crate::classes::{Kind, are_name, is_quote, passes};
+use crate::classes::{Kind, are_name, is_filled, is_quote, split_run};
 use crate::stop::Stop;
 
 /// As many bytes of a kind as there are.
@@ -14,15 +14,12 @@ use crate::stop::Stop;
 pub(crate) fn run(kind: Kind, bytes: &[u8]) -> Result<(&[u8], &[u8]), Stop>
     ensures { Gives (λ x. (x.0.now, x.1.now)) result (run (passes kind) bytes.now) }
 {
-    let mut at = 0;
-    while at < bytes.len() {
-        if passes(kind, bytes[at]) {
-            at += 1;
-        } else {
-            return Ok(bytes.split_at(at));
-        }
+    let (front, rest) = split_run(kind, bytes);
+    if is_filled(rest) {
+        Ok((front, rest))
+    } else {
+        Err(Stop::More)
     }
-    Err(Stop::More)
 }
 
 /// White space.

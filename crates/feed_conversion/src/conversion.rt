@@ -81,13 +81,13 @@ fn hand_rest<T: Target>(
 fn end_parts<T: Target>(
     alloc: Global,
     most: u32,
-    begun: OpenParts,
+    begun: &mut OpenParts,
     target: &mut T,
 ) -> Result<u32, Fault>
     ensures { Ends result (T.parts target.new) (T.notes target.new) (ended_at T.keeping most
-        (stored (begun_view begun) (T.parts target.old) (T.notes target.old)) begun.beyond) }
+        (stored (begun_view begun.old) (T.parts target.old) (T.notes target.old))
+        begun.old.beyond) }
 {
-    let mut begun = begun;
     let wrong = begun.tally.wrong;
     if let Some(place) = begun.beyond {
         return match begun.full.checked_add(1) {
@@ -95,7 +95,7 @@ fn end_parts<T: Target>(
             None => Err(Fault::Memory),
         };
     }
-    match hand_rest(alloc, most, &mut begun, target) {
+    match hand_rest(alloc, most, begun, target) {
         Ok(()) => Ok(wrong),
         Err(_) => Err(Fault::Memory),
     }
@@ -105,12 +105,12 @@ fn end_parts<T: Target>(
 fn end<T: Target>(
     alloc: Global,
     options: &Options<'_>,
-    begun: OpenParts,
+    begun: &mut OpenParts,
     target: &mut T,
 ) -> Result<u32, Fault>
     ensures { Ends result (T.parts target.new) (T.notes target.new)
         (ended T.keeping (options_view options.now)
-        (stored (begun_view begun) (T.parts target.old) (T.notes target.old))) }
+        (stored (begun_view begun.old) (T.parts target.old) (T.notes target.old))) }
 {
     match refused_for(alloc, options.wrong, &begun.tally) {
         Ok(None) => end_parts(alloc, options.choices.parts, begun, target),
@@ -133,7 +133,7 @@ fn finish<T: Target + Drop>(converter: Converter<'_, T>) -> Outcome<T>
     let ended = match stage {
         Stage::Unbegun => Err(Fault::Refused(Refusal::NoHeader(None))),
         Stage::Refused(refusal) => Err(Fault::Refused(refusal)),
-        Stage::Within(begun) => end(alloc, options, begun, &mut target),
+        Stage::Within(mut begun) => end(alloc, options, &mut begun, &mut target),
     };
     Outcome { target, ended }
 }

@@ -380,6 +380,13 @@ impl<'a, T: Target + Drop> Converter<'a, T> {
         self.target
     }
 
+    // Goes to another stage.
+    fn set_stage(&mut self, stage: Stage)
+        ensures { self.new ≡ at_stage self.old (stage_view stage) }
+    {
+        self.stage = stage;
+    }
+
     // Takes a Header, which begins the message where it is the first.
     fn take_header(&mut self, header: &Composite<'_>) -> Result<(), AllocError>
         ensures { OnOk result (self.new
@@ -387,13 +394,14 @@ impl<'a, T: Target + Drop> Converter<'a, T> {
     {
         match &self.stage {
             Stage::Unbegun => {
-                self.stage = begin(self.alloc, &self.options.choices, header)?;
+                let stage = begin(self.alloc, &self.options.choices, header)?;
+                self.set_stage(stage);
                 Ok(())
             }
             Stage::Refused(_) => Ok(()),
             Stage::Within(_) => {
                 let place = header.line.place;
-                self.stage = Stage::Refused(Refusal::SecondHeader(place));
+                self.set_stage(Stage::Refused(Refusal::SecondHeader(place)));
                 Ok(())
             }
         }
@@ -406,12 +414,8 @@ impl<'a, T: Target + Drop> Converter<'a, T> {
         let place = element.line.place;
         match &self.stage {
             Stage::Refused(_) => {}
-            Stage::Unbegun => {
-                self.stage = Stage::Refused(Refusal::OtherNamespace(place));
-            }
-            Stage::Within(_) => {
-                self.stage = Stage::Refused(Refusal::OtherNamespace(place));
-            }
+            Stage::Unbegun => self.set_stage(Stage::Refused(Refusal::OtherNamespace(place))),
+            Stage::Within(_) => self.set_stage(Stage::Refused(Refusal::OtherNamespace(place))),
         }
     }
 
@@ -423,7 +427,7 @@ impl<'a, T: Target + Drop> Converter<'a, T> {
         match &mut self.stage {
             Stage::Unbegun => {
                 let place = Some(product.line.place);
-                self.stage = Stage::Refused(Refusal::NoHeader(place));
+                self.set_stage(Stage::Refused(Refusal::NoHeader(place)));
                 Ok(())
             }
             Stage::Refused(_) => Ok(()),

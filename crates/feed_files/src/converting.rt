@@ -145,22 +145,22 @@ fn end_of<E: Write>(
 fn end_of_seen<E: Write>(
     alloc: Global,
     notes: &Notes<'_>,
-    seen: &Seen,
+    seen: Seen,
     options: &Options<'_>,
-    read: &Result<u32, Fault>,
-    kept: &Option<FileFault>,
+    read: Result<u32, Fault>,
+    kept: Option<FileFault>,
     errors: &mut E,
 ) -> Ended
-    ensures ok { IfOk read.now (λ wrong. IsOfWrong wrong result) }
-    ensures err { IfErr read.now (λ f. IsUnconverted f result) }
+    ensures ok { IfOk read (λ wrong. IsOfWrong wrong result) }
+    ensures err { IfErr read (λ f. IsUnconverted f result) }
 {
     let known = RefusedFile {
         file: notes.file(),
         options,
-        seen,
+        seen: &seen,
         notes,
     };
-    end_of(alloc, &known, read, kept, errors)
+    end_of(alloc, &known, &read, &kept, errors)
 }
 
 // Counts a FILE that was converted.
@@ -209,10 +209,10 @@ fn convert_out<F: NamedFiles, R: Read, W: Write, E: Write>(
     let ended = end_of_seen(
         alloc,
         &notes,
-        &seen,
+        seen,
         options,
-        &ended,
-        &fault,
+        ended,
+        fault,
         telling.errors,
     );
     if !ended.is_converted() {
@@ -283,7 +283,7 @@ fn convert_into<F: NamedFiles, R: Read, E: Write>(
     } = target;
     end_notes(&mut notes, &ended);
     let errors = &mut *telling.errors;
-    let read = end_of_seen(alloc, &notes, &seen, options, &ended, &fault, errors);
+    let read = end_of_seen(alloc, &notes, seen, options, ended, fault, errors);
     let made = store.finish();
     if !read.is_converted() {
         made.discard(files);

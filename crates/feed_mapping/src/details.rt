@@ -28,7 +28,7 @@ use crate::price_terms::{add_computed_prices, supplier_of};
 use crate::prices::{
     PriceContext, add_price, because_old, closing_keys, fill_record, first_with_text,
 };
-use crate::records::{first_reason, is_field, may_be_empty, parsed_code, parsed_quantity, unless};
+use crate::records::{first_of, is_field, may_be_empty, parsed_code, parsed_quantity, unless};
 use crate::supply_choices::SupplyChoices;
 use csv_records::buffer::RecordBuffer;
 use csv_records::fields::FieldBuffer;
@@ -197,11 +197,11 @@ fn identifier_reason<'a>(supplier: Pair<'a>, name: &[u8]) -> Option<Reason<'a>>
         ≡ first_some (identifier_reasons (pair_view supplier.entry) name.now) }
 {
     if !is_there(supplier) {
-        return first_reason(&[unless(!name.is_empty(), Wrong::Supplier, b"")]);
+        return first_of(&[unless(!name.is_empty(), Wrong::Supplier, b"")]);
     }
     let id_type = supplier.id_type;
     let id_value = supplier.id_value;
-    first_reason(&[
+    first_of(&[
         unless(parsed_code(id_type).is_some(), Wrong::SupplierType, id_type),
         unless(is_field(id_value), Wrong::SupplierValue, id_value),
     ])
@@ -228,7 +228,7 @@ fn field_reason<'a>(supplier: Pair<'a>, elements: &Elements<'a>) -> Option<Reaso
     let availability = text_or_empty(b"ProductAvailability", elements);
     let unpriced = unpriced_in(elements).unwrap_or(b"");
     let is_unpriced = may_be_empty(unpriced, parsed_code(unpriced));
-    first_reason(&[
+    first_of(&[
         unless(parsed_code(role).is_some(), Wrong::SupplierRole, role),
         identifier_reason(supplier, name),
         name_reason(name),

@@ -5,7 +5,7 @@ ghost use Rattle.feed_mapping.specs.Notes.{note_views};
 ghost use Rattle.feed_mapping.specs.Prices.{discount_notes, unread_notes};
 
 use crate::elements::next_composite;
-use crate::notes::{Foreign, Note, Reason, ReasonKind, push_note};
+use crate::notes::{Foreign, Note, Reason, push_note};
 use feed_outline::Elements;
 use std::alloc::AllocError;
 
@@ -21,11 +21,7 @@ fn push_unread<'a>(
 {
     let mut rest = elements.copy();
     while let Some((found, behind)) = next_composite(name, &rest) {
-        let reason = Reason {
-            kind: ReasonKind::Foreign(kind),
-            text: b"",
-        };
-        push_note(notes, found.line, reason)?;
+        push_note(notes, found.line, Reason::foreign(kind, b""))?;
         rest = behind;
     }
     Ok(())

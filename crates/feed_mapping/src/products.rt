@@ -17,7 +17,7 @@ ghost use Rattle.feed_outline.specs.Names.{stranger};
 
 use crate::elements::{Composite, next_composite, text_or_empty};
 use crate::notes::{Foreign, Note, Reason, ReasonKind, Wrong, push_note};
-use crate::records::{first_reason, is_field, parsed_code, push_texts, unless, utf8_text};
+use crate::records::{first_of, is_field, parsed_code, push_texts, unless, utf8_text};
 use csv_records::fields::FieldBuffer;
 use feed_outline::{Elements, Line, has_stranger};
 use onix_terms::ascii::are_digits;
@@ -175,7 +175,7 @@ pub fn thirteen_written(
 fn pair_reason<'a>(id_type: &'a [u8], written: &[u8], stands: &'a [u8]) -> Option<Reason<'a>>
     ensures { reason_read result ≡ pair_reason id_type.now written.now stands.now }
 {
-    first_reason(&[
+    first_of(&[
         unless(
             parsed_code(id_type).is_some(),
             Wrong::IdentifierType,
@@ -406,7 +406,7 @@ pub(crate) fn own_reason<'a>(pairs: &FieldBuffer, elements: &Elements<'a>) -> Op
     ensures { reason_read result ≡ first_some (own_reasons pairs.now elements.now) }
 {
     let text = notification_in(elements);
-    first_reason(&[
+    first_of(&[
         unless(parsed_code(text).is_some(), Wrong::NotificationType, text),
         left_reason(pairs, elements),
         unless(!is_strange(elements), Wrong::OtherNamespace, b""),

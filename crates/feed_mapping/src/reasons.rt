@@ -13,7 +13,7 @@ use crate::notes::{Reason, Wrong};
 use crate::price_amounts::amount_written;
 use crate::prices::own_minimum;
 use crate::records::{
-    first_reason, may_be_empty, parsed_amount, parsed_code, parsed_currency, parsed_quantity,
+    first_of, may_be_empty, parsed_amount, parsed_code, parsed_currency, parsed_quantity,
     unless, value_or_default,
 };
 use crate::territories::{Area, Renamed, area_reason};
@@ -50,7 +50,7 @@ pub(crate) fn field_reason<'a>(
     );
     let minimum = own_minimum(elements).unwrap_or(b"");
     let is_minimum = may_be_empty(minimum, parsed_quantity(minimum));
-    Ok(first_reason(&[
+    Ok(first_of(&[
         unless(parsed_amount(amount).is_some(), Wrong::Amount, amount),
         unless(price_type.is_some(), Wrong::PriceType, type_text),
         unless(currency.is_some(), Wrong::Currency, currency_text),

@@ -110,12 +110,12 @@ pub(crate) fn former<'a>(one: Option<Reason<'a>>, other: Option<Reason<'a>>) -> 
 }
 
 /// The first of some reasons that holds.
-pub(crate) fn first_reason<'a>(reasons: &[Option<Reason<'a>>]) -> Option<Reason<'a>>
+pub(crate) fn first_of<'a>(reasons: &[Option<Reason<'a>>]) -> Option<Reason<'a>>
     ensures { reason_read result ≡ first_some (map reason_read reasons.now) }
 {
     match reasons {
         [] => None,
-        [first, others @ ..] => former(*first, first_reason(others)),
+        [first, others @ ..] => former(*first, first_of(others)),
     }
 }
 

@@ -10,7 +10,7 @@ ghost use Rattle.feed_mapping.specs.declared.notes.Foreign.TheVariants.{CountryN
 ghost use Rattle.onix_terms.specs.Territory.{words_of};
 ghost use Rattle.feed_mapping.specs.Regions.{first_region, first_space, front_to, is_two_letters, two_letters_in, is_capital_or_digit, is_part_of_country, is_world, names_world, other_regions, region_of_no_country, rest_from, IsNextWord};
 
-use crate::notes::{Foreign, Note, Reason, ReasonKind, Wrong};
+use crate::notes::{Foreign, Note, Reason, Wrong, push_note};
 use feed_outline::Line;
 use std::alloc::{AllocError, Global};
 
@@ -197,13 +197,7 @@ pub(crate) fn push_other_names<'a>(
     let mut rest = text;
     while let Some((country, behind)) = next_word(rest) {
         if is_other_name(country) {
-            notes.push(Note {
-                line,
-                reason: Reason {
-                    kind: ReasonKind::Foreign(Foreign::CountryName),
-                    text: country,
-                },
-            })?;
+            push_note(notes, line, Reason::foreign(Foreign::CountryName, country))?;
         }
         rest = behind;
     }

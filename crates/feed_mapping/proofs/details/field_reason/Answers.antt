@@ -35,4 +35,4 @@ returns c preferred chosen =
     let read = c.parsed_code.ensures in
     let may = c.may_be_empty-is_unpriced.ensures in
     let made = c.unless-3.ensures in cc in
-    let all = c.first_reason.ensures in cc
+    let all = c.first_of.ensures in cc

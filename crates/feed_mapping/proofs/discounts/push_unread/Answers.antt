@@ -7,5 +7,5 @@ use Rattle.feed_mapping.proofs.discounts.push_unread.Goals as goal
 pub loop-found-preserved : goal.loop-found-preserved
 loop-found-preserved c =
     let made : (x : Composite) → List Note = λ x. note x.element (foreign c.args.kind []) ∷ [] in
-    let noted = c.in_ok-push_note.ensures ∙ ap (λ (x : Composite). note_views c.loop-found.notes.items ++ made x) c.found.view_is in
+    let noted = (rw c.foreign.ensures at c.in_ok-push_note.ensures) ∙ ap (λ (x : Composite). note_views c.loop-found.notes.items ++ made x) c.found.view_is in
     one-more made _ _ _ _ _ _ (sym c.in-Some.ensures) noted c.loop-found.invariant

@@ -47,4 +47,4 @@ returns c at renamed =
     let read = c.parsed_quantity.ensures in
     let may = c.may_be_empty-is_minimum.ensures in
     let made = c.unless-4.ensures in cc in
-    c.first_reason.ensures ∙ same-five amount typed coded placed counted
+    c.first_of.ensures ∙ same-five amount typed coded placed counted

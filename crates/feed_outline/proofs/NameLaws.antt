@@ -1,12 +1,18 @@
 -- Names by the words of two lists.
-use Rattle.std.proofs.Common.{◌≡◌, ◌∙◌, ℕ, Bool, List, ◌++◌, Option, Some, None, ap, refl}
+use Rattle.std.proofs.Common.{◌≡◌, ◌∙◌, ℕ, Bool, false, List, ◌++◌, length, Option, Some, None, ap, refl}
 use Rattle.std.specs.Prelude.{◌&&◌, ◌||◌, not, option_map}
 use Rattle.std.specs.List.{find, list_any}
 use Rattle.std.specs.Option.{option_or}
 use Rattle.std.specs.Str.{bytes_eq}
+use Rattle.std.proofs.lemmas.Bool.{false_from_ne_true}
 use Rattle.std.proofs.lemmas.List.Folds.{find-append, list_any-append}
+use Rattle.std.proofs.lemmas.Slice.Eq.{bytes_eq-Decides}
 use Rattle.feed_outline.specs.Names.{Word, is_called, is_called_among, is_called_apart, name_among, spelled}
 use Rattle.feed_outline.specs.declared.names.Naming.{Naming}
+
+-- names of other lengths are not the same
+pub other_length : (name other : List ℕ) → ¬ (length name ≡ length other) → bytes_eq name other ≡ false
+other_length name other apart = false_from_ne_true (bytes_eq name other) (λ same. apart (ap length ((bytes_eq-Decides name other).0 same)))
 
 reference_or : (a b : Option Word) → option_map (λ (w : Word). w.reference) (option_or a b) ≡ option_or (option_map (λ (w : Word). w.reference) a) (option_map (λ (w : Word). w.reference) b)
 reference_or None b = refl

@@ -1,6 +1,7 @@
 //! The names of elements.
 
 ghost use Rattle.std.specs.Prelude.{◌≡◌, option_map};
+ghost use Rattle.std.specs.Str.{bytes_eq};
 ghost use Rattle.feed_outline.specs.Names.{is_called, is_called_among, is_called_apart, name_among, naming_of_root, root, spelled, stranger, stranger_apart};
 ghost use Rattle.feed_outline.specs.Views.{vocabulary_view, word_view, word_views};
 
@@ -77,6 +78,15 @@ pub struct Vocabulary {
     pub apart: &'static [Word],
 }
 
+// Whether two names are the same. Most have other lengths, and their bytes are not looked at.
+#[inline(always)]
+#[tactic(auto, using(crate::proofs::NameLaws::other_length))]
+fn is_same(name: &[u8], other: &[u8]) -> bool
+    ensures { result ≡ bytes_eq name.now other.now }
+{
+    name.len() == other.len() && name == other
+}
+
 // The name of a word in a kind of names.
 fn spelled(naming: Naming, word: &Word) -> &'static [u8]
     ensures { result.now ≡ spelled naming (word_view word.now) }
@@ -99,7 +109,7 @@ fn name_among(
 {
     let mut rest = words;
     while let [first, tail @ ..] = rest {
-        if spelled(naming, first) == name && first.composite == composite {
+        if is_same(spelled(naming, first), name) && is_same(first.composite, composite) {
             return Some(first.reference);
         }
         rest = tail;
@@ -141,7 +151,10 @@ fn is_called_among(words: &[Word], composite: &[u8], name: &[u8]) -> bool
 {
     let mut rest = words;
     while let [first, tail @ ..] = rest {
-        if first.composite == composite && !first.is_counted_alone && is_called(name, first) {
+        if is_same(first.composite, composite)
+            && !first.is_counted_alone
+            && is_called(name, first)
+        {
             return true;
         }
         rest = tail;
@@ -167,7 +180,7 @@ fn is_called_apart(words: &[Word], composite: &[u8], name: &[u8]) -> bool
 {
     let mut rest = words;
     while let [first, tail @ ..] = rest {
-        if first.is_apart && first.composite == composite && is_called(name, first) {
+        if first.is_apart && is_same(first.composite, composite) && is_called(name, first) {
             return true;
         }
         rest = tail;

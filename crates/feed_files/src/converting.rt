@@ -206,15 +206,7 @@ fn convert_out<F: NamedFiles, R: Read, W: Write, E: Write>(
         fault,
     } = target;
     end_notes(&mut notes, &ended);
-    let ended = end_of_seen(
-        alloc,
-        &notes,
-        seen,
-        options,
-        ended,
-        fault,
-        telling.errors,
-    );
+    let ended = end_of_seen(alloc, &notes, seen, options, ended, fault, telling.errors);
     if !ended.is_converted() {
         return ended;
     }

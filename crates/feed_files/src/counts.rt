@@ -40,8 +40,9 @@ const REPEATABLE: [&[u8]; 17] = [
     b":",
 ];
 
+// Most names have other lengths, and their bytes are not looked at.
 fn is_repeatable(name: &[u8]) -> bool {
-    REPEATABLE.iter().any(|repeatable| *repeatable == name)
+    REPEATABLE.iter().any(|repeatable| repeatable.len() == name.len() && *repeatable == name)
 }
 
 // Whether what stands in an element is not counted: in a Price or a Market a second one is wrong,

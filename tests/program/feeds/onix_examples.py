@@ -24,9 +24,12 @@ PLACES = {
 
 NOT_SHOWN = {"Market": ["SupplyDetail,04,,,North,21,"]}
 
-# A note, without its place, or what the summary counts without one; how many products there are of a kind is shown by
-# some examples alone.
-NOTE = re.compile(r"onixdesk: (?:[^ ]+:[0-9]+:[0-9]+: (.*)|(.*, not read: [0-9]+)|([0-9]+ of [0-9]+ products? .*))")
+# A note, without its place, or what the summary counts without one; how many products there are of a kind, and that there
+# is none, is shown by some examples alone.
+NOTE = re.compile(
+    r"onixdesk: (?:[^ ]+:[0-9]+:[0-9]+: (.*)|(.*, not read: [0-9]+)"
+    r"|([0-9]+ of [0-9]+ products? .*|a FILE without a Product: [0-9]+))"
+)
 
 
 # The one term by which an example is converted.

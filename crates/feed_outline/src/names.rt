@@ -78,13 +78,14 @@ pub struct Vocabulary {
     pub apart: &'static [Word],
 }
 
-// Whether two names are the same. Most have other lengths, and their bytes are not looked at.
+// Whether two names are the same. Most have another length or last byte, and the others are not
+// looked at.
 #[inline(always)]
 #[tactic(auto, using(crate::proofs::NameLaws::other_length))]
 fn is_same(name: &[u8], other: &[u8]) -> bool
     ensures { result ≡ bytes_eq name.now other.now }
 {
-    name.len() == other.len() && name == other
+    name.len() == other.len() && name.last() == other.last() && name == other
 }
 
 // The name of a word in a kind of names.

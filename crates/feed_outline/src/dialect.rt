@@ -29,16 +29,19 @@ pub enum Wrong {
     Release(Option<Bytes>, Bytes),
 }
 
-/// The kind of names and the namespace of a message.
+/// The kind of names and the namespace of a message. The prefix is that of its root, which most
+/// elements have: what it stands for is not looked up, and not compared.
 #[derive(Drop)]
 pub struct Dialect {
     naming: Naming,
+    prefix: Vec<u8>,
     address: Vec<u8>,
     bindings: Vec<Binding>,
 }
 
 impl Model for Dialect {
-    ghost use Rattle.feed_outline.specs.Dialect.{Dialect};
+    ghost use Rattle.std.specs.Prelude.{◌≡◌};
+    ghost use Rattle.feed_outline.specs.Dialect.{Dialect, root_address};
     ghost use Rattle.feed_outline.specs.Views.{binding_views};
 
     ghost Value = { Dialect };
@@ -48,6 +51,9 @@ impl Model for Dialect {
       address = d.address.items;
       bindings = binding_views d.bindings.items;
     } };
+
+    ghost invariant = { λ d. root_address d.prefix.items (binding_views d.bindings.items)
+        ≡ d.address.items };
 }
 
 // Whether the release is one that is read.
@@ -129,8 +135,10 @@ impl Dialect {
         if !is_release(&release) {
             return Ok(Err(other_release(release, address)));
         }
+        let prefix = Vec::from_slice(alloc, prefix)?;
         Ok(Ok(Dialect {
             naming,
+            prefix,
             address,
             bindings,
         }))
@@ -153,6 +161,28 @@ impl Dialect {
             Some(address) => address,
             None => root_address(prefix, &self.bindings),
         }
+    }
+
+    // Whether a prefix stands for the root's namespace, in the same tag.
+    fn is_own(&self, around: &Grower, prefix: &[u8], bindings: &[Binding]) -> bool
+        ensures { result ≡ bytes_eq (address_of self.now (scope [] (binding_views bindings.now)
+            ∷ scopes_of around.now.opens) prefix.now) self.now.address }
+    {
+        if let Some(address) = address_among(prefix, bindings) {
+            return address == self.address.as_slice();
+        }
+        match around.address_within(prefix) {
+            Some(address) => address == self.address.as_slice(),
+            None => self.is_of_root(prefix),
+        }
+    }
+
+    // Whether a prefix stands for the root's namespace by the declarations of the root.
+    fn is_of_root(&self, prefix: &[u8]) -> bool
+        ensures { result ≡ bytes_eq (root_address prefix.now self.now.bindings) self.now.address }
+    {
+        prefix == self.prefix.as_slice()
+            || root_address(prefix, &self.bindings) == self.address.as_slice()
     }
 
     /// The kind of its names.
@@ -213,7 +243,7 @@ impl Dialect {
             (composite_of (scopes_of around.now.opens)) (local_of name.now) else None) }
     {
         let (prefix, local) = split_name(name);
-        if self.address_of(around, prefix, bindings) == self.address.as_slice() {
+        if self.is_own(around, prefix, bindings) {
             name_in(self.naming, vocabulary, around.composite(), local)
         } else {
             None

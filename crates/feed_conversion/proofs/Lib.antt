@@ -1,4 +1,5 @@
 pub mod TextLaws
+pub mod EndLaws
 pub mod Endings
 pub mod PackingLaws
 pub mod KeptLaws

@@ -21,6 +21,9 @@ use onix_records::MOST_RECORDS;
 use onix_records::row::Opening;
 use std::alloc::{AllocError, Global};
 
+// The record that ends a message has at most this many bytes.
+const MOST_END: usize = 36;
+
 /// The parts of a message.
 #[derive(Drop)]
 pub struct OpenParts {
@@ -74,7 +77,8 @@ pub(crate) fn first_text(
     record_text(alloc, &fields)
 }
 
-// Whether a part of so many records and bytes has room for so many more.
+// Whether a part of so many records and bytes has room for so many more. The record that ends it is
+// written only near the limit, since writing it for each product takes long.
 #[tactic(auto, unfolding(crate::specs::private::Stages::has_room))]
 fn has_room(
     alloc: Global,
@@ -91,8 +95,12 @@ fn has_room(
     if count >= MOST_RECORDS {
         return Ok(false);
     }
+    let size = size.saturating_add(bytes);
+    if size <= LIMIT - MOST_END {
+        return Ok(true);
+    }
     let end = end_text(alloc, count)?;
-    let size = size.saturating_add(bytes).saturating_add(end.len());
+    let size = size.saturating_add(end.len());
     Ok(size <= LIMIT)
 }
 

@@ -11,14 +11,12 @@ LAYERS = {
         "commands, files, sockets",
         [
             "program_words",
-            "program_lines",
             "program_clients",
             "program_commands",
             "program_rules",
             "program_desks",
             "program_databases",
             "program_run",
-            "watched_output",
             "onixdesk",
         ],
     ),
@@ -58,7 +56,7 @@ LAYERS = {
     ),
     "Base": (
         "what a message says, files by name",
-        ["csv_records", "program_files", "onix_terms", "shown_texts", "onix_records", "onix_message"],
+        ["csv_records", "program_files", "onix_terms", "watched_output", "onix_records", "onix_message"],
     ),
 }
 

@@ -7,8 +7,8 @@ use csv_records::records::Records;
 use onix_records::MOST_RECORDS;
 use onix_records::fields::is_clean;
 use onix_terms::digits::read_digits;
-use shown_texts::push_shown;
 use std::alloc::{AllocError, Global};
+use watched_output::shown_texts::push_shown;
 
 // How many characters of a field are shown.
 const SHOWN: usize = 40;

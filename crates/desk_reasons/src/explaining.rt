@@ -6,9 +6,9 @@ use crate::lines::RecordLines;
 use csv_records::reading::{RecordFault, RecordReader, read_records};
 use csv_records::records::Records;
 use desk_texts::pieces::read_pieces;
-use shown_texts::push_shown;
 use std::alloc::{AllocError, Global};
 use std::io::Write;
+use watched_output::shown_texts::push_shown;
 
 // How many characters of the name of a file are shown.
 const SHOWN: usize = 100;

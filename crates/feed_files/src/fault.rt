@@ -3,9 +3,9 @@
 use crate::notes::PREFIX;
 use crate::shown::SHOWN;
 use program_files::FileFault;
-use shown_texts::push_shown;
 use std::alloc::{AllocError, Global};
 use std::io::Write;
+use watched_output::shown_texts::push_shown;
 
 // Adds the line of a file of this name.
 fn push_line(line: &mut String, name: &str, why: &str) -> Result<(), AllocError> {

@@ -15,8 +15,8 @@ use feed_mapping::{
 };
 use feed_outline::first_called;
 use feed_xml::Position;
-use shown_texts::push_shown;
 use std::alloc::{AllocError, Global};
+use watched_output::shown_texts::push_shown;
 
 /// What each line on standard error begins with.
 pub(crate) const PREFIX: &str = "onixdesk: ";

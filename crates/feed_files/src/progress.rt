@@ -2,11 +2,11 @@
 
 use crate::shown::SHOWN;
 use program_files::STANDARD_INPUT;
-use shown_texts::push_shown;
 use std::alloc::AllocError;
 use std::io::{IsTerminal, Write};
 use std::rt::HostRuntime;
 use std::time::{Duration, Instant};
+use watched_output::shown_texts::push_shown;
 
 // How long the line stays as it is.
 const MILLISECONDS: u64 = 200;

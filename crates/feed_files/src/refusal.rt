@@ -10,8 +10,8 @@ use feed_conversion::{Fault, Options, Refusal};
 use feed_mapping::{HeaderRefusal, Pair};
 use feed_outline::{RefusalHints, Wrong};
 use feed_xml::Position;
-use shown_texts::push_shown;
 use std::alloc::AllocError;
+use watched_output::shown_texts::push_shown;
 
 const NO_HEADER: &str = "no Header before the first Product, and so neither a sender nor a number";
 

@@ -1,7 +1,7 @@
 //! Texts of a feed and of the command line, as one line of a terminal shows them.
 
-use shown_texts::push_shown;
 use std::alloc::AllocError;
+use watched_output::shown_texts::push_shown;
 
 /// How many characters of a text are shown.
 pub(crate) const SHOWN: usize = 100;

@@ -6,11 +6,11 @@
 ghost use Rattle.std.specs.Prelude.{◌≤◌, IfOk};
 
 use program_clients::entrances::HostEntrances;
+use program_clients::fault::{Fault, report};
 use program_clients::sockets::Sockets;
 use program_databases::paths::Paths;
 use program_databases::stored_desks::StoredDesks;
 use program_files::HostFiles;
-use program_lines::fault::{Fault, report};
 use program_run::help::print_wrong;
 use program_run::machine::{Errors, Machine, Streams};
 use program_run::program::run;

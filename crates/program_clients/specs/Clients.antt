@@ -1,6 +1,6 @@
 -- Clients that come one after the other.
 use Rattle.std.specs.Prelude.{◌≡◌, ◌++◌, ◌∷◌, ℕ, Bool, true, List, [], IfSome, Option, Some, None, Result, Ok, Err, ⊤}
-use Rattle.program_lines.specs.declared.fault.Fault.{Fault}
+use Rattle.program_clients.specs.declared.fault.Fault.{Fault}
 use Rattle.program_clients.specs.declared.clients.Protocol.{Protocol}
 use Rattle.program_clients.specs.declared.clients.Protocol.TheVariants as protocol
 

@@ -1,3 +1,4 @@
 pub mod Clients
+pub mod Printing
 pub mod Sent
 pub mod Streams

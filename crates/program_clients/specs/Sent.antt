@@ -1,6 +1,6 @@
 -- What was sent to open desks.
 use Rattle.std.specs.Prelude.{◌≡◌, ◌⊎◌, ◌++◌, ◌∷◌, ℕ, List, [], IfSome, Option, Some, Result, Ok, Err}
-use Rattle.program_lines.specs.declared.fault.Fault.{Fault}
+use Rattle.program_clients.specs.declared.fault.Fault.{Fault}
 
 -- a text that is sent to the desk at the socket of a name
 abbrev pub Message : Type 0

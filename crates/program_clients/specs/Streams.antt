@@ -1,6 +1,6 @@
 -- By what a connection is served, and where batches are taken.
 use Rattle.std.specs.Prelude.{◌≡◌, Bool, false, true, Option, Some, Result, Ok, ⊤}
-use Rattle.program_lines.specs.declared.fault.Fault.{Fault}
+use Rattle.program_clients.specs.declared.fault.Fault.{Fault}
 use Rattle.program_clients.specs.Clients.{MayCome}
 use Rattle.program_clients.specs.declared.entrances.Opened.{Opened}
 use Rattle.program_clients.specs.declared.entrances.Opened.TheVariants as opened

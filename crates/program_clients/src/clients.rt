@@ -1,6 +1,6 @@
 //! Where the connections of the command `serve` come from.
 
-use program_lines::fault::Fault;
+use crate::fault::Fault;
 use std::io::{Read, Write};
 
 /// By what a client is served.

@@ -5,12 +5,12 @@ ghost use Rattle.std.specs.Prelude.{true};
 ghost use Rattle.program_clients.specs.Streams.{AcceptsStream};
 
 use crate::clients::Protocol;
+use crate::fault::Fault;
 use crate::port::{Port, is_lost};
 use crate::sockets;
 use crate::timed::{Stream, Timed};
 use mio::unix::SourceFd;
 use mio::{Events, Interest, Poll, Token};
-use program_lines::fault::Fault;
 use std::io::{Error, ErrorKind};
 use std::net::{TcpListener, TcpStream};
 use std::os::fd::{AsRawFd, RawFd};

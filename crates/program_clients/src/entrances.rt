@@ -2,9 +2,9 @@
 
 use crate::clients::{Clients, Protocol};
 use crate::doors::Doors;
+use crate::fault::Fault;
 use crate::port::Port;
 use crate::timed::Timed;
-use program_lines::fault::Fault;
 use std::rt::HostRuntime;
 
 /// Where a desk that serves is reached: at a port, and at a socket for batches where one is named.

@@ -1,6 +1,6 @@
 //! Desks that are open, each of which takes batches at a socket.
 
-use program_lines::fault::Fault;
+use crate::fault::Fault;
 use std::io::Read;
 use std::rt::HostRuntime;
 

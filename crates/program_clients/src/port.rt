@@ -4,8 +4,8 @@ ghost use Rattle.std.specs.Prelude.{false};
 ghost use Rattle.program_clients.specs.Streams.{AcceptsStream};
 
 use crate::clients::Protocol;
+use crate::fault::Fault;
 use crate::timed::{Stream, Timed};
-use program_lines::fault::Fault;
 use std::io::{self, ErrorKind};
 use std::net::{Ipv4Addr, SocketAddr, SocketAddrV4, TcpListener};
 use std::time::Duration;

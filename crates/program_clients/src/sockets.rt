@@ -1,8 +1,8 @@
 //! The sockets of the file system at which open desks take batches.
 
+use crate::fault::Fault;
 use crate::open_desks::OpenDesks;
 use csv_records::streams::write_whole;
-use program_lines::fault::Fault;
 use std::fs::{Metadata, Permissions, remove_file, set_permissions, symlink_metadata};
 use std::io::ErrorKind;
 use std::net::Shutdown;

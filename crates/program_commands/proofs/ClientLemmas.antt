@@ -17,7 +17,7 @@ use Rattle.program_clients.specs.Clients.{IsNext, IsReplied, MayCome}
 use Rattle.program_commands.specs.Connections.{Connection}
 use Rattle.program_commands.specs.Serving.{Ending, EndsAs, ServesConnection, batch, exchange, protocol_of_ending}
 use Rattle.program_clients.specs.declared.clients.Protocol.{Protocol}
-use Rattle.program_lines.specs.declared.fault.Fault.{Fault}
+use Rattle.program_clients.specs.declared.fault.Fault.{Fault}
 
 -- ---- the steps of a batch
 

@@ -4,7 +4,7 @@ use Rattle.std.specs.Io.KnownBytes.{Consumes}
 use Rattle.csv_records.specs.Streams.{IsTold}
 use Rattle.program_clients.specs.Sent.{IsSent, Message, SendsFront, SendsWhole}
 use Rattle.program_commands.specs.Sending.{WritesCame}
-use Rattle.program_lines.specs.declared.fault.Fault.{Fault}
+use Rattle.program_clients.specs.declared.fault.Fault.{Fault}
 
 -- what was taken begins what comes
 came_of : (was now : Option (List ℕ)) (bytes : List ℕ) → Consumes was now bytes → (rest : List ℕ) × IsTold was (bytes ++ rest)

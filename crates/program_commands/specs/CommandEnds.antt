@@ -16,7 +16,7 @@ use Rattle.desk_http.specs.Writing.{WritesFront}
 use Rattle.program_commands.specs.ServedClients.{AreFirst, AreReplied, IsOf}
 use Rattle.program_commands.specs.Connections.{Connection, EndsServing, IsServed}
 use Rattle.program_commands.specs.Deliveries.{AreTexts, delivery_of}
-use Rattle.program_lines.specs.Printing.{PrintEnds}
+use Rattle.program_clients.specs.Printing.{PrintEnds}
 use Rattle.program_commands.specs.Serving.{listening_line}
 use Rattle.program_clients.specs.Clients.{ClientTexts}
 use Rattle.program_clients.specs.declared.clients.Protocol.{Protocol}

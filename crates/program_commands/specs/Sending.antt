@@ -6,7 +6,7 @@ use Rattle.csv_records.specs.RecordTexts.{records_of}
 use Rattle.csv_records.specs.Streams.{IsTold}
 use Rattle.desk_texts.specs.Records.{Records, begins_with}
 use Rattle.desk_texts.specs.Requests.{HasRecords, requests_of}
-use Rattle.program_lines.specs.declared.fault.Fault.{Fault}
+use Rattle.program_clients.specs.declared.fault.Fault.{Fault}
 use Rattle.program_clients.specs.Sent.{Message, SendsFront, SendsWhole}
 
 -- the names that begin the answer to a question

@@ -1,8 +1,8 @@
 -- What serving the next client comes to.
 use Rattle.std.specs.Prelude.{◌≡◌, ◌⊎◌, ◌++◌, ℕ, Bool, List, [], IfSome, OnOk, Option, Some, Result, Vec, map, option_map, ⊤}
 use Rattle.series_rules.specs.Steps.{Step}
-use Rattle.program_lines.specs.Printing.{WritesWhole}
-use Rattle.program_lines.specs.declared.fault.Fault.{Fault}
+use Rattle.program_clients.specs.Printing.{WritesWhole}
+use Rattle.program_clients.specs.declared.fault.Fault.{Fault}
 use Rattle.program_clients.specs.Clients.{ClientTexts, IsNext, IsReplied}
 use Rattle.program_clients.specs.declared.clients.Protocol.{Protocol}
 use Rattle.program_clients.specs.declared.clients.Protocol.TheVariants as protocol

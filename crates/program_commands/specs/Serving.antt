@@ -7,8 +7,8 @@ use Rattle.desk_batch.specs.Batch.{RunsBatch}
 use Rattle.desk_batch.specs.declared.batch.BatchFault.{BatchFault}
 use Rattle.desk_http.specs.Exchange.{Exchanges}
 use Rattle.desk_http.specs.declared.exchange.HttpFault.{HttpFault}
-use Rattle.program_lines.specs.Printing.{WritesWhole}
-use Rattle.program_lines.specs.declared.fault.Fault.{Fault}
+use Rattle.program_clients.specs.Printing.{WritesWhole}
+use Rattle.program_clients.specs.declared.fault.Fault.{Fault}
 use Rattle.program_clients.specs.declared.clients.Protocol.{Protocol}
 use Rattle.program_clients.specs.declared.clients.Protocol.TheVariants as protocol
 

@@ -8,8 +8,8 @@ use crate::unread::{report_input, report_unread, wrong_byte};
 use csv_records::reading::{LIMIT, RecordFault};
 use csv_records::streams::{InputFault, read_input};
 use desk_reasons::explaining::explain_batch;
+use program_clients::fault::Fault;
 use program_files::{FileFault, NamedFiles, STANDARD_INPUT};
-use program_lines::fault::Fault;
 use std::alloc::Global;
 use std::io::{Read, Write};
 

@@ -3,7 +3,7 @@
 ghost use Rattle.std.specs.Io.KnownBytes.{Appends};
 ghost use Rattle.std.specs.Prelude.{List, codes, ℕ};
 ghost use Rattle.series_rules.specs.Steps.{Asked};
-ghost use Rattle.program_lines.specs.Printing.{WritesWhole};
+ghost use Rattle.program_clients.specs.Printing.{WritesWhole};
 ghost use Rattle.program_clients.specs.declared.clients.Protocol.{Protocol};
 ghost use Rattle.program_commands.specs.Serving.{ServesConnection, batch, ending_line, exchange};
 
@@ -13,8 +13,8 @@ use desk_batch::BatchFault;
 use desk_http::{HttpFault, Routes, serve_routed};
 use price_rules::precedence::Precedence;
 use program_clients::clients::Protocol;
-use program_lines::fault::Fault;
-use program_lines::printing::{print_number, print_text};
+use program_clients::fault::Fault;
+use program_clients::printing::{print_number, print_text};
 use series_rules::desk::Desk;
 use std::alloc::Global;
 use std::io::{Read, Write};

@@ -1,7 +1,7 @@
 //! The faults of requests and of batches, as they end the program.
 
 use desk_batch::{BatchFault, RequestFault};
-use program_lines::fault::Fault;
+use program_clients::fault::Fault;
 
 /// The fault of one request.
 pub fn fault_of_request(fault: RequestFault) -> Fault {

@@ -14,7 +14,7 @@ use desk_batch::{RequestFault, run_request};
 use desk_texts::answer_text::write_answer;
 use onix_terms::series_name::SeriesName;
 use price_rules::precedence::Precedence;
-use program_lines::fault::report;
+use program_clients::fault::report;
 use series_rules::answers::Answer;
 use series_rules::desk::Desk;
 use series_rules::requests::Request;

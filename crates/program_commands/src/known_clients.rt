@@ -13,7 +13,7 @@ use crate::streams::Streams;
 use desk_http::Routes;
 use price_rules::precedence::Precedence;
 use program_clients::clients::{Clients, Protocol};
-use program_lines::fault::Fault;
+use program_clients::fault::Fault;
 use series_rules::desk::Desk;
 use std::alloc::Global;
 use std::io::Write;

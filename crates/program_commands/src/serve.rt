@@ -5,7 +5,7 @@ ghost use Rattle.std.specs.Prelude.{◌≡◌, ◌≤◌, is_some};
 ghost use Rattle.std.specs.Io.KnownBytes.{Appends};
 ghost use Rattle.program_commands.specs.ServedClients.{ServesNext};
 ghost use Rattle.series_rules.specs.Steps.{Asked};
-ghost use Rattle.program_lines.specs.Printing.{WritesWhole};
+ghost use Rattle.program_clients.specs.Printing.{WritesWhole};
 ghost use Rattle.program_commands.specs.Serving.{listening_line};
 ghost use Rattle.program_commands.specs.CommandEnds.{ConnectionsServed, ServeEnds};
 
@@ -17,10 +17,10 @@ use desk_http::{HttpFault, Routes};
 use price_rules::precedence::Precedence;
 use program_clients::clients::Clients;
 use program_clients::entrances::Entrances;
+use program_clients::fault::{Fault, report, report_why};
 use program_clients::port::why_unbound;
+use program_clients::printing::print_number;
 use program_clients::sockets::why_unheard;
-use program_lines::fault::{Fault, report, report_why};
-use program_lines::printing::print_number;
 use series_rules::desk::Desk;
 use std::io::Write;
 

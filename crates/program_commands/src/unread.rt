@@ -3,8 +3,8 @@
 ghost use Rattle.std.specs.Prelude.{◌≡◌};
 
 use crate::streams::Errors;
+use program_clients::fault::{Fault, report, report_cause, report_file};
 use program_files::{FileFault, NamedFiles, STANDARD_INPUT};
-use program_lines::fault::{Fault, report, report_cause, report_file};
 use std::alloc::Global;
 use std::io::{Read, Write};
 

@@ -6,7 +6,7 @@ use Rattle.price_rules.specs.declared.precedence.PrecedenceFault.TheVariants as 
 use Rattle.price_rules.specs.declared.precedence.Rule.{Rule}
 use Rattle.csv_records.specs.RecordTexts.{limit}
 use Rattle.csv_records.specs.Streams.{IsTold}
-use Rattle.program_lines.specs.Printing.{PrintEnds}
+use Rattle.program_clients.specs.Printing.{PrintEnds}
 use Rattle.program_rules.specs.declared.rules.RulesFault.{RulesFault}
 use Rattle.program_rules.specs.declared.rules.RulesFault.TheVariants as rules_fault
 

@@ -7,7 +7,7 @@ use Rattle.feed_terms.specs.declared.reading.ReadFault.{ReadFault}
 use Rattle.feed_terms.specs.declared.reading.ReadFault.TheVariants as read_fault
 use Rattle.feed_terms.specs.declared.term.Term.{Term}
 use Rattle.feed_terms.specs.declared.term.TermsFault.TheVariants as fault
-use Rattle.program_lines.specs.Printing.{PrintEnds}
+use Rattle.program_clients.specs.Printing.{PrintEnds}
 
 -- how reading the terms of a file can end, of which that is told: as those of a text
 abbrev pub ReadsTerms : Option (List ℕ) → Result (List Term) ReadFault → Type 0

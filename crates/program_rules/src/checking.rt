@@ -4,7 +4,7 @@ ghost use Rattle.std.specs.Prelude.{◌≡◌, ◌≤◌, ℕ, List, Err};
 ghost use Rattle.std.specs.Io.KnownBytes.{Appends};
 ghost use Rattle.csv_records.specs.RecordTexts.{limit};
 ghost use Rattle.csv_records.specs.Streams.{InputFits};
-ghost use Rattle.program_lines.specs.Printing.{PrintEnds};
+ghost use Rattle.program_clients.specs.Printing.{PrintEnds};
 ghost use Rattle.program_rules.specs.RulesFile.{CheckEnds, RulesFit, rules_line, status_of};
 ghost use Rattle.program_rules.specs.declared.rules.RulesFault.{RulesFault};
 
@@ -13,9 +13,9 @@ use crate::rules_faults::write_cause;
 use crate::unread::tell_unread;
 use csv_records::streams::InputFault;
 use price_rules::precedence::PrecedenceFault;
+use program_clients::fault::{Fault, report, report_file};
+use program_clients::printing::print_number;
 use program_files::NamedFiles;
-use program_lines::fault::{Fault, report, report_file};
-use program_lines::printing::print_number;
 use std::alloc::Global;
 use std::io::Write;
 

@@ -8,8 +8,8 @@ ghost use Rattle.program_rules.specs.RulesFile.{ReadsTable, RulesFit, status_of}
 use csv_records::reading::LIMIT;
 use csv_records::streams::{InputFault, read_input};
 use price_rules::precedence::{Precedence, PrecedenceFault};
+use program_clients::fault::{Fault, report, report_file};
 use program_files::{FileFault, NamedFiles};
-use program_lines::fault::{Fault, report, report_file};
 use std::alloc::Global;
 use std::io::{Read, Write};
 

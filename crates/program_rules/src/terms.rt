@@ -14,8 +14,8 @@ use csv_records::streams::InputFault;
 use feed_terms::reading::{ReadFault, terms_of};
 use feed_terms::table::Terms;
 use feed_terms::term::TermsFault;
+use program_clients::fault::{Fault, report, report_file};
 use program_files::NamedFiles;
-use program_lines::fault::{Fault, report, report_file};
 use std::alloc::Global;
 use std::io::Write;
 

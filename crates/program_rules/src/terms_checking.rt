@@ -2,15 +2,15 @@
 
 ghost use Rattle.std.specs.Prelude.{◌≤◌};
 ghost use Rattle.std.specs.Io.KnownBytes.{Appends};
-ghost use Rattle.program_lines.specs.Printing.{PrintEnds};
+ghost use Rattle.program_clients.specs.Printing.{PrintEnds};
 ghost use Rattle.program_rules.specs.TermsRead.{CheckTermsEnds, terms_line};
 
 use crate::terms::open_terms;
 use feed_terms::precedes::first_taking;
 use feed_terms::term::Term;
+use program_clients::fault::report;
+use program_clients::printing::print_number;
 use program_files::NamedFiles;
-use program_lines::fault::report;
-use program_lines::printing::print_number;
 use std::alloc::Global;
 use std::io::Write;
 

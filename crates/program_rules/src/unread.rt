@@ -1,7 +1,7 @@
 //! Why a file is not read.
 
+use program_clients::fault::report_cause;
 use program_files::{FileFault, NamedFiles};
-use program_lines::fault::report_cause;
 use std::alloc::Global;
 use std::io::{Read, Write};
 

@@ -9,7 +9,7 @@ use Rattle.desk_export.specs.PartTexts.{AreInFolder, MayBeInFolder}
 use Rattle.desk_export.specs.RequestTexts.{batch_text}
 use Rattle.program_files.specs.Holdings.{Holdings, MayName}
 use Rattle.program_files.specs.PartFiles.{files_of, numbered}
-use Rattle.program_lines.specs.Printing.{PrintEnds}
+use Rattle.program_clients.specs.Printing.{PrintEnds}
 use Rattle.program_words.specs.declared.invocation.Listing.{Listing}
 use Rattle.program_words.specs.declared.invocation.Listing.TheVariants.{Agreements, Export, Gaps}
 

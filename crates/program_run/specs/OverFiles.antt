@@ -8,7 +8,7 @@ use Rattle.program_desks.specs.declared.kept_desks.Creation.{Creation}
 use Rattle.program_desks.specs.declared.kept_desks.Creation.TheVariants.{Anywhere, InEmpty}
 use Rattle.program_desks.specs.declared.kept_desks.Migration.{Migration}
 use Rattle.program_desks.specs.declared.kept_desks.Migration.TheVariants.{Migrated, Unneeded}
-use Rattle.program_lines.specs.Printing.{PrintEnds}
+use Rattle.program_clients.specs.Printing.{PrintEnds}
 use Rattle.program_clients.specs.Clients.{ClientTexts}
 
 -- no file of a desk was touched: what opens them is handed back, and nothing can make that anew

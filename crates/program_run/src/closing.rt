@@ -3,9 +3,9 @@
 ghost use Rattle.std.specs.Prelude.{◌≡◌, ◌≤◌};
 ghost use Rattle.program_run.specs.OverFiles.{Closes};
 
+use program_clients::fault::{Fault, report};
 use program_desks::files_left::FilesLeft;
 use program_desks::kept_desks::KeepsDesks;
-use program_lines::fault::{Fault, report};
 use series_rules::listing::ListedDesk;
 use std::io::Write;
 

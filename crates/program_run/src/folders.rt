@@ -1,7 +1,7 @@
 //! The folder behind `-o`.
 
+use program_clients::fault::report_why;
 use program_files::NamedFiles;
-use program_lines::fault::report_why;
 use std::io::Write;
 
 /// Writes what to do where the folder that files are to be made in is none, as a line.

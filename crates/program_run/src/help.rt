@@ -2,10 +2,10 @@
 
 ghost use Rattle.std.specs.Prelude.{◌≡◌};
 ghost use Rattle.std.specs.Io.KnownBytes.{Appends};
-ghost use Rattle.program_lines.specs.Printing.{PrintEnds};
+ghost use Rattle.program_clients.specs.Printing.{PrintEnds};
 
 use csv_records::streams::{WriteFault, write_whole};
-use program_lines::fault::{Fault, report};
+use program_clients::fault::{Fault, report};
 use std::io::Write;
 
 /// Writes help or the version, which was asked for, and gives 0, or 3 where it cannot be written,

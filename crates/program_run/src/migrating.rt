@@ -2,15 +2,15 @@
 
 ghost use Rattle.std.specs.Prelude.{◌≡◌, ◌≤◌};
 ghost use Rattle.std.specs.Io.KnownBytes.{Appends};
-ghost use Rattle.program_lines.specs.Printing.{PrintEnds};
+ghost use Rattle.program_clients.specs.Printing.{PrintEnds};
 ghost use Rattle.program_run.specs.OverFiles.{MigrateEnds, creation_by, migration_line};
 
 use crate::opening::{creation_of, report_unopened};
 use csv_records::streams::{WriteFault, write_whole};
+use program_clients::fault::{Fault, report};
 use program_commands::streams::Streams;
 use program_desks::files_left::FilesLeft;
 use program_desks::kept_desks::{KeepsDesks, Migration};
-use program_lines::fault::{Fault, report};
 use program_words::invocation::Database;
 use series_rules::listing::ListedDesk;
 use std::io::Write;

@@ -4,8 +4,8 @@ ghost use Rattle.std.specs.Prelude.{◌≡◌};
 ghost use Rattle.program_run.specs.OverFiles.{creation_by};
 
 use onix_records::StoreFault;
+use program_clients::fault::{Fault, report, report_why};
 use program_desks::kept_desks::{Cause, Creation, OpenFault};
-use program_lines::fault::{Fault, report, report_why};
 use program_words::invocation::Database;
 use std::io::Write;
 

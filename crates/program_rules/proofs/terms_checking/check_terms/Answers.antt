@@ -5,7 +5,7 @@ use Rattle.feed_terms.specs.declared.reading.ReadFault.{ReadFault}
 use Rattle.feed_terms.specs.declared.reading.ReadFault.TheVariants as read_fault
 use Rattle.feed_terms.specs.declared.term.Term.{Term}
 use Rattle.feed_terms.specs.declared.term.TermsFault.TheVariants as fault
-use Rattle.program_lines.specs.Printing.{PrintEnds}
+use Rattle.program_clients.specs.Printing.{PrintEnds}
 use Rattle.program_rules.specs.TermsRead.{terms_line, terms_status}
 use Rattle.program_rules.proofs.terms_checking.check_terms.Goals as goal
 

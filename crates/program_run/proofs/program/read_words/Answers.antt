@@ -4,7 +4,7 @@ use Rattle.std.specs.Borrow.{Bor}
 use Rattle.std.specs.Io.KnownBytes.{Appends}
 use Rattle.std.specs.String.{string_bytes}
 use Rattle.program_words.specs.Asked.{Reads}
-use Rattle.program_lines.specs.Printing.{PrintEnds}
+use Rattle.program_clients.specs.Printing.{PrintEnds}
 use Rattle.program_words.specs.declared.invocation.Reading.TheVariants as reading
 use Rattle.program_run.proofs.program.read_words.Goals as goal
 

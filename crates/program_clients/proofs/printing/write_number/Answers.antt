@@ -2,9 +2,9 @@ use Rattle.std.proofs.Common.{◌≡◌, ◌++◌, ◌∷◌, [], append_assoc, 
 use Rattle.std.specs.Fmt.{decimal}
 use Rattle.std.specs.Io.KnownBytes.{Appends}
 use Rattle.desk_http.specs.Writing.{WritesFront}
-use Rattle.program_lines.proofs.LineLemmas.{front_begins, all_behind}
-use Rattle.program_lines.specs.Printing.{WritesWhole}
-use Rattle.program_lines.proofs.printing.write_number.Goals as goal
+use Rattle.program_clients.proofs.LineLemmas.{front_begins, all_behind}
+use Rattle.program_clients.specs.Printing.{WritesWhole}
+use Rattle.program_clients.proofs.printing.write_number.Goals as goal
 
 pub returns-in-Ok : goal.returns-in-Ok
 returns-in-Ok g c =

@@ -3,8 +3,8 @@
 ghost use Rattle.std.specs.Fmt.{decimal};
 ghost use Rattle.std.specs.Io.KnownBytes.{Appends};
 ghost use Rattle.std.specs.Prelude.{◌++◌, ◌≡◌, ◌∷◌, [], IsErrAnd, IsOk, OnErr, OnOk};
-ghost use Rattle.program_lines.specs.Printing.{WritesWhole};
-ghost use Rattle.program_lines.specs.declared.fault.Fault.{Fault};
+ghost use Rattle.program_clients.specs.Printing.{WritesWhole};
+ghost use Rattle.program_clients.specs.declared.fault.Fault.{Fault};
 
 use crate::fault::Fault;
 use csv_records::streams::{WriteFault, write_whole};

@@ -2,8 +2,8 @@ use Rattle.std.proofs.Common.{◌≡◌, ◌∷◌, [], rules, subst}
 use Rattle.std.specs.Fmt.{decimal}
 use Rattle.std.specs.Io.KnownBytes.{Appends}
 use Rattle.desk_http.specs.Writing.{WritesFront}
-use Rattle.program_lines.proofs.LineLemmas.{front_begins, whole_behind}
-use Rattle.program_lines.proofs.printing.write_digits.Goals as goal
+use Rattle.program_clients.proofs.LineLemmas.{front_begins, whole_behind}
+use Rattle.program_clients.proofs.printing.write_digits.Goals as goal
 
 pub returns-in-Ok : goal.returns-in-Ok
 returns-in-Ok g c =

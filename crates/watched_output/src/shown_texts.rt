@@ -1,5 +1,4 @@
 //! Texts of others, as one line of a terminal shows them.
-#![tactic(auto)]
 
 use std::alloc::AllocError;
 use ucd_category::GeneralCategory;

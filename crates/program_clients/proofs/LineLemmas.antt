@@ -4,7 +4,7 @@ use Rattle.std.specs.Prelude.{OnErr, OnOk}
 use Rattle.std.specs.Io.KnownBytes.{Appends}
 use Rattle.std.proofs.KnownBytes.{Appends-trans}
 use Rattle.desk_http.specs.Writing.{WritesFront}
-use Rattle.program_lines.specs.Printing.{WritesWhole}
+use Rattle.program_clients.specs.Printing.{WritesWhole}
 
 -- a first part of a text is one of more
 pub front_begins : (written : List ℕ → Type 0) (a b : List ℕ) → WritesFront written a → WritesFront written (a ++ b)

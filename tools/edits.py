@@ -1,5 +1,4 @@
-"""Whether each edit can be applied to the sources, told in seconds: those that the prover must refuse, and the faults
-that the tests must catch (tests/planted).
+"""Whether each edit that the prover must refuse can be applied to the sources, told in seconds.
 
 `rt ci` calls one that cannot be a BAD EDIT, and goes on: it would test nothing from then on. A line is written for each,
 and the status is then 1.
@@ -12,7 +11,6 @@ from typing import NamedTuple
 from tools.root import ROOT
 
 FOLDERS = ("must-fail", "mutants")
-PLANTED = ROOT / "tests/planted"
 
 
 class BadEdit(Exception):
@@ -30,13 +28,9 @@ class Edit(NamedTuple):
 
 
 def edits() -> list[Edit]:
-    """Those of all crates, in the gate and left out of it, and the planted faults."""
+    """Those of all crates, in the gate and left out of it."""
     of_crates = sorted(edit for folder in FOLDERS for edit in ROOT.glob(f"crates/*/{folder}/*.edit"))
-    return [*(Edit(edit, edit.parents[1]) for edit in of_crates), *planted()]
-
-
-def planted() -> list[Edit]:
-    return [Edit(edit, ROOT) for edit in sorted(PLANTED.glob("*/*.edit"))]
+    return [Edit(edit, edit.parents[1]) for edit in of_crates]
 
 
 def applied(edit: str, folder: Path) -> dict[str, str]:

@@ -17,9 +17,6 @@ from tools.words import Word
 
 USER = "desk"
 
-# The port of a replica, which here is a part of the name of its socket.
-REPLICA = 5433
-
 
 class Cluster:
     def __init__(self, programs: Path, folder: Path) -> None:
@@ -62,18 +59,6 @@ class Cluster:
         with contextlib.closing(self.connect()) as connection, connection.cursor() as cursor:
             cursor.execute(f"CREATE DATABASE {name}")
         return self.words(name)
-
-    @contextlib.contextmanager
-    def replica(self) -> Iterator[str]:
-        """A streaming replica of the cluster, and the words that lead to it in place of the cluster."""
-        words = "--pgdata replica --checkpoint fast --write-recovery-conf".split()
-        self.run("pg_basebackup", "--host", self.folder, "--username", USER, *words)
-        options = f"-c listen_addresses= -c unix_socket_directories={self.folder} -c port={REPLICA} -c fsync=off"
-        self.run("pg_ctl", "--pgdata", "replica", "--log", "replica.log", "--wait", "--options", options, "start")
-        try:
-            yield f"port={REPLICA}"
-        finally:
-            self.run("pg_ctl", "--pgdata", "replica", "--mode", "immediate", "stop")
 
 
 @contextlib.contextmanager

@@ -4,12 +4,12 @@ from collections.abc import Callable, Iterator
 from functools import partial
 
 from tests.postgres.cluster import Cluster
-from tests.postgres import questions, replicas, schemas, steps
+from tests.postgres import questions, schemas, steps
 from tests.program import checks_of
 from tests.program.room import Group, Room
 from tests.running import Outcome
 
-MODULES = [steps, schemas, replicas]
+MODULES = [steps, schemas]
 
 
 class OverCluster(Group):

@@ -1,13 +1,11 @@
-"""The follower killed between each two steps, two at once, and readers meanwhile: what is seen is of one of two moments,
-whole."""
+"""The follower killed, two at once, and readers meanwhile: what is seen is of one of two moments, whole."""
 
-import signal
 import subprocess
-import sys
 import threading
+import time
 from collections.abc import Iterator
 from contextlib import closing
-from pathlib import Path
+from random import Random
 
 import psycopg2
 
@@ -18,8 +16,6 @@ from tests.program.messages import AGREEMENT, priced_by_number
 from tests.program.room import SECONDS, Room
 from tests.running import Outcome
 from tools.words import Row
-
-HERE = Path(__file__).resolve().parent
 
 PRODUCTS = 30
 
@@ -33,51 +29,23 @@ def deliver(room: Room, *numbers: int, agreement: bytes = b"") -> None:
     assert room.run("--db", DATABASE, "batch", given=text).status == 0
 
 
-def killed_at(room: Room, database: str, at: int) -> bool:
-    """Whether a run is killed at that step; one that has fewer ends by itself."""
-    words = [str(word) for word in words_of(room, database)]
-    done = subprocess.run(
-        [sys.executable, "-B", HERE / "killed.py", str(at), *words[1:]],
-        cwd=room.folder,
-        capture_output=True,
-        timeout=SECONDS,
-    )
-    if done.returncode not in (0, -signal.SIGKILL):
-        raise RuntimeError(f"the follower ended with {done.returncode}: {done.stderr!r}")
-    return done.returncode < 0
-
-
-def killed_at_each_step(room: Room, name: str, database: str, before: Tables, least: int) -> Iterator[Outcome]:
-    """Runs that are killed at step 1, 2 and so on, until one ends."""
-    after = in_file(room)
-    wrong, at = [], 1
-    while killed_at(room, database, at):
-        # Killed right behind its commit, the follower has brought all.
-        if (came := in_postgres(database)) != before and came != after:
-            wrong.append(at)
-        before = came if came == after else before
-        at += 1
-    yield Outcome(f"killed, {name}: seen is one of two moments", wrong, [])
-    yield Outcome(f"killed, {name}: the run that ends brings all", in_postgres(database) == after, True)
-    yield Outcome(f"killed, {name}: it had steps", at >= least, True)
-
-
-def killed_all_along(cluster: Cluster, room: Room) -> Iterator[Outcome]:
+def killed_at_some_moments(cluster: Cluster, room: Room) -> Iterator[Outcome]:
+    """What is seen then is of one of two moments, and the next run brings all."""
     database = cluster.make_database("killed")
-    deliver(room, 1, 2, agreement=AGREEMENT)
-    yield from killed_at_each_step(room, "a new schema", database, {}, 30)
-    before = in_postgres(database)
-    deliver(room, 3, 5)
-    yield from killed_at_each_step(room, "what changed", database, before, 30)
-    before = in_postgres(database)
-    room.path(DATABASE).unlink()
-    deliver(room, 1, 2, 3, 4, agreement=AGREEMENT)
-    execute(database, "UPDATE desk.front SET digest = 'of another desk'")
-    yield from killed_at_each_step(room, "another desk", database, before, 30)
-    before = in_postgres(database)
-    deliver(room, 5)
-    execute(database, "COMMENT ON SCHEMA desk IS 'Kept by desk-follow of onixdesk, layout of before'")
-    yield from killed_at_each_step(room, "another layout", database, before, 30)
+    moments = Random(61)
+    before: Tables = {}
+    for number in range(1, 9):
+        deliver(room, number, agreement=AGREEMENT if number == 1 else b"")
+        after = in_file(room)
+        run = subprocess.Popen(words_of(room, database), cwd=room.folder, stdout=subprocess.PIPE)
+        time.sleep(moments.uniform(0.05, 0.5))
+        run.kill()
+        run.communicate(timeout=SECONDS)
+        came = in_postgres(database)
+        yield Outcome(f"killed, {number}: one of two moments", came in (before, after), True)
+        follow(room, database)
+        yield Outcome(f"killed, {number}: the run behind it brings all", in_postgres(database) == after, True)
+        before = after
 
 
 def two_at_once(cluster: Cluster, room: Room) -> Iterator[Outcome]:

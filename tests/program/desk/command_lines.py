@@ -99,6 +99,20 @@ def at_a_socket(room: Room) -> Iterator[Outcome]:
         yield Outcome(f"command line: at a socket, {words}", came, wanted)
 
 
+COMMANDS = "agreements batch check convert deliver export gaps migrate rules serve terms".split()
+
+
+def helps(room: Room) -> Iterator[Outcome]:
+    """The help of the program names each command, whose own help says how it is used."""
+    came = room.run("--help")
+    named = [line.split()[0] for line in came.output.decode().splitlines() if line.startswith("  ") and line[2] != " "]
+    yield Outcome("help: the commands", (came.status, named[: len(COMMANDS) + 1]), (0, [*COMMANDS, "help"]))
+    for command in COMMANDS:
+        came = room.run(command, "--help")
+        usage = f"Usage: {room.program.name} {command}".encode()
+        yield Outcome(f"help: {command}", (came.status, usage in came.output, came.errors), (0, True, b""))
+
+
 def version(room: Room) -> Iterator[Outcome]:
     """The program's name stands before its version."""
     came = room.run("--version")

@@ -2,7 +2,6 @@
 
 from collections.abc import Iterator
 
-from tests.program.desk.reasons import A_FOLDER, NOT_THERE
 from tests.program.room import UNREADABLE, Ran, Room
 from tests.program.written_cases import TESTS, Written, read_file, repeated, unescaped
 from tests.running import Outcome
@@ -61,10 +60,10 @@ def tables_that_are_no_toml(room: Room) -> Iterator[Outcome]:
 
 
 def tables_that_cannot_be_read(room: Room) -> Iterator[Outcome]:
-    for file, why in ("absent.toml", NOT_THERE), (".", A_FOLDER):
-        lines = f"onixdesk: file: {file}\nonixdesk: {file}: {why}\n".encode()
-        yield Outcome(f"terms: {file}", room.told("terms", file), Ran(2, b"", lines))
-        yield Outcome(f"convert by terms: {file}", room.told("convert", "--terms", file), Ran(2, b"", lines))
+    for file in "absent.toml", ".":
+        wanted = Ran(2, b"", f"onixdesk: file: {file}\n".encode())
+        yield Outcome(f"terms: {file}", room.run("terms", file), wanted)
+        yield Outcome(f"convert by terms: {file}", room.run("convert", "--terms", file), wanted)
     room.write("north.toml", TERM)
     full = room.run("terms", "north.toml", is_full=True)
     yield Outcome("terms: a full output", full, Ran(3, b"", b"onixdesk: output\n"))

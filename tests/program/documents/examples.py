@@ -256,40 +256,7 @@ def script(room: Room, name: str, *words: str) -> Ran:
     return room.call([ROOT / name, *words], environment={**os.environ, "ONIXDESK": str(room.program)})
 
 
-def gaps_script(room: Room, *words: str) -> Ran:
-    return script(room, "programs/onixdesk/gaps.sh", *words)
-
-
 def script_of_http(room: Room) -> Iterator[Outcome]:
     """The script compares each reply with the one that is written in it; what is wrong with its bad query is told."""
     wanted = Ran(0, b"", b"onixdesk: bad-query: day is given 2 times\n")
     yield Outcome("http.sh: its replies", script(room, "examples/http.sh", str(free_port())), wanted)
-
-
-def gaps_without_words(room: Room) -> Iterator[Outcome]:
-    wanted = Ran(2, b"", b"gaps.sh: gaps.sh DESK SERIES..\n")
-    some: list[list[str]] = [[], ["http://127.0.0.1:1"]]
-    for words in some:
-        yield Outcome(f"gaps.sh: {len(words)} words", gaps_script(room, *words), wanted)
-
-
-def gaps_by_night(room: Room) -> Iterator[Outcome]:
-    """The script over a database file, and at the socket of a desk that is open: numbers that lack, then
-    none, then series and files that are not there."""
-    room.run("--db", "shop.db", "batch", given=AGREEMENT + bare(2))
-    report = b"gaps,north,first=1,next=1,greatest=2,held=1,missing=1\nmissing,1,1\n"
-    no_report = b"west: no report\n"
-    found = gaps_script(room, "shop.db", "north")
-    yield Outcome("gaps.sh: a number that lacks", found, Ran(1, report))
-    found = gaps_script(room, "shop.db", "west", "north")
-    yield Outcome("gaps.sh: a series that is not agreed", found, Ran(2, report, no_report))
-    with serving(room, ["--db", "shop.db"], 2, ["--batches", "shop.socket"]):
-        found = gaps_script(room, "shop.socket", "west", "north")
-        yield Outcome("gaps.sh: at the socket of an open desk", found, Ran(2, report, no_report))
-    room.run("--db", "shop.db", "batch", given=bare(1))
-    yield Outcome("gaps.sh: no number lacks", gaps_script(room, "shop.db", "north"), Ran(0))
-    found = gaps_script(room, "other.db", "west")
-    why = "no such file; correct the name behind --db, or have batch make a new desk, without --existing"
-    line = f"onixdesk: storage: unusable\nonixdesk: other.db: {why}\n".encode()
-    yield Outcome("gaps.sh: a mistyped file", found, Ran(2, b"", line + no_report))
-    yield Outcome("gaps.sh: the mistyped file then", room.path("other.db").exists(), False)

@@ -4,7 +4,7 @@ that machine."""
 from collections.abc import Iterator
 
 from tests.program.documents.examples import block, example, like_the_repository, written
-from tests.program.documents.mistakes import A, B, PARTIES, agreed, message
+from tests.program.documents.mistakes import A, B, agreed, message
 from tests.program.files.machines import DESK, Machine, machine
 from tests.program.inbox.inboxes import script
 from tests.program.room import Ran, Room
@@ -12,7 +12,6 @@ from tests.running import Outcome
 from tools.root import ROOT
 
 PRICES = "docs/PRICES.md"
-HTTP = "docs/HTTP.md"
 INBOX = "docs/INBOX.md"
 RELIABILITY = "docs/RELIABILITY.md"
 TILL = "/srv/till"
@@ -47,18 +46,6 @@ def of_a_list(room: Room) -> Iterator[Outcome]:
         yield Outcome(f"{PRICES}: {command}", desk.run([command]), Ran(0))
         watched = room.path("etc/onixdesk/watched.csv").read_text(encoding="utf-8").split()
         yield Outcome(f"{PRICES}: the watched list", watched, ["ISBN", A, "9780000000002"])
-
-
-def gaps_by_cron(room: Room) -> Iterator[Outcome]:
-    """The line of cron asks the desk for three series, of which one has a gap."""
-    _, line = block(HTTP, "MAILTO=")
-    command = line.split(" ", 5)[5].replace("/opt/onixdesk/gaps.sh", str(ROOT / "programs/onixdesk/gaps.sh"))
-    parties = {name: PARTIES.format(value) for name, value in (("south", "4012345000023"), ("west", "4012345000030"))}
-    agreements = written([f"Agree,{name},{sender},1" for name, sender in parties.items()])
-    with machine(room, agreed() + agreements + message(2, (A, "10.00"), parties=parties["south"])) as desk:
-        ran = desk.run([command.replace(":8080", f":{desk.port}")])
-    report = b'{"answer":"gaps","first":1,"greatest":2,"held":1,"missing":[[1,1]],"next":1,"series":"south"}\n'
-    yield Outcome(f"{HTTP}: {line}", ran, Ran(1, report))
 
 
 def other_machine(room: Room, desk: Machine) -> None:

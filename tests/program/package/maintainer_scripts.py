@@ -1,5 +1,5 @@
-"""What the package's scripts do before an upgrade, and at a removal: each is run on a root of its own, where stand-ins of
-what changes users and units write down what they are told."""
+"""What the package's scripts do at a removal: each is run on a root of its own, where stand-ins of what changes users and
+units write down what they are told."""
 
 import os
 from collections.abc import Iterator
@@ -12,7 +12,7 @@ from tests.running import Outcome
 from tools.root import ROOT
 
 # Users and units are the machine's.
-TOLD = ["deb-systemd-invoke", "deb-systemd-helper", "userdel", "usermod"]
+TOLD = ["deb-systemd-invoke", "userdel"]
 
 # What a desk, its copies and an inbox keep that has taken a file; and what is made anew from it, or of use no more.
 DATA = [
@@ -73,19 +73,6 @@ def found(room: Room) -> list[str]:
     return sorted(str(path.relative_to(room.folder)) for path in paths if not path.is_dir() or not any(path.iterdir()))
 
 
-def before_an_upgrade(room: Room) -> Iterator[Outcome]:
-    for folder in ("bin", "run/systemd/system"):
-        room.path(folder).mkdir(parents=True)
-    wanted = [
-        "deb-systemd-invoke stop onixdesk-inbox.path onixdesk-inbox.service",
-        "deb-systemd-helper purge onixdesk-inbox.path",
-        "deb-systemd-helper unmask onixdesk-inbox.path",
-    ]
-    for words, lines in [(["upgrade", "0.1.0"], wanted), (["upgrade", "0.2.0"], []), (["install"], [])]:
-        came = at(room, "preinst", *words)
-        yield Outcome(f"preinst {' '.join(words)}", (came, told(room)), (Ran(0), lines))
-
-
 def a_removal(room: Room) -> Iterator[Outcome]:
     """Each unit of the package is stopped, those before the desk that send to it; an upgrade stops none here."""
     for folder in ("bin", "run/systemd/system"):
@@ -143,14 +130,3 @@ def a_purge_without_data(room: Room) -> Iterator[Outcome]:
     yield Outcome("postrm purge without data: nothing is left", (came, left), (Ran(0), ["var/lib"]))
     users = [f"userdel onixdesk{name}" for name in ("-titles", "-fetch", "", "-inbox")]
     yield Outcome("postrm purge without data: no user is left", told(room), users)
-
-
-def a_purge_with_copies_alone(room: Room) -> Iterator[Outcome]:
-    """Their user stays with them."""
-    copy = "var/lib/onixdesk-copies/2026-11-27T02-30-12Z/shop.db"
-    room.path("bin").mkdir()
-    make(room, copy)
-    came = at(room, "postrm", "purge")
-    yield Outcome("postrm purge: copies alone stay", (came, found(room)), (Ran(0), [copy]))
-    users = [f"userdel onixdesk{name}" for name in ("-titles", "-fetch", "-inbox")]
-    yield Outcome("postrm purge: their user stays", told(room), users)

@@ -1,5 +1,4 @@
-"""The packages of Python: what ships imports the standard library and each other, and psycopg2 for PostgreSQL alone, no
-package imports one above it, and none changes where packages are looked for."""
+"""What ships of Python imports the standard library and its own packages, and psycopg2 for PostgreSQL alone."""
 
 import ast
 import sys
@@ -8,72 +7,9 @@ from pathlib import Path
 
 from tests.program.room import Room
 from tests.running import Outcome
-from tools.root import ROOT
+from tools.root import PACKAGES, ROOT
 
-# What each package may import beside the standard library and itself.
-MAY_IMPORT: dict[str, set[str]] = {
-    "programs/shared/command_lines": set(),
-    "programs/shared/message_records": set(),
-    "programs/shared/desk_batches": {"command_lines"},
-    "programs/shared/shop_files": {"command_lines", "message_records"},
-    "programs/desk-copy/desk_copy": {"command_lines"},
-    "programs/desk-renew/desk_renew": {
-        "command_lines",
-        "desk_batches",
-        "desk_copy",
-        "desk_follow",
-        "desk_restore",
-        "message_records",
-    },
-    "programs/desk-restore/desk_restore": {"command_lines", "desk_batches", "desk_copy"},
-    "programs/desk-follow/desk_follow": {"command_lines", "desk_copy", "psycopg2"},
-    "programs/desk-prices/desk_prices": {
-        "command_lines",
-        "desk_batches",
-        "desk_copy",
-        "desk_follow",
-        "onixdesk_titles",
-        "shop_files",
-    },
-    "programs/onixdesk-inbox/onixdesk_inbox": {"command_lines", "message_records"},
-    "programs/desk-metrics/desk_metrics": {"command_lines", "desk_copy", "onixdesk_inbox"},
-    "programs/onixdesk-fetch/onixdesk_fetch": {"command_lines", "onixdesk_inbox"},
-    "programs/onixdesk-look/onixdesk_look": {
-        "command_lines",
-        "desk_batches",
-        "message_records",
-        "onixdesk_inbox",
-        "shop_files",
-    },
-    "programs/onixdesk-titles/onixdesk_titles": {"command_lines", "onixdesk_inbox"},
-    "tools": set(),
-    "bench": {"tools"},
-    # The tests of the page drive a browser.
-    "tests": {
-        "bench",
-        "command_lines",
-        "desk_copy",
-        "desk_follow",
-        "desk_metrics",
-        "desk_prices",
-        "desk_renew",
-        "desk_restore",
-        "message_records",
-        "onixdesk_fetch",
-        "onixdesk_inbox",
-        "onixdesk_look",
-        "onixdesk_titles",
-        "psycopg2",
-        "selenium",
-        "shop_files",
-        "tools",
-    },
-}
-
-
-def trees(package: str) -> Iterator[tuple[Path, ast.AST]]:
-    for path in sorted(ROOT.joinpath(package).rglob("*.py")):
-        yield path.relative_to(ROOT), ast.parse(path.read_text(encoding="utf-8"))
+FOR_POSTGRESQL = ROOT / "programs/desk-follow"
 
 
 def imported(tree: ast.AST) -> set[str]:
@@ -87,29 +23,9 @@ def imported(tree: ast.AST) -> set[str]:
     return found
 
 
-def names_path(tree: ast.AST) -> bool:
-    """Whether a module names `sys.path`."""
-    named = (node for node in ast.walk(tree) if isinstance(node, ast.Attribute) and node.attr == "path")
-    return any(isinstance(node.value, ast.Name) and node.value.id == "sys" for node in named)
-
-
-# A module in which programs run as if they were started, each with a path of its own.
-HAS_PATH = "tests/program/forking.py"
-
-
-def imports(room: Room) -> Iterator[Outcome]:
-    for package, others in MAY_IMPORT.items():
-        allowed = others | {Path(package).name} | sys.stdlib_module_names
-        parsed = [*trees(package)]
-        wrong = [(str(path), sorted(more)) for path, tree in parsed if (more := imported(tree) - allowed)]
-        yield Outcome(f"{package}: what it imports", wrong, [])
-        named = [str(path) for path, tree in parsed if names_path(tree)]
-        yield Outcome(f"{package}: sys.path", named, [HAS_PATH] if package == "tests" else [])
-
-
-def planted(room: Room) -> Iterator[Outcome]:
-    tree = ast.parse(
-        "import os.path\nfrom tools.root import ROOT\ndef f():\n    import bench.figures, sys\n    sys.path[0] = ''\n"
-    )
-    yield Outcome("packages: imports that are found", imported(tree), {"os", "tools", "bench", "sys"})
-    yield Outcome("packages: sys.path that is found", names_path(tree), True)
+def imports(_room: Room) -> Iterator[Outcome]:
+    shipped = {path.parent.name for folder in PACKAGES for path in Path(folder).glob("*/__init__.py")}
+    for path in sorted(ROOT.glob("programs/**/*.py")):
+        allowed = sys.stdlib_module_names | shipped | ({"psycopg2"} if FOR_POSTGRESQL in path.parents else set())
+        more = imported(ast.parse(path.read_text(encoding="utf-8"))) - allowed
+        yield Outcome(f"{path.relative_to(ROOT)}: what it imports", more, set())

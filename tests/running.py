@@ -10,6 +10,7 @@ from fnmatch import fnmatchcase
 from pathlib import Path
 from typing import Any, NamedTuple
 
+from tests import needs
 from tools.root import ROOT
 
 # The program that is tested where no other is named.
@@ -31,15 +32,17 @@ def left_out(why: str) -> Outcome:
     """What a group yields in place of cases that cannot be tried here, for that reason. It is told, and it fails where
     NOTHING_LEFT_OUT is set, as .ci/run has it."""
     print(f"left out: {why}", file=sys.stderr, flush=True)
-    return Outcome(f"left out: {why}", bool(os.environ.get("NOTHING_LEFT_OUT")), False)
+    return Outcome(f"left out: {why}", needs.nothing_may_be_left_out(), False)
 
 
 class Cases:
-    """A group of cases, each of which may build on those before it: it has a name, and the module where it stands."""
+    """A group of cases, each of which may build on those before it: it has a name, the module where it stands, and the
+    programs without which it is left out (tests/needs.py)."""
 
-    def __init__(self, name: str, module: str) -> None:
+    def __init__(self, name: str, module: str, needs: Iterable[str] = ()) -> None:
         self.name = name
         self.module = module.rpartition(".")[2]
+        self.needs = list(needs)
 
     def id(self) -> str:
         return f"{self.module}: {self.name}"
@@ -104,11 +107,14 @@ def command_line(name: str, text: str | None) -> argparse.ArgumentParser:
     return parser
 
 
-def why_not(program: Path, missing: list[str], is_listed: bool = False) -> str | None:
-    """Why that program cannot be tested, while these of Debian's packages are missing; that the cases are listed needs
-    no program."""
-    if missing:
-        return f"needs Debian's packages {' '.join(missing)}"
+def left_out_whole(label: str, why: str) -> int:
+    """Says that nothing of these tests is tried, and gives the status."""
+    print(f"{label}: left out, since it {why}")
+    return 2 if needs.nothing_may_be_left_out() else 0
+
+
+def why_not(program: Path, is_listed: bool = False) -> str | None:
+    """Why that program cannot be tested; that the cases are listed needs no program."""
     if not is_listed and not os.access(program, os.X_OK):
         return f"no program {program}; make build builds it"
     return None

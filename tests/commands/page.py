@@ -13,28 +13,11 @@ lines, whose questions take as long as all other cases of lists. Status 0; 1 whe
 run, there is no program or a package is missing.
 """
 
-import importlib.util
 import os
-import shutil
 import sys
 
-from tests.running import PROGRAM, choice, command_line, run_side_by_side, why_not
-
-# Debian's packages, each with a command that it brings.
-COMMANDS = {
-    "nginx": "nginx",
-    "openssl": "openssl",
-    "chromium": "chromium",
-    "chromium-headless-shell": "chromium-headless-shell",
-    "chromium-driver": "chromedriver",
-}
-
-
-def missing_packages() -> list[str]:
-    missing = [package for package, command in COMMANDS.items() if not shutil.which(command)]
-    if importlib.util.find_spec("selenium") is None:
-        missing.append("python3-selenium")
-    return missing
+from tests import needs
+from tests.running import PROGRAM, choice, command_line, left_out_whole, run_side_by_side, why_not
 
 
 def main() -> int:
@@ -45,7 +28,9 @@ def main() -> int:
     given = parser.parse_args()
     os.environ["PATH"] += ":/usr/sbin"
     program = (given.program or PROGRAM).resolve()
-    if why := why_not(program, missing_packages(), given.list):
+    if lacking := needs.why(needs.PAGE):
+        return left_out_whole("page", lacking)
+    if why := why_not(program, given.list):
         print(f"tests/page/run: {why}", file=sys.stderr)
         return 2
     # It needs Selenium.

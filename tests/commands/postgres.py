@@ -7,32 +7,28 @@ It makes a cluster in a folder of its own, with a socket there alone, and remove
 the user postgres. It needs Debian's packages postgresql-15 and python3-psycopg2, and Debian's own Python. PROGRAM is
 crates/onixdesk/out/onixdesk where none is named. With -k only the groups are run that have the text in their name,
 which --list tells, and with --case only those of their cases are counted. For each case that failed a line is written,
-and at the end `postgres: N cases, M failed`. Status 0; 1 where a case failed; 2 where no case was run, there is no
-program or a package is missing.
+and at the end `postgres: N cases, M failed`. Where a package is missing, that is said and nothing is tried. Status 0;
+1 where a case failed; 2 where no case was run, there is no program, or a package is missing and NOTHING_LEFT_OUT is set.
 """
 
-import importlib.util
-import os
 import sys
 from collections.abc import Callable
 from functools import partial
 from pathlib import Path
 
-from tests.running import PROGRAM, Counted, choice, command_line, count_all, run_side_by_side, why_not
+from tests import needs
+from tests.running import PROGRAM, Counted, choice, command_line, count_all, left_out_whole, run_side_by_side, why_not
 
-PROGRAMS = Path(os.environ.get("POSTGRES_BIN", "/usr/lib/postgresql/15/bin"))
+PROGRAMS = Path("/usr/lib/postgresql/15/bin")
 AT_ONCE = 4
-
-
-def missing_packages() -> list[str]:
-    missing = [] if os.access(PROGRAMS / "initdb", os.X_OK) else ["postgresql-15"]
-    return missing + ["python3-psycopg2"] * (importlib.util.find_spec("psycopg2") is None)
 
 
 def main() -> int:
     given = command_line("tests/postgres/run", __doc__).parse_args()
     program = (given.program or PROGRAM).resolve()
-    if why := why_not(program, missing_packages(), given.list):
+    if lacking := needs.why(needs.POSTGRES):
+        return left_out_whole("postgres", lacking)
+    if why := why_not(program, given.list):
         print(f"tests/postgres/run: {why}", file=sys.stderr)
         return 2
     # They need psycopg2.

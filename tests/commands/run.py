@@ -8,14 +8,16 @@ was built. With -k only the groups are run that have the text in their name, whi
 those of their cases are counted. N processes, three for each two processors and six at most where it is not said, try
 one group after the other each, in folders in memory where there is enough (tests/program/places.py), or where TMPDIR
 says. For each case that failed one line is written, in the order of --list, and at the end `program: N cases, M
-failed`. Status 0; 1 where a case failed; 2 where no case was run or there is no such program.
+failed`. A group whose program is missing is named first and left out. Status 0; 1 where a case failed; 2 where no case
+was run, there is no such program, or a group is left out and NOTHING_LEFT_OUT is set.
 """
 
 import compileall
+import os
 import subprocess
 import sys
 
-from tests import processes
+from tests import needs, processes
 from tests.program import groups, places
 from tests.program.room import Group
 from tests.running import PROGRAM, choice, command_line, tell_all, why_not
@@ -39,14 +41,22 @@ def main() -> int:
         "--jobs", metavar="N", type=number_of_processes, default=processes.usual(), help="so many at a time"
     )
     given = parser.parse_args()
+    # A daemon is not on every user's path.
+    os.environ["PATH"] += ":/usr/sbin"
     chosen = choice(given)
     found = [group for group in groups() if chosen.has(group)]
     if given.list:
         print("\n".join(group.id() for group in found))
         return 0
+    lacking = {group: reason for group in found if (reason := needs.why(group.needs))}
+    for group, reason in lacking.items():
+        print(f"left out: {group.id()}, which {reason}", file=sys.stderr)
+    if lacking and needs.nothing_may_be_left_out():
+        return 2
+    found = [group for group in found if group not in lacking]
     Group.program = (given.program or PROGRAM).resolve()
     Group.place = places.usual()
-    why = why_not(Group.program, [])
+    why = why_not(Group.program)
     if not why and not given.program and is_old():
         why = f"a source has changed since {PROGRAM} was built"
     if why:

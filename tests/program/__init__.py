@@ -4,7 +4,8 @@ What a case wants is taken from the desk's written rules, never from what the pr
 
 A group is a generator function over a `Room`, a folder of its own in which the program is run, and yields one
 `Outcome` for each of its cases. In a module of tests each function over a room alone is one, and a list `GROUPS` has
-those that take more. Groups run side by side.
+those that take more. Groups run side by side. What calls a program of Debian's packages is marked by `needs`, or its
+module has a list NEEDS, and is left out where that program is missing.
 A program of Python that a room calls is started by forking.py, which spares Python's own start.
 """
 
@@ -36,9 +37,17 @@ def groups_of(module: Any) -> list[Cases]:
     return [*getattr(module, "GROUPS", []), *(Group(name, check) for name, check in checks_of(module, Room))]
 
 
+def needing(module: Any) -> list[Cases]:
+    """Its groups, each with what the whole module needs."""
+    found = groups_of(module)
+    for group in found:
+        group.needs.extend(getattr(module, "NEEDS", []))
+    return found
+
+
 def groups() -> list[Cases]:
     """The groups of all modules below this one that have some."""
     names = [module.name for module in pkgutil.walk_packages(__path__, f"{__name__}.") if not module.ispkg]
     names.sort(key=lambda name: (FIRST.index(last) if (last := name.rpartition(".")[2]) in FIRST else len(FIRST), name))
     modules: list[Any] = [importlib.import_module(name) for name in names]
-    return [group for module in modules for group in groups_of(module)]
+    return [group for module in modules for group in needing(module)]

@@ -13,6 +13,8 @@ from tests.program import forked_starts
 from tests.running import PROGRAM, Cases, Outcome
 from tools.words import Word
 
+Check = Callable[..., Iterator[Outcome]]
+
 # No run of a case takes a tenth of it, also on a machine that has much else to do; a program that hangs fails its case.
 SECONDS = 1200
 
@@ -119,6 +121,16 @@ class Room:
         )
 
 
+def needs(*programs: str) -> Callable[[Check], Check]:
+    """Marks a function whose cases call these programs of Debian's packages."""
+
+    def marked(check: Check) -> Check:
+        vars(check)["needs"] = programs
+        return check
+
+    return marked
+
+
 class Group(Cases):
     """Cases over a room of their own."""
 
@@ -127,7 +139,8 @@ class Group(Cases):
     place: str | None = None
 
     def __init__(self, name: str, check: Callable[[Room], Iterator[Outcome]]) -> None:
-        super().__init__(name, getattr(check, "func", check).__module__)
+        function = getattr(check, "func", check)
+        super().__init__(name, function.__module__, getattr(function, "needs", ()))
         self.check = check
 
     def outcomes(self) -> Iterator[Outcome]:

@@ -2,13 +2,12 @@
 
 import contextlib
 import json
-import shutil
 import sqlite3
 from collections.abc import Iterator
 
 from tests.program.documents.examples import blocks, commands, example, like_the_repository, written
 from tests.program.room import Ran, Room
-from tests.running import Outcome, left_out
+from tests.running import Outcome
 from tools.root import ROOT
 
 PAGE = "docs/REPORTS.md"
@@ -35,9 +34,6 @@ def desks(room: Room) -> Ran:
 
 
 def questions(room: Room) -> Iterator[Outcome]:
-    if not shutil.which("sqlite3"):
-        yield left_out("docs/REPORTS.md, since there is no sqlite3")
-        return
     room.path("days").mkdir()
     yield Outcome(f"{PAGE}: the copy", desks(room).status, 0)
     asked = [lines for lines in blocks(PAGE) if lines[0].startswith("sqlite3 ")]

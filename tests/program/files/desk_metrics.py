@@ -17,9 +17,9 @@ from tests.program.databases import batch
 from tests.program.documents.examples import block
 from tests.program.inbox.inboxes import CONNECTIONS, MALFORMED, WORDS, Inbox
 from tests.program.messages import AGREEMENT, bare
-from tests.program.room import Ran, Room
+from tests.program.room import Ran, Room, needs
 from tests.program.serving import HOST, Serving, StandIn, free_port, posted, serving, standing_in
-from tests.running import Outcome, left_out
+from tests.running import Outcome
 from tools.root import ROOT
 from tools.words import Word
 
@@ -349,11 +349,9 @@ def names(_room: Room) -> Iterator[Outcome]:
     yield Outcome("the rules: their metrics", (named - set(METRICS), bool(named)), (set(), True))
 
 
+@needs("promtool")
 def by_promtool(room: Room) -> Iterator[Outcome]:
     """Prometheus' own tool finds nothing wrong with what is written, nor with the rules; these fire when they are to."""
-    if not shutil.which("promtool"):
-        yield left_out("promtool, which Debian's prometheus has")
-        return
     with desk_with_gaps(room) as desk:
         room.path("incoming").mkdir()
         room.path("incoming/north").mkdir()

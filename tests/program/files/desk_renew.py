@@ -18,7 +18,7 @@ from desk_restore.users import now
 from tests.program.databases import DATABASE, all_rows, batch
 from tests.program.files.desk_restore import UNITS, make_programs
 from tests.program.inbox.inboxes import within
-from tests.program.room import Ran, Room
+from tests.program.room import Ran, Room, needs
 from tests.program.serving import serving
 from tests.running import Outcome, left_out
 from tools.root import ROOT
@@ -176,11 +176,9 @@ console.log(standsInWords(JSON.parse(readFileSync(0, "utf8"))));
 """
 
 
+@needs("node")
 def that_the_page_tells(room: Room) -> Iterator[Outcome]:
     """From which number on the messages of a series are in use, by the report of the desk that is served then."""
-    if not shutil.which("node"):
-        yield left_out("what the page says of a renewed series, since there is no node")
-        return
     shutil.copytree(ROOT / "page", room.path("page"))
     room.write("package.json", b'{"type": "module"}')
     room.write("say.js", SAYING.encode())

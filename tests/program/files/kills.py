@@ -1,22 +1,20 @@
 """Programs beside the desk, killed at some of their system calls; tests/killed tries all."""
 
-import shutil
 from collections.abc import Iterator
 from functools import partial
 
 from tests.kills import SCENARIOS
 from tests.kills.scenarios import at_each_point
 from tests.program.room import Group, Room
-from tests.running import Outcome, left_out
+from tests.running import Outcome
+
+NEEDS = ["strace"]
 
 # Of each program so many calls that give a file another name, and half as many of the others.
 MOST = 6
 
 
 def killed_at_some(name: str, room: Room) -> Iterator[Outcome]:
-    if not shutil.which("strace"):
-        yield left_out("kills at system calls, since there is no strace")
-        return
     scenario = SCENARIOS[name](room)
     try:
         judged = at_each_point(scenario, MOST)

@@ -27,8 +27,7 @@ from tools.root import ROOT
 
 PROGRAM = ROOT / "bin/onixdesk-fetch"
 
-# The programs of the servers, by Debian's packages that have them.
-SERVERS = {"sshd": "openssh-server", "vsftpd": "vsftpd", "nginx": "nginx-light"}
+NEEDS = ["sshd", "vsftpd", "nginx", "openssl"]
 
 
 class Fetch:
@@ -188,10 +187,6 @@ Begin = Callable[[Room], contextlib.AbstractContextManager[str]]
 KINDS: dict[str, tuple[Begin, str]] = {"sftp": (sftp, "root"), "ftps": (ftps, "anonymous"), "https": (https, "")}
 
 CHANGED = b"<ONIXMessage release='3.0'> of another day </ONIXMessage>"
-
-
-def servers(_room: Room) -> Iterator[Outcome]:
-    yield Outcome("fetch: the servers are there", [name for name in SERVERS if not shutil.which(name)], [])
 
 
 def from_each_server(room: Room) -> Iterator[Outcome]:

@@ -7,33 +7,26 @@ for whoever builds one of them. This takes those of CLONE (this clone where none
 same files, and has the prover read the others as sources. FLAG.. are the prover's, as `--only PATH` or
 `--allow-holes`. What it proves counts for nothing at the gate.
 
-The status is the prover's; 2 where there is no such crate, or no toolchain.
+The status is the prover's; 2 where there is no such crate.
 """
 
 import argparse
 import functools
-import importlib.util
+import importlib
 import os
 import subprocess
 import sys
 from pathlib import Path
-from types import ModuleType
 from typing import Any
 
 from tools.root import ROOT
 
 
-def toolchain() -> ModuleType | None:
-    """The module of the toolchain that knows how `rt` calls the prover; none where there is no `rt`."""
-    try:
-        page = subprocess.run(["rt", "doc"], stdout=subprocess.PIPE, text=True, check=True).stdout.strip()
-    except (OSError, subprocess.CalledProcessError):
-        return None
-    spec = importlib.util.spec_from_file_location("rtlib", Path(page).parent / "bin/rtlib.py")
-    if spec is None or spec.loader is None:
-        return None
-    module = importlib.util.module_from_spec(spec)
-    spec.loader.exec_module(module)
+def toolchain() -> Any:
+    """The module of the toolchain that knows how `rt` calls the prover."""
+    page = subprocess.run(["rt", "doc"], stdout=subprocess.PIPE, text=True, check=True).stdout.strip()
+    sys.path.append(str(Path(page).parent / "bin"))
+    module = importlib.import_module("rtlib")
     # A crate's stamp is made of those of all that it stands on, and each of these is asked for it many times.
     module.Crate.stamp = functools.cache(module.Crate.stamp)
     return module
@@ -79,11 +72,10 @@ def main() -> int:
     parser.add_argument("--from", dest="clone", metavar="CLONE", type=Path, default=ROOT)
     parser.add_argument("crate", metavar="CRATE")
     given, flags = parser.parse_known_args()
-    rt = toolchain()
     folder = ROOT / "crates" / given.crate
-    if rt is None or not folder.is_dir():
-        print(f"bench/check: no {'toolchain' if rt is None else folder}", file=sys.stderr)
-        return 2
+    if not folder.is_dir():
+        parser.error(f"no {folder}")
+    rt = toolchain()
     crate = rt.Crate(str(folder), str(ROOT), {})
     known: dict[str, Any] = {}
     clone = given.clone.resolve()

@@ -1,71 +1,61 @@
-"""Prints the figures of the program `onixdesk`, each a ratio within this run.
+"""Prints the figures of the program `onixdesk` as two tables: those of docs/BENCHMARKS.md and that of docs/SCALE.md.
 
-    bench/run [--desk PROGRAM] [FIGURE..]
+    bench/run [--desk PROGRAM] [--small]
 
-Without a FIGURE all are printed. Without a PROGRAM it is the proved one, which tools/build builds where a
-source has changed. A figure that cannot be had is said on standard error, and the status is then 1.
+Without a PROGRAM it is the proved one, which tools/build builds where a source has changed. What is read and written is
+in the folder for temporary files. What cannot be had is told on standard error, and the status is then 1. With --small
+all sizes are a hundredth, which tries this command and measures nothing.
 """
 
 import argparse
+import subprocess
 import sys
 import tempfile
+from collections.abc import Callable, Iterator
 from pathlib import Path
 
-from bench.figures import counted, in_files, in_memory
-from bench.figures.desk import Desk
+from bench.figures import growth, ratios
+from bench.figures.ratios import Bench
 from bench.figures.runs import BenchmarkFault
-from bench.figures.words import add_program, program_of
+from tools.root import ROOT
 
-FIGURES = {
-    "reading": in_memory.reading,
-    "reading-memory": in_memory.memory_of_reading,
-    "batch-memory": in_memory.memory_of_batch,
-    "writing": in_memory.writing,
-    "questions": in_memory.questions,
-    "prices": in_memory.prices_to_rows,
-    "question-memory": in_memory.memory_of_question,
-    "growth": in_memory.growth,
-    "file": in_files.new_to_memory,
-    "file-rows": in_files.new_to_rows,
-    "file-prices": in_files.prices_to_rows,
-    "file-again": in_files.same_to_new,
-    "file-growth": in_files.growth,
-    "file-catalogues": in_files.catalogues,
-    "file-questions": in_files.questions,
-    "reading-instructions": counted.reading,
-    "file-instructions": counted.files,
-}
+OF_BENCHMARKS = [
+    ratios.messages_in_a_file,
+    ratios.messages_in_memory,
+    ratios.questions_for_prices,
+    ratios.questions_for_catalogues,
+    ratios.conversions,
+]
 
 
-def print_figure(name: str, desk: Desk) -> bool:
-    """Prints what is measured under that name, and gives whether it could be."""
-    try:
-        for figure in FIGURES[name](desk):
-            print(f"{name}: {figure.line()}", flush=True)
-        return True
-    except BenchmarkFault as fault:
-        print(f"bench: {name}: {fault}", file=sys.stderr)
-        return False
+def print_table(head: str, *parts: Callable[[], Iterator[ratios.Figure] | Iterator[growth.Size]]) -> bool:
+    """Prints the lines of all parts, and gives whether each could be had."""
+    print(head, "|---" * (head.count("|") - 1) + "|", sep="\n", flush=True)
+    is_whole = True
+    for part in parts:
+        try:
+            for each in part():
+                print(each.line(), flush=True)
+        except (BenchmarkFault, subprocess.CalledProcessError) as fault:
+            print(f"bench: {fault}", file=sys.stderr)
+            is_whole = False
+    print(flush=True)
+    return is_whole
 
 
 def main() -> int:
-    parser = argparse.ArgumentParser(
-        prog="bench/run",
-        usage="bench/run [--desk PROGRAM] [FIGURE..]",
-        description="Prints figures of the program onixdesk, each a ratio within this run.",
-        epilog="The figures: " + ", ".join(FIGURES),
-    )
-    parser.add_argument("names", nargs="*", metavar="FIGURE")
-    add_program(parser)
+    form = argparse.RawDescriptionHelpFormatter
+    parser = argparse.ArgumentParser("bench/run", description=__doc__, formatter_class=form)
+    parser.add_argument("--desk", type=Path, metavar="PROGRAM")
+    parser.add_argument("--small", action="store_true")
     given = parser.parse_args()
-    unknown = [name for name in given.names if name not in FIGURES]
-    if unknown:
-        parser.error(f"no figure {unknown[0]}")
-    program = program_of(given)
+    if not given.desk:
+        subprocess.run([ROOT / "tools/build"], check=True)
+    program = (given.desk or ROOT / "crates/onixdesk/out/onixdesk").resolve()
     with tempfile.TemporaryDirectory(prefix="onixdesk-") as folder:
-        desk = Desk(program, Path(folder))
-        printed = [print_figure(name, desk) for name in given.names or FIGURES]
-    return 0 if all(printed) else 1
+        bench = Bench(program, Path(folder), 100 if given.small else 1)
+        is_whole = print_table("| Measure | Measured | Of |", *(lambda it=it: it(bench) for it in OF_BENCHMARKS))
+        return 0 if print_table(growth.HEAD, lambda: growth.sizes(bench)) and is_whole else 1
 
 
 if __name__ == "__main__":

@@ -1,53 +1,34 @@
-"""The batches that are measured, as pieces of text: agreements, messages and questions.
+"""The batches that are measured, as pieces of text: an agreement, messages of the series `north`, and questions."""
 
-Each message is of the series `north`, and numbers are counted from 1.
-"""
-
-from collections.abc import Iterable, Iterator
+from collections.abc import Iterator
 
 AGREEMENT = "Agree,north,06,4012345000009,06,5012345678900,1\n"
 CATALOGUE_QUESTION = "AskCatalogue,north\n"
-PRICE_QUESTION = "AskPrice,9780000000042,20250301,GB,GBP,02\n"
 
 SUPPLY = "SupplyDetail,04,06,4012345000009,North Books,21,\n"
 POUNDS = "Price,02,12.99,GBP,,WORLD,,20250101,20251231\n"
 EUROS = "Price,01,15.50,EUR,IE FR DE,,,20250101,\n"
 
 
-def message(number: int, records: list[str], form: int = 1) -> str:
+def message(number: int, records: list[str]) -> str:
     """A message whose records between its first and its last are given."""
-    opening = f"Message,{form},06,4012345000009,06,5012345678900,{number},1,20250301,,\n"
+    opening = f"Message,1,06,4012345000009,06,5012345678900,{number},1,20250301,,\n"
     return f"{opening}{''.join(records)}EndMessage,{len(records) + 1}\n"
 
 
-def offered(product: int, prices: list[str]) -> list[str]:
-    """The records of a product with one offer and these prices. Its ISBN has its number."""
-    isbn = f"978{product:010}"
-    return [f"Product,R{product},03,15,{isbn}\n", "ProductSupply,GB,,\n", SUPPLY, *prices]
+def isbn(product: int) -> str:
+    return f"978{product:010}"
 
 
-def small_messages(count: int, is_reversed: bool = False) -> Iterator[str]:
-    """An agreement and so many messages of one product each."""
-    yield AGREEMENT
-    for number in ordered(range(1, count + 1), is_reversed):
-        yield message(number, [f"Product,R{number},03,15,9781234567897\n"])
+def offered(product: int) -> list[str]:
+    """The records of a product with one supply and one price."""
+    return [f"Product,R{product},03,15,{isbn(product)}\n", "ProductSupply,GB,,\n", SUPPLY, POUNDS]
 
 
-def ordered(numbers: range, is_reversed: bool) -> Iterable[int]:
-    return reversed(numbers) if is_reversed else numbers
-
-
-def products_of(place: int, count: int, prices: list[str]) -> list[str]:
-    """The records of so many products with these prices: at place 0 from product 1 on."""
-    numbers = range(place * count + 1, (place + 1) * count + 1)
-    return [record for number in numbers for record in offered(number, prices)]
-
-
-def offers(numbers: range, products: int, origin: int = 1, is_reversed: bool = False) -> Iterator[str]:
-    """Messages of these numbers, each of so many products with one price. The number `origin` has the
-    products from 1 on, each later one those after them."""
-    for number in ordered(numbers, is_reversed):
-        yield message(number, products_of(number - origin, products, [POUNDS]))
+def offers(number: int, products: int) -> str:
+    """The message of that number, of so many new products: number 1 has the first ones."""
+    places = range((number - 1) * products + 1, number * products + 1)
+    return message(number, [record for place in places for record in offered(place)])
 
 
 def supplied(product: str) -> list[str]:
@@ -58,29 +39,16 @@ def supplied(product: str) -> list[str]:
     return records
 
 
-def greatest_messages() -> Iterator[str]:
-    """500 messages of 20 products each, with 2 supplies of 2 prices."""
-    for number in range(1, 501):
-        products = [supplied(f"NORTH-{number}-{product}") for product in range(20)]
-        yield message(number, sum(products, []))
+def greatest_messages(count: int) -> Iterator[str]:
+    """So many messages of 20 products each, with 2 supplies of 2 prices."""
+    for number in range(1, count + 1):
+        yield message(number, [line for place in range(20) for line in supplied(f"NORTH-{number}-{place}")])
 
 
-def priced(messages: int, products: int, prices: int) -> Iterator[str]:
-    """An agreement and messages of so many products, each with so many prices."""
-    yield AGREEMENT
-    for place in range(messages):
-        yield message(place + 1, products_of(place, products, [POUNDS] * prices))
+def scattered(products: int, count: int) -> Iterator[str]:
+    """So many ISBNs of so many products of `offers`, each far from the one before it."""
+    return (isbn(place * 7919 % products + 1) for place in range(count))
 
 
-def with_minimums(messages: int) -> Iterator[str]:
-    """An agreement and messages of form 2, each of 500 products with four prices from ten copies on."""
-    yield AGREEMENT
-    minimum = POUNDS.replace("\n", ",10\n")
-    for place in range(messages):
-        yield message(place + 1, products_of(place, 500, [minimum] * 4), form=2)
-
-
-def scattered_questions(products: int, count: int) -> Iterator[str]:
-    """So many price questions about so many products of `offers`, each far from the one before it."""
-    for place in range(count):
-        yield f"AskPrice,978{place * 7919 % products + 1:010},20250301,GB,GBP,02\n"
+def price_questions(products: int, count: int) -> Iterator[str]:
+    return (f"AskPrice,{each},20250301,GB,GBP,02\n" for each in scattered(products, count))

@@ -1,12 +1,11 @@
-"""The other programs: what they need, and how they are built into a folder."""
+"""The other programs, built into a folder of their own."""
 
 import shutil
 import subprocess
 from collections.abc import Sequence
 from pathlib import Path
 
-from bench.figures.runs import BenchmarkFault
-from tools.words import Word
+from bench.figures.runs import BenchmarkFault, Word
 
 SOURCES = Path(__file__).resolve().parent.parent / "tools"
 
@@ -14,48 +13,31 @@ SOURCES = Path(__file__).resolve().parent.parent / "tools"
 CRATES = "/usr/share/cargo/registry"
 
 
-def need(command: str, package: str) -> None:
-    """BenchmarkFault where there is no such command, with the package of Debian that has it."""
-    if not shutil.which(command):
-        raise BenchmarkFault(f"there is no {command}, which Debian's package {package} has")
-
-
-def build(words: Sequence[Word], folder: Path, package: str) -> None:
-    done = subprocess.run(words, cwd=folder, stdout=subprocess.DEVNULL, stderr=subprocess.PIPE)
-    if done.returncode:
-        text = done.stderr.decode(errors="replace")
-        raise BenchmarkFault(f"{words[0]} failed, which needs Debian's package {package}: {text}")
+def build(words: Sequence[Word], folder: Path, packages: str) -> None:
+    try:
+        subprocess.run(words, cwd=folder, check=True, capture_output=True, text=True)
+    except OSError as fault:
+        raise BenchmarkFault(f"{words[0]}: {fault.strerror}, which needs Debian's {packages}") from fault
+    except subprocess.CalledProcessError as fault:
+        raise BenchmarkFault(f"{words[0]} failed, which needs Debian's {packages}: {fault.stderr}") from fault
 
 
 def records(folder: Path) -> Path:
     """The program that reads and writes records by the crate `csv`, built by cargo without a network."""
-    need("cargo", "cargo")
     sources = folder / "records"
     made = sources / "target/release/records"
     if not made.exists():
         shutil.copytree(SOURCES / "records", sources, dirs_exist_ok=True)
         source = ["--config", 'source.crates-io.replace-with="debian"']
         source += ["--config", f'source.debian.directory="{CRATES}"']
-        build(["cargo", "build", "--release", "--offline", *source], sources, "librust-csv-dev")
+        build(["cargo", "build", "--release", "--offline", *source], sources, "cargo and librust-csv-dev")
     return made
-
-
-def bare_rows(folder: Path) -> Path:
-    """The program that puts the rows of a desk's file into a new one by SQLite alone."""
-    return by_sqlite(folder, "bare_rows")
-
-
-def price_questions(folder: Path) -> Path:
-    """The program that answers price questions by SQLite alone, over the rows of a desk's file in memory."""
-    return by_sqlite(folder, "price_questions")
 
 
 def by_sqlite(folder: Path, name: str) -> Path:
     """The program of that name, in C over SQLite."""
-    need("cc", "gcc")
     made = folder / name
     if not made.exists():
-        source = SOURCES / f"{name}.c"
-        words = ["cc", "-std=c11", "-O2", "-o", str(made), str(source), "-lsqlite3"]
-        build(words, folder, "libsqlite3-dev")
+        words: list[Word] = ["cc", "-std=c11", "-O2", "-o", made, SOURCES / f"{name}.c", "-lsqlite3"]
+        build(words, folder, "gcc and libsqlite3-dev")
     return made

@@ -1,17 +1,13 @@
-/* Answers price questions about a desk's file as a batch over it does, by SQLite alone over its rows in
-   memory:
+/* Answers price questions about a desk's file as a batch over it does, by SQLite alone over its rows in memory:
        price_questions FILE < QUESTIONS
-   Each question is a line of AskPrice without a quantity, and no price of the file has a minimum. Each
-   statement reads by an index alone: what is in no index's order is put in order here. */
+   Each question is a line of AskPrice without a quantity. No price of the file has a minimum, and no article
+   two records. Each statement reads by an index alone. */
 
 #define _DEFAULT_SOURCE
 #include <sqlite3.h>
 #include <stdio.h>
 #include <stdlib.h>
-#include <string.h>
 #include <time.h>
-
-enum { WORD, ISBN, DAY, COUNTRY, CURRENCY, TYPE, FIELDS };
 
 static const char *const words_of[] = {
     "SELECT series, reference FROM article WHERE id_value = ?1 AND id_type IN ('03', '15')",
@@ -24,9 +20,8 @@ static const char *const words_of[] = {
 };
 enum { RECORDS, OFFERS, PRICES, STATEMENTS };
 
-/* A record by its series and its reference. */
-struct record {
-    char series[64], reference[1100];
+struct question {
+    char isbn[14], day[9], country[3], currency[4], type[3];
 };
 
 static sqlite3 *rows;
@@ -66,33 +61,6 @@ static const char *text(int statement, int at) {
     return (const char *)sqlite3_column_text(statements[statement], at);
 }
 
-/* Cuts a line into its fields, or gives 0 where there are others. */
-static int cut(char *line, char **fields) {
-    line[strcspn(line, "\n")] = 0;
-    for (int at = 0; at < FIELDS; at++)
-        if (!(fields[at] = strsep(&line, ","))) return 0;
-    return !line && !strcmp(fields[WORD], "AskPrice");
-}
-
-static int compare(const void *left, const void *right) {
-    const struct record *one = left, *other = right;
-    int order = strcmp(one->series, other->series);
-    return order ? order : strcmp(one->reference, other->reference);
-}
-
-/* The records of the article, in order. */
-static int records_of(char **fields, struct record *records, int room) {
-    int count = 0;
-    bind(RECORDS, 1, fields[ISBN]);
-    for (; step(RECORDS); count++) {
-        if (count == room) exit(1);
-        strcpy(records[count].series, text(RECORDS, 0));
-        strcpy(records[count].reference, text(RECORDS, 1));
-    }
-    if (count > 1) qsort(records, count, sizeof *records, compare);
-    return count;
-}
-
 /* The number of a day, with 0 for 1 January 1970, of its date as YYYYMMDD. */
 static int day_number(const char *date) {
     int digits = atoi(date);
@@ -100,17 +68,18 @@ static int day_number(const char *date) {
     return timegm(&day) / 86400;
 }
 
-/* The current amount of an offer, or -1: of the price that began latest, and of these the least. */
-static long long amount_of(const struct record *record, int place, char **fields) {
+/* The current amount of the offer at a place of the record, or -1: of the price that began latest, and of these
+   the least. */
+static long long amount_of(int place, const struct question *asked) {
     long long amount = -1;
     int latest = -1;
-    bind(PRICES, 1, record->series);
-    bind(PRICES, 2, record->reference);
+    bind(PRICES, 1, text(RECORDS, 0));
+    bind(PRICES, 2, text(RECORDS, 1));
     check(rows, sqlite3_bind_int(statements[PRICES], 3, place));
-    bind(PRICES, 4, fields[TYPE]);
-    bind(PRICES, 5, fields[CURRENCY]);
-    check(rows, sqlite3_bind_int(statements[PRICES], 6, day_number(fields[DAY])));
-    bind(PRICES, 7, fields[COUNTRY]);
+    bind(PRICES, 4, asked->type);
+    bind(PRICES, 5, asked->currency);
+    check(rows, sqlite3_bind_int(statements[PRICES], 6, day_number(asked->day)));
+    bind(PRICES, 7, asked->country);
     while (step(PRICES)) {
         int from = sqlite3_column_int(statements[PRICES], 0);
         long long found = sqlite3_column_int64(statements[PRICES], 1);
@@ -120,16 +89,16 @@ static long long amount_of(const struct record *record, int place, char **fields
     return amount;
 }
 
-static int write_offers(const struct record *record, char **fields) {
+static int write_offers(const struct question *asked) {
     int count = 0;
-    bind(OFFERS, 1, record->series);
-    bind(OFFERS, 2, record->reference);
-    bind(OFFERS, 3, fields[COUNTRY]);
+    bind(OFFERS, 1, text(RECORDS, 0));
+    bind(OFFERS, 2, text(RECORDS, 1));
+    bind(OFFERS, 3, asked->country);
     for (; step(OFFERS); count++) {
         int place = sqlite3_column_int(statements[OFFERS], 0);
-        long long amount = sqlite3_column_int(statements[OFFERS], 2) ? amount_of(record, place, fields) : -1;
-        used += snprintf(lines + used, sizeof lines - used, "offer,%s,%s,%d,%s,", record->series,
-                         record->reference, place, text(OFFERS, 1));
+        long long amount = sqlite3_column_int(statements[OFFERS], 2) ? amount_of(place, asked) : -1;
+        used += snprintf(lines + used, sizeof lines - used, "offer,%s,%s,%d,%s,", text(RECORDS, 0),
+                         text(RECORDS, 1), place, text(OFFERS, 1));
         if (amount >= 0)
             used += snprintf(lines + used, sizeof lines - used, "%lld.%03lld", amount / 1000, amount % 1000);
         used += snprintf(lines + used, sizeof lines - used, "\n");
@@ -137,24 +106,21 @@ static int write_offers(const struct record *record, char **fields) {
     return count;
 }
 
-static void answer(char **fields) {
-    static struct record records[1000];
-    int found = records_of(fields, records, 1000), count = 0;
-    used = 0;
-    for (int at = 0; at < found; at++)
-        if (!at || compare(&records[at - 1], &records[at])) count += write_offers(&records[at], fields);
-    printf("price,%s,%d\n%.*s", fields[ISBN], count, used, lines);
-}
-
 int main(int count, char **words) {
     if (count != 2) return 2;
     read_file(words[1]);
     for (int at = 0; at < STATEMENTS; at++)
         check(rows, sqlite3_prepare_v2(rows, words_of[at], -1, &statements[at], NULL));
-    char line[200], *fields[FIELDS];
+    char line[200];
+    struct question asked;
     while (fgets(line, sizeof line, stdin)) {
-        if (!cut(line, fields)) return 1;
-        answer(fields);
+        if (sscanf(line, "AskPrice,%13[^,],%8[^,],%2[^,],%3[^,],%2[^\n]", asked.isbn, asked.day, asked.country,
+                   asked.currency, asked.type) != 5)
+            return 1;
+        int offers = 0;
+        used = 0;
+        for (bind(RECORDS, 1, asked.isbn); step(RECORDS);) offers += write_offers(&asked);
+        printf("price,%s,%d\n%.*s", asked.isbn, offers, used, lines);
     }
     for (int at = 0; at < STATEMENTS; at++) sqlite3_finalize(statements[at]);
     check(rows, sqlite3_close(rows));

@@ -11,7 +11,7 @@ from psycopg2.extensions import cursor as Cursor
 
 from tests.postgres.cluster import Cluster
 from tests.postgres.follower import follow, kind
-from bench.kills.seeds import RULES, Maker, agreements
+from tests.postgres.seeds import RULES, Maker, agreements
 from tests.program.databases import DATABASE
 from tests.program.room import Room
 from tests.running import Outcome

@@ -4,7 +4,7 @@ import re
 from collections.abc import Iterator
 from typing import NamedTuple
 
-from bench.figures.conversion import converted
+from tests.program.feeds.convert.memory_of import converted
 from tests.program.room import Ran, Room
 from tools.words import Word
 

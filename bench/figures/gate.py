@@ -1,0 +1,120 @@
+"""What a run of the gate took of the processor and of memory, by its parts."""
+
+import os
+from collections import defaultdict
+from pathlib import Path
+from typing import TypeAlias
+
+from tools.root import ROOT
+
+# A kind of part of the gate, and the crate that it is of.
+Part: TypeAlias = tuple[str, str]
+
+KINDS = ["proofs", "edits", "tests", "programs"]
+
+# What all weights are a multiple of.
+BASE = [("proofs", "csv_records"), ("proofs", "onix_terms")]
+
+ELSE = ("others", "all else")
+
+
+def part_named(words: list[str], folder: str) -> Part:
+    """Which part of the gate a process is, by its words and the folder that it works in."""
+    tool = os.path.basename(words[0])
+    if tool in {"clang", "ld", "lld", "ld.lld", "rattle-link"}:
+        return "others", "linking"
+    if tool != "rattle" or "--crate-name" not in words:
+        return ELSE
+    crate = words[words.index("--crate-name") + 1]
+    if os.path.basename(folder).startswith("rt-edit-"):
+        return "edits", crate
+    if "--crate-checked" in words:
+        return "programs", crate
+    # A program that tests other crates is no part of what ships.
+    return "tests" if "--test" in words or crate.endswith("_tests") else "proofs", crate
+
+
+class Sampler:
+    """The processor seconds of all processes below one, each as it was last seen."""
+
+    def __init__(self, root: int) -> None:
+        self.root = str(root)
+        self.found: dict[tuple[str, str], tuple[Part, float]] = {}
+        # The most bytes that a process of a part has had in memory.
+        self.memory: dict[Part, int] = defaultdict(int)
+
+    def look(self) -> None:
+        """Takes down what the processes have used so far."""
+        parents, taken = {}, {}
+        for pid in filter(str.isdigit, os.listdir("/proc")):
+            try:
+                fields = Path("/proc", pid, "stat").read_text().rpartition(")")[2].split()
+            except OSError:
+                continue
+            parents[pid] = fields[1]
+            taken[pid, fields[19]] = (int(fields[11]) + int(fields[12])) / os.sysconf("SC_CLK_TCK")
+        for (pid, began), seconds in taken.items():
+            above = pid
+            while above in parents and above != self.root:
+                above = parents[above]
+            if above == self.root:
+                self.take((pid, began), seconds)
+
+    def take(self, process: tuple[str, str], seconds: float) -> None:
+        try:
+            folder = Path("/proc", process[0])
+            words = (folder / "cmdline").read_bytes().decode(errors="replace").split("\0")
+            part = part_named(words, os.readlink(folder / "cwd"))
+            status = (folder / "status").read_text()
+            kilobytes = int(status.partition("VmHWM:")[2].partition("kB")[0] or 0)
+            self.memory[part] = max(self.memory[part], 1024 * kilobytes)
+        except OSError:
+            part = ELSE
+        # A process that has begun as another, or that is about to end, has no words of its own.
+        self.found[process] = (self.found[process][0] if part == ELSE and process in self.found else part), seconds
+
+    def seconds(self) -> dict[Part, float]:
+        sums: dict[Part, float] = defaultdict(float)
+        for part, seconds in self.found.values():
+            sums[part] += seconds
+        return sums
+
+
+def longest_chain(weights: dict[Part, float]) -> tuple[float, list[str]]:
+    """The crates, each of which stands on the one before it, whose proofs weigh most together."""
+    chains: dict[str, tuple[float, list[str]]] = {}
+    lines = ROOT.joinpath("crates.txt").read_text(encoding="utf-8").splitlines()
+    # Lowest first.
+    for crate, _, below in (line.partition(":") for line in lines if ":" in line):
+        weight, chain = max((chains[it] for it in below.split() if it in chains), default=(0.0, []))
+        own = weights.get(("proofs", crate), 0.0) + weights.get(("tests", crate), 0.0)
+        chains[crate] = weight + own, [*chain, crate]
+    return max(chains.values())
+
+
+def table(weights: dict[Part, float]) -> list[str]:
+    """A row for each crate and for what is of none, those that weigh most first."""
+    rows: dict[str, dict[str, float]] = defaultdict(dict)
+    for (kind, name), weight in weights.items():
+        rows[name][kind] = weight
+        rows["all"][kind] = rows["all"].get(kind, 0.0) + weight
+    lines = ["| Crate | Proof | Edits | Tests | Programs | All |", "|---" * 6 + "|"]
+    for name, row in sorted(rows.items(), key=lambda it: -sum(it[1].values())):
+        kinds = " | ".join(f"{row[kind]:.2f}" if kind in row else "" for kind in KINDS)
+        lines.append(f"| {name} | {kinds} | {sum(row.values()):.2f} |")
+    return lines
+
+
+def report(sampler: Sampler) -> list[str]:
+    """The table, the longest chain, the most memory, and last the weight of the whole."""
+    seconds = sampler.seconds()
+    base = sum(seconds.get(part, 0.0) for part in BASE)
+    lines, weight = [], "not known"
+    if base:
+        weights = {part: each / base for part, each in seconds.items()}
+        chain, crates = longest_chain(weights)
+        lines = [*table(weights), f"the longest chain of crates: {chain:.2f} = {', '.join(crates)}"]
+        weight = f"{sum(weights.values()):.2f} times the proofs of csv_records and onix_terms ({base / 60:.1f} min)"
+    most = sorted(((size, *part) for part, size in sampler.memory.items()), reverse=True)[:5]
+    lines.append("most memory: " + ", ".join(f"{kind} {crate} {size / 1e9:.1f} GB" for size, kind, crate in most))
+    return [*lines, f"weight: {weight}"]

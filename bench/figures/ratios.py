@@ -1,0 +1,187 @@
+"""What the program takes of messages, questions and feeds, to what SQLite in C and the crate `csv` take alone for the
+same bytes. Rows and answers are compared before a time is taken."""
+
+import shutil
+import sqlite3
+from collections.abc import Iterable, Iterator
+from contextlib import closing
+from pathlib import Path
+from typing import Any, NamedTuple
+
+from bench.figures import texts, tools
+from bench.figures.runs import NOTHING, BenchmarkFault, Run, Taken, Work, Word, least_of, output_of, taken
+from tools.root import ROOT
+
+TABLES = ("series", "record", "article", "offer", "price", "price_minimum", "applied")
+
+# How many messages bring how many products each, how many products a catalogue has, how many prices are asked for, how
+# often the catalogue, and how many MB of XML a feed has.
+MESSAGES, PRODUCTS, CATALOGUE, QUESTIONS, TIMES, MEGABYTES = 500, 20, 5_000, 10_000, 40, 400
+
+# Sample feeds, each with the name of its products and what their references begin with.
+FEEDS = {
+    "reference names": ("two-products.xml", b"Product", b"com.tidewater.onix.00001"),
+    "short tags": ("two-products-short.xml", b"product", b"com.tidewater.onix.00001"),
+    "several Markets": ("block-update.xml", b"Product", b"nl-978190000"),
+}
+
+# Products that are written at once, all with the same beginning of their references.
+AT_ONCE = 200
+
+
+class Figure(NamedTuple):
+    """What is measured, its value, and what that is made of."""
+
+    what: str
+    value: float
+    made_of: str
+
+    def line(self) -> str:
+        return f"| {self.what} | {self.value:.2f} | {self.made_of} |"
+
+
+def to(what: str, one: Taken, other: Taken) -> Figure:
+    of_both = f"{one.microseconds / 1_000:,.0f} to {other.microseconds / 1_000:,.0f} ms"
+    return Figure(what, one.microseconds / other.microseconds, of_both)
+
+
+class Bench(NamedTuple):
+    """The program, a folder for what is read and written, and by what all sizes are divided."""
+
+    program: Path
+    folder: Path
+    divisor: int
+
+    def size(self, whole: int) -> int:
+        return max(1, whole // self.divisor)
+
+    def text(self, name: str, pieces: Iterable[str | bytes]) -> Path:
+        """A file of that name with a text."""
+        path = self.folder / name
+        with open(path, "wb") as file:
+            file.writelines(piece.encode() if isinstance(piece, str) else piece for piece in pieces)
+        return path
+
+    @property
+    def made(self) -> Path:
+        """The folder of what is made anew in each turn."""
+        return self.folder / "made"
+
+    @property
+    def file(self) -> Path:
+        return self.made / "desk.db"
+
+    def batch(self, given: Path, is_in_file: bool = False) -> Run:
+        """The run that answers a batch over the file, or over a desk in memory."""
+        place: list[Word] = ["--db", self.file] if is_in_file else []
+        return Run([self.program, *place, "batch"], given)
+
+    def fill(self, given: Path) -> None:
+        """Answers a batch over a new file."""
+        shutil.rmtree(self.made, ignore_errors=True)
+        self.made.mkdir()
+        taken(self.batch(given, True))
+
+
+def rows(file: Path) -> list[list[tuple[Any, ...]]]:
+    """The rows of each table, in order of their values."""
+    with closing(sqlite3.connect(file)) as connection:
+        return [sorted(connection.execute(f"SELECT * FROM {table}"), key=repr) for table in TABLES]
+
+
+def messages_in_a_file(bench: Bench) -> Iterator[Figure]:
+    count = bench.size(MESSAGES)
+    brought = (texts.offers(number, PRODUCTS) for number in range(1, count + 1))
+    given = bench.text("messages", [texts.AGREEMENT, *brought])
+    bare = bench.folder / "bare.db"
+    words = [tools.by_sqlite(bench.folder, "bare_rows"), bench.file, bare, str(PRODUCTS)]
+    bench.fill(given)
+    alone = Work(Run([*words, str(count)]), Run([*words, "0"]))
+    taken(alone.run)
+    if rows(bare) != rows(bench.file):
+        raise BenchmarkFault("SQLite alone put other rows than the desk")
+    one, other = least_of([Work(bench.batch(given, True), bench.batch(NOTHING, True), bench.made), alone])
+    what = f"{count} messages of {PRODUCTS} products with a price each, into a new file"
+    yield to(f"{what}, to SQLite alone writing their rows", one, other)
+
+
+def messages_in_memory(bench: Bench) -> Iterator[Figure]:
+    given = bench.text("messages", [texts.AGREEMENT, *texts.greatest_messages(bench.size(MESSAGES))])
+    size = given.stat().st_size
+    records = tools.records(bench.folder)
+    alone = Work(Run([records, given]), Run([records, NOTHING]))
+    one, other = least_of([Work(bench.batch(given), bench.batch(NOTHING)), alone])
+    what = f"{size / 1e6:.2f} MB of messages of 20 products, each with 2 supplies and 4 prices, applied in memory"
+    yield to(f"{what}, to `csv` alone reading them", one, other)
+    yield Figure("peak memory of that, to the text", one.memory / size, f"{one.memory / 1e6:.1f} MB")
+
+
+def catalogue(records: int, *questions: str) -> Iterator[str]:
+    """A batch that makes a catalogue by five messages and asks about it."""
+    yield texts.AGREEMENT
+    yield from (texts.offers(number, records // 5) for number in range(1, 6))
+    yield from questions
+
+
+def offers_in(answers: bytes) -> list[bytes]:
+    return [line for line in answers.splitlines() if line.startswith((b"price,", b"offer,"))]
+
+
+def questions_for_prices(bench: Bench) -> Iterator[Figure]:
+    size, count = bench.size(CATALOGUE), bench.size(QUESTIONS)
+    questions = [*texts.price_questions(size, count)]
+    plain = bench.batch(bench.text("catalogue", catalogue(size)))
+    asked = bench.batch(bench.text("asked", catalogue(size, *questions)))
+    bench.fill(plain.given)
+    words = [tools.by_sqlite(bench.folder, "price_questions"), bench.file]
+    alone = Work(Run(words, bench.text("questions", questions)), Run(words))
+    if offers_in(output_of(alone.run)) != offers_in(output_of(asked)):
+        raise BenchmarkFault("SQLite alone gave other answers than the desk")
+    what = f"{count:,} price questions about {size:,} records in memory, to SQLite alone in memory"
+    yield to(what, *least_of([Work(asked, plain), alone]))
+
+
+def questions_for_catalogues(bench: Bench) -> Iterator[Figure]:
+    size, count = bench.size(CATALOGUE), bench.size(TIMES)
+    records = tools.records(bench.folder)
+    plain = bench.batch(bench.text("catalogue", catalogue(size)))
+    asked = bench.batch(bench.text("asked", catalogue(size, *[texts.CATALOGUE_QUESTION] * count)))
+    answers = output_of(bench.batch(bench.text("once", catalogue(size, texts.CATALOGUE_QUESTION))))
+    answer = bench.text("answer", [answers[answers.index(b"catalogue,") :]])
+    alone = Work(Run([records, answer, str(count)]), Run([records, answer, "0"]))
+    what = f"{count} catalogues of {size:,} records answered, to `csv` alone writing their records"
+    yield to(what, *least_of([Work(asked, plain), alone]))
+
+
+def pieces(name: str, element: bytes, reference: bytes, size: int) -> Iterator[bytes]:
+    """A feed of about so many bytes: the sample's products again and again."""
+    text = (ROOT / "tests/feeds" / name).read_bytes()
+    first, last = text.index(b"<%s" % element), text.rindex(b"</%s>" % element)
+    end = text.index(b">", last) + 1
+    products = text[first:end] * (AT_ONCE // 2)
+    yield text[:first]
+    for number in range(max(1, size // len(products))):
+        yield products.replace(reference, b"%s%07d-" % (reference, number))
+    yield text[end:]
+
+
+def conversion(bench: Bench, name: str) -> Iterator[Figure]:
+    megabytes = bench.size(MEGABYTES)
+    feed = bench.text("feed.xml", pieces(*FEEDS[name], megabytes * 1_000_000))
+    size = feed.stat().st_size / 1e6
+    # More parts than the records need.
+    words: list[Word] = [bench.program, "convert", "--parts", str(megabytes), "-o", bench.made, feed]
+    work = Work(Run(words), Run([bench.program, "--version"]), bench.made)
+    (plain,) = least_of([work])
+    answer = bench.text("answer", (part.read_bytes() for part in sorted(bench.made.iterdir())))
+    speed = size * 1e6 / plain.microseconds
+    yield Figure(f"MB of XML a second, {name}", speed, f"{size:.0f} MB in {plain.microseconds / 1e6:.2f} s")
+    yield Figure("peak memory of that, MB", plain.memory / 1e6, "")
+    records = tools.records(bench.folder)
+    alone = Work(Run([records, answer]), Run([records, NOTHING]))
+    yield to("that conversion, to `csv` alone reading the records that it makes", plain, *least_of([alone]))
+
+
+def conversions(bench: Bench) -> Iterator[Figure]:
+    for name in FEEDS:
+        yield from conversion(bench, name)

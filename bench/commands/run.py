@@ -4,7 +4,7 @@
 
 Without a PROGRAM it is the proved one, which tools/build builds where a source has changed. What is read and written is
 in the folder for temporary files. What cannot be had is told on standard error, and the status is then 1. With --small
-all sizes are a hundredth, which tries this command and measures nothing.
+all sizes are a five-hundredth, which tries this command and measures nothing.
 """
 
 import argparse
@@ -53,7 +53,7 @@ def main() -> int:
         subprocess.run([ROOT / "tools/build"], check=True)
     program = (given.desk or ROOT / "crates/onixdesk/out/onixdesk").resolve()
     with tempfile.TemporaryDirectory(prefix="onixdesk-") as folder:
-        bench = Bench(program, Path(folder), 100 if given.small else 1)
+        bench = Bench(program, Path(folder), 500 if given.small else 1)
         is_whole = print_table("| Measure | Measured | Of |", *(lambda it=it: it(bench) for it in OF_BENCHMARKS))
         return 0 if print_table(growth.HEAD, lambda: growth.sizes(bench)) and is_whole else 1
 

@@ -103,7 +103,7 @@ def grow(bench: Bench, first: int, last: int) -> tuple[float, int]:
 def sizes(bench: Bench) -> Iterator[Size]:
     bench.fill(bench.text("agreement", [texts.AGREEMENT]))
     questions, had = bench.size(QUESTIONS), 0
-    for count in MESSAGES if bench.divisor == 1 else MESSAGES[:2]:
+    for count in MESSAGES if bench.divisor == 1 else MESSAGES[:1]:
         article, process = grow(bench, had + 1, count)
         had, articles = count, count * bench.size(ARTICLES)
         served = Served(bench, questions)

@@ -94,7 +94,7 @@ def messages_in_a_file(bench: Bench) -> Iterator[Figure]:
     brought = (texts.offers(number, PRODUCTS) for number in range(1, count + 1))
     given = bench.text("messages", [texts.AGREEMENT, *brought])
     bare = bench.folder / "bare.db"
-    words = [tools.by_sqlite(bench.folder, "bare_rows"), bench.file, bare, str(PRODUCTS)]
+    words: list[Word] = [tools.by_sqlite(bench.folder, "bare_rows"), bench.file, bare, str(PRODUCTS)]
     bench.fill(given)
     alone = Work(Run([*words, str(count)]), Run([*words, "0"]))
     taken(alone.run)

@@ -56,12 +56,12 @@ class Taken(NamedTuple):
 def taken(run: Run) -> Taken:
     """Runs a program whose output nobody reads. BenchmarkFault where it fails."""
     with open(run.given, "rb") as given:
-        words = [sys.executable, "-I", "-S", "-c", MEASURING, *run.words]
+        words: list[Word] = [sys.executable, "-I", "-S", "-c", MEASURING, *run.words]
         done = subprocess.run(words, stdin=given, capture_output=True, text=True, errors="replace")
-    status, *numbers = map(int, done.stdout.split() or [done.returncode])
-    if status or len(numbers) != 2:
+    status, microseconds, kilobytes = map(int, done.stdout.split() or [done.returncode, 0, 0])
+    if status or not kilobytes:
         raise BenchmarkFault(f"status {status} of {' '.join(map(str, run.words))}: {done.stderr[-300:]}")
-    return Taken(numbers[0], numbers[1] * 1_024)
+    return Taken(microseconds, kilobytes * 1_024)
 
 
 def output_of(run: Run) -> bytes:

@@ -12,6 +12,7 @@ import subprocess
 import sys
 import tempfile
 from collections.abc import Callable, Iterator
+from functools import partial
 from pathlib import Path
 
 from bench.figures import growth, ratios
@@ -24,7 +25,7 @@ OF_BENCHMARKS = [
     ratios.messages_in_memory,
     ratios.questions_for_prices,
     ratios.questions_for_catalogues,
-    ratios.conversions,
+    *(partial(ratios.conversion, feed) for feed in ratios.FEEDS),
 ]
 
 
@@ -54,8 +55,8 @@ def main() -> int:
     program = (given.desk or ROOT / "crates/onixdesk/out/onixdesk").resolve()
     with tempfile.TemporaryDirectory(prefix="onixdesk-") as folder:
         bench = Bench(program, Path(folder), 500 if given.small else 1)
-        is_whole = print_table("| Measure | Measured | Of |", *(lambda it=it: it(bench) for it in OF_BENCHMARKS))
-        return 0 if print_table(growth.HEAD, lambda: growth.sizes(bench)) and is_whole else 1
+        is_whole = print_table("| Measure | Measured | Of |", *(partial(it, bench) for it in OF_BENCHMARKS))
+        return 0 if print_table(growth.HEAD, partial(growth.sizes, bench)) and is_whole else 1
 
 
 if __name__ == "__main__":

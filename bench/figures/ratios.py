@@ -107,13 +107,13 @@ def messages_in_a_file(bench: Bench) -> Iterator[Figure]:
 
 def messages_in_memory(bench: Bench) -> Iterator[Figure]:
     given = bench.text("messages", [texts.AGREEMENT, *texts.greatest_messages(bench.size(MESSAGES))])
-    size = given.stat().st_size
+    work, size = Work(bench.batch(given), bench.batch(NOTHING)), given.stat().st_size
+    what = f"{size / 1e6:.2f} MB of messages of 20 products, each with 2 supplies and 4 prices, applied in memory"
+    memory = taken(work.run).memory
+    yield Figure(f"peak memory of {what}, to the text", memory / size, f"{memory / 1e6:.1f} MB")
     records = tools.records(bench.folder)
     alone = Work(Run([records, given]), Run([records, NOTHING]))
-    one, other = least_of([Work(bench.batch(given), bench.batch(NOTHING)), alone])
-    what = f"{size / 1e6:.2f} MB of messages of 20 products, each with 2 supplies and 4 prices, applied in memory"
-    yield to(f"{what}, to `csv` alone reading them", one, other)
-    yield Figure("peak memory of that, to the text", one.memory / size, f"{one.memory / 1e6:.1f} MB")
+    yield to(f"{what}, to `csv` alone reading them", *least_of([work, alone]))
 
 
 def catalogue(records: int, *questions: str) -> Iterator[str]:
@@ -165,7 +165,7 @@ def pieces(name: str, element: bytes, reference: bytes, size: int) -> Iterator[b
     yield text[end:]
 
 
-def conversion(bench: Bench, name: str) -> Iterator[Figure]:
+def conversion(name: str, bench: Bench) -> Iterator[Figure]:
     megabytes = bench.size(MEGABYTES)
     feed = bench.text("feed.xml", pieces(*FEEDS[name], megabytes * 1_000_000))
     size = feed.stat().st_size / 1e6
@@ -180,8 +180,3 @@ def conversion(bench: Bench, name: str) -> Iterator[Figure]:
     records = tools.records(bench.folder)
     alone = Work(Run([records, answer]), Run([records, NOTHING]))
     yield to("that conversion, to `csv` alone reading the records that it makes", plain, *least_of([alone]))
-
-
-def conversions(bench: Bench) -> Iterator[Figure]:
-    for name in FEEDS:
-        yield from conversion(bench, name)

@@ -1,5 +1,5 @@
-"""Refuses memory, one request for it in each run, to the tests of the desks: to messages, questions, choices with
-calendars, exchanges and waivers over the desk in memory and over tables, to forty messages that are applied at once,
+"""Refuses memory, one request for it in each run, to the tests of the desks: to messages, waivers, questions, choices
+with calendars and exchanges over the desk in memory and over tables, to forty messages that are applied at once,
 over the desk in memory and over files with the rows of their tables, to a migration, and to the two calls of the text
 of contents.
 
@@ -23,7 +23,7 @@ from tests.memory.sweep import Sweep
 MEMORY = "stores::desks::desk_in_memory"
 TABLES = "stores::desks::tables_in_memory"
 FILES = "stores::desks::tables_in_files"
-CONTENTS = "values::texts_of_contents"
+CONTENTS = "contents::texts_of_contents"
 
 # The first goes on to the end of its list. The forty messages are applied over tables once, in files.
 SWEEPS = [
@@ -34,7 +34,6 @@ SWEEPS = [
     Sweep(TABLES, "questions", ends=True),
     Sweep(MEMORY, "exchanges", ends=True),
     Sweep(TABLES, "exchanges", ends=True),
-    Sweep(TABLES, "waivers", ends=True),
     Sweep(MEMORY, "drain", ends=True),
     Sweep(FILES, "rows", ends=True),
     Sweep(FILES, "migration", ends=True),
@@ -53,9 +52,7 @@ LONGER = [
     Sweep(TABLES, "drain", step=31),
     Sweep("stores::desks::desk_in_files", "steps", step=499),
     Sweep("stores::desks::desk_in_files", "drain", step=97),
-    Sweep(FILES, "calls", step=29),
     Sweep(FILES, "refused", step=101),
-    Sweep(FILES, "versions", step=101),
 ]
 
 

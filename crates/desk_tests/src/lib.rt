@@ -8,11 +8,11 @@ mod asking;
 #[cfg(test)]
 mod cases;
 #[cfg(test)]
+mod contents;
+#[cfg(test)]
 mod desks;
 #[cfg(test)]
 mod disks;
-#[cfg(test)]
-mod exports;
 #[cfg(test)]
 mod files;
 #[cfg(test)]
@@ -25,5 +25,3 @@ mod stores;
 mod streams;
 #[cfg(test)]
 mod unasked;
-#[cfg(test)]
-mod values;

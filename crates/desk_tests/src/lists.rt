@@ -6,19 +6,14 @@
 //! the text of the rules that all requests are asked under; each other one is a request, with its answer and
 //! the report after it, where one is told: the report itself, or that it is as before.
 
-pub mod calls;
-pub mod changes;
 pub mod drain;
 pub mod exchanges;
-pub mod late;
-pub mod minimums;
 pub mod order;
 pub mod questions;
 pub mod refused;
 pub mod steps;
 pub mod three;
 pub mod versions;
-pub mod waivers;
 
 use crate::asking::{End, Taken, expect_asked};
 use crate::cases::{Step, add_steps, expect};

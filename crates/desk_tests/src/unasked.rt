@@ -1,11 +1,9 @@
-//! Calls that no run of the program makes: requests asked as one list, the calendar day by day, and the
-//! replies to answers that no request over HTTP has. What is to come is taken from the desk's written rules.
+//! Calls that no run of the program makes: requests asked as one list, and the calendar day by day. What is to
+//! come is taken from the desk's written rules.
 
 use crate::cases::{expect, expect_bytes, found, made};
 use csv_records::reading::RecordReader;
-use desk_http::reply_of;
 use desk_memory::MemoryDesk;
-use desk_table_tests::line_terms::{is_whole, word};
 use desk_texts::answer_text::write_answer;
 use desk_texts::request_rows::read_requests;
 use onix_message::StoreFault;
@@ -13,15 +11,12 @@ use onix_terms::code::{Code2, Country, Currency};
 use onix_terms::day::Day;
 use onix_terms::isbn13::Isbn13;
 use onix_terms::items::Items;
-use onix_terms::number::Number;
 use onix_terms::quantity::Quantity;
-use onix_terms::series_name::SeriesName;
-use price_rules::breaks::break_days;
 use price_rules::calendar::{CalendarFault, Span, calendar};
 use price_rules::day_by_day::calendar_day_by_day;
 use price_rules::offer::{CalendarQuery, Offer};
 use price_rules::precedence::Precedence;
-use series_rules::answers::{AgreeAnswer, Answer, WaiveAnswer};
+use series_rules::answers::Answer;
 use series_rules::desk::Desk;
 use series_rules::run::ask_all;
 use std::alloc::Global;
@@ -132,28 +127,12 @@ fn expect_calendar(alloc: Global, stop: &impl Abort, offer: &Offer) {
     );
 }
 
-const BREAK_DAYS: &str = "20250331 20250401 20250501 20250515 20250517 20250521 20250601";
-
-// The break days of an offer in the range of the question.
-fn expect_break_days(alloc: Global, stop: &impl Abort, offer: &Offer) {
-    let query = found(stop, question(), "a question");
-    let days = made(stop, break_days(alloc, offer, query.from, query.to));
-    expect(stop, days.len() == 7, "seven break days");
-    for (place, day) in days.iter().enumerate() {
-        let wanted = Day::read(word(BREAK_DAYS, place));
-        expect(stop, wanted == Some(*day), "a break day");
-    }
-}
-
-// The same of the offer that the desk then has.
+// That of the offer that the desk then has.
 fn expect_offer<D: Desk>(alloc: Global, stop: &impl Abort, desk: &mut D) {
     let article = found(stop, Isbn13::read("9781234567897"), "an article");
     let offers = made(stop, desk.offers_of(&article));
     match offers.as_slice() {
-        [offer] => {
-            expect_calendar(alloc, stop, offer);
-            expect_break_days(alloc, stop, offer);
-        }
+        [offer] => expect_calendar(alloc, stop, offer),
         _ => stop.panic("one offer"),
     }
 }
@@ -166,65 +145,4 @@ fn expect_all<D: Desk>(alloc: Global, stop: &impl Abort, desk: &mut D) {
 #[test]
 fn lists_of_requests(rt: HostRuntime) {
     expect_all(rt.alloc(), &rt, &mut MemoryDesk::new(rt.alloc()));
-}
-
-// The answers that no request over HTTP has, by names, with the status and the body of the reply to each.
-const REPLIES: &str = "agreed 200 {\"answer\":\"agreed\",\"first\":9,\"series\":\"other\"}
-name-taken 409 {\"answer\":\"refused\",\"reason\":\"name-taken\",\"series\":\"other\"}
-series-taken 409 {\"answer\":\"refused\",\"reason\":\"series-taken\",\"series\":\"north\"}
-waived 200 {\"answer\":\"waived\",\"number\":3,\"series\":\"north\"}
-had 409 {\"answer\":\"refused\",\"number\":3,\"reason\":\"had\",\"series\":\"north\"}
-before-first 422 {\"answer\":\"refused\",\"first\":5,\"number\":3,\"reason\":\"before-first\",\"series\":\"north\"}
-unknown-series 404 {\"answer\":\"refused\",\"reason\":\"unknown-series\"}";
-
-fn agreement(answer: AgreeAnswer) -> Option<Answer> {
-    Some(Answer::Agreement {
-        name: SeriesName::read("other")?,
-        first: Number::from_value(9)?,
-        answer,
-    })
-}
-
-fn waiver(answer: WaiveAnswer) -> Option<Answer> {
-    Some(Answer::Waiver {
-        series: SeriesName::read("north")?,
-        number: Number::from_value(3)?,
-        answer,
-    })
-}
-
-fn answer_of(name: &str) -> Option<Answer> {
-    let north = SeriesName::read("north")?;
-    let five = Number::from_value(5)?;
-    match name {
-        "agreed" => agreement(AgreeAnswer::Agreed),
-        "name-taken" => agreement(AgreeAnswer::NameTaken),
-        "series-taken" => agreement(AgreeAnswer::SeriesTaken { name: north }),
-        "waived" => waiver(WaiveAnswer::Waived),
-        "had" => waiver(WaiveAnswer::Had),
-        "before-first" => waiver(WaiveAnswer::BeforeFirst { first: five }),
-        "unknown-series" => waiver(WaiveAnswer::UnknownSeries),
-        _ => None,
-    }
-}
-
-// Ends the test unless this is the reply to the answer.
-fn expect_reply(alloc: Global, stop: &impl Abort, answer: &Answer, line: &str) {
-    match reply_of(alloc, answer) {
-        Ok((status, text)) => {
-            expect_bytes(stop, text.as_bytes(), word(line, 2).as_bytes(), line);
-            expect(stop, is_whole(word(line, 1), u32::from(status)), line);
-        }
-        Err(_) => stop.panic(line),
-    }
-}
-
-#[test]
-fn replies_to_agreements_and_waivers(rt: HostRuntime) {
-    for line in REPLIES.lines() {
-        match answer_of(word(line, 0)) {
-            Some(answer) => expect_reply(rt.alloc(), &rt, &answer, line),
-            None => rt.panic(line),
-        }
-    }
 }

@@ -1,19 +1,13 @@
-//! Exchanges over HTTP: a message that waits, one that lets it be applied, other contents of it, what is
+//! Exchanges over HTTP: gaps, a message that waits, one that lets it be applied, other contents of it, what is
 //! refused before the desk is asked, a price, a choice, a calendar.
 //! What is replied is taken from the desk's written rules.
 
-/// The list, with a report on gaps by an exchange too.
+/// The list, with a report on gaps.
 pub const EXCHANGES: &str = "
 == exchanges
-GET /series/north/gaps HTTP/1.1\r
-\r
+AskGaps,north
 -- wanted
-HTTP/1.1 404 Not Found\r
-Content-Type: application/json\r
-Content-Length: 46\r
-Connection: close\r
-\r
-{\"answer\":\"refused\",\"reason\":\"unknown-series\"}
+refused,unknown-series
 -- after
 [[rule]]
 series = \"south\"
@@ -27,12 +21,7 @@ Agree,north,06,4012345000009,06,5012345678900,1
 -- wanted
 agreed,north,1
 -- after
-HTTP/1.1 200 OK\r
-Content-Type: application/json\r
-Content-Length: 91\r
-Connection: close\r
-\r
-{\"answer\":\"gaps\",\"first\":1,\"greatest\":null,\"held\":0,\"missing\":[],\"next\":1,\"series\":\"north\"}
+gaps,north,first=1,next=1,greatest=,held=0,missing=0
 
 == 2 waits
 POST /messages HTTP/1.1\r
@@ -48,12 +37,20 @@ Connection: close\r
 \r
 {\"answer\":\"held\",\"number\":2,\"series\":\"north\",\"waiting_for\":1}
 -- after
+gaps,north,first=1,next=1,greatest=2,held=1,missing=1
+missing,1,1
+
+== gaps
+GET /series/north/gaps HTTP/1.1\r
+\r
+-- wanted
 HTTP/1.1 200 OK\r
 Content-Type: application/json\r
 Content-Length: 93\r
 Connection: close\r
 \r
 {\"answer\":\"gaps\",\"first\":1,\"greatest\":2,\"held\":1,\"missing\":[[1,1]],\"next\":1,\"series\":\"north\"}
+-- as before
 
 == 1 is applied, and 2 with it
 POST /messages HTTP/1.1\r
@@ -73,12 +70,7 @@ Connection: close\r
 \r
 {\"answer\":\"applied\",\"deleted\":0,\"ignored\":0,\"number\":1,\"replaced\":1,\"series\":\"north\",\"unknown\":0,\"updated\":0}
 -- after
-HTTP/1.1 200 OK\r
-Content-Type: application/json\r
-Content-Length: 88\r
-Connection: close\r
-\r
-{\"answer\":\"gaps\",\"first\":1,\"greatest\":2,\"held\":0,\"missing\":[],\"next\":3,\"series\":\"north\"}
+gaps,north,first=1,next=3,greatest=2,held=0,missing=0
 
 == other contents of 1
 POST /messages HTTP/1.1\r
@@ -118,19 +110,6 @@ Content-Length: 50\r
 Connection: close\r
 \r
 {\"answer\":\"refused\",\"reason\":\"method-not-allowed\"}
--- as before
-
-== a message in chunks
-POST /messages HTTP/1.1\r
-Transfer-Encoding: chunked\r
-\r
--- wanted
-HTTP/1.1 501 Not Implemented\r
-Content-Type: application/json\r
-Content-Length: 49\r
-Connection: close\r
-\r
-{\"answer\":\"refused\",\"reason\":\"transfer-encoding\"}
 -- as before
 
 == a price

@@ -1,5 +1,5 @@
-//! Calls of the tables that are refused, since their key is taken, their parent is missing or the tables are
-//! there already: after a call that changes rows each is refused, and so is each later one, `commit` too, and
+//! Calls of the tables that are refused, since a key is taken, a parent is missing or the tables are there
+//! already: after a call that changes rows each is refused, and so is each later one, `commit` too, and
 //! nothing has changed. So it is with a transaction that is let go, and with what is not there.
 
 /// The list. Its report is what the queries give of the sample.
@@ -52,138 +52,6 @@ unusable
 commit
 put_record north R3
 put_series south 4012345000009: unusable
-put_record north R4: unusable
-version: unusable
--- wanted
-unusable
--- as before
-
-== put_held north 1
-commit
-put_record north R3
-put_held north 1 other: unusable
-put_record north R4: unusable
-version: unusable
--- wanted
-unusable
--- as before
-
-== put_applied north 2
-commit
-put_record north R3
-put_applied north 2 0 0 0 0 0: unusable
-put_record north R4: unusable
-version: unusable
--- wanted
-unusable
--- as before
-
-== put_held west 1
-commit
-put_record north R3
-put_held west 1 later: unusable
-put_record north R4: unusable
-version: unusable
--- wanted
-unusable
--- as before
-
-== put_applied west 1
-commit
-put_record north R3
-put_applied west 1 1 2 3 4 5: unusable
-put_record north R4: unusable
-version: unusable
--- wanted
-unusable
--- as before
-
-== create
-commit
-put_record north R3
-create: unusable
-put_record north R4: unusable
-version: unusable
--- wanted
-unusable
--- as before
-
-== migrate
-commit
-put_record north R3
-migrate: unusable
-put_record north R4: unusable
-version: unusable
--- wanted
-unusable
--- as before
-
-== put_record west R1
-commit
-put_record north R3
-put_record west R1: unusable
-put_record north R4: unusable
-version: unusable
--- wanted
-unusable
--- as before
-
-== add_record north R1
-commit
-put_record north R3
-add_record north R1: unusable
-put_record north R4: unusable
-version: unusable
--- wanted
-unusable
--- as before
-
-== add_record west R1
-commit
-put_record north R3
-add_record west R1: unusable
-put_record north R4: unusable
-version: unusable
--- wanted
-unusable
--- as before
-
-== put_article R1 1 03
-commit
-put_record north R3
-put_article R1 1 03: unusable
-put_record north R4: unusable
-version: unusable
--- wanted
-unusable
--- as before
-
-== put_article R2 1 03
-commit
-put_record north R3
-put_article R2 1 03: unusable
-put_record north R4: unusable
-version: unusable
--- wanted
-unusable
--- as before
-
-== put_offer R1 1
-commit
-put_record north R3
-put_offer R1 1: unusable
-put_record north R4: unusable
-version: unusable
--- wanted
-unusable
--- as before
-
-== put_offer R2 1
-commit
-put_record north R3
-put_offer R2 1: unusable
-put_record north R4: unusable
-version: unusable
 -- wanted
 unusable
 -- as before
@@ -192,8 +60,6 @@ unusable
 commit
 put_record north R3
 put_price 1 2 1: unusable
-put_record north R4: unusable
-version: unusable
 -- wanted
 unusable
 -- as before
@@ -202,8 +68,14 @@ unusable
 commit
 put_record north R3
 put_price 2 1 10: unusable
-put_record north R4: unusable
-version: unusable
+-- wanted
+unusable
+-- as before
+
+== create
+commit
+put_record north R3
+create: unusable
 -- wanted
 unusable
 -- as before

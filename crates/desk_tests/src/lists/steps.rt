@@ -1,13 +1,15 @@
-//! Fifteen requests: messages that are late, two behind a gap and an update behind a second one, other
+//! Seventeen requests: messages that are late, two behind a gap and an update behind a second one, other
 //! contents of a number that waits, waivers of a number that waits and of one that is a gap, a drain up to
 //! the second gap and one that begins with a waiver, a deletion, updates, products that change nothing,
-//! repeats of what was applied, and what is refused of a number that was waived or had.
+//! minimum order quantities that wait, that are applied, that an update brings and takes away, and that go
+//! with their record, repeats of what was applied or waived, and what is refused of a number that was waived
+//! or had.
 
-/// The list, with a report on gaps, a price and the catalogue.
+/// The list, with a report on gaps, the price of ten copies and the catalogue.
 pub const STEPS: &str = "
 == steps
 AskGaps,north
-AskPrice,9781234567897,20250301,GB,GBP,02
+AskPrice,9781234567897,20250301,GB,GBP,02,10
 AskCatalogue,north
 -- wanted
 refused,unknown-series
@@ -45,13 +47,14 @@ EndMessage,1
 refused,other-contents,north,3
 -- as before
 
-== 4 waits too
-Message,1,06,4012345000009,06,5012345678900,4,1,20250301,02,GBP
+== 4 waits too, whose greater minimum has the greater price
+Message,2,06,4012345000009,06,5012345678900,4,1,20250301,02,GBP
 Product,R4,03,15,9781234567897
 ProductSupply,GB IE,,
 SupplyDetail,04,06,4012345000009,North Books,21,
 Price,,4,,,,,,
-EndMessage,5
+Price,,20,,,,,,,10
+EndMessage,6
 -- wanted
 held,north,4,waiting-for=1
 -- after
@@ -118,7 +121,7 @@ gaps,north,first=1,next=6,greatest=8,held=1,missing=1
 missing,6,7
 price,9781234567897,2
 offer,north,R3,1,21,3.000
-offer,north,R4,1,21,4.000
+offer,north,R4,1,21,20.000
 catalogue,north,2
 record,R3,15,9781234567897
 ProductSupply,GB IE,,
@@ -128,6 +131,7 @@ record,R4,15,9781234567897
 ProductSupply,GB IE,,
 SupplyDetail,04,06,4012345000009,North Books,21,
 Price,02,4.000,GBP,,WORLD,,,
+Price,02,20.000,GBP,,WORLD,,,,10
 
 == 2 again, of another date
 Message,1,06,4012345000009,06,5012345678900,2,2,20250302,,
@@ -137,13 +141,14 @@ EndMessage,2
 applied,north,2,replaced=0,updated=0,deleted=1,unknown=0,ignored=0
 -- as before
 
-== 6 updates and is applied alone
-Message,1,06,4012345000009,06,5012345678900,6,1,20250301,02,GBP
+== 6 updates, brings minimums that ten copies reach and do not, and is applied alone
+Message,2,06,4012345000009,06,5012345678900,6,1,20250301,02,GBP
 Product,R3,04,15,9781234567897
 ProductSupply,,WORLD,
 SupplyDetail,04,06,4012345000009,North Books,20,
-Price,,8,,,,,,
-EndMessage,5
+Price,,7,,,,,,,11
+Price,,8,,,,,,,5
+EndMessage,6
 -- wanted
 applied,north,6,replaced=0,updated=1,deleted=0,unknown=0,ignored=0
 -- after
@@ -151,16 +156,18 @@ gaps,north,first=1,next=7,greatest=8,held=1,missing=1
 missing,7,7
 price,9781234567897,2
 offer,north,R3,1,20,8.000
-offer,north,R4,1,21,4.000
+offer,north,R4,1,21,20.000
 catalogue,north,2
 record,R3,15,9781234567897
 ProductSupply,,WORLD,
 SupplyDetail,04,06,4012345000009,North Books,20,
-Price,02,8.000,GBP,,WORLD,,,
+Price,02,7.000,GBP,,WORLD,,,,11
+Price,02,8.000,GBP,,WORLD,,,,5
 record,R4,15,9781234567897
 ProductSupply,GB IE,,
 SupplyDetail,04,06,4012345000009,North Books,21,
 Price,02,4.000,GBP,,WORLD,,,
+Price,02,20.000,GBP,,WORLD,,,,10
 
 == 7 is waived and lets 8 be applied
 Waive,north,7
@@ -170,7 +177,7 @@ waived,north,7
 gaps,north,first=1,next=9,greatest=8,held=0,missing=0
 price,9781234567897,2
 offer,north,R3,1,21,7.000
-offer,north,R4,1,21,4.000
+offer,north,R4,1,21,20.000
 catalogue,north,2
 record,R3,15,9781234567897
 ProductSupply,GB,,
@@ -180,30 +187,33 @@ record,R4,15,9781234567897
 ProductSupply,GB IE,,
 SupplyDetail,04,06,4012345000009,North Books,21,
 Price,02,4.000,GBP,,WORLD,,,
+Price,02,20.000,GBP,,WORLD,,,,10
 
-== updates, a deletion and another type of which two are unknown
+== 7 is waived again
+Waive,north,7
+-- wanted
+waived,north,7
+-- as before
+
+== updates, deletions and another type, of which two are unknown
 Message,1,06,4012345000009,06,5012345678900,9,1,20250301,,
 Product,R3,04,15,9780000000002
 Product,R9,04,15,9780000000002
 Product,R9,05,15,9780000000002
 Product,R3,88,15,9780000000002
-EndMessage,5
+Product,R4,05,15,9781234567897
+EndMessage,6
 -- wanted
-applied,north,9,replaced=0,updated=1,deleted=0,unknown=2,ignored=1
+applied,north,9,replaced=0,updated=1,deleted=1,unknown=2,ignored=1
 -- after
 gaps,north,first=1,next=10,greatest=9,held=0,missing=0
-price,9781234567897,2
+price,9781234567897,1
 offer,north,R3,1,21,7.000
-offer,north,R4,1,21,4.000
-catalogue,north,2
+catalogue,north,1
 record,R3,15,9781234567897
 ProductSupply,GB,,
 SupplyDetail,04,06,4012345000009,North Books,21,
 Price,02,7.000,GBP,,WORLD,,,
-record,R4,15,9781234567897
-ProductSupply,GB IE,,
-SupplyDetail,04,06,4012345000009,North Books,21,
-Price,02,4.000,GBP,,WORLD,,,
 
 == 1 again changes nothing
 Message,1,06,4012345000009,06,5012345678900,1,1,20250301,02,GBP
@@ -227,5 +237,11 @@ refused,waived,north,7
 Waive,north,9
 -- wanted
 refused,had,north,9
+-- as before
+
+== a waiver of a series that is not agreed
+Waive,west,1
+-- wanted
+refused,unknown-series
 -- as before
 ";

@@ -1,6 +1,5 @@
 //! Files of version 1, by statements that do not come from `desk_tables`, in which two messages were applied,
-//! one waits, and so does a waiver. They and those of another version are not opened, and stay as they are,
-//! until they are migrated; then the desk in them goes on.
+//! one waits, and so does a waiver, until they are migrated; then the desk in them goes on.
 
 /// The files of version 1. The report is an empty transcript.
 pub const FIRST_FILES: &str = "
@@ -79,124 +78,10 @@ version 2
 as told otherwise
 ";
 
-/// From version 1 to version 2, by calls of such files. Its report is an empty transcript.
-pub const VERSIONS: &str = "
-== versions
-tables
--- wanted
-as told
-
-== they are not opened
-AskGaps,north
--- wanted
-version 1
--- after
-as told
-
-== and keep their rows
-tables
-version: 1
-series_rows: north 4012345000009 3;
-article_rows: R1 1 15; R2 1 15;
-offer_rows: R1 1; R2 1;
--- wanted
-as told
--- as before
-
-== the way to version 2, let go
-tables
-version: 1
-migrate
-version: 2
-series_rows: north 4012345000009 3;
-article_rows: R1 1 15; R2 1 15;
-offer_rows: R1 1; R2 1;
-put_price 1 2 10
-price_rows: R1 1 1 1 1.00; R1 1 2 10 12.99; R2 1 1 1 2.00;
--- wanted
-as told
--- as before
-
-== another version
-execute
-UPDATE meta SET amount = 7
--- wanted
--- as before
-
-== is not opened
-AskGaps,north
--- wanted
-another version
--- as before
-
-== nor migrated
-migrate
--- wanted
-another version
--- as before
-
-== and its rows stay
-tables
-version: 7
-series_rows: north 4012345000009 3;
-article_rows: R1 1 15; R2 1 15;
-offer_rows: R1 1; R2 1;
--- wanted
-as told
--- as before
-
-== version 1 again
-execute
-UPDATE meta SET amount = 1
--- wanted
--- as before
-
-== is migrated
-migrate
--- wanted
-version 2
--- as before
-
-== with its rows, once
-tables
-version: 2
-series_rows: north 4012345000009 3;
-article_rows: R1 1 15; R2 1 15;
-offer_rows: R1 1; R2 1;
-price_rows: R1 1 1 1 1.00; R2 1 1 1 2.00;
-migrate: unusable
--- wanted
-as told
--- as before
-
-== and stays so
-migrate
--- wanted
-version 2
--- as before
-";
-
 /// What the desk is asked then. Each request has the same answers when it is made again.
 pub const MIGRATED: &str = "
 == migrated
 -- wanted
-
-== what was applied and what waits is there
-AskGaps,north
-AskCatalogue,north
--- wanted
-gaps,north,first=1,next=3,greatest=6,held=2,missing=2
-missing,3,3
-missing,5,5
-catalogue,north,2
-record,R1,15,9781234567897
-ProductSupply,GB IE,,
-SupplyDetail,04,06,4012345000009,North Books,21,
-Price,02,1.000,GBP,,WORLD,,,
-record,R2,15,9781234567897
-ProductSupply,GB IE,,
-SupplyDetail,04,06,4012345000009,North Books,21,
-Price,02,2.000,GBP,,WORLD,,,
 
 == 2 again, 3, and 5 with a minimum order quantity
 Message,1,06,4012345000009,06,5012345678900,2,1,20250301,02,GBP

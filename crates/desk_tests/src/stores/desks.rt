@@ -1,11 +1,10 @@
 //! The lists of requests, of desks of all kinds, and the calls of the tables over files.
 //! `tests/refused-memory` and `bench/refused_memory` refuse each request for memory of these tests in turn.
 
-use crate::cases::expect;
+use crate::cases::{expect, made};
 use crate::desks::{TestDesk, opened};
 use crate::files::FileDesk;
-use crate::lists::calls::CALLS;
-use crate::lists::drain::{DRAIN, DRAINED_ROWS, FORTY};
+use crate::lists::drain::{DRAIN, DRAINED_ROWS, forty};
 use crate::lists::exchanges::EXCHANGES;
 use crate::lists::expect_list;
 use crate::lists::order::ORDER;
@@ -13,8 +12,7 @@ use crate::lists::questions::QUESTIONS;
 use crate::lists::refused::REFUSED;
 use crate::lists::steps::STEPS;
 use crate::lists::three::THREE;
-use crate::lists::versions::{FIRST_FILES, MIGRATION, VERSIONS};
-use crate::lists::waivers::WAIVERS;
+use crate::lists::versions::{FIRST_FILES, MIGRATION};
 use crate::refusals::{Refusals, are_chosen};
 use desk_memory::MemoryDesk;
 use desk_store::DeskStore;
@@ -56,27 +54,38 @@ fn ask_behind<D: TestDesk + Drop, R: Abort + Env>(
     true
 }
 
+// The same behind the forty that wait.
+fn ask_behind_forty<D: TestDesk + Drop, R: Abort + Env>(
+    alloc: Global,
+    rt: &R,
+    name: &str,
+    list: &str,
+) -> bool {
+    if !are_chosen(rt, name) {
+        return false;
+    }
+    let first = made(rt, forty(alloc));
+    ask_behind::<D, R>(alloc, rt, first.as_str(), name, list)
+}
+
 // Asks new desks of a kind the lists that are chosen.
 fn ask_lists<D: TestDesk + Drop, R: Abort + Env>(alloc: Global, rt: &R) {
     let steps = ask_list::<D, R>(alloc, rt, "steps", STEPS);
     let three = ask_list::<D, R>(alloc, rt, "three", THREE);
     let questions = ask_list::<D, R>(alloc, rt, "questions", QUESTIONS);
     let exchanges = ask_list::<D, R>(alloc, rt, "exchanges", EXCHANGES);
-    let waivers = ask_list::<D, R>(alloc, rt, "waivers", WAIVERS);
-    let drain = ask_behind::<D, R>(alloc, rt, FORTY, "drain", DRAIN);
-    let is_one = steps | three | questions | exchanges | waivers | drain;
+    let drain = ask_behind_forty::<D, R>(alloc, rt, "drain", DRAIN);
+    let is_one = steps | three | questions | exchanges | drain;
     expect(rt, is_one, "no cases of this name");
 }
 
 // The lists of calls of the tables, of desks in files.
 fn make_calls<D: TestDesk + Drop, R: Abort + Env>(alloc: Global, rt: &R) {
-    let calls = ask_list::<D, R>(alloc, rt, "calls", CALLS);
     let refused = ask_list::<D, R>(alloc, rt, "refused", REFUSED);
-    let versions = ask_behind::<D, R>(alloc, rt, FIRST_FILES, "versions", VERSIONS);
     let migration = ask_behind::<D, R>(alloc, rt, FIRST_FILES, "migration", MIGRATION);
-    let rows = ask_behind::<D, R>(alloc, rt, FORTY, "rows", DRAINED_ROWS);
+    let rows = ask_behind_forty::<D, R>(alloc, rt, "rows", DRAINED_ROWS);
     let order = ask_list::<D, R>(alloc, rt, "order", ORDER);
-    let is_one = calls | refused | versions | migration | rows | order;
+    let is_one = refused | migration | rows | order;
     expect(rt, is_one, "no cases of this name");
 }
 

@@ -6,13 +6,9 @@ use crate::asking::{End, expect_asked};
 use crate::cases::{Step, add_steps, expect, found, made};
 use crate::desks::{StoppedDesk, TestDesk};
 use crate::files::FileDesk;
-use crate::lists::changes::CHANGES;
 use crate::lists::expect_list;
-use crate::lists::late::LATE;
-use crate::lists::minimums::MINIMUMS;
 use crate::lists::steps::STEPS;
 use crate::lists::versions::{FIRST_FILES, MIGRATED};
-use crate::lists::waivers::WAIVERS;
 use crate::refusals::Refusals;
 use price_rules::precedence::Precedence;
 use std::alloc::{AllocError, Global};
@@ -174,15 +170,9 @@ fn expect_stops<D: StoppedDesk + Drop, R: Abort>(
     expect_stops_of::<D, R>(alloc, stop, batch, is_log, &mut output);
 }
 
-// The same of files. Each list has a test of its own, since a test has a minute.
+// The same of files. Each of the two has a test of its own, since a test has a minute.
 fn expect_file_stops<R: Abort>(alloc: Global, stop: &R, list: &str, is_log: bool) {
     expect_stops::<FileDesk, R>(alloc, stop, list, is_log);
-}
-
-// The same of both files.
-fn expect_both_stops<R: Abort>(alloc: Global, stop: &R, list: &str) {
-    expect_file_stops(alloc, stop, list, true);
-    expect_file_stops(alloc, stop, list, false);
 }
 
 #[test]
@@ -193,26 +183,6 @@ fn stops_of_the_log(rt: HostRuntime) {
 #[test]
 fn stops_of_the_database(rt: HostRuntime) {
     expect_file_stops(rt.alloc(), &rt, STEPS, false);
-}
-
-#[test]
-fn late_messages(rt: HostRuntime) {
-    expect_both_stops(rt.alloc(), &rt, LATE);
-}
-
-#[test]
-fn updates_and_deletions(rt: HostRuntime) {
-    expect_both_stops(rt.alloc(), &rt, CHANGES);
-}
-
-#[test]
-fn waivers(rt: HostRuntime) {
-    expect_both_stops(rt.alloc(), &rt, WAIVERS);
-}
-
-#[test]
-fn minimum_order_quantities(rt: HostRuntime) {
-    expect_both_stops(rt.alloc(), &rt, MINIMUMS);
 }
 
 // Migrates files of which one fails, stops the machine, and migrates what is left: whether a disk failed.

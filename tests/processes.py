@@ -7,7 +7,6 @@ from collections import deque
 from collections.abc import Iterator, Sequence
 from multiprocessing.connection import Connection, wait
 
-from tests.program import forked_starts
 from tests.running import Cases, Counted, count_all
 
 # Three for each two processors, since a group now and then waits for what takes none, as for a client that is silent;
@@ -29,13 +28,9 @@ def try_each(groups: Sequence[Cases], case: str, asked: Connection, others: list
     # While it kept them open, the other processes would not see their end.
     for connection in others:
         connection.close()
-    try:
-        with contextlib.suppress(EOFError):
-            while True:
-                asked.send(count_all([groups[asked.recv()]], case))
-    finally:
-        # A process of this kind leaves out what is registered for the end.
-        forked_starts.end()
+    with contextlib.suppress(EOFError):
+        while True:
+            asked.send(count_all([groups[asked.recv()]], case))
 
 
 class Worker:

@@ -1,16 +1,12 @@
 """The system calls by which a program changes what it keeps or says something, and a kill at one of them, by strace."""
 
-import os
 import re
-import signal
 import subprocess
-import time
 from collections import Counter
 from collections.abc import Mapping, Sequence
 from pathlib import Path
 from typing import NamedTuple
 
-from tests.program import forked_starts
 from tests.program.room import SECONDS, Ran
 from tools.words import Word
 
@@ -57,33 +53,8 @@ def tracing(*how: str) -> list[str]:
     return ["strace", "-o", "trace", "-e", f"trace={names}", "-e", "signal=none", *how]
 
 
-def is_stopped(process: int) -> bool:
-    return Path(f"/proc/{process}/stat").read_text().rpartition(")")[2].split()[0] == "T"
-
-
-def attached(words: list[str], folder: Path, environment: Mapping[str, str], *how: str) -> Ran:
-    """A run of a program that forking.py starts: most calls of a program of Python are those of Python's own start."""
-    found: list[subprocess.Popen[bytes]] = []
-
-    def attach(process: int) -> None:
-        while not is_stopped(process):
-            time.sleep(0.001)
-        found.append(subprocess.Popen([*tracing(*how), "-p", str(process)], cwd=folder, stderr=subprocess.PIPE))
-        if found[0].stderr and b"attached" not in (line := found[0].stderr.readline()):
-            os.kill(process, signal.SIGKILL)
-            raise Failed(f"strace: {line!r}")
-        os.kill(process, signal.SIGCONT)
-
-    ran = Ran(*forked_starts.run(words, b"", folder, environment, SECONDS, attach))
-    found[0].communicate(timeout=SECONDS)
-    return ran
-
-
 def traced(words: Sequence[Word], folder: Path, environment: Mapping[str, str], *how: str) -> Ran:
     """A run of a program under strace."""
-    # Only root may attach to any process.
-    if os.geteuid() == 0 and (forked := forked_starts.words_of(words, b"", environment)):
-        return attached(forked, folder, environment, *how)
     done = subprocess.run(
         [*tracing(*how), *words],
         cwd=folder,

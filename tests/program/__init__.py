@@ -6,7 +6,6 @@ A group is a generator function over a `Room`, a folder of its own in which the 
 `Outcome` for each of its cases. In a module of tests each function over a room alone is one, and a list `GROUPS` has
 those that take more. Groups run side by side. What calls a program of Debian's packages is marked by `needs`, or its
 module has a list NEEDS, and is left out where that program is missing.
-A program of Python that a room calls is started by forking.py, which spares Python's own start.
 """
 
 import importlib

@@ -4,19 +4,23 @@ import contextlib
 import os
 import re
 import subprocess
+import sys
 import tempfile
 from collections.abc import Callable, Iterator, Mapping, Sequence
 from pathlib import Path
 from typing import NamedTuple
 
-from tests.program import forked_starts
 from tests.running import PROGRAM, Cases, Outcome
+from tools.root import PACKAGES
 from tools.words import Word
 
 Check = Callable[..., Iterator[Outcome]]
 
 # No run of a case takes a tenth of it, also on a machine that has much else to do; a program that hangs fails its case.
 SECONDS = 1200
+
+# The words before a text of Python that runs with what ships.
+WITHIN: list[Word] = ["env", f"PYTHONPATH={':'.join(PACKAGES)}", sys.executable, "-P", "-s", "-S", "-B", "-c"]
 
 # An input of which each read fails, as that of a folder does.
 UNREADABLE = None
@@ -72,12 +76,7 @@ class Room:
         folder: str = ".",
     ) -> Ran:
         """How a program ends that is run in the room, and what it writes. Its input is bytes or an open file, whose
-        number is given, as is that of another output; the environment stands in place of this one. A program of Python
-        is started by forking.py where nothing keeps it from that."""
-        if isinstance(given, bytes) and output == subprocess.PIPE:
-            place = os.environ if environment is None else environment
-            if forked := forked_starts.words_of(words, given, place):
-                return Ran(*forked_starts.run(forked, given, self.path(folder), place, SECONDS))
+        number is given, as is that of another output; the environment stands in place of this one."""
         with contextlib.ExitStack() as opened:
             text, stream = (given, None) if isinstance(given, bytes) else (None, given)
             if given is UNREADABLE:

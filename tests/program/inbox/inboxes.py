@@ -7,8 +7,7 @@ from pathlib import Path
 
 from tests.program.feeds.convert.wanted_runs import feed_of
 from tests.program.databases import DATABASE
-from tests.program.forked_starts import WITHIN
-from tests.program.room import SECONDS, Ran, Room
+from tests.program.room import SECONDS, WITHIN, Ran, Room
 from tests.program.serving import Serving
 from tools.root import ROOT
 from tools.words import Word

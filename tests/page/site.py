@@ -143,7 +143,7 @@ class Site:
             (f"/etc/ssl/{NAME}.pem", f"{folder}/site.pem"),
             (f"/etc/ssl/private/{NAME}.key", f"{folder}/site.key"),
             ("/etc/nginx/onixdesk.passwords", f"{folder}/passwords"),
-            ("/opt/onixdesk/page", str(self.page)),
+            ("/usr/share/onixdesk/page", str(self.page)),
             ("/etc/onixdesk/page", str(self.own)),
             ("/etc/onixdesk/rules.toml", str(self.rules)),
             ("/var/lib/onixdesk-titles", str(self.titles)),

@@ -386,7 +386,7 @@ def units(_room: Room) -> Iterator[Outcome]:
     """They write each minute, where README.Debian has the collector look."""
     service = EXAMPLES.joinpath("onixdesk-metrics.service").read_text(encoding="utf-8").splitlines()
     wanted = [
-        "ExecStart=/opt/onixdesk/bin/desk-metrics /var/lib/onixdesk-metrics",
+        "ExecStart=/usr/bin/desk-metrics /var/lib/onixdesk-metrics",
         "StateDirectory=onixdesk-metrics",
         "StateDirectoryMode=0755",
         "SyslogLevel=warning",

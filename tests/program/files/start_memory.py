@@ -156,7 +156,7 @@ def not_again(room: Room) -> Iterator[Outcome]:
 def of_a_unit(_room: Room) -> Iterator[Outcome]:
     lines = SCRIPTS.joinpath("onixdesk.service").read_text(encoding="utf-8").splitlines()
     wanted = [
-        "ExecCondition=/opt/onixdesk/start-memory.sh /var/lib/onixdesk/shop.db /var/lib/onixdesk-figures",
+        "ExecCondition=/usr/share/onixdesk/start-memory.sh /var/lib/onixdesk/shop.db /var/lib/onixdesk-figures",
         "Environment=FIGURES=/var/lib/onixdesk-figures FILE=/var/lib/onixdesk/shop.db",
         "ReadWritePaths=-/var/lib/onixdesk-figures",
     ]

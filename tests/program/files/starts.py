@@ -163,8 +163,8 @@ def a_mistyped_database(room: Room) -> Iterator[Outcome]:
     unit = (ROOT / "programs/onixdesk/onixdesk.service").read_text(encoding="utf-8")
     room.write("rules.toml", b"")
     places: dict[str, Word] = {
-        "/opt/onixdesk/serve.sh": ROOT / "programs/onixdesk/serve.sh",
-        "/opt/onixdesk/onixdesk": room.program,
+        "/usr/share/onixdesk/serve.sh": ROOT / "programs/onixdesk/serve.sh",
+        "/usr/bin/onixdesk": room.program,
         "/var/lib/onixdesk/shop.db": DATABASE,
         "/etc/onixdesk/rules.toml": "rules.toml",
         "/run/onixdesk/batches": "batches",
@@ -183,7 +183,7 @@ def unit(_room: Room) -> Iterator[Outcome]:
     lines = (ROOT / "programs/onixdesk/onixdesk.service").read_text(encoding="utf-8").splitlines()
     wanted = [
         "Before=nginx.service",
-        "ExecStartPost=/opt/onixdesk/wait-for-desk.sh 8080 /var/lib/onixdesk/shop.db",
+        "ExecStartPost=/usr/share/onixdesk/wait-for-desk.sh 8080 /var/lib/onixdesk/shop.db",
         "TimeoutStartSec=infinity",
     ]
     yield Outcome("the unit of the desk waits for it", [line for line in wanted if line not in lines], [])

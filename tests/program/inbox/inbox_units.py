@@ -91,7 +91,7 @@ def places(_room: Room) -> Iterator[Outcome]:
     )
     service = lines_of("onixdesk-inbox@.service")
     wanted = [
-        "ExecStart=/opt/onixdesk/bin/onixdesk-inbox -- %i",
+        "ExecStart=/usr/share/onixdesk/bin/onixdesk-inbox -- %i",
         f"StateDirectory={state.removeprefix('/var/lib/')}%i",
         "StateDirectoryMode=0700",
         f"ReadWritePaths=-{incoming}%i",

@@ -430,7 +430,7 @@ def units(_room: Room) -> Iterator[Outcome]:
     for path, wanted in {
         UNITS
         / "onixdesk-titles.service": [
-            "ExecStart=/opt/onixdesk/bin/onixdesk-titles take",
+            "ExecStart=/usr/share/onixdesk/bin/onixdesk-titles take",
             f"User={user}",
             f"StateDirectory={user}",
             "StateDirectoryMode=0755",

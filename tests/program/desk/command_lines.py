@@ -30,72 +30,16 @@ def lines(room: Room) -> Iterator[Outcome]:
     yield Outcome("command line: the folder then", list(room.folder.iterdir()), [])
 
 
-# What to write, behind clap's words, where a word is missing or out of its place; and lines of which nothing is known.
-BEFORE = "write the options --db, --existing, --rules and --batches before the command, as in: onixdesk --db FILE batch"
-INPUT = "batch reads standard input: write onixdesk batch < FILE, or onixdesk deliver FILE for a message"
-FILE_BEFORE = "write the database file before the command, as in: onixdesk --db FILE "
-OUTPUT = (
-    "export writes to standard output, or into a folder: write onixdesk --db FILE export > BATCH, or export -o FOLDER"
-)
-HINTS = {
-    BEFORE: [
-        "batch --db shop.db",
-        "serve --port 8080 --db=shop.db",
-        "deliver --rules rules.toml a.csv",
-        "batch --batches socket",
-        "gaps north --existing",
-        "--db shop.db batch --rules=rules.toml",
-        "serve --db shop.db",
-    ],
-    INPUT: ["batch first.csv", "--db shop.db batch first.csv", "--db=shop.db --existing batch first.csv"],
-    OUTPUT: ["export shop.db", "--db shop.db export shop.csv"],
-    f"{FILE_BEFORE}agreements": ["agreements shop.db"],
-    f"{FILE_BEFORE}migrate": ["migrate shop.db"],
-    "--existing goes with --db, as in: onixdesk --db FILE --existing batch": [
-        "--existing batch",
-        "--existing check a.csv",
-    ],
-    "check needs a FILE, as in: onixdesk check batch.csv": ["check", "--db shop.db --existing check"],
-    "deliver needs a FILE, as in: onixdesk --db FILE deliver message.csv": ["deliver"],
-    "rules needs a FILE, as in: onixdesk rules rules.toml": ["rules"],
-    "terms needs a FILE, as in: onixdesk terms terms.toml": ["terms"],
-    "serve needs --port N, as in: onixdesk --db FILE serve --port 8080": ["serve", "--db shop.db serve --requests 1"],
-    "": ["", "frobnicate", "--db", "serve --port http", "--unknown batch", "gaps north south", "check --unknown"],
-}
-
-
-def hints(room: Room) -> Iterator[Outcome]:
-    """Behind clap's words, which end in a line of their own, a line says what to write."""
-    for hint, lines in HINTS.items():
-        for words in lines:
-            came = room.run(*words.split())
-            last = came.errors.decode().splitlines()[-1]
-            wanted = f"onixdesk: {hint}" if hint else ""
-            found = last if last.startswith("onixdesk: ") else ""
-            yield Outcome(f"command line: a hint, {words}", (came.status, found), (2, wanted))
-
-
-# What is said behind `--batches goes with batch`, by the command.
-AT_SOCKET = {
-    "agreements": "write the database file in its place, as in: onixdesk --db FILE agreements",
-    "check a.csv": "leave it out: this command asks no desk",
-    "convert a.xml": "leave it out: this command asks no desk",
-    "deliver a.csv": "a message is sent by batch too, as in: onixdesk --batches SOCKET batch < FILE",
-    "export": "write the database file in its place, as in: onixdesk --db FILE export",
-    "gaps": "ask the desk at the socket by a batch, as in: echo AskGaps,NAME | onixdesk --batches SOCKET batch",
-    "migrate": "write the database file in its place, as in: onixdesk --db FILE migrate",
-    "rules a.toml": "leave it out: this command asks no desk",
-    "serve --port 8080": (
-        "write the socket of a desk behind serve, as in: onixdesk --db FILE serve --port N --batches SOCKET"
-    ),
-    "terms a.toml": "leave it out: this command asks no desk",
-}
+AT_SOCKET = """
+    agreements|check a.csv|convert a.xml|deliver a.csv|export|gaps|migrate|rules a.toml|serve --port 8080|terms a.toml
+"""
 
 
 def at_a_socket(room: Room) -> Iterator[Outcome]:
-    for words, hint in AT_SOCKET.items():
-        came = room.told("--batches", "socket", *words.split())
-        wanted = Ran(2, b"", f"onixdesk: --batches goes with batch\nonixdesk: {hint}\n".encode())
+    """A batch alone is sent to one."""
+    for words in AT_SOCKET.strip().split("|"):
+        came = room.run("--batches", "socket", *words.split())
+        wanted = Ran(2, b"", b"onixdesk: --batches goes with batch\n")
         yield Outcome(f"command line: at a socket, {words}", came, wanted)
 
 

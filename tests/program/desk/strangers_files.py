@@ -27,10 +27,6 @@ def letter(room: Room) -> bytes:
     return b"Dear bookseller,\n\nour prices for the spring are enclosed.\n\nNorth Books\n"
 
 
-def one_byte(room: Room) -> bytes:
-    return b"\n"
-
-
 def zero_byte(room: Room) -> bytes:
     """The making of a database begins with this byte, behind its log."""
     return b"\0"
@@ -47,7 +43,6 @@ def desk_without_page(number: int, room: Room) -> bytes:
 FILES = {
     "random bytes": random_bytes,
     "a letter": letter,
-    "one byte": one_byte,
     "a zero": zero_byte,
     "a desk without its first page": partial(desk_without_page, 1),
     "a desk without its second page": partial(desk_without_page, 2),
@@ -63,22 +58,6 @@ def is_refused(name: str, contents: Callable[[Room], bytes], room: Room) -> Iter
         yield Outcome(f"{name}: {command}", (came.status, came.output), (3, b""))
         is_same = room.path(DATABASE).read_bytes() == held
         yield Outcome(f"{name}: the file after {command} is as it was", is_same, True)
-
-
-def is_one_byte(room: Room) -> Iterator[Outcome]:
-    """`--existing` takes it for no desk either, nor does an empty log beside it or a link to it."""
-    room.write(DATABASE, b"\n")
-    room.write(MESSAGE, FIRST)
-    room.path("link.db").symlink_to(DATABASE)
-    for log in False, True:
-        if log:
-            room.write(f"{DATABASE}-wal", b"")
-        for words in ["--db", DATABASE, "--existing"], ["--db", "link.db"]:
-            for command in COMMANDS:
-                came = room.run(*words, *command.split(), given=AGREEMENT)
-                name = f"one byte: {' '.join(words)} {command}, {'an empty log' if log else 'no log'}"
-                yield Outcome(name, came, Ran(3, b"", b"onixdesk: storage: unusable\n"))
-    yield Outcome("one byte: the file then", room.path(DATABASE).read_bytes(), b"\n")
 
 
 def is_begun(room: Room) -> Iterator[Outcome]:

@@ -7,13 +7,15 @@ optimizations: to try the program out and to find faults, and not for a shop. St
 there is no toolchain.
 """
 
+import os
 import shutil
+import subprocess
 import sys
 import tempfile
+import time
 from pathlib import Path
 
 from tests.running import PROGRAM
-from tests.unproved import build
 from tools.root import ROOT
 
 CRATE = "onixdesk"
@@ -22,18 +24,64 @@ BUILT = PROGRAM.with_name(f"{PROGRAM.name}.unproved")
 # With the name of a file the program reads it, and needs nothing else.
 READING = ["convert"]
 
+# How long to wait before a program that is being built is looked for again, in seconds.
+PAUSE = 0.1
+
 WHERE = f"""\
 onixdesk: {BUILT.relative_to(ROOT)} is the program, of which nothing is proved
 onixdesk: it is built to find faults, and not for speed: it takes 3 seconds to open any desk in a file
 """
 
 
+def open_when_read(pipe: Path, tried: subprocess.Popen[bytes]) -> int | None:
+    """Opens a named pipe as soon as the program that is tried reads it; none if the program is not built."""
+    while tried.poll() is None:
+        try:
+            return os.open(pipe, os.O_WRONLY | os.O_NONBLOCK)
+        except OSError:
+            time.sleep(PAUSE)
+    return None
+
+
+def build(room: Path) -> None:
+    """Builds it anew. RuntimeError if it cannot be built.
+
+    `rt try` keeps no program, and takes some seconds to run one on each input. So the program is copied while it
+    waits: it reads a pipe in the folder `room`.
+    """
+    pipe, said = room / "pipe", room / "said"
+    os.mkfifo(pipe)
+    with open(said, "wb") as errors:
+        tried = subprocess.Popen(
+            ["rt", "try", "--steps", "1", "--", *READING, str(pipe)],
+            cwd=ROOT / "crates" / CRATE,
+            env={**os.environ, "TMPDIR": str(room)},
+            stdin=subprocess.DEVNULL,
+            stdout=subprocess.DEVNULL,
+            stderr=errors,
+        )
+    try:
+        opened = open_when_read(pipe, tried)
+        if opened is None:
+            why = said.read_text(encoding="utf-8", errors="replace").strip()
+            # One that was killed has written nothing.
+            raise RuntimeError(why or f"rt try ended with status {tried.returncode} and wrote nothing")
+        # `rt try` runs a program in a folder of its own, where it is the file `program`.
+        (built,) = room.glob("*/*/program")
+        shutil.copyfile(built, BUILT)
+        # A test runs it as another user.
+        BUILT.chmod(0o755)
+        os.close(opened)
+    finally:
+        tried.terminate()
+        tried.wait()
+
+
 def build_program() -> None:
-    """Builds it anew. RuntimeError if it cannot be built."""
     BUILT.parent.mkdir(exist_ok=True)
     BUILT.unlink(missing_ok=True)
     with tempfile.TemporaryDirectory(prefix="onixdesk-") as folder:
-        build(CRATE, READING, BUILT, Path(folder))
+        build(Path(folder))
 
 
 def is_built() -> bool:

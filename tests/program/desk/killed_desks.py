@@ -1,0 +1,62 @@
+"""A desk that is killed at some moment of a batch has the rows of what it has answered, or of one request more."""
+
+import subprocess
+import time
+from collections.abc import Iterator
+from random import Random
+
+from tests.program.databases import all_rows
+from tests.program.messages import AGREEMENT, priced
+from tests.program.room import Ran, Room
+from tests.running import Outcome
+
+# The requests of a batch, and the batches of each of which a run is killed.
+REQUESTS, BATCHES = 60, 4
+
+
+def requests(random: Random, first: int) -> list[bytes]:
+    """Messages out of order, some of them twice, and waivers, each of which has an answer of one line."""
+    numbers = [*range(first, first + REQUESTS), *random.sample(range(first, first + REQUESTS), REQUESTS // 4)]
+    random.shuffle(numbers)
+    return [
+        b"Waive,north,%d\n" % number if number % 9 == 0 else priced(number, f"R{number % 20}", str(number))
+        for number in numbers
+    ]
+
+
+def given(room: Room, file: str, some: list[bytes]) -> Ran:
+    return room.run("--db", file, "batch", given=b"".join(some))
+
+
+def killed(room: Room, some: list[bytes], seconds: float) -> int:
+    """How many requests were answered by a run that was killed after so many seconds."""
+    room.write("requests", b"".join(some))
+    with open(room.path("requests"), "rb") as text:
+        words = [room.program, "--db", "killed.db", "batch"]
+        run = subprocess.Popen(words, cwd=room.folder, stdin=text, stdout=subprocess.PIPE)
+        time.sleep(seconds)
+        run.kill()
+        output, _ = run.communicate()
+    return output.count(b"\n")
+
+
+def at_some_moments(room: Room) -> Iterator[Outcome]:
+    """Behind each kill the rest is answered as by a desk that nobody killed."""
+    random = Random(41)
+    for file in "killed.db", "whole.db":
+        given(room, file, [AGREEMENT])
+    for place in range(BATCHES):
+        some = requests(random, 1 + place * REQUESTS)
+        began = time.monotonic()
+        given(room, f"timed-{place}.db", [AGREEMENT, *some])
+        count = killed(room, some, random.uniform(0, time.monotonic() - began))
+        given(room, "whole.db", some[:count])
+        if all_rows(room, "killed.db") != all_rows(room, "whole.db"):
+            given(room, "whole.db", some[count : count + 1])
+            count += 1
+        name = f"a kill: batch {place}"
+        yield Outcome(f"{name}: the rows", all_rows(room, "killed.db") == all_rows(room, "whole.db"), True)
+        yield Outcome(
+            f"{name}: the rest", given(room, "killed.db", some[count:]), given(room, "whole.db", some[count:])
+        )
+        yield Outcome(f"{name}: the rows then", all_rows(room, "killed.db") == all_rows(room, "whole.db"), True)

@@ -5,7 +5,7 @@ from collections.abc import Iterable
 from typing import NamedTuple
 
 from tests.program.feeds.feed_oracle import HELD_BACK, UNFITTED, Note
-from tests.program.feeds.feed_writing import Place
+from tests.program.feeds.feed_trees import Place
 
 # So many lines of notes a file has at most, and besides so many of products that are left out or emptied.
 MOST_LINES = 1000

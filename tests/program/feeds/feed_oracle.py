@@ -36,14 +36,25 @@ from tests.program.feeds.feed_territories import (
     union_fields,
     wrong_in,
 )
-from tests.program.feeds.feed_trees import Detail, Identifier, Market, Message, Price, Product, Supply, Territory, Words
+from tests.program.feeds.feed_trees import (
+    DELETION,
+    Detail,
+    Identifier,
+    Market,
+    Message,
+    Price,
+    Product,
+    Supply,
+    Territory,
+    Words,
+)
 
 GLN = "06"
 GREATEST_NUMBER = 999_999_999
 MOST_RECORDS = 20_000
 MOST_BYTES = 4_194_304
 
-DELETION, BLOCK, UPDATE = "05", "03", "04"
+BLOCK, UPDATE = "03", "04"
 KNOWN_TYPES = ("01", "02", "03", "04", "05")
 
 # Types of identifiers by which the desk finds an article, and what is taken out of their values where thirteen digits

@@ -15,11 +15,13 @@ from xml.parsers import expat
 from tests.program.feeds.convert.case_files import SHORT_TAGS
 from tests.program.feeds.feed_prices import DISCOUNTS
 from tests.program.feeds.feed_trees import (
+    DELETION,
     Detail,
     Discount,
     Identifier,
     Market,
     Message,
+    Place,
     Price,
     PriceDate,
     Product,
@@ -27,7 +29,6 @@ from tests.program.feeds.feed_trees import (
     Supply,
     Territory,
 )
-from tests.program.feeds.feed_writing import COUNTED, COUNTED_ALONE, COUNTED_WITH_TERMS, Place
 
 DECLARED = re.compile(r"""<\?xml\s+version\s*=\s*["']1\.0["'](?:\s+encoding\s*=\s*["']([A-Za-z][\w.-]*)["'])?""")
 
@@ -36,6 +37,44 @@ ALONE = re.compile(rb"""<\?xml\s[^>]*\bstandalone\s*=\s*["']yes""")
 
 # A name with two colons, which Namespaces in XML has not.
 TWO_COLONS = re.compile(rb"</?[^<>\s/:]*:[^<>\s/:]*:|</?:|<[^<>\s/]*:[\s/>]")
+
+# The elements that count below each composite.
+COUNTED = {
+    "ONIXMessage": "Header Product NoProduct",
+    "Header": "Sender Addressee MessageNumber MessageRepeat SentDateTime DefaultPriceType DefaultCurrencyCode",
+    "Sender": "SenderIdentifier",
+    "SenderIdentifier": "SenderIDType IDValue",
+    "Addressee": "AddresseeIdentifier",
+    "AddresseeIdentifier": "AddresseeIDType IDValue",
+    "Product": "RecordReference NotificationType ProductIdentifier ProductSupply PublishingDetail",
+    "PublishingDetail": "SalesRights",
+    "ProductIdentifier": "ProductIDType IDValue",
+    "ProductSupply": "Market SupplyDetail",
+    "Market": "Territory",
+    "Territory": "CountriesIncluded RegionsIncluded CountriesExcluded RegionsExcluded",
+    "SupplyDetail": "OrderQuantityMinimum Supplier ProductAvailability UnpricedItemType Price SupplyToCountry"
+    " SupplyToRegion SupplyToCountryExcluded SupplyToTerritory",
+    "Supplier": "SupplierRole SupplierIdentifier SupplierName",
+    "SupplierIdentifier": "SupplierIDType IDValue",
+    "Price": "PriceType PriceQualifier PricePer PriceCondition PriceConstraint MinimumOrderQuantity PriceCoded"
+    " PriceAmount UnpricedItemType CurrencyCode CurrencyZone EpubLicense EpubLicenseWithDate PriceTypeCode"
+    " ClassOfTrade PriceEffectiveFrom PriceEffectiveUntil CountryCode CountryExcluded TerritoryExcluded (j303) Territory"
+    " PriceDate Discount DiscountCoded",
+    "PriceCondition": "PriceConditionType",
+    "PriceConstraint": "PriceConstraintType",
+    "PriceDate": "PriceDateRole DateFormat Date",
+}
+
+# Those that count besides where there are terms of the shop.
+COUNTED_WITH_TERMS = COUNTED | {
+    "Price": f"{COUNTED['Price']} Tax",
+    "DiscountCoded": "DiscountCodeType DiscountCode",
+    "Discount": "DiscountType Quantity DiscountPercent",
+    "Tax": "TaxRatePercent",
+}
+
+# Those of them that are counted alone, and are no strangers.
+COUNTED_ALONE = ["PublishingDetail", "SalesRights", *DISCOUNTS]
 
 REFERENCE_NAMES = {tag: name for name, tag in SHORT_TAGS.items()}
 
@@ -56,6 +95,11 @@ OF_TERMS = [*DISCOUNTS, "Tax"]
 
 # What repeats in a Price, or is counted alone.
 REPEATABLE = ["PriceCondition", "PriceConstraint", "PriceDate", *OF_TERMS]
+
+# What repeats in other composites, or is counted alone; and where there are notes on what comes again.
+REPEATING = "Product Addressee SenderIdentifier AddresseeIdentifier ProductIdentifier ProductSupply Market SupplyDetail"
+REPEATING += " SupplierIdentifier Price PublishingDetail SalesRights"
+NOTED = ["Market", "Price"]
 
 OF_XML = "http://www.w3.org/XML/1998/namespace"
 
@@ -124,6 +168,19 @@ class Element:
         again = [name for name in names if names.count(name) > 1]
         below = [each for each in self.below if each.name not in ("PriceDate", *OF_TERMS)]
         return next(iter(again + [each.again() for each in below if each.again()]), "")
+
+    def count_again(self) -> int:
+        """How many elements that do not repeat come again in what is read of it, but where there are notes on that."""
+        unread = [*NOTED, "ProductSupply"] if self.text("NotificationType") == DELETION else NOTED
+        names: set[str] = set()
+        count = 0
+        for each in self.below:
+            if each.name in names and each.name not in REPEATING.split():
+                count += 1
+            elif each.name not in unread:
+                count += each.count_again()
+            names.add(each.name)
+        return count
 
     def all_strangers(self) -> list[Stranger]:
         """Those in it, but in what terms read."""
@@ -295,6 +352,7 @@ class Trees:
         # Of a deletion those count that stand before others.
         own = sorted(of.all_strangers(), key=lambda each: each.within not in ("Product", "ProductIdentifier"))
         product.stranger = next(iter(own), None)
+        product.has_rights = any(each.all("SalesRights") for each in of.all("PublishingDetail"))
         return self.at(of, product)
 
     def message(self, root: Element) -> Message:
@@ -309,6 +367,8 @@ class Trees:
         message.has_two_headers = len(root.all("Header")) > 1
         strangers = root.strangers + (header.all_strangers() if header else [])
         message.stranger = next(iter(strangers), None)
+        message.says_none = bool(root.all("NoProduct"))
+        message.again = root.count_again()
         message.products = [self.product(each) for each in root.all("Product")]
         return message
 
@@ -334,3 +394,10 @@ def read(data: bytes, has_terms: bool = False) -> Read:
     none."""
     trees = Trees(data)
     return Read(trees.message(Elements(has_terms).read(data)), trees.starts)
+
+
+def read_or_none(data: bytes, has_terms: bool) -> Read | None:
+    try:
+        return read(data, has_terms)
+    except (Malformed, NoMessage):
+        return None

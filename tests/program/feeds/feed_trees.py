@@ -6,8 +6,18 @@ Composites are equal only to themselves, so that a note can name the one that it
 from dataclasses import dataclass, field
 from typing import NamedTuple
 
+# The NotificationType of a deletion.
+DELETION = "05"
+
 # The file of the shop's terms.
 TERMS = "shop.toml"
+
+
+class Place(NamedTuple):
+    """A line and a column, both from 1."""
+
+    line: int
+    column: int
 
 
 @dataclass(eq=False)
@@ -28,11 +38,9 @@ class Territory:
 
 @dataclass(eq=False)
 class Market:
-    """`territory` is None where there is none; `is_restricted` where there is a SalesRestriction, which is not looked
-    at."""
+    """`territory` is None where there is none."""
 
     territory: Territory | None
-    is_restricted: bool = False
 
 
 @dataclass(eq=False)
@@ -61,9 +69,8 @@ class Discount:
 class Price:
     """A price. `again` is the name of an element that comes again in it. `conditions` and `constraints` have the type of
     each PriceCondition and PriceConstraint, which may be empty; `old` has the texts of elements of ONIX 2.1 by their
-    names; `discounts` names the elements that are counted, and `passed_over` those that are not looked at. For the terms
-    of the shop `codes` has the type and the code of each DiscountCoded, `percents` its Discounts and `taxes` the
-    TaxRatePercent of each Tax."""
+    names; `discounts` names the elements that are counted. For the terms of the shop `codes` has the type and the code
+    of each DiscountCoded, `percents` its Discounts and `taxes` the TaxRatePercent of each Tax."""
 
     price_type: str
     amount: str
@@ -84,7 +91,6 @@ class Price:
     again: str = ""
     old: dict[str, str] = field(default_factory=dict)
     discounts: list[str] = field(default_factory=list)
-    passed_over: list[str] = field(default_factory=list)
     codes: list[tuple[str, str]] = field(default_factory=list)
     percents: list[Discount] = field(default_factory=list)
     taxes: list[str] = field(default_factory=list)
@@ -136,7 +142,7 @@ class Product:
 class Message:
     """A message. `sender` is None where it has no Sender; `is_header_first` is false where its Header
     stands behind its products, and `has_two_headers` true where there is one there too; `says_none` where it has a
-    NoProduct."""
+    NoProduct; `again` counts the elements that come again in what is read of it, and have no note."""
 
     sender: list[Identifier] | None
     addressees: list[list[Identifier]]
@@ -150,6 +156,7 @@ class Message:
     has_two_headers: bool = False
     says_none: bool = False
     stranger: Stranger | None = None
+    again: int = 0
 
 
 @dataclass(frozen=True)
@@ -196,3 +203,10 @@ class Words:
             "--terms": TERMS if self.terms is not None else "",
         }
         return [word for name, value in valued.items() if value for word in (name, value)]
+
+    def files(self, stem: str | int) -> list[str]:
+        """The files that a feed of that name becomes."""
+        if self.parts == 1:
+            return [f"{stem}.csv"]
+        digits = max(2, len(str(self.parts)))
+        return [f"{stem}.part-{part:0{digits}}.csv" for part in range(1, self.parts + 1)]

@@ -11,7 +11,6 @@ from tests.program.databases import batch
 from tests.program.feeds.feed_oracle import Verdict, effect, judge, records_text
 from tests.program.feeds.feed_reading import read
 from tests.program.feeds.feed_trees import Words
-from tests.program.feeds.seeded_feeds import part_names
 from tests.program.inbox.inboxes import WORDS, Inbox, of_series
 from tests.program.room import Group, Ran, Room
 from tests.program.serving import serving
@@ -62,7 +61,7 @@ def delivered(path: Path, parts: int, room: Room) -> Iterator[Outcome]:
     came = room.run("convert", *words.line(), "-o", "out", path)
     name = f"{path.name} in {parts} parts"
     yield Outcome(f"{name}: the status", (came.status, came.output), (int(hoped.verdict.wrong_products > 0), b""))
-    files = part_names(path.stem, words)
+    files = words.files(path.stem)
     made = {each.name: each.read_bytes() for each in room.path("out").iterdir()}
     yield Outcome(name, made, dict(zip(files, (part.text() for part in hoped.verdict.parts), strict=True)))
     given = hoped.agreement + b"".join(made.get(each, b"") for each in files)

@@ -9,7 +9,7 @@ from pathlib import Path
 from tests.program.feeds.convert.records_and_notes import LINE
 from tests.program.feeds.convert.running import convert
 from tests.program.feeds.feed_notes import count_line
-from tests.program.feeds.feed_writing import Place
+from tests.program.feeds.feed_trees import Place
 from tests.program.room import Group, Ran, Room
 from tests.running import Outcome
 from tools.root import ROOT

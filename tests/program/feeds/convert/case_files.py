@@ -4,6 +4,8 @@ The cases stand in tests/conversions (`written_cases`), and have these parts:
 
     -- PLACE      the XML at that place of a message that is else usual (`FRAMES`), or, where PLACE is
                   `file`, the whole file
+    -- each PLACE lines with the escapes of Python, each of which stands at that place of a feed of its own; `prolog`
+                  and `epilog` are places too, before the root and behind it
     -- words ..   words of the command line
     -- table ..   the terms of the shop, as TOML has an array of tables
     -- term ..    the one term, beside types = ["02"] and net = "05"
@@ -15,9 +17,9 @@ The cases stand in tests/conversions (`written_cases`), and have these parts:
     -- summary    the lines behind the notes, where they are not only added up; none where it is empty
     -- refused    the place in the file, or `anywhere`, and perhaps a part of the line that says why
 
-In each `(PIECE){N}` is N times the piece. A place is a line and a column, as `2:7`, or a line and the first start tag of an element there, as
-`2:<Price>`. Notes stand in the order of their places. Each case is converted in reference names without a namespace
-and, but for whole files, in short tags in their namespace, in which columns are others.
+In each `(PIECE){N}` is N times the piece. A place is a line and a column, as `2:7`, or a line and the first start tag
+of an element there, as `2:<Price>`. Notes stand in the order of their places. Each case is converted in reference names
+without a namespace and, but for whole files and `each`, in short tags in their namespace, in which columns are others.
 """
 
 import re
@@ -25,11 +27,11 @@ from collections.abc import Mapping
 from pathlib import Path
 from typing import NamedTuple
 
-from tests.program.written_cases import TESTS, Written, read_file, repeated
+from tests.program.written_cases import TESTS, Written, read_file, repeated, unescaped
 
 FOLDER = TESTS / "conversions"
 
-WHOLE_FILE = "file"
+WHOLE_FILE, EACH = "file", "each "
 
 # The reference names that count, with their short tags, as ONIX has them. In ONIX 2.1 the Territory of a Price had
 # another one.
@@ -111,6 +113,8 @@ FRAMES = {
     "detail": within(DETAILS, "<SupplyDetail>", "</SupplyDetail>"),
     "prices": within(DETAILS, f"<SupplyDetail>{SUPPLIER}", "</SupplyDetail>", "SupplyDetail,04,,,North,21,\n"),
 }
+FRAMES["prolog"] = Frame("", PRODUCTS.before + PRODUCTS.behind, PRODUCTS.records)
+FRAMES["epilog"] = Frame(PRODUCTS.before + PRODUCTS.behind, "", PRODUCTS.records)
 FRAMES["price"] = within(FRAMES["prices"], "<Price><PriceAmount>12.99</PriceAmount>", "</Price>")
 
 
@@ -146,6 +150,11 @@ class Case(NamedTuple):
     wanted: Converted
     summary: list[str] | None
 
+    def lines(self) -> list[bytes]:
+        """The feeds of a case that has one for each line."""
+        frame = FRAMES.get(self.place.removeprefix(EACH), Frame("", ""))
+        return [unescaped(f"{frame.before}{line}{frame.behind}") for line in self.xml.splitlines()]
+
     def texts(self) -> dict[str, str]:
         """The feed in each kind of names. What stands at the place begins on line 2."""
         if self.place == WHOLE_FILE:
@@ -155,6 +164,9 @@ class Case(NamedTuple):
         return {"": text, " in short tags": in_short_tags(text)}
 
     def feeds(self) -> list["Feed"]:
+        if self.place.startswith(EACH):
+            lines = enumerate(self.lines(), 1)
+            return [Feed(f"{self.name}, {number}", line, self.wanted, self.summary) for number, line in lines]
         texts = self.texts()
         return [
             Feed(self.name + names, text.encode(), placed_all(self.wanted, texts[""], text), self.summary)
@@ -216,7 +228,7 @@ def placed_all(wanted: Converted, text: str, written: str) -> Converted:
 
 
 def records_of(place: str, text: str) -> str:
-    records = FRAMES[place].records + text
+    records = FRAMES[place.removeprefix(EACH)].records + text
     return f"{records}EndMessage,{records.count(chr(10))}\n"
 
 
@@ -224,9 +236,9 @@ def case_of(written: Written) -> Case:
     """The case that is written so: of a part that has no more than its head, that is the text."""
     parts = {}
     for head, body in written.parts:
-        key, _, value = head.partition(" ")
+        key, _, value = (head, "", "") if head.startswith(EACH) else head.partition(" ")
         parts[key] = repeated(value or (body.rstrip("\n") + "\n" if body.strip() else ""))
-    place = next(key for key in parts if key in FRAMES or key == WHOLE_FILE)
+    place = next(key for key in parts if key in FRAMES or key == WHOLE_FILE or key.startswith(EACH))
     words = parts.get("words", "").split()
     table = parts.get("table", f'[{{ types = ["02"], net = "05", {parts["term"]} }}]' if "term" in parts else "")
     records = None

@@ -35,7 +35,7 @@ PART = re.compile("<(?:[Hh]eader|[Pp]roduct)>")
 
 def of_part(place: str, data: bytes) -> str:
     """The place of the start tag of the Header or the Product in which a place of a feed is, from that tag on."""
-    text = data.decode()
+    text = data.decode(errors="replace")
     lines = text.split("\n")
     line, column = map(int, place.split(":"))
     until = sum(len(each) + 1 for each in lines[: line - 1]) + column - 1

@@ -1,0 +1,198 @@
+"""`onixdesk convert` over feeds that Hypothesis makes (tests/strategies/feeds.py): what is not well-formed, as expat says,
+is refused, and of each other one comes what `feed_oracle` says of the tree that expat reads (`feed_reading`).
+
+EXAMPLES in the environment is how many feeds a group has, where another number of them is wanted.
+"""
+
+import importlib.util
+import os
+from collections import Counter
+from collections.abc import Iterator
+from functools import partial
+from typing import NamedTuple
+
+from tests.program.feeds.convert.running import FEED, convert
+from tests.program.feeds.feed_notes import (
+    NO_NOTES,
+    Said,
+    compared,
+    count_line,
+    is_named,
+    miscounted,
+    notes_in,
+    read_errors,
+    read_summary,
+)
+from tests.program.feeds.feed_oracle import HELD_BACK, UNFITTED, Refused, Verdict, judge
+from tests.program.feeds.feed_prices import DISCOUNTS
+from tests.program.feeds.feed_reading import read_or_none
+from tests.program.feeds.feed_trees import TERMS, Message, Place, Words
+from tests.program.room import Group, Ran, Room
+from tests.running import Outcome, left_out
+
+# So many feeds a group has, and one of large feeds.
+EXAMPLES, LARGE_EXAMPLES = 150, 10
+
+# What the summary says of what is not read.
+NOT_READ = {name: f"{name} of a Price, not read" for name in DISCOUNTS}
+
+
+class Wanted(NamedTuple):
+    """What is to come of a feed, and the places of its composites; no message where it has none."""
+
+    verdict: Verdict
+    message: Message | None
+    starts: dict[object, Place]
+
+
+def wanted_of(data: bytes, words: Words) -> Wanted:
+    found = read_or_none(data, words.terms is not None)
+    if found is None:
+        return Wanted(Verdict(refusal=Refused()), None, {})
+    return Wanted(judge(found.message, words), *found)
+
+
+def outcomes(feed: str, words: Words, wanted: Wanted, room: Room) -> Iterator[Outcome]:
+    """What comes of a feed in one run."""
+    table = "".join(term.toml() for term in words.terms or ())
+    room.write(TERMS, table.encode())
+    room.write(FEED, feed.encode())
+    came = convert(room, *words.line(), FEED)
+    verdict = wanted.verdict
+    is_whole = not verdict.refusal and not verdict.wrong_products
+    text = b"".join(part.text() for part in verdict.parts)
+    name = f"convert {' '.join(words.line())}\n{table}{feed}\n"
+    yield Outcome(f"{name}the records", Ran(came.status, came.output), Ran(0 if is_whole else 1, text))
+    errors = read_errors(came.errors)
+    yield Outcome(f"{name}what is said", said_of(wanted, errors.of_files.get(FEED, [])), [])
+    yield Outcome(f"{name}the summary", *summed(wanted, errors.summary))
+
+
+def said_of(wanted: Wanted, said: list[Said]) -> list[object]:
+    """The notes that are missing, and the lines that nobody wants. A refusal stands behind the notes on it."""
+    refusal = wanted.verdict.refusal
+    if not refusal:
+        missing, surplus = compared(wanted.verdict.notes, wanted.starts, said)
+        return [*missing, *surplus]
+    if not said or not said[-1].what.startswith("refused: "):
+        return ["not refused", *said]
+    missing, surplus = compared(refusal.notes, wanted.starts, said[:-1])
+    unnamed = [name for name in refusal.names if not is_named(name, said[-1].what)]
+    elsewhere = [said[-1].place] if refusal.about and said[-1].place != wanted.starts[refusal.about] else []
+    return [*missing, *surplus, *unnamed, *elsewhere]
+
+
+def summed(wanted: Wanted, lines: list[str]) -> tuple[object, object]:
+    """What the last lines count: all notes, those of each reason, products, and what has no note."""
+    verdict = wanted.verdict
+    if verdict.refusal or not wanted.message:
+        return lines, []
+    summary = read_summary(lines)
+    of_notes = notes_in(summary)
+    alone = {name: count for name, count in summary.reasons.items() if name in NO_NOTES}
+    found = alone, summary.products, summary.last, sum(of_notes.values()), miscounted(verdict.notes, of_notes)
+    count = len(verdict.notes)
+    last = count_line(count, verdict.wrong_products)
+    return found, (counted_alone(verdict, wanted.message), products_of(verdict), last, count, [])
+
+
+def counted_alone(verdict: Verdict, message: Message) -> dict[str, int]:
+    counts = Counter(NOT_READ.get(name, name) for name in verdict.discounts)
+    counts[NO_NOTES[-2]] = message.again
+    counts[NO_NOTES[-1]] = not message.products and not message.says_none
+    return {name: count for name, count in counts.items() if count}
+
+
+def products_of(verdict: Verdict) -> dict[str, tuple[int, int]]:
+    """How many products of how many it counts, by what it says of them."""
+    counts = verdict.counts
+    found = {
+        "emptied": counts.emptied,
+        "left without a Price": counts.without_price,
+        "for the world without a Market, with SalesRights, not read": counts.with_rights,
+    }
+    return {what: (count, counts.products) for what, count in found.items() if count}
+
+
+class Kind(NamedTuple):
+    """Feeds of a kind: the names of the strategies in tests/strategies/feeds.py, how many there are, and of what some
+    are to come."""
+
+    name: str
+    feeds: str
+    words: str
+    examples: int
+    seen: list[str]
+
+
+PLAIN = ["refused", "Product", "ProductSupply", "SupplyDetail", "Price", "wrong", *NOT_READ, NO_NOTES[-2]]
+KINDS = [
+    Kind("feeds", "FEEDS", "WORDS", EXAMPLES, PLAIN),
+    Kind("feeds and terms", "FEEDS", "WORDS_WITH_TERMS", EXAMPLES, ["Price", "computed", UNFITTED, HELD_BACK]),
+    Kind("feeds in parts", "LARGE", "WORDS", LARGE_EXAMPLES, ["refused", "Price", "in parts"]),
+]
+
+
+def seen_in(wanted: Wanted) -> Iterator[str]:
+    """What a feed shows of its kind."""
+    verdict = wanted.verdict
+    yield from ["refused"] * (verdict.refusal is not None) + ["wrong"] * (verdict.wrong_products > 0)
+    records = [record for part in verdict.parts for record in part.records]
+    yield from {record[0] for record in records}
+    yield from verdict.discounts
+    if verdict.parts and wanted.message and wanted.message.again:
+        yield NO_NOTES[-2]
+    if sum(len(part.records) > 2 for part in verdict.parts) > 1:
+        yield "in parts"
+
+
+def check(kind: Kind, share: int, room: Room) -> Iterator[Outcome]:
+    if importlib.util.find_spec("hypothesis") is None:
+        yield left_out("feeds that are made, since there is no python3-hypothesis")
+        return
+    yield from tried(kind, share, room)
+
+
+def tried(kind: Kind, share: int, room: Room) -> Iterator[Outcome]:
+    """The first feed of that kind by which something else comes than what is wanted, made as small as it can be; or what
+    the desk says of the messages, all of which it can read."""
+    from hypothesis import HealthCheck, Phase, Verbosity, configuration, given, seed, settings
+
+    from tests.strategies import feeds as strategies
+
+    configuration.set_hypothesis_home_dir(room.folder)
+    seen: Counter[str] = Counter()
+    wrong: list[Outcome] = []
+    messages: list[str] = []
+
+    @seed(share)
+    @settings(
+        max_examples=int(os.environ.get("EXAMPLES", kind.examples)),
+        derandomize=True,
+        database=None,
+        deadline=None,
+        phases=[Phase.generate, Phase.shrink],
+        suppress_health_check=list(HealthCheck),
+        verbosity=Verbosity.quiet,
+    )
+    @given(getattr(strategies, kind.feeds), getattr(strategies, kind.words))
+    def converts(feed: str, words: Words) -> None:
+        wanted = wanted_of(feed.encode(), words)
+        seen.update(seen_in(wanted))
+        wrong[:] = [each for each in outcomes(feed, words, wanted, room) if each.came != each.wanted]
+        for part in wanted.verdict.parts[:1]:
+            messages.append(f"{len(messages)}.csv")
+            room.write(messages[-1], part.text())
+        assert not wrong
+
+    try:
+        converts()
+    except AssertionError:
+        yield from wrong
+        return
+    yield Outcome(f"{kind.name}, share {share}: what none of them shows", [each for each in kind.seen if not seen[each]], [])
+    came = room.run("deliver", *messages)
+    yield Outcome(f"{kind.name}, share {share}, delivered", came, Ran(1, b"refused,unknown-series\n" * len(messages)))
+
+
+GROUPS = [Group(f"{kind.name}, share {share}", partial(check, kind, share)) for kind in KINDS for share in range(3)]

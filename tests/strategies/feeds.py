@@ -1,0 +1,353 @@
+"""Feeds, and what they are converted with, as strategies of Hypothesis. Each choice has its simplest first, so that a
+feed that fails shrinks to one that is short and right but for what makes it fail."""
+
+import re
+from typing import TypeVar
+
+from hypothesis import strategies as st
+from hypothesis.strategies import SearchStrategy
+
+from tests.program.feeds.convert.case_files import FRAMES, in_short_tags
+from tests.program.feeds.feed_trees import Term, Words
+
+Text = SearchStrategy[str]
+Made = TypeVar("Made")
+
+CONTROL = "x&#127;"
+# More than the 1,024 bytes that a field has.
+LONG = "é" * 513
+
+SENDER = ("06", "S,1")
+SHOP = ("06", "5012345678900")
+SUPPLIER = ("06", "5030670000009")
+
+
+def element(name: str, inside: str, attributes: str = "") -> str:
+    return f"<{name}{attributes}>{inside}</{name}>"
+
+
+def rarely(odd: SearchStrategy[Made], usual: SearchStrategy[Made], of: int) -> SearchStrategy[Made]:
+    """The odd once in so many."""
+    return st.integers(1, of).flatmap(lambda number: odd if number == of else usual)
+
+
+def parts(*texts: Text) -> Text:
+    return st.tuples(*texts).map("".join)
+
+
+def composite(name: str, *texts: Text) -> Text:
+    return st.builds(element, st.just(name), parts(*texts))
+
+
+def few(text: Text, most: int, least: int = 0) -> Text:
+    return st.lists(text, min_size=least, max_size=most).map("".join)
+
+
+def some(text: Text, most: int) -> Text:
+    """One or more, or, now and then, none."""
+    return rarely(some_of(""), few(text, most, 1), 12)
+
+
+def leaf(name: str, usual: str, odd: str | None = None, of: int = 40) -> Text:
+    """An element with one of the texts that are usual, which bars keep apart, or with an odd one. It is not there
+    where that text is empty."""
+
+    def texts(text: str) -> Text:
+        return st.sampled_from([element(name, each) if each else "" for each in text.split("|")])
+
+    return texts(usual) if odd is None else rarely(texts(odd), texts(usual), of)
+
+
+def some_of(*texts: str) -> Text:
+    return st.sampled_from(texts)
+
+
+def identifiers(name: str, most: int, least: int = 0) -> Text:
+    value = "5012345678900|5030670000009|S,1|a &quot;b&quot; &lt;é"
+    one = composite(
+        f"{name}Identifier",
+        leaf(f"{name}IDType", "06|01|02", "|6|GLN"),
+        leaf("IDValue", value, f"|{CONTROL}|{LONG}"),
+    )
+    return few(one, most, least)
+
+
+# Territories.
+
+COUNTRIES = ["GB", "IE", "FR", "US", "UK", "EL"]
+# Those of which the lists become longer than a field, or not quite.
+LETTERS = "ABCDEFGHIJKLMNOPQRSTUVWXYZ"
+MANY = " ".join([first + second for first in LETTERS for second in LETTERS][:341])
+
+
+def listed(name: str, found: list[str]) -> str:
+    return element(name, " ".join(found)) if found else ""
+
+
+def countries(name: str, most: int) -> Text:
+    usual = st.builds(listed, st.just(name), st.lists(st.sampled_from(COUNTRIES), max_size=most))
+    return rarely(leaf(name, f"gb|GBR|GB,IE|{MANY}|{MANY} ZZ"), usual, 25)
+
+
+TERRITORY = composite(
+    "Territory",
+    countries("CountriesIncluded", 3),
+    leaf("RegionsIncluded", "||WORLD", "WORLD WORLD|GB-NIR|ECZ WORLD|ROW|GB|world", 8),
+    countries("CountriesExcluded", 2),
+    leaf("RegionsExcluded", "", "CA-QC|GB-NIR US-NY2|ECZ|IE|GB-|WORLD", 8),
+)
+
+MARKET = composite("Market", rarely(some_of(""), TERRITORY, 20), leaf("SalesRestriction", "|x"))
+
+
+# Prices.
+
+# A text and its format, of one day, month or year, and of two days.
+DAYS = [("20250101", ""), ("20250630", "00"), ("2025-01-31", "14"), ("20250630T0900", "13"), ("202502", "01")]
+DAYS += [("2024-02", "01"), ("2025", "05")]
+TWO_DAYS = [("2025010120250630", "06"), ("2025063020251231", "06")]
+NO_DAYS = [("", ""), ("20250230", "00"), ("2025-0101", "00"), ("202513", "01"), ("0000", "05"), ("00000000", "")]
+NO_DAYS += [("20250101", "02"), ("20250101", "06"), ("2025010120250230", "06"), ("2025010120250630", "")]
+
+
+def dated(role: str, day: tuple[str, str], in_element: bool) -> str:
+    """The format stands in an element, or in an attribute, which goes before one."""
+    text, form = day
+    attribute = f' dateformat="{form}"' if form and not in_element else ""
+    told = element("DateFormat", form if in_element else "13") if form else ""
+    date = element("Date", text, attribute) if text else ""
+    return element("PriceDate", element("PriceDateRole", role) + date + told)
+
+
+ROLES = st.sampled_from(["14", "15"])
+DATE = st.one_of(
+    st.builds(dated, ROLES, st.sampled_from(DAYS), st.booleans()),
+    st.builds(dated, st.just("24"), st.sampled_from(TWO_DAYS), st.booleans()),
+)
+ODD_DATE = st.builds(dated, st.sampled_from(["14", "15", "24", "13"]), st.sampled_from(NO_DAYS + DAYS), st.booleans())
+
+# What leaves a Price out, or is passed over in one.
+ODD_IN_PRICE = some_of(
+    "<PriceStatus>02</PriceStatus>",
+    "<PriceCondition><PriceConditionType>00</PriceConditionType></PriceCondition>",
+    "<PriceQualifier>05</PriceQualifier>",
+    "<PriceQualifier>06</PriceQualifier>",
+    "<PricePer>01</PricePer>",
+    "<PriceCondition><PriceConditionType>10</PriceConditionType></PriceCondition>",
+    "<PriceCondition/>",
+    "<PriceConstraint><PriceConstraintType>06</PriceConstraintType></PriceConstraint>",
+    "<PriceCoded/>",
+    "<EpubLicense><EpubLicenseName>x</EpubLicenseName></EpubLicense>",
+    "<EpubLicenseWithDate/>",
+    "<CurrencyZone>EUR</CurrencyZone>",
+    "<UnpricedItemType>01</UnpricedItemType>",
+    "<UnpricedItemType>1</UnpricedItemType>",
+    "<PriceTypeCode>02</PriceTypeCode>",
+    "<CountryCode>GB</CountryCode>",
+    "<PriceEffectiveFrom>20250101</PriceEffectiveFrom>",
+    "<PriceType>02</PriceType>",
+    "<Territory/>",
+)
+
+CODED = composite(
+    "DiscountCoded",
+    leaf("DiscountCodeType", "02|01", "", 20),
+    leaf("DiscountCode", "A|B C|é,1", "", 20),
+)
+DISCOUNT = composite(
+    "Discount",
+    leaf("DiscountType", "|01", "02", 10),
+    leaf("Quantity", "|5|10|0010|0", "1234567|x", 20),
+    leaf("DiscountPercent", "40|45.25|42.5000|100.00|0", "100.01|12,5||.5|1000", 8),
+)
+TAX = composite("Tax", leaf("TaxRatePercent", "20|5.50|0", "x|", 8))
+
+PRICE = composite(
+    "Price",
+    leaf("PriceType", "|02|42|05|04|07", "3|RRP"),
+    leaf("MinimumOrderQuantity", "||1|5|10|010|0", "1.5|1234567|two"),
+    few(CODED, 2),
+    few(DISCOUNT, 2),
+    leaf("PriceAmount", "9.00|12.99|12.345|0.01|7|999999999.999", "0.000|12,99|.99|7.1250|1.23456||1234567890", 20),
+    few(TAX, 1),
+    leaf("CurrencyCode", "|GBP|EUR", "gbp|EURO"),
+    rarely(TERRITORY, some_of(""), 3),
+    few(rarely(ODD_DATE, DATE, 15), 2),
+    rarely(few(ODD_IN_PRICE, 2, 1), some_of(""), 8),
+)
+
+
+# Supplies, products and messages.
+
+SUPPLIED = composite(
+    "Supplier",
+    leaf("SupplierRole", "04|01", "|4"),
+    identifiers("Supplier", 2),
+    leaf("SupplierName", "North|South &amp; Sons", f"|{CONTROL}|{LONG}", 15),
+)
+
+DETAIL = composite(
+    "SupplyDetail",
+    rarely(some_of(""), SUPPLIED, 40),
+    leaf("OrderQuantityMinimum", "|||5|0012", "0|two"),
+    leaf("ProductAvailability", "21|40", "|2|x"),
+    leaf("UnpricedItemType", "||01", "x"),
+    leaf("SupplyToCountry", "", "GB"),
+    some(PRICE, 4),
+)
+
+SUPPLY = composite("ProductSupply", few(MARKET, 3), some(DETAIL, 2))
+
+ISBN = composite(
+    "ProductIdentifier",
+    leaf("ProductIDType", "15|03|01"),
+    leaf("IDValue", "9780000000002|978-0-00-000000-2|978\u20110 000\u00a0000002", "978000000000|97800000000022", 6),
+)
+
+PRODUCT = composite(
+    "Product",
+    leaf("RecordReference", "R1|R2|R,3|R &quot;4&quot;", f"|{CONTROL}|{LONG}"),
+    leaf("NotificationType", "03|04|05|01|02|88", "|3|three"),
+    rarely(identifiers("Product", 3), ISBN, 5),
+    leaf("PublishingDetail", "|<SalesRights/>|<Note><SalesRights/></Note>"),
+    some(SUPPLY, 2),
+)
+
+ADDRESSEE = composite("Addressee", identifiers("Addressee", 2))
+
+# Most are taken, with the words below.
+HEADER = composite(
+    "Header",
+    rarely(composite("Sender", identifiers("Sender", 2)), some_of(element("Sender", "")), 4),
+    rarely(few(ADDRESSEE, 2), some_of("", element("Addressee", "")), 4),
+    leaf("MessageNumber", "1|7|0012|00000000400000", "|0|x|1234567890", 15),
+    leaf("MessageRepeat", "|2", "x|1234567890"),
+    leaf("SentDateTime", "|20250303T0615Z", f"{CONTROL}|{LONG}"),
+    leaf("DefaultPriceType", "02|02|02|", "2"),
+    leaf("DefaultCurrencyCode", "GBP|GBP|GBP|", "gbp"),
+)
+
+MESSAGE = rarely(st.builds("{1}{0}{1}".format, PRODUCT, HEADER), parts(HEADER, some(PRODUCT, 3)), 60)
+
+
+# What is put behind some tag of a message: what changes nothing, what comes again or is a stranger, and what is no XML.
+ASIDE = [
+    " \n",
+    "<!-- a -->",
+    "<?a b?>",
+    "<Note><Price/><IDValue>7</IDValue></Note>",
+    "&#65;",
+    "&eacute;",
+    "<![CDATA[ <x> & ]]>",
+    "<NoProduct/>",
+    "<Market/>",
+    "<SupplyDetail/>",
+    "<Product/>",
+    "<IDValue>7</IDValue>",
+    "<PriceAmount/>",
+    "<Date/>",
+    "<CountriesIncluded>FR</CountriesIncluded>",
+    "<Supplier/>",
+    "<NotificationType>05</NotificationType>",
+    "<PriceType>05</PriceType>",
+    "<DiscountPercent>5</DiscountPercent>",
+    "<Tax><TaxRatePercent/></Tax>",
+    "<Price xmlns='urn:z'/>",
+    "<z:Market xmlns:z='urn:z'/>",
+    "<supplydetail/>",
+    "<PRODUCTIDENTIFIER/>",
+    "<Idvalue/>",
+    "<discountcoded/>",
+    "<Header/>",
+]
+NO_XML = [
+    "&nobody;",
+    "&",
+    "<x y='1' y='1'/>",
+    "<x",
+    "</x>",
+    "]]>",
+]
+
+AMONG = st.lists(st.tuples(st.integers(0, 999), rarely(st.sampled_from(NO_XML), st.sampled_from(ASIDE), 15)), max_size=3)
+
+
+def with_aside(message: str, among: list[tuple[int, str]]) -> str:
+    for place, aside in among:
+        ends = [found.end() for found in re.finditer(">", message)] or [0]
+        at = ends[place % len(ends)]
+        message = message[:at] + aside + message[at:]
+    return message
+
+
+# Attributes of a root, and the elements whose names have a prefix, which stands for the namespace of the root in each.
+ROOTS = ["", ' xmlns="urn:own" xmlns:o="urn:own"', ' xmlns:o="" xmlns="http://ns.editeur.org/onix/3.0/reference"']
+PREFIXED = st.sets(st.sampled_from(["Product", "Price", "IDValue", "Territory", "PriceAmount"]), max_size=2)
+
+
+def written(message: str, root: str, prefixed: set[str], is_short: bool, release: str) -> str:
+    """The feed. Below a root in short tags names with a prefix are no strangers where that stands for its namespace."""
+    for name in sorted(prefixed) if "urn:own" in root and not is_short else ():
+        message = re.sub(rf"(</?)(?={name}\b)", r"\1o:", message)
+    feed = element("ONIXMessage", message, f'{root} release="{release}"')
+    return in_short_tags(feed) if is_short and not root else feed
+
+
+FEEDS: Text = st.builds(
+    written,
+    st.builds(with_aside, MESSAGE, rarely(AMONG, st.just([]), 3)),
+    st.sampled_from(ROOTS),
+    PREFIXED,
+    st.booleans(),
+    rarely(some_of("2.1", "3"), some_of("3.0", "3.1"), 60),
+)
+
+
+# Messages whose products have so many Prices, around what a message and half of one have room for.
+SIZES = st.lists(st.sampled_from([1, 9_996, 9_997, 19_995, 19_996]), max_size=4)
+
+FRAME = FRAMES["prices"]
+PRODUCTS = FRAMES["products"]
+
+
+def filled(sizes: list[int]) -> str:
+    before, behind = (FRAME.before.removeprefix(PRODUCTS.before), FRAME.behind.removesuffix(PRODUCTS.behind))
+    price = element("Price", element("PriceAmount", "1"))
+    return PRODUCTS.before + "\n".join(before + price * size + behind for size in sizes) + PRODUCTS.behind
+
+
+LARGE: Text = st.builds(filled, SIZES)
+
+
+# Words, and tables of terms.
+
+NUMBERS = [("", ""), ("7", ""), ("", "1000"), ("", "007")]
+
+
+def words(tables: SearchStrategy[tuple[Term, ...] | None], more: int) -> SearchStrategy[Words]:
+    """Words that let through what is wrong, or, once in so many, any."""
+
+    def of(parts: int, numbers: tuple[str, str], id_type: str, wrong: str, table: tuple[Term, ...] | None) -> Words:
+        return Words(parts, *numbers, SENDER, SHOP, id_type, wrong, table)
+
+    wrong = rarely(some_of("", "few", "none"), some_of("all"), more)
+    return st.builds(of, st.sampled_from([1, 2, 100]), st.sampled_from(NUMBERS), some_of("", "01"), wrong, tables)
+
+
+def term(types: tuple[str, ...], percent: str, codes: set[str], supplier: str, currency: str, tax: str) -> Term:
+    return Term(types, "07" if "05" in types else "05", percent, tuple(sorted(codes)), supplier, currency, tax)
+
+
+TERM = st.builds(
+    term,
+    st.sampled_from([("02",), ("02", "42"), ("04", "02"), ("05",)]),
+    some_of("50", "feed", "0", "42.5", "33.33", "007.5", "100"),
+    st.sets(some_of("02,A", "01,A", "02,B C", "02,é,1"), max_size=2),
+    some_of("", "", ",".join(SUPPLIER)),
+    some_of("", "", "GBP", "EUR"),
+    some_of("", "", "20", "5.5", "250", "feed"),
+)
+TABLES = st.lists(TERM, max_size=4).map(tuple)
+
+WORDS = words(st.none(), 4)
+WORDS_WITH_TERMS = words(TABLES, 20)

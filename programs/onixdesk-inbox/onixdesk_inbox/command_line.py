@@ -24,9 +24,9 @@ from onixdesk_inbox.terms import KeptTerms, Table, read_table
 
 DESCRIPTION = """\
 Takes the files that a wholesaler has put into a folder to a running desk: what ends in .csv as it is, what ends
-in .xml, .onix, .onx, .gz or .zip through onix-to-csv, unpacked if it is packed. What the desk has applied or holds
-is moved to done in the folder STATE, what it or the converter refuses to refused, with the notes and answers beside it
-in NAME.answer. Of each file a line is written to standard error."""
+in .xml, .onix, .onx, .gz or .zip through `onixdesk convert`, unpacked if it is packed. What the desk has applied or
+holds is moved to done in the folder STATE, what it or the converter refuses to refused, with the notes and answers
+beside it in NAME.answer. Of each file a line is written to standard error."""
 
 STATUSES = """\
 Status 0, even if files wait; 1 if a file was refused, or has been there for an hour; 2 for a bad command
@@ -59,7 +59,7 @@ def command_line() -> argparse.ArgumentParser:
     add(
         "--state", metavar="FOLDER", type=Path, help=f"{STATE.format('SERIES')} without it; nobody else may write there"
     )
-    add("--converter", metavar="PROGRAM", type=Path, help="onix-to-csv beside this program without it")
+    add("--converter", metavar="PROGRAM", type=Path, help="`onixdesk convert` beside this program without it")
     add(
         "--again",
         metavar="SINCE",
@@ -120,7 +120,7 @@ def run(options: argparse.Namespace, folder: Path, programs: Path, voice: Voice)
     """Makes one run, whose state is kept in the folder."""
     name = options.series
     incoming = (options.incoming or Path(INCOMING.format(name))).resolve()
-    converter = (options.converter or programs / "onix-to-csv").resolve()
+    converter = (options.converter or programs / "onixdesk").resolve()
     file = options.settings or Path(SETTINGS.format(name))
     if options.again is not None and not file.exists():
         raise BadSettings(f"{file}: it is missing, and without its settings nothing is taken again")

@@ -24,6 +24,8 @@ CONVERTED, REFUSED = 0, 1
 
 STANDARD_INPUT = "-"
 
+DESK_PROGRAM = "onixdesk"
+
 # How many lines of the converter's summary are told; a reason is one line.
 TOLD = 20
 
@@ -93,12 +95,17 @@ def said(answer: Path, file: str, name: str) -> Said:
     return Said(first, shown(REFUSED_WORD.sub("", last, count=1)), tuple(summary))
 
 
+def call_of(program: Path) -> list[str | Path]:
+    """The first words by which the converter is called, which is a command of the desk's program or stands alone."""
+    return [program, "convert"] if program.name == DESK_PROGRAM else [program]
+
+
 def why_not_called(words: tuple[str, ...], program: Path) -> str:
     """Why the converter does not take these words, or an empty text: it is given nothing to read."""
     import tempfile
 
     with tempfile.TemporaryDirectory() as folder:
-        call: list[str | Path] = [program, *words, "-o", folder, STANDARD_INPUT]
+        call = [*call_of(program), *words, "-o", folder, STANDARD_INPUT]
         ran = subprocess.run(call, stdin=subprocess.DEVNULL, capture_output=True)
     return shown(ran.stderr.decode(**TEXT).splitlines()[0]) if ran.returncode == BAD_CALL else ""
 
@@ -130,8 +137,8 @@ class Converter:
 
     @property
     def desk_program(self) -> Path:
-        """The program whose other name the converter is, beside it."""
-        return self.program.with_name("onixdesk")
+        """The program of the desk, beside the converter where it is not that."""
+        return self.program.with_name(DESK_PROGRAM)
 
     def convert(
         self, name: str, source: Path, number: int | None, messages: Path, answer: Path, terms: tuple[str, ...] = ()
@@ -183,7 +190,7 @@ class Converter:
         }
         with answer.open("ab") as errors:
             process = subprocess.Popen(
-                [self.program, *words],
+                [*call_of(self.program), *words],
                 cwd=folder,
                 env=environment,
                 stdin=feed.output if feed else subprocess.DEVNULL,

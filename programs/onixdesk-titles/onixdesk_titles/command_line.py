@@ -48,7 +48,7 @@ def command_line(programs: Path) -> argparse.ArgumentParser:
         hand_over_again,
         settings=Path(SETTINGS).parent,
         state=Path(STATE).parent,
-        converter=programs / "onix-to-csv",
+        converter=programs / "onixdesk",
     )
     return parser
 

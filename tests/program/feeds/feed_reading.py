@@ -137,6 +137,10 @@ def declarations(data: bytes) -> str:
     )
 
 
+def words_of(text: str) -> str:
+    return " ".join(filter(None, re.split("[ \t\r\n]+", text)))
+
+
 @dataclass(eq=False)
 class Element:
     """An element: its reference name, empty where it does not count, where it begins, and what stands in it."""
@@ -155,7 +159,7 @@ class Element:
         return next(iter(self.all(name)), None)
 
     def own_text(self) -> str:
-        return " ".join(filter(None, re.split("[ \t\r\n]+", "".join(self.texts))))
+        return words_of("".join(self.texts))
 
     def text(self, name: str) -> str:
         """That of the first of this name that has one."""
@@ -247,7 +251,7 @@ class Elements:
         address = self.bound[-1].get(prefix, "")
         if not self.around:
             self.begin_root(local, address, attributes)
-        element = Element(self.counted(local, address), start, attributes.get("dateformat", ""))
+        element = Element(self.counted(local, address), start, words_of(attributes.get("dateformat", "")))
         if self.around and element.name:
             self.around[-1].below.append(element)
         self.root = self.root or element

@@ -4,13 +4,13 @@ is refused, and of each other one comes what `feed_oracle` says of the tree that
 EXAMPLES in the environment is how many feeds a group has, where another number of them is wanted.
 """
 
-import importlib.util
 import os
 from collections import Counter
 from collections.abc import Iterator
 from functools import partial
 from typing import NamedTuple
 
+from tests.needs import DEBIAN_PYTHON
 from tests.program.feeds.convert.running import FEED, convert
 from tests.program.feeds.feed_notes import (
     NO_NOTES,
@@ -28,7 +28,10 @@ from tests.program.feeds.feed_prices import DISCOUNTS
 from tests.program.feeds.feed_reading import read_or_none
 from tests.program.feeds.feed_trees import TERMS, Message, Place, Words
 from tests.program.room import Group, Ran, Room
-from tests.running import Outcome, left_out
+from tests.running import Outcome
+
+# What makes the feeds is asked for by the groups alone, which are left out where it is not there.
+NEEDS = [f"{DEBIAN_PYTHON}/hypothesis"]
 
 # So many feeds a group has, and one of large feeds.
 EXAMPLES, LARGE_EXAMPLES = 150, 10
@@ -147,13 +150,6 @@ def seen_in(wanted: Wanted) -> Iterator[str]:
 
 
 def check(kind: Kind, share: int, room: Room) -> Iterator[Outcome]:
-    if importlib.util.find_spec("hypothesis") is None:
-        yield left_out("feeds that are made, since there is no python3-hypothesis")
-        return
-    yield from tried(kind, share, room)
-
-
-def tried(kind: Kind, share: int, room: Room) -> Iterator[Outcome]:
     """The first feed of that kind by which something else comes than what is wanted, made as small as it can be; or what
     the desk says of the messages, all of which it can read."""
     from hypothesis import HealthCheck, Phase, Verbosity, configuration, given, seed, settings

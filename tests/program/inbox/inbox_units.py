@@ -163,7 +163,6 @@ def version(room: Room) -> Iterator[Outcome]:
     yield Outcome("the version of the package", named, [])
     for name in (
         "onixdesk.1",
-        "onix-to-csv.1",
         "desk-copy.1",
         "desk-restore.1",
         "desk-follow.1",

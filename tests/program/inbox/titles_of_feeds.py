@@ -10,7 +10,6 @@ from functools import partial
 from tests.program.feeds.convert.case_files import in_short_tags
 from tests.program.feeds.convert.title_rows import TAGS, rows_in
 from tests.program.databases import batch
-from tests.program.feeds.feed_writing import NAMESPACES, PASSED_OVER_TAGS
 from tests.program.inbox.inboxes import WORDS, files_in, of_series, said, script
 from tests.program.room import Group, Ran, Room
 from tests.program.feeds.sample_feeds import FOLDER
@@ -27,7 +26,8 @@ CONNECTIONS = 4
 OTHER_TAGS = dict(
     pair.split("=")
     for pair in """
-    BiographicalNote=b044 Collection=collection CollectionType=x329 Language=language LanguageCode=b252
+    BiographicalNote=b044 EpubTechnicalProtection=x317 PriceStatus=j266 SalesRestriction=salesrestriction
+    SalesRestrictionType=b381 SenderName=x298 Collection=collection CollectionType=x329 Language=language LanguageCode=b252
     LanguageRole=b253 NoContributor=n339 ProductComposition=x314 PublishingStatus=b394
     """.split()
 )
@@ -78,8 +78,8 @@ WRONG = "1 note, 1 product wrong"
 def feed_in(dialect: str, name: str) -> bytes:
     text = CASES.joinpath(name).read_text(encoding="utf-8")
     if dialect == "short tags":
-        bare = text.replace(f' xmlns="{NAMESPACES[False]}"', "")
-        text = in_short_tags(bare, TAGS | PASSED_OVER_TAGS | OTHER_TAGS)
+        bare = text.replace(' xmlns="http://ns.editeur.org/onix/3.0/reference"', "")
+        text = in_short_tags(bare, TAGS | OTHER_TAGS)
     return text.encode()
 
 

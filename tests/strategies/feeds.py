@@ -269,7 +269,9 @@ NO_XML = [
     "]]>",
 ]
 
-AMONG = st.lists(st.tuples(st.integers(0, 999), rarely(st.sampled_from(NO_XML), st.sampled_from(ASIDE), 15)), max_size=3)
+AMONG = st.lists(
+    st.tuples(st.integers(0, 999), rarely(st.sampled_from(NO_XML), st.sampled_from(ASIDE), 15)), max_size=3
+)
 
 
 def with_aside(message: str, among: list[tuple[int, str]]) -> str:
@@ -303,17 +305,15 @@ FEEDS: Text = st.builds(
 )
 
 
-# Messages whose products have so many Prices, around what a message and half of one have room for.
-SIZES = st.lists(st.sampled_from([1, 9_996, 9_997, 19_995, 19_996]), max_size=4)
-
-FRAME = FRAMES["prices"]
-PRODUCTS = FRAMES["products"]
+# Messages whose products have so many identifiers of 1,024 bytes: two of 2,040 are just too many for one part.
+SIZES = st.lists(st.sampled_from([1, 1_300, 2_039, 2_040, 3_400]), max_size=4)
+WIDE = element("ProductIdentifier", element("ProductIDType", "01") + element("IDValue", "x" * 1_024)) + "\n"
 
 
 def filled(sizes: list[int]) -> str:
-    before, behind = (FRAME.before.removeprefix(PRODUCTS.before), FRAME.behind.removesuffix(PRODUCTS.behind))
-    price = element("Price", element("PriceAmount", "1"))
-    return PRODUCTS.before + "\n".join(before + price * size + behind for size in sizes) + PRODUCTS.behind
+    before, behind = FRAMES["products"].before, FRAMES["products"].behind
+    own = element("RecordReference", "R1") + element("NotificationType", "04")
+    return before + "\n".join(element("Product", own + WIDE * size) for size in sizes) + behind
 
 
 LARGE: Text = st.builds(filled, SIZES)

@@ -34,7 +34,7 @@ from tests.running import Outcome
 NEEDS = [f"{DEBIAN_PYTHON}/hypothesis"]
 
 # So many feeds a group has, and one of large feeds.
-EXAMPLES, LARGE_EXAMPLES = 150, 10
+EXAMPLES, LARGE_EXAMPLES = 150, 15
 
 # What the summary says of what is not read.
 NOT_READ = {name: f"{name} of a Price, not read" for name in DISCOUNTS}
@@ -118,21 +118,22 @@ def products_of(verdict: Verdict) -> dict[str, tuple[int, int]]:
 
 
 class Kind(NamedTuple):
-    """Feeds of a kind: the names of the strategies in tests/strategies/feeds.py, how many there are, and of what some
-    are to come."""
+    """Feeds of a kind: the names of the strategies in tests/strategies/feeds.py, how many a share has and how many shares
+    there are, and what is to be seen in each."""
 
     name: str
     feeds: str
     words: str
     examples: int
+    shares: int
     seen: list[str]
 
 
 PLAIN = ["refused", "Product", "ProductSupply", "SupplyDetail", "Price", "wrong", *NOT_READ, NO_NOTES[-2]]
 KINDS = [
-    Kind("feeds", "FEEDS", "WORDS", EXAMPLES, PLAIN),
-    Kind("feeds and terms", "FEEDS", "WORDS_WITH_TERMS", EXAMPLES, ["Price", "computed", UNFITTED, HELD_BACK]),
-    Kind("feeds in parts", "LARGE", "WORDS", LARGE_EXAMPLES, ["refused", "Price", "in parts"]),
+    Kind("feeds", "FEEDS", "WORDS", EXAMPLES, 3, PLAIN),
+    Kind("feeds and terms", "FEEDS", "WORDS_WITH_TERMS", EXAMPLES, 3, ["Price", "computed", UNFITTED, HELD_BACK]),
+    Kind("feeds in parts", "LARGE", "WORDS", LARGE_EXAMPLES, 1, ["refused", "in parts"]),
 ]
 
 
@@ -186,9 +187,13 @@ def check(kind: Kind, share: int, room: Room) -> Iterator[Outcome]:
     except AssertionError:
         yield from wrong
         return
-    yield Outcome(f"{kind.name}, share {share}: what none of them shows", [each for each in kind.seen if not seen[each]], [])
+    yield Outcome(
+        f"{kind.name}, share {share}: what none of them shows", [each for each in kind.seen if not seen[each]], []
+    )
     came = room.run("deliver", *messages)
     yield Outcome(f"{kind.name}, share {share}, delivered", came, Ran(1, b"refused,unknown-series\n" * len(messages)))
 
 
-GROUPS = [Group(f"{kind.name}, share {share}", partial(check, kind, share)) for kind in KINDS for share in range(3)]
+GROUPS = [
+    Group(f"{kind.name}, share {share}", partial(check, kind, share)) for kind in KINDS for share in range(kind.shares)
+]

@@ -282,17 +282,20 @@ def with_aside(message: str, among: list[tuple[int, str]]) -> str:
     return message
 
 
-# Attributes of a root, and the elements whose names have a prefix, which stands for the namespace of the root in each.
-ROOTS = ["", ' xmlns="urn:own" xmlns:o="urn:own"', ' xmlns:o="" xmlns="http://ns.editeur.org/onix/3.0/reference"']
-PREFIXED = st.sets(st.sampled_from(["Product", "Price", "IDValue", "Territory", "PriceAmount"]), max_size=2)
+# Namespaces of a root: none, one of its own that a prefix has too, and that of reference names; or short tags in theirs.
+OWN = ' xmlns="urn:own" xmlns:o="urn:own"'
+SHORT = "short tags"
+ROOTS = ["", OWN, ' xmlns="http://ns.editeur.org/onix/3.0/reference"', SHORT]
+# The elements whose names have the prefix, by which they are in the namespace of the root, or, undeclared, in none.
+PREFIXED = st.sets(some_of("Product", "Price", "IDValue", "Territory", "PriceAmount"), max_size=2)
 
 
-def written(message: str, root: str, prefixed: set[str], is_short: bool, release: str) -> str:
-    """The feed. Below a root in short tags names with a prefix are no strangers where that stands for its namespace."""
-    for name in sorted(prefixed) if "urn:own" in root and not is_short else ():
+def written(message: str, root: str, prefixed: set[str], release: str) -> str:
+    for name in sorted(prefixed) if root in ("", OWN) else ():
         message = re.sub(rf"(</?)(?={name}\b)", r"\1o:", message)
-    feed = element("ONIXMessage", message, f'{root} release="{release}"')
-    return in_short_tags(feed) if is_short and not root else feed
+    attributes = f'{root if root != SHORT else ""} release="{release}"'
+    feed = element("ONIXMessage", message, attributes)
+    return in_short_tags(feed) if root == SHORT else feed
 
 
 FEEDS: Text = st.builds(
@@ -300,7 +303,6 @@ FEEDS: Text = st.builds(
     st.builds(with_aside, MESSAGE, rarely(AMONG, st.just([]), 3)),
     st.sampled_from(ROOTS),
     PREFIXED,
-    st.booleans(),
     rarely(some_of("2.1", "3"), some_of("3.0", "3.1"), 60),
 )
 

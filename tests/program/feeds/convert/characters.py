@@ -56,10 +56,10 @@ def encodings(room: Room) -> Iterator[Outcome]:
 
 def names_of_elements(room: Room) -> Iterator[Outcome]:
     """A letter of an encoding may stand in a name, and another sign not."""
-    for codec, name, letter, sign in [("latin-1", "latin1", "é", "×"), ("iso8859-15", "ISO-8859-15", "š", "€")]:
+    for codec, name, letter in [("latin-1", "latin1", "é"), ("iso8859-15", "ISO-8859-15", "š")]:
         came = convert(room, given=feed_of(name, f"<{letter}/>", PRODUCT.format("R1")).encode(codec))
         yield Outcome(f"convert: a name in {codec}", came, Ran(0, message_of("R1")))
-        came = convert(room, given=feed_of(name, f"<{sign}/>").encode(codec))
+        came = convert(room, given=feed_of(name, "<×/>").encode(codec))
         yield Outcome(f"convert: no name in {codec}", (came.status, refused_lines(came)), (1, [("-", 1)]))
 
 

@@ -21,10 +21,7 @@ from onixdesk_inbox.settings import BadSettings
 from onixdesk_inbox.verdicts import Refusal, Unconverted
 
 CONVERTED, REFUSED = 0, 1
-
 STANDARD_INPUT = "-"
-
-DESK_PROGRAM = "onixdesk"
 
 # How many lines of the converter's summary are told; a reason is one line.
 TOLD = 20
@@ -36,6 +33,7 @@ PROGRAM = "onixdesk: "
 REFUSED_WORD = re.compile(r"\brefused: ")
 WRONG_PRODUCTS = re.compile(r"\b([0-9]+) products? wrong$")
 
+CONVERT_COMMAND = {"onixdesk": ["convert"]}
 
 # What the converter proposes on a command line, and how an inbox has it in its settings.
 REMEDIES = {
@@ -95,17 +93,12 @@ def said(answer: Path, file: str, name: str) -> Said:
     return Said(first, shown(REFUSED_WORD.sub("", last, count=1)), tuple(summary))
 
 
-def call_of(program: Path) -> list[str | Path]:
-    """The first words by which the converter is called, which is a command of the desk's program or stands alone."""
-    return [program, "convert"] if program.name == DESK_PROGRAM else [program]
-
-
 def why_not_called(words: tuple[str, ...], program: Path) -> str:
     """Why the converter does not take these words, or an empty text: it is given nothing to read."""
     import tempfile
 
     with tempfile.TemporaryDirectory() as folder:
-        call = [*call_of(program), *words, "-o", folder, STANDARD_INPUT]
+        call: list[str | Path] = [program, *CONVERT_COMMAND.get(program.name, []), *words, "-o", folder, STANDARD_INPUT]
         ran = subprocess.run(call, stdin=subprocess.DEVNULL, capture_output=True)
     return shown(ran.stderr.decode(**TEXT).splitlines()[0]) if ran.returncode == BAD_CALL else ""
 
@@ -137,8 +130,8 @@ class Converter:
 
     @property
     def desk_program(self) -> Path:
-        """The program of the desk, beside the converter where it is not that."""
-        return self.program.with_name(DESK_PROGRAM)
+        """The desk's own program, beside the converter where that is another."""
+        return self.program.with_name("onixdesk")
 
     def convert(
         self, name: str, source: Path, number: int | None, messages: Path, answer: Path, terms: tuple[str, ...] = ()
@@ -190,7 +183,7 @@ class Converter:
         }
         with answer.open("ab") as errors:
             process = subprocess.Popen(
-                [*call_of(self.program), *words],
+                [self.program, *CONVERT_COMMAND.get(self.program.name, []), *words],
                 cwd=folder,
                 env=environment,
                 stdin=feed.output if feed else subprocess.DEVNULL,

@@ -96,9 +96,9 @@ OF_TERMS = [*DISCOUNTS, "Tax"]
 # What repeats in a Price, or is counted alone.
 REPEATABLE = ["PriceCondition", "PriceConstraint", "PriceDate", *OF_TERMS]
 
-# What repeats in other composites, or is counted alone; and where there are notes on what comes again.
-REPEATING = "Product Addressee SenderIdentifier AddresseeIdentifier ProductIdentifier ProductSupply Market SupplyDetail"
-REPEATING += " SupplierIdentifier Price PublishingDetail SalesRights"
+# What repeats elsewhere, is counted alone, or has nothing to read; and where there are notes on what comes again.
+REPEATING = "NoProduct Product Addressee SenderIdentifier AddresseeIdentifier ProductIdentifier ProductSupply Market"
+REPEATING += " SupplyDetail SupplierIdentifier Price PublishingDetail SalesRights"
 NOTED = ["Market", "Price"]
 
 OF_XML = "http://www.w3.org/XML/1998/namespace"

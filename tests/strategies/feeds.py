@@ -44,8 +44,9 @@ def few(text: Text, most: int, least: int = 0) -> Text:
 
 
 def some(text: Text, most: int) -> Text:
-    """One or more, or, now and then, none."""
-    return rarely(some_of(""), few(text, most, 1), 12)
+    """Mostly one or more, which shrink to none."""
+    any_of, one_or_more = few(text, most), few(text, most, 1)
+    return st.integers(0, 9).flatmap(lambda number: one_or_more if number else any_of)
 
 
 def leaf(name: str, usual: str, odd: str | None = None, of: int = 40) -> Text:
@@ -282,7 +283,7 @@ def with_aside(message: str, among: list[tuple[int, str]]) -> str:
     return message
 
 
-# Namespaces of a root: none, one of its own that a prefix has too, and that of reference names; or short tags in theirs.
+# Namespaces of a root: none, one of its own that a prefix has too, that of reference names, or short tags in theirs.
 OWN = ' xmlns="urn:own" xmlns:o="urn:own"'
 SHORT = "short tags"
 ROOTS = ["", OWN, ' xmlns="http://ns.editeur.org/onix/3.0/reference"', SHORT]

@@ -1,5 +1,5 @@
-"""`onixdesk convert` over feeds that Hypothesis makes (tests/strategies/feeds.py): what is not well-formed, as expat says,
-is refused, and of each other one comes what `feed_oracle` says of the tree that expat reads (`feed_reading`).
+"""`onixdesk convert` over feeds that Hypothesis makes (tests/strategies/feeds.py): what is not well-formed, as expat
+says, is refused, and of each other one comes what `feed_oracle` says of the tree that expat reads (`feed_reading`).
 
 EXAMPLES in the environment is how many feeds a group has, where another number of them is wanted.
 """
@@ -118,8 +118,8 @@ def products_of(verdict: Verdict) -> dict[str, tuple[int, int]]:
 
 
 class Kind(NamedTuple):
-    """Feeds of a kind: the names of the strategies in tests/strategies/feeds.py, how many a share has and how many shares
-    there are, and what is to be seen in each."""
+    """Feeds of a kind: the names of the strategies in tests/strategies/feeds.py, how many a share has and how many
+    shares there are, and what is to be seen in each."""
 
     name: str
     feeds: str
@@ -151,7 +151,7 @@ def seen_in(wanted: Wanted) -> Iterator[str]:
 
 
 def check(kind: Kind, share: int, room: Room) -> Iterator[Outcome]:
-    """The first feed of that kind by which something else comes than what is wanted, made as small as it can be; or what
+    """The first feed of that kind of which something else comes than what is wanted, made as small as it can be; or what
     the desk says of the messages, all of which it can read."""
     from hypothesis import HealthCheck, Phase, Verbosity, configuration, given, seed, settings
 

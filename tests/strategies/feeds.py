@@ -36,7 +36,8 @@ def parts(*texts: Text) -> Text:
 
 
 def composite(name: str, *texts: Text) -> Text:
-    return st.builds(element, st.just(name), parts(*texts))
+    """One with these in it, of which the order says nothing."""
+    return st.builds(element, st.just(name), rarely(parts(*reversed(texts)), parts(*texts), 6))
 
 
 def few(text: Text, most: int, least: int = 0) -> Text:
@@ -221,14 +222,14 @@ HEADER = composite(
     "Header",
     rarely(composite("Sender", identifiers("Sender", 2)), some_of(element("Sender", "")), 4),
     rarely(few(ADDRESSEE, 2), some_of("", element("Addressee", "")), 4),
-    leaf("MessageNumber", "1|7|0012|00000000400000", "|0|x|1234567890", 15),
+    leaf("MessageNumber", "1|7|0012|00000000400000", "|0|x|1234567890|999999999", 15),
     leaf("MessageRepeat", "|2", "x|1234567890"),
     leaf("SentDateTime", "|20250303T0615Z", f"{CONTROL}|{LONG}"),
     leaf("DefaultPriceType", "02|02|02|", "2"),
     leaf("DefaultCurrencyCode", "GBP|GBP|GBP|", "gbp"),
 )
 
-MESSAGE = rarely(st.builds("{1}{0}{1}".format, PRODUCT, HEADER), parts(HEADER, some(PRODUCT, 3)), 60)
+MESSAGE = rarely(parts(PRODUCT, HEADER), parts(HEADER, some(PRODUCT, 3)), 60)
 
 
 # What is put behind some tag of a message: what changes nothing, what comes again or is a stranger, and what is no XML.

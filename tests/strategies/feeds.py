@@ -232,8 +232,11 @@ HEADER = composite(
 MESSAGE = rarely(parts(PRODUCT, HEADER), parts(HEADER, some(PRODUCT, 3)), 60)
 
 
-# What is put behind some tag of a message: what changes nothing, what comes again or is a stranger, and what is no XML.
+# What is put before or behind an end tag: what changes nothing, what comes again (NAME is the name in that tag), what is
+# a stranger, and what is no XML.
 ASIDE = [
+    "<NAME/>",
+    "<NAME>7</NAME>",
     " \n",
     "<!-- a -->",
     "<?a b?>",
@@ -245,9 +248,6 @@ ASIDE = [
     "<Market/>",
     "<SupplyDetail/>",
     "<Product/>",
-    "<IDValue>7</IDValue>",
-    "<PriceAmount/>",
-    "<Date/>",
     "<CountriesIncluded>FR</CountriesIncluded>",
     "<Supplier/>",
     "<NotificationType>05</NotificationType>",
@@ -272,15 +272,16 @@ NO_XML = [
 ]
 
 AMONG = st.lists(
-    st.tuples(st.integers(0, 999), rarely(st.sampled_from(NO_XML), st.sampled_from(ASIDE), 15)), max_size=3
+    st.tuples(st.integers(0, 999), st.booleans(), rarely(some_of(*NO_XML), some_of(*ASIDE), 15)), max_size=3
 )
 
 
-def with_aside(message: str, among: list[tuple[int, str]]) -> str:
-    for place, aside in among:
-        ends = [found.end() for found in re.finditer(">", message)] or [0]
-        at = ends[place % len(ends)]
-        message = message[:at] + aside + message[at:]
+def with_aside(message: str, among: list[tuple[int, bool, str]]) -> str:
+    for place, is_behind, aside in among:
+        ends = [*re.finditer("</([A-Za-z]+)>", message)]
+        end = ends[place % len(ends)]
+        at = end.end() if is_behind else end.start()
+        message = message[:at] + aside.replace("NAME", end[1]) + message[at:]
     return message
 
 

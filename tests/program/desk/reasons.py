@@ -97,8 +97,9 @@ def texts(room: Room) -> Iterator[Outcome]:
     room.write("large.csv", large)
     for words in ["batch"], ["check", "large.csv"], ["deliver", "large.csv"]:
         came = room.told(*words, given=large)
-        found = came.status, came.errors.splitlines()[0], len(came.errors.splitlines())
-        yield Outcome(f"why: {' '.join(words)}: too large", found, (3, b"onixdesk: input: too large", 2))
+        first, *others = came.errors.splitlines()
+        ended = came.status, first, len(others)
+        yield Outcome(f"why: {' '.join(words)}: too large", ended, (3, b"onixdesk: input: too large", 1))
 
 
 def outputs(room: Room) -> Iterator[Outcome]:

@@ -95,11 +95,12 @@ def longest_chain(weights: dict[Part, float]) -> tuple[float, list[str]]:
 def table(weights: dict[Part, float]) -> list[str]:
     """A row for each crate and for what is of none, those that weigh most first."""
     rows: dict[str, dict[str, float]] = defaultdict(dict)
+    whole: dict[str, float] = defaultdict(float)
     for (kind, name), weight in weights.items():
         rows[name][kind] = weight
-        rows["all"][kind] = rows["all"].get(kind, 0.0) + weight
+        whole[kind] += weight
     lines = ["| Crate | Proof | Edits | Tests | Programs | All |", "|---" * 6 + "|"]
-    for name, row in sorted(rows.items(), key=lambda it: -sum(it[1].values())):
+    for name, row in [*sorted(rows.items(), key=lambda it: -sum(it[1].values())), ("all", whole)]:
         kinds = " | ".join(f"{row[kind]:.2f}" if kind in row else "" for kind in KINDS)
         lines.append(f"| {name} | {kinds} | {sum(row.values()):.2f} |")
     return lines
@@ -108,9 +109,9 @@ def table(weights: dict[Part, float]) -> list[str]:
 def report(sampler: Sampler) -> list[str]:
     """The table, the longest chain, the most memory, and last the weight of the whole."""
     seconds = sampler.seconds()
-    base = sum(seconds.get(part, 0.0) for part in BASE)
     lines, weight = [], "not known"
-    if base:
+    if all(part in seconds for part in BASE):
+        base = sum(seconds[part] for part in BASE)
         weights = {part: each / base for part, each in seconds.items()}
         chain, crates = longest_chain(weights)
         lines = [*table(weights), f"the longest chain of crates: {chain:.2f} = {', '.join(crates)}"]

@@ -99,25 +99,24 @@ fn question() -> Option<CalendarQuery> {
 fn spans_of(
     alloc: Global,
     offer: &Offer,
-    query: CalendarQuery,
+    query: &CalendarQuery,
 ) -> Result<Items<Span>, CalendarFault> {
-    let CalendarQuery {
-        from,
-        to,
-        country,
-        currency,
-        price_type,
-        quantity,
-    } = query;
     calendar(
-        alloc, offer, from, to, country, currency, price_type, quantity,
+        alloc,
+        offer,
+        query.from,
+        query.to,
+        query.country,
+        query.currency,
+        query.price_type,
+        query.quantity,
     )
 }
 
 // The calendar of an offer is the same day by day. tests/batches/calendars.txt has what it is.
 fn expect_calendar(alloc: Global, stop: &impl Abort, offer: &Offer) {
     let query = found(stop, question(), "a question");
-    let spans = made(stop, spans_of(alloc, offer, query));
+    let spans = made(stop, spans_of(alloc, offer, &query));
     let by_day = made(stop, calendar_day_by_day(alloc, offer, &query));
     let are_same = spans.as_slice() == by_day.as_slice();
     expect(

@@ -48,18 +48,6 @@ AskChoice,9780000000002,20250301,GB,GBP,02
 applied,north,2,replaced=1,updated=0,deleted=0,unknown=0,ignored=0
 choice,9780000000002,none
 
-== an earlier rule goes before a lesser amount
-Message,1,06,5000000000005,06,5012345678900,2,1,20250301,02,GBP
-Product,X1,03,15,9781234567897
-ProductSupply,GB IE,,
-SupplyDetail,04,06,5000000000005,South Books,31,
-Price,,13,,,,,,
-EndMessage,5
-AskChoice,9781234567897,20250301,GB,GBP,02
--- wanted
-applied,south,2,replaced=1,updated=0,deleted=0,unknown=0,ignored=0
-choice,9781234567897,1,south,X1,1,31,13.000
-
 == calendars, and a range that ends before it begins
 Message,1,06,4012345000009,06,5012345678900,3,1,20250301,02,GBP
 Product,R1,03,15,9781234567897
@@ -83,8 +71,8 @@ span,20250515,20250516,9.000
 span,20250517,20250520,9.500
 span,20250521,20250531,11.000
 span,20250601,20250601,
-offer,south,X1,1,31
-span,20250331,20250601,13.000
+offer,south,X1,1,21
+span,20250331,20250601,12.990
 refused,bad-range
 
 == messages that are malformed at their last row, and within

@@ -144,7 +144,7 @@ fn expect_stops_of<D: StoppedDesk + Drop, R: Abort>(
     stop.panic("each run had too few calls")
 }
 
-// The same of a list.
+// The same of a list. Each file has a test of its own, since a test has a minute.
 fn expect_stops<D: StoppedDesk + Drop, R: Abort>(
     alloc: Global,
     stop: &R,
@@ -170,19 +170,14 @@ fn expect_stops<D: StoppedDesk + Drop, R: Abort>(
     expect_stops_of::<D, R>(alloc, stop, batch, is_log, &mut output);
 }
 
-// The same of files. Each of the two has a test of its own, since a test has a minute.
-fn expect_file_stops<R: Abort>(alloc: Global, stop: &R, list: &str, is_log: bool) {
-    expect_stops::<FileDesk, R>(alloc, stop, list, is_log);
-}
-
 #[test]
 fn stops_of_the_log(rt: HostRuntime) {
-    expect_file_stops(rt.alloc(), &rt, STEPS, true);
+    expect_stops::<FileDesk, HostRuntime>(rt.alloc(), &rt, STEPS, true);
 }
 
 #[test]
 fn stops_of_the_database(rt: HostRuntime) {
-    expect_file_stops(rt.alloc(), &rt, STEPS, false);
+    expect_stops::<FileDesk, HostRuntime>(rt.alloc(), &rt, STEPS, false);
 }
 
 // Migrates files of which one fails, stops the machine, and migrates what is left: whether a disk failed.

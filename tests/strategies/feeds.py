@@ -232,11 +232,10 @@ HEADER = composite(
 MESSAGE = rarely(parts(PRODUCT, HEADER), parts(HEADER, some(PRODUCT, 3)), 60)
 
 
-# What is put before or behind an end tag: what changes nothing, what comes again (NAME is the name in that tag), what is
-# a stranger, and what is no XML.
+# What is put before or behind an end tag: what comes again, with the NAME in that tag; what changes nothing, or is a
+# stranger; and what is no XML.
+AGAIN = ["<NAME/>", "<NAME>7</NAME>"]
 ASIDE = [
-    "<NAME/>",
-    "<NAME>7</NAME>",
     " \n",
     "<!-- a -->",
     "<?a b?>",
@@ -271,9 +270,8 @@ NO_XML = [
     "]]>",
 ]
 
-AMONG = st.lists(
-    st.tuples(st.integers(0, 999), st.booleans(), rarely(some_of(*NO_XML), some_of(*ASIDE), 15)), max_size=3
-)
+PUT = rarely(some_of(*NO_XML), st.one_of(some_of(*ASIDE), some_of(*AGAIN)), 15)
+AMONG = st.lists(st.tuples(st.integers(0, 999), st.booleans(), PUT), max_size=3)
 
 
 def with_aside(message: str, among: list[tuple[int, bool, str]]) -> str:

@@ -9,6 +9,7 @@ from tests.program.databases import all_rows
 from tests.program.messages import AGREEMENT, priced
 from tests.program.room import Ran, Room
 from tests.running import Outcome
+from tools.words import Word
 
 # The requests of a batch, and the batches of each of which a run is killed.
 REQUESTS, BATCHES = 60, 4
@@ -32,7 +33,7 @@ def killed(room: Room, some: list[bytes], seconds: float) -> int:
     """How many requests were answered by a run that was killed after so many seconds."""
     room.write("requests", b"".join(some))
     with open(room.path("requests"), "rb") as text:
-        words = [room.program, "--db", "killed.db", "batch"]
+        words: list[Word] = [room.program, "--db", "killed.db", "batch"]
         run = subprocess.Popen(words, cwd=room.folder, stdin=text, stdout=subprocess.PIPE)
         time.sleep(seconds)
         run.kill()

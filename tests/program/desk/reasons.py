@@ -157,12 +157,10 @@ def refusals(room: Room) -> Iterator[Outcome]:
         "bad-range": calendar,
         "unnumbered": AGREEMENT + UNNUMBERED * 2,
     }.items():
-        room.path(DATABASE).unlink(missing_ok=True)
-        came = told(room.told("--db", DATABASE, "batch", given=b"AskGaps,north\n" + text), f"refused,{kind}")
-        yield Outcome(f"why: {kind}", (came.status, came.others), (1, [True]))
-    lines = room.told("batch", given=b"AskGaps,north\n").errors.splitlines()
-    found = [line.startswith(b"onixdesk: without --db ") for line in lines]
-    yield Outcome("why: a batch without --db", found, [True])
+        came = room.told("batch", given=text)
+        hint, last = came.errors.decode().splitlines()
+        found = hint.startswith(f"onixdesk: refused,{kind}: "), last.startswith("onixdesk: without --db ")
+        yield Outcome(f"why: {kind}", (came.status, found), (1, (True, True)))
 
 
 # Questions over HTTP whose query is bad, by the key that is wrong; and one that is not bad.

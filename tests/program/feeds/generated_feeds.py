@@ -131,8 +131,8 @@ class Kind(NamedTuple):
 
 PLAIN = ["refused", "Product", "ProductSupply", "SupplyDetail", "Price", "wrong", *NOT_READ, NO_NOTES[-2]]
 KINDS = [
-    Kind("feeds", "FEEDS", "WORDS", EXAMPLES, 3, PLAIN),
-    Kind("feeds and terms", "FEEDS", "WORDS_WITH_TERMS", EXAMPLES, 3, ["Price", "computed", UNFITTED, HELD_BACK]),
+    Kind("feeds", "FEEDS", "WORDS", EXAMPLES, 2, PLAIN),
+    Kind("feeds and terms", "FEEDS", "WORDS_WITH_TERMS", EXAMPLES, 2, ["Price", "computed", UNFITTED, HELD_BACK]),
     Kind("feeds in parts", "LARGE", "WORDS", LARGE_EXAMPLES, 1, ["refused", "in parts"]),
 ]
 

@@ -7,6 +7,7 @@ EXAMPLES in the environment is how many feeds a group has, where another number 
 import os
 from collections import Counter
 from collections.abc import Iterator
+from dataclasses import replace
 from functools import partial
 from typing import NamedTuple
 
@@ -137,15 +138,16 @@ KINDS = [
 ]
 
 
-def seen_in(wanted: Wanted) -> Iterator[str]:
+def seen_in(wanted: Wanted, words: Words) -> Iterator[str]:
     """What a feed shows of its kind."""
     verdict = wanted.verdict
     yield from ["refused"] * (verdict.refusal is not None) + ["wrong"] * (verdict.wrong_products > 0)
-    records = [record for part in verdict.parts for record in part.records]
-    yield from {record[0] for record in records}
+    yield from {record[0] for part in verdict.parts for record in part.records}
     yield from verdict.discounts
-    if verdict.parts and wanted.message and wanted.message.again:
-        yield NO_NOTES[-2]
+    if verdict.parts and wanted.message:
+        yield from [NO_NOTES[-2]] * wanted.message.again
+        without = judge(wanted.message, replace(words, terms=None)).parts if words.terms else verdict.parts
+        yield from ["computed"] * (without != verdict.parts)
     if sum(len(part.records) > 2 for part in verdict.parts) > 1:
         yield "in parts"
 
@@ -175,7 +177,7 @@ def check(kind: Kind, share: int, room: Room) -> Iterator[Outcome]:
     @given(getattr(strategies, kind.feeds), getattr(strategies, kind.words))
     def converts(feed: str, words: Words) -> None:
         wanted = wanted_of(feed.encode(), words)
-        seen.update(seen_in(wanted))
+        seen.update(seen_in(wanted, words))
         wrong[:] = [each for each in outcomes(feed, words, wanted, room) if each.came != each.wanted]
         for part in wanted.verdict.parts[:1]:
             messages.append(f"{len(messages)}.csv")

@@ -19,7 +19,8 @@ def build(words: Sequence[Word], folder: Path, packages: str) -> None:
     except OSError as fault:
         raise BenchmarkFault(f"{words[0]}: {fault.strerror}, which needs Debian's {packages}") from fault
     except subprocess.CalledProcessError as fault:
-        raise BenchmarkFault(f"{words[0]} failed, which needs Debian's {packages}: {fault.stderr}") from fault
+        last = fault.stderr.strip().rpartition("\n")[2]
+        raise BenchmarkFault(f"{words[0]} failed, which needs Debian's {packages}: {last}") from fault
 
 
 def records(folder: Path) -> Path:

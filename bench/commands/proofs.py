@@ -6,7 +6,7 @@ It reads when the files of crates/CRATE/out/incremental were written: each is a 
 two of them is what the second took. That holds of a check from nothing with one job, while no other one waits for the
 same processor: 'rm -rf out', and 'rt check --jobs 1' in the crate's folder.
 
-Prints the seconds of the whole, and of the dearest functions, each with the seconds of its certificate, which the
+Prints the seconds of the whole, and of the 25 dearest functions, each with the seconds of its certificate, which the
 borrow checker writes. Status 0; 2 where the crate has kept nothing.
 """
 
@@ -23,8 +23,6 @@ PART = re.compile(r"Rattle-\w+?-(?:proofs|specs)\.(.+)\.([A-Z]\w+?)(?:\.decls)?\
 
 KINDS = set("Lts Answers Code Facts Given Goals Invariants Key Kinds Layout Mir Named Proof Reads Spec Tie".split())
 
-MOST = 25
-
 
 def profile(folder: Path) -> list[str]:
     """The lines; none where nothing is kept."""
@@ -36,7 +34,7 @@ def profile(folder: Path) -> list[str]:
         functions[whose] += time - before
         certificates[whose] += (time - before) * bool(found and found[2] == "Lts")
     lines = [("the whole", functions.total(), certificates.total())]
-    lines += [(it, time, certificates[it]) for it, time in functions.most_common(MOST)]
+    lines += [(it, time, certificates[it]) for it, time in functions.most_common(25)]
     return [f"{time / 1e9:7.1f} s {certificate / 1e9:7.1f} s  {it}" for it, time, certificate in lines if written]
 
 

@@ -5,8 +5,8 @@
 It runs COMMAND ('make test') and looks at the processes below it twice a second. At the end it prints their processor
 time, as a multiple of what the proofs of csv_records and onix_terms took in the same run: for each crate its proof, its
 must-fail edits, its tests and what two compilers make of its program; the crates of the longest chain; the most memory;
-the minutes; how many crates were kept, which weigh nothing; and in a last line, 'weight: ..', the whole. Two runs
-compare if nothing ran beside them. The status is that of COMMAND.
+the minutes; how many crates were kept, which weigh nothing; and in a last line, 'weight: ..', the whole without the
+tests of the page and of PostgreSQL. Two runs compare if nothing ran beside them. The status is that of COMMAND.
 """
 
 import resource

@@ -17,6 +17,9 @@ BASE = [("proofs", "csv_records"), ("proofs", "onix_terms")]
 
 ELSE = ("others", "all else")
 
+# Tests that are no part of the weight, with all that they start, by a word of their command.
+APART = {"tests.commands.page": "page", "tests/page/modules/run": "page", "tests.commands.postgres": "PostgreSQL"}
+
 
 def part_named(words: list[str], folder: str) -> Part:
     """Which part of the gate a process is, by its words and the folder that it works in."""
@@ -45,26 +48,27 @@ class Sampler:
 
     def look(self) -> None:
         """Takes down what the processes have used so far."""
-        parents, taken = {}, {}
+        parents, taken, words = {}, {}, {}
         for pid in filter(str.isdigit, os.listdir("/proc")):
             try:
                 fields = Path("/proc", pid, "stat").read_text().rpartition(")")[2].split()
+                words[pid] = Path("/proc", pid, "cmdline").read_bytes().decode(errors="replace").split("\0")
             except OSError:
                 continue
             parents[pid] = fields[1]
             taken[pid, fields[19]] = (int(fields[11]) + int(fields[12])) / os.sysconf("SC_CLK_TCK")
         for (pid, began), seconds in taken.items():
-            above = pid
-            while above in parents and above != self.root:
-                above = parents[above]
-            if above == self.root:
-                self.take((pid, began), seconds)
+            chain = [pid]
+            while chain[-1] in parents and chain[-1] != self.root:
+                chain.append(parents[chain[-1]])
+            if chain[-1] == self.root:
+                apart = {name for it in chain for mark, name in APART.items() if mark in " ".join(words.get(it, []))}
+                self.take((pid, began), seconds, words[pid], apart)
 
-    def take(self, process: tuple[str, str], seconds: float) -> None:
+    def take(self, process: tuple[str, str], seconds: float, words: list[str], apart: set[str]) -> None:
         try:
             folder = Path("/proc", process[0])
-            words = (folder / "cmdline").read_bytes().decode(errors="replace").split("\0")
-            part = part_named(words, os.readlink(folder / "cwd"))
+            part = ("apart", min(apart)) if apart else part_named(words, os.readlink(folder / "cwd"))
             status = (folder / "status").read_text()
             kilobytes = int(status.partition("VmHWM:")[2].partition("kB")[0] or 0)
             self.memory[part] = max(self.memory[part], 1024 * kilobytes)
@@ -112,10 +116,11 @@ def report(sampler: Sampler) -> list[str]:
     lines, weight = [], "not known"
     if all(part in seconds for part in BASE):
         base = sum(seconds[part] for part in BASE)
-        weights = {part: each / base for part, each in seconds.items()}
+        weights = {part: each / base for part, each in seconds.items() if part[0] != "apart"}
         chain, crates = longest_chain(weights)
         lines = [*table(weights), f"the longest chain of crates: {chain:.2f} = {', '.join(crates)}"]
         weight = f"{sum(weights.values()):.2f} times the proofs of csv_records and onix_terms ({base / 60:.1f} min)"
     most = sorted(((size, *part) for part, size in sampler.memory.items()), reverse=True)[:5]
     lines.append("most memory: " + ", ".join(f"{kind} {crate} {size / 1e9:.1f} GB" for size, kind, crate in most))
+    lines += [f"left out: {name} {took / 60:.1f} min" for (kind, name), took in seconds.items() if kind == "apart"]
     return [*lines, f"weight: {weight}"]

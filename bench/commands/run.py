@@ -20,7 +20,7 @@ from bench.figures.ratios import Bench
 from bench.figures.runs import BenchmarkFault
 from tools.root import ROOT
 
-OF_BENCHMARKS = [
+OF_BENCHMARKS: list[Callable[[Bench], Iterator[ratios.Figure]]] = [
     ratios.messages_in_a_file,
     ratios.messages_in_memory,
     ratios.questions_for_prices,

@@ -58,7 +58,7 @@ def taken(run: Run) -> Taken:
     with open(run.given, "rb") as given:
         words: list[Word] = [sys.executable, "-I", "-S", "-c", MEASURING, *run.words]
         done = subprocess.run(words, stdin=given, capture_output=True, text=True, errors="replace")
-    status, microseconds, kilobytes = map(int, done.stdout.split() or [done.returncode, 0, 0])
+    status, microseconds, kilobytes = map(int, done.stdout.split() or [str(done.returncode), "0", "0"])
     if status or not kilobytes:
         raise BenchmarkFault(f"status {status} of {' '.join(map(str, run.words))}: {done.stderr[-300:]}")
     return Taken(microseconds, kilobytes * 1_024)

@@ -155,11 +155,12 @@ def seen_in(wanted: Wanted, words: Words) -> Iterator[str]:
 def check(kind: Kind, share: int, room: Room) -> Iterator[Outcome]:
     """The first feed of that kind of which something else comes than what is wanted, made as small as it can be; or what
     the desk says of the messages, all of which it can read."""
-    from hypothesis import HealthCheck, Phase, Verbosity, configuration, given, seed, settings
+    from hypothesis import HealthCheck, Phase, Verbosity, given, seed, settings
 
     from tests.strategies import feeds as strategies
 
-    configuration.set_hypothesis_home_dir(room.folder)
+    # Hypothesis keeps tables of characters there.
+    os.environ["HYPOTHESIS_STORAGE_DIRECTORY"] = str(room.folder)
     seen: Counter[str] = Counter()
     wrong: list[Outcome] = []
     messages: list[str] = []

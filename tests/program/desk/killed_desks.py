@@ -1,18 +1,17 @@
 """A desk that is killed at some moment of a batch has the rows of what it has answered, or of one request more."""
 
 import subprocess
-import time
 from collections.abc import Iterator
 from random import Random
 
 from tests.program.databases import all_rows
 from tests.program.messages import AGREEMENT, priced
-from tests.program.room import Ran, Room
+from tests.program.room import SECONDS, Ran, Room
 from tests.running import Outcome
 from tools.words import Word
 
 # The requests of a batch, and the batches of each of which a run is killed.
-REQUESTS, BATCHES = 60, 4
+REQUESTS, BATCHES = 60, 8
 
 
 def requests(random: Random, first: int) -> list[bytes]:
@@ -29,16 +28,18 @@ def given(room: Room, file: str, some: list[bytes]) -> Ran:
     return room.run("--db", file, "batch", given=b"".join(some))
 
 
-def killed(room: Room, some: list[bytes], seconds: float) -> int:
-    """How many requests were answered by a run that was killed after so many seconds."""
+def killed(room: Room, some: list[bytes], answered: int) -> int:
+    """How many requests were answered by a run that was killed as soon as so many were."""
     room.write("requests", b"".join(some))
     with open(room.path("requests"), "rb") as text:
         words: list[Word] = [room.program, "--db", "killed.db", "batch"]
         run = subprocess.Popen(words, cwd=room.folder, stdin=text, stdout=subprocess.PIPE)
-        time.sleep(seconds)
-        run.kill()
-        output, _ = run.communicate()
-    return output.count(b"\n")
+    assert run.stdout
+    for _ in range(answered):
+        run.stdout.readline()
+    run.kill()
+    output, _errors = run.communicate(timeout=SECONDS)
+    return answered + output.count(b"\n")
 
 
 def at_some_moments(room: Room) -> Iterator[Outcome]:
@@ -48,16 +49,13 @@ def at_some_moments(room: Room) -> Iterator[Outcome]:
         given(room, file, [AGREEMENT])
     for place in range(BATCHES):
         some = requests(random, 1 + place * REQUESTS)
-        began = time.monotonic()
-        given(room, f"timed-{place}.db", [AGREEMENT, *some])
-        count = killed(room, some, random.uniform(0, time.monotonic() - began))
+        count = killed(room, some, random.randrange(len(some)))
         given(room, "whole.db", some[:count])
         if all_rows(room, "killed.db") != all_rows(room, "whole.db"):
             given(room, "whole.db", some[count : count + 1])
             count += 1
         name = f"a kill: batch {place}"
         yield Outcome(f"{name}: the rows", all_rows(room, "killed.db") == all_rows(room, "whole.db"), True)
-        yield Outcome(
-            f"{name}: the rest", given(room, "killed.db", some[count:]), given(room, "whole.db", some[count:])
-        )
+        wanted = given(room, "whole.db", some[count:])
+        yield Outcome(f"{name}: the rest", given(room, "killed.db", some[count:]), wanted)
         yield Outcome(f"{name}: the rows then", all_rows(room, "killed.db") == all_rows(room, "whole.db"), True)

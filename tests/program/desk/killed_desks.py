@@ -1,6 +1,7 @@
 """A desk that is killed at some moment of a batch has the rows of what it has answered, or of one request more."""
 
 import subprocess
+import time
 from collections.abc import Iterator
 from random import Random
 
@@ -28,8 +29,8 @@ def given(room: Room, file: str, some: list[bytes]) -> Ran:
     return room.run("--db", file, "batch", given=b"".join(some))
 
 
-def killed(room: Room, some: list[bytes], answered: int) -> int:
-    """How many requests were answered by a run that was killed as soon as so many were."""
+def killed(room: Room, some: list[bytes], answered: int, seconds: float) -> int:
+    """How many requests were answered by a run that was killed so many seconds after it had answered some."""
     room.write("requests", b"".join(some))
     with open(room.path("requests"), "rb") as text:
         words: list[Word] = [room.program, "--db", "killed.db", "batch"]
@@ -37,6 +38,7 @@ def killed(room: Room, some: list[bytes], answered: int) -> int:
     assert run.stdout
     for _ in range(answered):
         run.stdout.readline()
+    time.sleep(seconds)
     run.kill()
     output, _errors = run.communicate(timeout=SECONDS)
     return answered + output.count(b"\n")
@@ -49,7 +51,7 @@ def at_some_moments(room: Room) -> Iterator[Outcome]:
         given(room, file, [AGREEMENT])
     for place in range(BATCHES):
         some = requests(random, 1 + place * REQUESTS)
-        count = killed(room, some, random.randrange(len(some)))
+        count = killed(room, some, random.randrange(len(some)), random.uniform(0, 0.02))
         given(room, "whole.db", some[:count])
         if all_rows(room, "killed.db") != all_rows(room, "whole.db"):
             given(room, "whole.db", some[count : count + 1])

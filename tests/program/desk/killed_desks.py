@@ -53,6 +53,8 @@ def at_some_moments(room: Room) -> Iterator[Outcome]:
         some = requests(random, 1 + place * REQUESTS)
         count = killed(room, some, random.randrange(len(some)), random.uniform(0, 0.02))
         given(room, "whole.db", some[:count])
+        # The desk itself goes over what the kill has left.
+        given(room, "killed.db", [])
         if all_rows(room, "killed.db") != all_rows(room, "whole.db"):
             given(room, "whole.db", some[count : count + 1])
             count += 1

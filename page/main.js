@@ -1,16 +1,16 @@
 // The page: its texts and settings, and the view that the address names.
 
-import { addressOf, readAddress } from "./address.js";
-import { Article } from "./article.js";
-import { element, found } from "./elements.js";
-import { Missing } from "./missing.js";
-import { Order } from "./order.js";
-import { Reports } from "./reports.js";
-import { loadRules } from "./rules.js";
-import { placeOf, Scanner } from "./scan.js";
-import { areRenewed, loadSettings, loadWords } from "./settings.js";
-import { areTitlesKept } from "./titles.js";
-import { formatter, labelAll, say, sayCount, speak } from "./wording.js";
+import { addressOf, readAddress } from "./text/address.js";
+import { Article } from "./article/article.js";
+import { element, found } from "./text/elements.js";
+import { Missing } from "./missing/missing.js";
+import { Order } from "./order/order.js";
+import { Reports } from "./missing/reports.js";
+import { loadRules } from "./desk/rules.js";
+import { placeOf, Scanner } from "./text/scan.js";
+import { areRenewed, loadSettings, loadWords } from "./desk/settings.js";
+import { areTitlesKept } from "./desk/titles.js";
+import { formatter, labelAll, say, sayCount, speak } from "./text/wording.js";
 
 /** What a view tells of the desk, in the note above it. */
 const watch = {

@@ -178,9 +178,9 @@ def number_in(path: Path, name: str) -> int:
 def burst(site: Site, browser: Browser) -> Iterator[Outcome]:
     """What a whole list asks at most, and once more where it is saved, is within what the web server lets pass at once,
     with room for other buyers."""
-    lines = number_in(PAGE / "order-lines.js", "MOST_LINES")
-    each = number_in(PAGE / "order-asking.js", "QUESTIONS")
-    more = number_in(PAGE / "order-asking.js", "MORE_QUESTIONS")
+    lines = number_in(PAGE / "order/lines.js", "MOST_LINES")
+    each = number_in(PAGE / "order/asking.js", "QUESTIONS")
+    more = number_in(PAGE / "order/asking.js", "MORE_QUESTIONS")
     most = lines * (each + 1) + more
     name = f"{lines} lines of {each} questions, {more} more, and {lines} where they are saved"
     passed, kept = [number_in(ROOT / "examples/page/nginx.conf", word) for word in ("burst", "keepalive_requests")]

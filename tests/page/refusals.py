@@ -141,7 +141,7 @@ SETTINGS = [
 # What the page says of texts of desk.json, by its own modules.
 READ = """
 const [texts, done] = arguments;
-Promise.all([import('/settings.js'), import('/wording.js')]).then(([{ readSettings }, { say }]) => {
+Promise.all([import('/desk/settings.js'), import('/text/wording.js')]).then(([{ readSettings }, { say }]) => {
   done(texts.map((text) => readSettings(text).problems.map(({ path, values }) => say(path, values))));
 });
 """

@@ -5,8 +5,8 @@ import { afterEach, test } from "node:test";
 
 import {
   bareMoney, compareAmounts, difference, isNothing, money, mostBelow, signedMoney, sumOf, times,
-} from "../page/amounts.js";
-import { shippedWords, speak } from "../page/wording.js";
+} from "../page/text/amounts.js";
+import { shippedWords, speak } from "../page/text/wording.js";
 
 const speaking = (language) => speak(language, shippedWords(language));
 const plain = (text) => text.replaceAll(/[\u00a0\u202f]/g, " ");

@@ -3,13 +3,13 @@
 import assert from "node:assert/strict";
 import { test } from "node:test";
 
-import { elsewhereInWords, fallsInWords, onlyMoreInWords } from "../page/better.js";
-import { detailsOf, sentenceOf, sumInWords, whyOf } from "../page/decision.js";
-import { untilNotes } from "../page/answer.js";
-import { keyOf } from "../page/offers.js";
-import { differenceInWords, priceCell } from "../page/offers-table.js";
-import { farOf, marginOf, retailInWords, retailOf } from "../page/retail.js";
-import { areAdmitting, rulesOf } from "../page/rules.js";
+import { elsewhereInWords, fallsInWords, onlyMoreInWords } from "../page/article/better.js";
+import { detailsOf, sentenceOf, sumInWords, whyOf } from "../page/article/decision.js";
+import { untilNotes } from "../page/article/answer.js";
+import { keyOf } from "../page/desk/offers.js";
+import { differenceInWords, priceCell } from "../page/article/offers-table.js";
+import { farOf, marginOf, retailInWords, retailOf } from "../page/article/retail.js";
+import { areAdmitting, rulesOf } from "../page/desk/rules.js";
 
 const offer = (series, amount, more = {}) => ({ series, reference: series, place: 1, availability: "21", amount, ...more });
 const at = (quantity, ...offers) => ({ quantity, offers });

@@ -5,13 +5,13 @@ import assert from "node:assert/strict";
 import { readFileSync } from "node:fs";
 import { test } from "node:test";
 
-import { fileNameOf, formOf, textIn, wholeForm } from "../page/csv-form.js";
-import { copiesIn } from "../page/order-before.js";
-import { stepTo } from "../page/order-carriage.js";
-import { budgetOf } from "../page/order-results.js";
-import { fileText } from "../page/order-saving.js";
-import { readSettings } from "../page/settings.js";
-import { shippedWords, speak } from "../page/wording.js";
+import { fileNameOf, formOf, textIn, wholeForm } from "../page/order/csv-form.js";
+import { copiesIn } from "../page/order/before.js";
+import { stepTo } from "../page/order/carriage.js";
+import { budgetOf } from "../page/order/results.js";
+import { fileText } from "../page/order/saving.js";
+import { readSettings } from "../page/desk/settings.js";
+import { shippedWords, speak } from "../page/text/wording.js";
 
 const offer = (series, amount) => ({ series, reference: `${series}-1`, place: 1, availability: "21", amount });
 const NORTH = offer("north", "9.000");

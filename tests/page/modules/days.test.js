@@ -5,7 +5,7 @@ import { test } from "node:test";
 
 import {
   dayInShort, endOfMonths, fromDesk, inWords, isDay, lengthOf, numberOf, plusDays, plusMonths, ticksOf, toDesk, today,
-} from "../page/days.js";
+} from "../page/text/days.js";
 
 test("days that there are, and that there are not", () => {
   for (const day of ["2024-02-29", "2000-02-29", "0001-01-01", "9999-12-31"]) assert.equal(isDay(day), true, day);

@@ -3,7 +3,7 @@
 import assert from "node:assert/strict";
 import { afterEach, beforeEach, test } from "node:test";
 
-import { ask } from "../page/desk.js";
+import { ask } from "../page/desk/questions.js";
 
 const { fetch: realFetch, setTimeout: realTimeout } = globalThis;
 const THERE = "series/is-the-desk-there/gaps";

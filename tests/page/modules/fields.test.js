@@ -1,7 +1,7 @@
 import assert from "node:assert/strict";
 import { test } from "node:test";
 
-import { dayKeys, rangeKeys, readAll } from "../page/fields.js";
+import { dayKeys, rangeKeys, readAll } from "../page/text/fields.js";
 
 test("what is right has the form of the desk", () => {
   const given = { isbn: " 0-306-40615-2 ", day: "2025-04-10", country: "gb ", currency: " eur", quantity: "010" };

@@ -3,8 +3,8 @@
 import assert from "node:assert/strict";
 import { test } from "node:test";
 
-import { isbnsIn } from "../page/isbn-in-text.js";
-import { checkDigit, checkSign, isChecked, isTen, toThirteen, withoutHyphens } from "../page/isbn.js";
+import { isbnsIn } from "../page/text/isbn-in-text.js";
+import { checkDigit, checkSign, isChecked, isTen, toThirteen, withoutHyphens } from "../page/text/isbn.js";
 
 const PAIRS = [
   ["0306406152", "9780306406157"],

@@ -3,7 +3,7 @@
 import assert from "node:assert/strict";
 import test from "node:test";
 
-import { someOf } from "../page/moments.js";
+import { someOf } from "../page/text/moments.js";
 
 /** What does something for so many milliseconds, and notes with what. */
 const busyFor = (milliseconds, noted) => (item) => {

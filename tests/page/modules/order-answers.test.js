@@ -3,9 +3,9 @@
 import assert from "node:assert/strict";
 import { test } from "node:test";
 
-import { agree, LEFT_OUT, offersOfCalendar, stateOf, unpricedBeside } from "../page/order-answers.js";
-import { OrderList } from "../page/order-list.js";
-import { lackingTo, sumsOf } from "../page/order-sums.js";
+import { agree, LEFT_OUT, offersOfCalendar, stateOf, unpricedBeside } from "../page/order/answers.js";
+import { OrderList } from "../page/order/list.js";
+import { lackingTo, sumsOf } from "../page/order/sums.js";
 
 const offer = (series, amount, more = {}) => ({ series, reference: "R", place: 1, availability: "21", amount, ...more });
 const NORTH = offer("north", "9.000");

@@ -3,9 +3,9 @@
 import assert from "node:assert/strict";
 import { afterEach, beforeEach, test } from "node:test";
 
-import { eachOf, OrderAsking, sharedWatch } from "../page/order-asking.js";
-import { LEFT_OUT } from "../page/order-answers.js";
-import { rulesOf } from "../page/rules.js";
+import { eachOf, OrderAsking, sharedWatch } from "../page/order/asking.js";
+import { LEFT_OUT } from "../page/order/answers.js";
+import { rulesOf } from "../page/desk/rules.js";
 
 const QUESTION = { day: "2026-11-27", country: "GB", currency: "GBP", type: "05" };
 const BOOK = { isbn: "9780306406157", copies: 2 };

@@ -3,7 +3,7 @@
 import assert from "node:assert/strict";
 import test from "node:test";
 
-import { hasCarriage, stepTo } from "../page/order-carriage.js";
+import { hasCarriage, stepTo } from "../page/order/carriage.js";
 
 const free = () => undefined;
 const offer = (series, amount) => ({ series, reference: "R", place: 1, availability: "21", amount });

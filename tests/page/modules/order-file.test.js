@@ -3,8 +3,8 @@
 import assert from "node:assert/strict";
 import { afterEach, test } from "node:test";
 
-import { amountCell, csvOf, linesToPaste, separatorOf } from "../page/order-file.js";
-import { shippedWords, speak } from "../page/wording.js";
+import { amountCell, csvOf, linesToPaste, separatorOf } from "../page/order/file.js";
+import { shippedWords, speak } from "../page/text/wording.js";
 
 const speaking = (language) => speak(language, shippedWords(language));
 const cells = (...texts) => csvOf([texts]).slice(1);

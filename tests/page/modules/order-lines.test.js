@@ -4,8 +4,8 @@
 import assert from "node:assert/strict";
 import { test } from "node:test";
 
-import { bookIn, numbersIn } from "../page/isbn-in-text.js";
-import { readList, textOf } from "../page/order-lines.js";
+import { bookIn, numbersIn } from "../page/text/isbn-in-text.js";
+import { readList, textOf } from "../page/order/lines.js";
 
 const BOOK = "9780306406157";
 const SECOND = "9783161484100";

@@ -3,8 +3,8 @@
 import assert from "node:assert/strict";
 import test from "node:test";
 
-import { LEFT_OUT } from "../page/order-answers.js";
-import { OrderList } from "../page/order-list.js";
+import { LEFT_OUT } from "../page/order/answers.js";
+import { OrderList } from "../page/order/list.js";
 
 const QUESTION = { day: "2026-11-30", country: "GB", currency: "GBP", type: "05" };
 const [ONE, TWO, THREE] = ["9781900001014", "9781900001021", "9781900001038"];

@@ -3,7 +3,7 @@
 import assert from "node:assert/strict";
 import test from "node:test";
 
-import { amountCells, needInWords, unpricedNotes } from "../page/order-table.js";
+import { amountCells, needInWords, unpricedNotes } from "../page/order/table.js";
 
 const SETTINGS = { series: [{ name: "north", words: "North Books" }] };
 

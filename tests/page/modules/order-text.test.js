@@ -3,9 +3,9 @@
 import assert from "node:assert/strict";
 import { test } from "node:test";
 
-import { piecesOf, readList } from "../page/order-lines.js";
-import { OrderList } from "../page/order-list.js";
-import { COLUMNS_OF_TEXT, edited, textOfBooks, withOneMore } from "../page/order-text.js";
+import { piecesOf, readList } from "../page/order/lines.js";
+import { OrderList } from "../page/order/list.js";
+import { COLUMNS_OF_TEXT, edited, textOfBooks, withOneMore } from "../page/order/text.js";
 
 const BOOK = "9780306406157";
 const SECOND = "9783161484100";

@@ -6,8 +6,8 @@ import { test } from "node:test";
 import {
   askedOn, betterElsewhere, betterQuantities, changesOf, firstQuantities, listedQuantities, MOST_COPIES, nextBetter, nextQuantity,
   quantitiesBeside, withAnswer,
-} from "../page/quantities.js";
-import { holdsUntil } from "../page/spans.js";
+} from "../page/article/quantities.js";
+import { holdsUntil } from "../page/article/spans.js";
 
 const offer = (reference, amount) => ({ series: "north", reference, place: 1, amount });
 const answer = (quantity, amount) => ({ quantity, offers: [offer("other", "1.000"), offer("R", amount)] });

@@ -3,10 +3,10 @@
 import assert from "node:assert/strict";
 import { test } from "node:test";
 
-import { rangesInShort } from "../page/reports.js";
-import { lastOfSender, numberOfSender, rangesOfSender } from "../page/request.js";
-import { kindOf } from "../page/price-types.js";
-import { daysSince, lookAt } from "../page/seen.js";
+import { rangesInShort } from "../page/missing/reports.js";
+import { lastOfSender, numberOfSender, rangesOfSender } from "../page/missing/request.js";
+import { kindOf } from "../page/desk/price-types.js";
+import { daysSince, lookAt } from "../page/missing/seen.js";
 import { texts } from "../page/words/en.js";
 
 const REPORT = { first: 1, next: 3, greatest: 9, held: 2, missing: [[3, 4], [6, 8]] };

@@ -4,7 +4,7 @@ import assert from "node:assert/strict";
 import { readFileSync } from "node:fs";
 import { test } from "node:test";
 
-import { areAdmitting, chooseSo, rulesOf } from "../page/rules.js";
+import { areAdmitting, chooseSo, rulesOf } from "../page/desk/rules.js";
 
 const ruleWords = (text) => rulesOf(text).map(({ words }) => words);
 const admits = (text) => rulesOf(text).map((rule) => rule.admits);

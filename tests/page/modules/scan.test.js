@@ -3,7 +3,7 @@
 import assert from "node:assert/strict";
 import { test } from "node:test";
 
-import { Burst, placeOf } from "../page/scan.js";
+import { Burst, placeOf } from "../page/text/scan.js";
 
 function typed(digits, gap) {
   const burst = new Burst();

@@ -2,8 +2,8 @@ import assert from "node:assert/strict";
 import { readFileSync } from "node:fs";
 import { test } from "node:test";
 
-import { withOwnWords } from "../page/own-words.js";
-import { readSettings, seriesInWords, wholesalerOf } from "../page/settings.js";
+import { withOwnWords } from "../page/desk/own-words.js";
+import { readSettings, seriesInWords, wholesalerOf } from "../page/desk/settings.js";
 
 const RIGHT = {
   series: [{ name: "north", words: "North Books", days_without_message: 3 }],

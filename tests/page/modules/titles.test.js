@@ -3,7 +3,7 @@
 import assert from "node:assert/strict";
 import { afterEach, beforeEach, test } from "node:test";
 
-import { areTitlesKept, differing, fileOf, titlesOf, titlesOfOffers, titleTexts } from "../page/titles.js";
+import { areTitlesKept, differing, fileOf, titlesOf, titlesOfOffers, titleTexts } from "../page/desk/titles.js";
 
 const ISBN = "9781900001014";
 const OTHER = "9781900001021";

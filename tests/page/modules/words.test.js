@@ -4,7 +4,7 @@ import assert from "node:assert/strict";
 import { readdirSync, readFileSync } from "node:fs";
 import { afterEach, test } from "node:test";
 
-import { say, sayCount, sayParts, shippedWords, speak } from "../page/wording.js";
+import { say, sayCount, sayParts, shippedWords, speak } from "../page/text/wording.js";
 import { texts as de } from "../page/words/de.js";
 import { texts as en } from "../page/words/en.js";
 
@@ -42,7 +42,7 @@ test("each text that index.html names is there", () => {
 });
 
 test("each text that a module names is there", () => {
-  const files = readdirSync("../page").filter((name) => name.endsWith(".js"));
+  const files = readdirSync("../page", { recursive: true }).filter((name) => name.endsWith(".js") && !name.startsWith("words/"));
   const sources = files.map((name) => readFileSync(`../page/${name}`, "utf8")).join("\n");
   const paths = [...sources.matchAll(/\bsay(?:Parts|Count)?\(\s*"([a-zA-Z.]+)"/g)].map(([, path]) => path);
   assert.ok(paths.length > 60);

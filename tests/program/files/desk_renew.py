@@ -171,7 +171,7 @@ def in_several_messages(room: Room) -> Iterator[Outcome]:
 # What the page says of the report that is its input.
 SAYING = """
 import { readFileSync } from "node:fs";
-import { standsInWords } from "./page/missing.js";
+import { standsInWords } from "./page/missing/missing.js";
 console.log(standsInWords(JSON.parse(readFileSync(0, "utf8"))));
 """
 

@@ -40,7 +40,7 @@ def page_of_a_week(room: Room) -> Iterator[Outcome]:
         address, _, view = running.stdout.readline().decode().rstrip("\n").partition("/#")
         yield Outcome("demo: the view", view, f"article?isbn={BOOK}&quantity=10")
         port = int(address.removeprefix(f"http://{HOST}:"))
-        for name, kind in {"index.html": "text/html", "titles.js": "text/javascript"}.items():
+        for name, kind in {"index.html": "text/html", "desk/titles.js": "text/javascript"}.items():
             file = (ROOT / "page" / name).read_bytes()
             yield Outcome(f"demo: {name}", asked(port, "GET", f"/{name}"), (200, kind, file))
         rules = (ROOT / "examples/shop/rules.toml").read_bytes()

@@ -1,0 +1,38 @@
+// The offers of a day, as the desk answers them.
+
+import { compareAmounts } from "../text/amounts.js";
+import { element } from "../text/elements.js";
+import { undirected } from "../text/said.js";
+import { wholesalerOf } from "./settings.js";
+import { sayParts } from "../text/wording.js";
+
+/** What tells an offer from all others. */
+export function keyOf({ series, reference, place }) {
+  return JSON.stringify([series, reference, place]);
+}
+
+/** What offers can be ordered by: as the desk has them, or by price. */
+export const ORDERS = {
+  series: (offers) => offers,
+  price: (offers) => [...offers].sort((one, other) => compareAmounts(one.amount, other.amount)),
+};
+
+/** Whether no offer has a price. */
+export function areUnpriced(offers) {
+  return offers.every(({ amount }) => amount === null);
+}
+
+/** The reference of an offer, in whatever script, with its place where that is not the first. */
+export function referenceOf({ reference, place }) {
+  const isolated = element("bdi", {}, undirected(reference));
+  if (place === 1) return isolated;
+  return element("span", {}, ...sayParts("article.place", { reference: isolated, place }));
+}
+
+/** Who offers, in nodes, with the reference where the same wholesaler has another one of the offers. */
+export function nameOf(offer, offers, settings) {
+  const words = wholesalerOf(settings, offer.series);
+  const isAlone = offers.filter(({ series }) => series === offer.series).length < 2;
+  if (isAlone) return [words];
+  return [words, " ", element("small", { class: "reference" }, referenceOf(offer))];
+}

@@ -1,0 +1,141 @@
+// Questions to the desk, which stands behind the page's own web server at `desk/`.
+
+import { urlBeside } from "../text/address.js";
+import { say, wordsOfCode } from "../text/wording.js";
+
+const REPLY_SECONDS = 15;
+const AGAIN_SECONDS = 5;
+
+// The desk or the web server cannot answer just now; 429 is the web server's, asked too often.
+const DOWN = [429, 502, 503, 504];
+
+// Of these, that no reply of the desk came.
+const LOST = [502, 504];
+
+// Faults of the desk's storage that asking again makes no better, or worse.
+const LASTING = ["memory", "size"];
+
+// A question that any desk answers at once: about a series that none has.
+const IS_THERE = "series/is-the-desk-there/gaps";
+
+function urlOf(path, keys) {
+  const url = urlBeside(`desk/${path}`);
+  url.search = new URLSearchParams(keys);
+  return url;
+}
+
+/** What a reply's JSON is, or `undefined` where it is none. */
+async function bodyOf(reply) {
+  const text = await reply.text();
+  try {
+    return JSON.parse(text);
+  } catch {
+    return undefined;
+  }
+}
+
+/** What a reply of a desk that is down says; a `fault` where asking again by itself would be no good. */
+function downOutcome(status, body) {
+  const reason = wordsOfCode("down.reasons", body?.reason) ?? "";
+  const words = [say(`down.${status}`), reason].join(" ").trim();
+  const isLasting = status === 503 && LASTING.includes(body?.reason);
+  return { kind: isLasting ? "fault" : "down", words, isOfDesk: status === 503, isLost: LOST.includes(status) };
+}
+
+/** A reply as an answer, a refusal in the desk's word, a desk that is down, or something else. */
+function outcomeOf(status, body) {
+  if (DOWN.includes(status)) return downOutcome(status, body);
+  if (body?.answer === "refused") return { kind: "refused", reason: body.reason };
+  if (status === 200 && body?.answer !== undefined) return { kind: "answer", body };
+  const path = status === 401 || status === 403 ? "wrong.forbidden" : "wrong.strange";
+  return { kind: "strange", words: say(path, { status }) };
+}
+
+/** Asks once. Throws `AbortError` where `signal` says that nobody waits for it any longer. */
+async function askOnce(path, keys, signal) {
+  const late = new AbortController();
+  const stop = () => late.abort();
+  const timer = setTimeout(stop, REPLY_SECONDS * 1000);
+  signal.addEventListener("abort", stop);
+  try {
+    signal.throwIfAborted();
+    const reply = await fetch(urlOf(path, keys), { cache: "no-store", signal: late.signal });
+    return outcomeOf(reply.status, await bodyOf(reply));
+  } catch (fault) {
+    signal.throwIfAborted();
+    if (fault.name !== "AbortError" && fault.name !== "TypeError") throw fault;
+    const isCut = fault.name === "TypeError";
+    return { kind: "down", words: say(`down.${isCut ? "unreached" : "late"}`), isLost: true, isCut };
+  } finally {
+    clearTimeout(timer);
+    signal.removeEventListener("abort", stop);
+  }
+}
+
+/**
+ * Asks, and once more at once where the connection was cut: a web server closes one after so many questions, or when it
+ * is reloaded, and a question that is just on its way is lost then, though both are there.
+ */
+async function askConnected(path, keys, signal) {
+  const outcome = await askOnce(path, keys, signal);
+  return outcome.isCut ? askOnce(path, keys, signal) : outcome;
+}
+
+function pause(signal) {
+  return new Promise((resolve, reject) => {
+    const timer = setTimeout(resolve, AGAIN_SECONDS * 1000);
+    signal.addEventListener("abort", () => {
+      clearTimeout(timer);
+      reject(signal.reason);
+    });
+  });
+}
+
+function tellDown(watch, { words }) {
+  watch.down(`${words} ${say("down.again", { seconds: AGAIN_SECONDS })}`);
+}
+
+// What is done one after the other.
+let turn = Promise.resolve();
+
+function inTurn(act) {
+  const done = turn.then(act);
+  turn = done.catch(() => {});
+  return done;
+}
+
+/** Asks once more what had no reply, as soon as the desk answers another question. */
+async function askOnceThere(path, keys, signal, watch) {
+  for (;;) {
+    signal.throwIfAborted();
+    const there = await askOnce(IS_THERE, {}, signal);
+    if (there.kind !== "down" || there.isOfDesk) return askOnce(path, keys, signal);
+    tellDown(watch, there);
+    await pause(signal);
+  }
+}
+
+/**
+ * Asks until the desk answers or refuses, or until asking again by itself would be no good: where the desk lacks
+ * memory, and where a question has had no reply twice although the desk is there, since it may end by it. Of
+ * several questions without a reply one is asked again after the other, so that such a one takes no other with it.
+ * While the desk is down, `watch.down` has the words for it; `watch.up` is called where it replies.
+ */
+export async function ask(path, keys, signal, watch) {
+  let outcome = await askConnected(path, keys, signal);
+  while (outcome.kind === "down") {
+    const { isLost } = outcome;
+    tellDown(watch, outcome);
+    await pause(signal);
+    if (isLost) outcome = await inTurn(() => askOnceThere(path, keys, signal, watch));
+    else outcome = await askOnce(path, keys, signal);
+    if (isLost && outcome.isLost) outcome = { kind: "fault", words: say("down.lost") };
+  }
+  watch.up();
+  return outcome;
+}
+
+/** Whether a fault says that nobody waits for an answer any longer. */
+export function isAbandoned(fault) {
+  return fault.name === "AbortError";
+}

@@ -1,0 +1,127 @@
+// Titles of books. They stand in files beside the page, by ISBN, as wholesalers' feeds said them last: no answer of
+// the desk has them, and nobody has proved them.
+
+import { urlBeside } from "../text/address.js";
+import { element } from "../text/elements.js";
+import { shortened, undirected } from "../text/said.js";
+import { wholesalerOf } from "./settings.js";
+import { say, sayParts, wordsOfCode } from "../text/wording.js";
+
+const MARK = "titles.json";
+
+// What is not there is answered 204, or 404 by a server that is not asked for titles.
+const FOUND = 200;
+const NONE = [204, 404];
+
+// An entry has a series, a number and a moment, and, unless that was a deletion, title, subtitle, contributors and
+// publisher behind them.
+const HEAD = 3;
+const LENGTH = 7;
+
+// How many letters of each part are shown, so that none pushes out of sight who said it, and what others say.
+const MOST_LETTERS = 120;
+
+const areTexts = (values) => values.every((value) => typeof value === "string");
+const isTitle = (entry) =>
+  Array.isArray(entry) && entry.length === LENGTH && areTexts([entry[0], ...entry.slice(HEAD)]);
+
+/** Whether the shop keeps titles. */
+export async function areTitlesKept() {
+  try {
+    return (await fetch(urlBeside(MARK))).status === FOUND;
+  } catch {
+    return false;
+  }
+}
+
+/** The address of the file that has the title of an ISBN. */
+export function fileOf(isbn) {
+  return `titles/${isbn.slice(0, 5)}/${isbn.slice(0, 8)}.json`;
+}
+
+/** What a file says of an ISBN: the titles that feeds said last, one of each series, the last taken first. */
+function titlesIn(file, isbn) {
+  const entries = Object.hasOwn(file, isbn) ? file[isbn] : [];
+  const found = Array.isArray(entries) ? entries.filter(isTitle) : [];
+  return found.map(([series, , , title, subtitle, contributors, publisher]) => (
+    { series, title, subtitle, contributors, publisher }
+  ));
+}
+
+/**
+ * The titles of each of these ISBNs of one file, by ISBN: an empty list where no feed said one, and nothing of any
+ * where the file cannot be read. Throws `AbortError` where nobody waits for it any longer.
+ */
+export async function titlesOf(isbns, signal) {
+  try {
+    const reply = await fetch(urlBeside(fileOf(isbns[0])), { cache: "no-cache", signal });
+    if (reply.status !== FOUND && !NONE.includes(reply.status)) return new Map();
+    const file = reply.status === FOUND ? await reply.json() : {};
+    return new Map(isbns.map((isbn) => [isbn, titlesIn(file, isbn)]));
+  } catch {
+    signal.throwIfAborted();
+    return new Map();
+  }
+}
+
+// The codes of roles, behind names.
+const ROLE = /\(([A-Z]\d\d)\)/g;
+
+const withRoles = (names) => names.replace(ROLE, (code, role) => `(${wordsOfCode("roles", role) ?? role})`);
+
+/**
+ * The titles of the series that offer a book, that of the `chosen` offer first: a feed may name any ISBN, and what it
+ * says of one that it does not offer counts for nothing.
+ */
+export function titlesOfOffers(titles, offers, chosen) {
+  const names = offers.map(({ series }) => series);
+  const isChosen = ({ series }) => series === chosen?.series;
+  return titles.filter(({ series }) => names.includes(series)).sort((one, other) => isChosen(other) - isChosen(one));
+}
+
+const bare = (text) => text.normalize("NFKD").toLowerCase().replace(/[^\p{L}\p{N}]+/gu, "");
+
+/** Whether two titles are one but for case and punctuation, with their subtitles or without. */
+function isSame(one, other) {
+  const [first, second] = [one, other].map(({ title, subtitle }) => [bare(title), bare(title + subtitle)]);
+  return first.some((text) => second.includes(text));
+}
+
+/** The titles that differ from the first one. */
+export function differing([first, ...others]) {
+  return first === undefined ? [] : others.filter((other) => !isSame(first, other));
+}
+
+/** A title in texts: with its subtitle, contributors, publisher; none where there is none. */
+export function titleTexts(titles) {
+  if (titles.length === 0) return [];
+  const [{ title, subtitle, contributors, publisher }] = titles;
+  const whole = [title, subtitle].filter((text) => text !== "").join(": ");
+  return [whole, withRoles(contributors), publisher].map(undirected).filter((text) => text !== "");
+}
+
+/** That others say another title, which is a sign of a wrong ISBN. */
+function differNodes(titles, settings) {
+  return differing(titles).flatMap(({ series, title }) => [
+    " · ",
+    element("strong", { class: "need" }, ...sayParts("titles.differs", {
+      wholesaler: wholesalerOf(settings, series), title: element("bdi", {}, shortened(title, MOST_LETTERS)),
+    })),
+  ]);
+}
+
+/** The same as nodes, each text kept apart from what stands beside it, and in small where no feed said a title. */
+export function titleNodes(titles, settings, none = "titles.noneHere") {
+  const texts = titleTexts(titles);
+  if (texts.length === 0) return [element("small", {}, say(none))];
+  const nodes = texts.flatMap((text) => [" · ", element("bdi", {}, shortened(text, MOST_LETTERS))]).slice(1);
+  const whole = { class: "clamped", title: texts.join(" · ") };
+  return [element("span", whole, ...nodes), ...differNodes(titles, settings)];
+}
+
+/** The same behind "Title", with whose feed said it, and that it is not proved. */
+export function titleSaid(titles, settings) {
+  if (titles.length === 0) return titleNodes(titles, settings, "titles.none");
+  const said = say("titles.said", { wholesaler: wholesalerOf(settings, titles[0].series) });
+  return [say("titles.label"), " ", ...titleNodes(titles, settings), " · ", element("small", {}, said)];
+}

@@ -4,7 +4,7 @@
 
 import { urlBeside } from "../text/address.js";
 import { isCatalogue } from "../article/catalogue.js";
-import { ORDER, pricesAt, wrongKey } from "../order/csv-form.js";
+import { wrongKey } from "../order/csv-form.js";
 import { isChecked } from "../text/isbn.js";
 import { withOwnWords } from "./own-words.js";
 import { kindOf } from "./price-types.js";
@@ -96,9 +96,9 @@ const OPTIONAL = {
   account: ["account", isText, "seriesAccount"],
 };
 
-/** The form of a kind of file, or `undefined` with what is wrong with it added to the problems. */
-function readForm(value, kind, problems, path, values) {
-  const wrong = wrongKey(value, kind);
+/** The form of a file, or `undefined` with what is wrong with it added to the problems. */
+function readForm(value, problems, path, values) {
+  const wrong = wrongKey(value);
   if (wrong === undefined) return value;
   tell(problems, path, { ...values, wrong });
   return undefined;
@@ -111,7 +111,7 @@ function readOptional(item, number, problems) {
     if (isRight(item[key])) found[name] = item[key];
     else tell(problems, path, { key, number, value: shown(item[key]) });
   }
-  if (item.csv !== undefined) found.csv = readForm(item.csv, ORDER, problems, "seriesCsv", { key: "csv", number });
+  if (item.csv !== undefined) found.csv = readForm(item.csv, problems, "seriesCsv", { key: "csv", number });
   return found;
 }
 
@@ -205,10 +205,6 @@ export function readSettings(text) {
   if (Object.hasOwn(given, "rules")) tell(problems, "rules");
   checkKeys(given, [...KEYS, PRICE_FILE, "rules"], problems, "unknown");
   const settings = settingsOf(given, problems);
-  // What desk-prices reads at night is told on the page by day.
-  if (Object.hasOwn(given, PRICE_FILE)) {
-    readForm(given[PRICE_FILE], pricesAt(settings.quantities), problems, "priceFile", { key: PRICE_FILE });
-  }
   return { settings, problems };
 }
 

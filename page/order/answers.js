@@ -1,29 +1,15 @@
-// What the desk answered about a book of an order list, what is ordered of it, and why a person should look.
+// What the desk answered about a row of an order list: what is ordered of it, and why a person should look.
 
-import { compareAmounts, isNothing, times } from "../text/amounts.js";
-import { DAYS_AHEAD } from "../article/better.js";
-import { plusDays } from "../text/days.js";
-import { keyOf } from "../desk/offers.js";
+import { compareAmounts, difference, isNothing, times } from "../text/amounts.js";
+import { today } from "../text/days.js";
 import { farOf } from "../article/retail.js";
-import { areAdmitting } from "../desk/rules.js";
-import { holdsUntil, laterThan } from "../article/spans.js";
+import { keyOf } from "../desk/offers.js";
 
-/** A hand that leaves a book out of the order. */
-export const LEFT_OUT = "left-out";
+/** By which an answer is kept: the book, how many copies, and the day. */
+export const askedOf = ({ isbn, copies }) => `${isbn} ${copies} ${today()}`;
 
-/** The last day of those ahead. */
-export function lastAhead(day) {
-  return plusDays(day, DAYS_AHEAD);
-}
-
-/** The offers of a calendar on a day, each with the `change` of its price ahead, its last day, and what is `later`. */
-export function offersOfCalendar(offers, day) {
-  return offers.map(({ spans, ...offer }) => {
-    const { amount, last, then } = holdsUntil({ spans }, day);
-    const change = last === undefined ? undefined : { last, amount: then };
-    return { ...offer, amount, change, later: laterThan({ spans }, day) };
-  });
-}
+/** By which it is kept that a row was answered otherwise before. */
+export const changeOf = ({ key, copies }) => `${key} ${copies}`;
 
 /** Whether an answer to the choice and one about the offers are of one moment. */
 export function agree(choice, offers) {
@@ -33,79 +19,63 @@ export function agree(choice, offers) {
 
 const isPriced = ({ amount }) => amount !== null;
 
-/** The offer that a hand has chosen, where it has a price: the same one, or the only one of its wholesaler. */
-function offerByHand(offers, hand) {
-  const same = offers.find((offer) => keyOf(offer) === keyOf(hand));
-  if (same !== undefined) return isPriced(same) ? same : undefined;
-  const ofWholesaler = offers.filter((offer) => offer.series === hand.series && isPriced(offer));
-  return ofWholesaler.length === 1 ? ofWholesaler[0] : undefined;
-}
-
-/** What is ordered of an answer, for what a hand chose or did not: the offer, and whether that is by hand. */
-export function orderedOf({ choice, offers }, hand) {
-  if (hand === LEFT_OUT) return { isByHand: true };
-  const byHand = hand === undefined ? undefined : offerByHand(offers, hand);
-  if (byHand !== undefined) return { offer: byHand, isByHand: true };
+/** The offer that the rules take, or, of a row whose wholesaler a hand chose, that one's: `offer`, or a `need`. */
+function offerOf({ series }, { choice, offers }) {
+  if (offers.length === 0) return { need: "noOffers" };
   const chosen = choice === null ? undefined : offers.find((offer) => keyOf(offer) === keyOf(choice));
-  return { offer: chosen, isByHand: false, isLost: hand !== undefined };
+  if (series === undefined) {
+    if (chosen !== undefined) return { offer: chosen };
+    return { need: offers.some(isPriced) ? "notChosen" : "unpriced" };
+  }
+  const own = offers.filter((offer) => offer.series === series);
+  const priced = own.filter(isPriced);
+  if (own.length === 0) return { need: "handLacks" };
+  if (priced.length === 0) return { need: "unpriced" };
+  if (chosen !== undefined && chosen.series === series) return { offer: chosen };
+  return priced.length === 1 ? { offer: priced[0] } : { need: "handSeveral" };
 }
 
-/** Why nothing is ordered where no rule and no hand chose. */
-function withoutOrder({ offers, copies = [] }) {
-  if (offers.length === 0) return "noOffers";
-  if (offers.some(isPriced)) return "notChosen";
-  return copies.some((answer) => answer.offers.some(isPriced)) ? "onlyMore" : "unpriced";
-}
-
-/** Whether an order of a book is of more copies or more money than a shop mostly orders of one. */
-function isMany({ copies }, { amount }, { copies: mostCopies = Infinity, money } = {}) {
-  return copies > mostCopies || (money !== undefined && compareAmounts(times(amount, copies), money) > 0);
-}
-
-/** What a buyer says is right of a book: a reason why a person should look, for those copies of that offer. */
-export function rightKey(need, { copies }, offer) {
+/** A reason why a person should look, for those copies of that offer, by which it is known that somebody has. */
+export function confirmKey(need, { copies }, offer) {
   return JSON.stringify([need, copies, keyOf(offer), offer.amount]);
 }
 
+/** What a person may look at and confirm; all else is in no order. */
+export const CONFIRMABLE = ["changed", "free", "far", "many"];
+
 /**
- * What stands at a book of a list: `offer`, which is ordered, `isByHand`, and `need`, the reason why a
- * person should look at it, or none; what a buyer said is `right` is none. `shop` has the most `copies` and the most
- * `money` that need nobody, and the `type` of the prices.
+ * What stands at a row: `offer`, which is ordered, or none, and `need`, why a person should look, or none. `shop` has
+ * the most copies that need nobody (`manyCopies`) and the `type` of the prices; what was `confirmed` needs nobody.
  */
-export function stateOf({ wrong, answer, isUnsure, change, right = [], ...book }, hand, shop = {}) {
-  if (wrong !== undefined) return { need: wrong };
+export function stateOf(row, answer, { manyCopies, type, confirmed, changes }) {
   if (answer === undefined) return {};
   if (answer.refusal !== undefined) return { need: "refused" };
-  const { offer, isByHand, isLost } = orderedOf(answer, hand);
-  if (offer === undefined) return isByHand ? { isByHand } : { need: withoutOrder(answer), isByHand };
+  const { offer, need } = offerOf(row, answer);
+  if (offer === undefined) return { need };
   const needs = {
-    changed: change !== undefined,
-    lost: isLost,
+    changed: changes.has(changeOf(row)),
     free: isNothing(offer.amount),
-    unsure: isUnsure,
-    far: farOf(offer, { ...answer, type: shop.type }) !== undefined,
-    many: isMany(book, offer, shop),
+    far: farOf(offer, { ...answer, type }) !== undefined,
+    many: row.copies > manyCopies,
   };
-  const need = Object.keys(needs).find((reason) => needs[reason] && !right.includes(rightKey(reason, book, offer)));
-  return { offer, isByHand, need };
+  const open = CONFIRMABLE.find((reason) => needs[reason] && !confirmed.has(confirmKey(reason, row, offer)));
+  return { offer, need: open };
 }
 
-/** Whether an offer has a price at one of the numbers of copies that are known. */
-const hasPriceIn = (copies) => (offer) => copies.some((answer) => answer.offers.some(
-  (other) => keyOf(other) === keyOf(offer) && isPriced(other),
-));
-
-/**
- * The offers that have no price for the question, nor at another number of copies that is known, of another wholesaler
- * than the one that is ordered.
- */
-export function unpricedBeside({ offers, copies = [] }, ordered) {
-  const hasPrice = hasPriceIn(copies);
-  return offers.filter((offer) => !isPriced(offer) && offer.series !== ordered?.series && !hasPrice(offer));
+/** The offer of the same answer that costs least and less than what is ordered, with what it saves. */
+export function savingOf({ offers }, ordered, copies) {
+  const [least] = offers.filter(isPriced).sort((one, other) => compareAmounts(one.amount, other.amount));
+  if (compareAmounts(least.amount, ordered.amount) >= 0) return undefined;
+  return { offer: least, amount: times(difference(ordered.amount, least.amount), copies) };
 }
 
-/** The offers that a rule admits and that have no price, at none of the numbers of copies that are known. */
-export function unpricedIn(offers, { rules }, copies = []) {
-  const hasPrice = hasPriceIn(copies);
-  return offers.filter((offer) => !isPriced(offer) && areAdmitting(rules, offer) && !hasPrice(offer));
+/** Who offers a book without a price of the type that is asked for. */
+export function unpricedOf({ offers }) {
+  const priced = offers.filter(isPriced).map(({ series }) => series);
+  return [...new Set(offers.map(({ series }) => series))].filter((series) => !priced.includes(series));
+}
+
+/** The series of which a hand may choose one: those that have a price. */
+export function priced({ offers }) {
+  return offers.filter(isPriced);
 }

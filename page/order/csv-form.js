@@ -1,76 +1,76 @@
-// The form of a file of CSV, as desk.json has it: of what goes to a wholesaler (`csv` of its series), and of the file of
-// prices that desk-prices writes (`price_file`), of which the page says what is wrong; and the shop's own file of all
-// orders. tests/forms/cases.json has for both programs what a form gives.
+// The form of a wholesaler's file of CSV, as desk.json has it: its columns, their heading, and the signs in it.
 
-import { amountWith, csvOf, decimalSign } from "./file.js";
+import { formatter } from "../text/wording.js";
 
-/** What an order may have in a column, and in the braces of its file's name. */
-export const ORDER = {
-  cells: [
-    "isbn", "copies", "wholesaler", "price", "sum", "currency", "availability", "reference", "note", "remark", "rrp",
-    "margin", "title", "second", "order", "date", "shop", "address", "account",
-  ],
-  places: ["day", "series", "order"],
-};
-
-/** The same of the file of prices, whose prices are at these numbers of copies. */
-export const pricesAt = (quantities) => ({
-  cells: [
-    "isbn", "wholesaler", "series", "reference", "availability", "price",
-    ...quantities.slice(1).map((count) => `price_${count}`), "currency", "holds_until", "next_price", "next_day", "rrp",
-    "margin", "others_least", "title", "day",
-  ],
-  places: ["day"],
-});
+/** What a file may have in its columns. */
+export const COLUMNS = [
+  "isbn", "copies", "price", "sum", "currency", "reference", "note", "order", "account", "date", "shop", "address",
+];
 
 /** What stands once above an order on paper, and not in each of its rows. */
-export const ABOVE = ["wholesaler", "currency", "order", "date", "shop", "address", "account"];
+export const ABOVE = ["currency", "order", "account", "date", "shop", "address"];
 
-const AMOUNTS = ["price", "sum", "rrp"];
+// What a wholesaler gets whose form desk.json does not have.
+const USUAL = ["isbn", "copies", "price", "sum", "currency", "reference", "order", "account", "date"];
+
 const MOST_COLUMNS = 30;
+const MARK = "\ufeff";
+const LINE_END = "\r\n";
+const AMOUNTS = ["price", "sum"];
 
-// Nothing of another wholesaler, and nothing that a list has about customers.
-const WHOLESALER = {
-  columns: ["isbn", "copies", "price", "sum", "currency", "reference", "remark", "order", "date", "shop", "address", "account"],
-};
-const SHOP = {
-  columns: [
-    "isbn", "copies", "wholesaler", "price", "sum", "currency", "availability", "reference", "note", "remark", "rrp",
-    "margin", "order", "title",
-  ],
-};
+// What a spreadsheet takes for the beginning of a formula, full width too: of a cell, and of what is one where it
+// cuts at another sign than the file's.
+const FORMULA = /(?<=^|[,;|])(?=[\s'"]*[=+\-@\uff1d\uff0b\uff0d\uff20])/g;
 
-const isBoolean = (value) => typeof value === "boolean";
-const isText = (value) => typeof value === "string";
-const areTexts = (value) => Array.isArray(value) && value.every(isText);
-const areColumns = (value, cells) => value.length > 0 && value.length <= MOST_COLUMNS && value.every((name) => cells.includes(name));
+// What some program or other cuts a line at.
+const CUTS = /[",;|]/;
 
-// A folder, or a name that is hidden, has no place in it.
-const namesWith = (places) => new RegExp(`^(?!\\.)(?:[\\p{L}\\p{N} ._-]|\\{(?:${places.join("|")})\\}){1,80}$`, "u");
+const areTexts = (value) => Array.isArray(value) && value.every((text) => typeof text === "string");
+const areColumns = (value) => value.length > 0 && value.length <= MOST_COLUMNS && value.every((name) => COLUMNS.includes(name));
 
-// What each key may have, in this form of this kind of file.
+// What each key may have.
 const RIGHT = {
-  columns: (value, _, { cells }) => areTexts(value) && areColumns(value, cells),
+  columns: (value) => areTexts(value) && areColumns(value),
+  heading: (value, { columns }) => typeof value === "boolean" || (areTexts(value) && value.length === columns.length),
   separator: (value) => [",", ";", "|", "\t"].includes(value),
   decimal: (value, { separator }) => [".", ","].includes(value) && value !== separator,
-  heading: (value, { columns }) => isBoolean(value) || (areTexts(value) && value.length === columns.length),
-  file: (value, _, { places }) => isText(value) && namesWith(places).test(value),
-  isbn: (value) => value === "text",
-  byte_order_mark: isBoolean,
+  byte_order_mark: (value) => typeof value === "boolean",
 };
 
-/** The first key for which a value is no form of that kind of file; `undefined` where it is one. */
-export function wrongKey(value, kind) {
+/** The first key for which a value is no form; `undefined` where it is one. */
+export function wrongKey(value) {
   const form = Object(value);
-  const isWrong = (key) => !Object.hasOwn(RIGHT, key) || !RIGHT[key](form[key], form, kind);
+  const isWrong = (key) => !Object.hasOwn(RIGHT, key) || !RIGHT[key](form[key], form);
   return ["columns", ...Object.keys(form)].find(isWrong);
 }
 
-/** A form with what is so without its keys: of an order, whose amounts are as the page's language has them, or `usual`. */
-export function wholeForm(form, usual = { decimal: decimalSign(), byte_order_mark: true }) {
-  const { decimal } = { ...usual, ...form };
-  return { separator: decimal === "," ? ";" : ",", heading: true, ...usual, ...form };
+/** The sign of the page's language between whole and decimals. */
+function decimalSign() {
+  const parts = formatter(Intl.NumberFormat).formatToParts(1.5);
+  return parts.find(({ type }) => type === "decimal").value;
 }
+
+/** The whole form of the file of a series. */
+export function formOf(settings, series) {
+  const { csv } = settings.series.find(({ name }) => name === series) ?? {};
+  const { decimal } = { decimal: decimalSign(), ...csv };
+  return { columns: USUAL, heading: true, separator: decimal === "," ? ";" : ",", byte_order_mark: true, ...csv, decimal };
+}
+
+/** Whether a text begins as a formula does, so that a file would have to change it. */
+export function isFormula(text) {
+  return text.search(FORMULA) === 0;
+}
+
+/** A text as a cell: on one line, in quotes where any sign of it may cut, and never a formula. */
+function cellOf(text) {
+  const line = text.replace(/[\p{Cc}\p{Zl}\p{Zp}]+/gu, " ").trim();
+  const safe = line.replace(FORMULA, "'");
+  return CUTS.test(safe) ? `"${safe.replaceAll('"', '""')}"` : safe;
+}
+
+/** An amount of the desk with a decimal sign, and two decimals or, where it has them, three. */
+const amountWith = (sign, amount) => amount.replace(/0$/, "").replace(".", sign);
 
 /** Cells by their columns, with that decimal sign in the amounts of the desk. */
 export function withSign(cells, sign) {
@@ -80,33 +80,9 @@ export function withSign(cells, sign) {
 }
 
 /** The text of a file in a whole form, of cells by their columns for each row; `heads` are the columns in words. */
-export function textIn({ columns, heading, separator, decimal, ...form }, heads, rows) {
+export function textIn({ columns, heading, separator, decimal, byte_order_mark: hasMark }, heads, rows) {
   const names = heading === true ? heads : heading;
   const lines = rows.map((cells) => withSign(cells, decimal)).map((cells) => columns.map((name) => cells[name]));
-  const isText = columns.map((name) => name === "isbn" && form.isbn === "text");
-  const head = csvOf(names === false ? [] : [names], { separator, hasMark: form.byte_order_mark });
-  return head + csvOf(lines, { separator, isText, hasMark: false });
-}
-
-/** Which of the columns the shop has anything for. */
-function isThere(name, { hasTitles, retailType, shop, address, account }) {
-  if (name === "title") return hasTitles;
-  if (["rrp", "margin"].includes(name)) return retailType !== "";
-  const own = { shop, address, account };
-  return !Object.hasOwn(own, name) || (own[name] ?? "") !== "";
-}
-
-/** The whole form of the file of a series, or, with `undefined`, of the shop's own file of all. */
-export function formOf(settings, series) {
-  const found = settings.series.find(({ name }) => name === series);
-  if (found?.csv !== undefined) return wholeForm(found.csv);
-  const { columns } = series === undefined ? SHOP : WHOLESALER;
-  const context = { ...settings, account: found?.account };
-  return wholeForm({ columns: columns.filter((name) => isThere(name, context)) });
-}
-
-/** The name of a file, with the day, the series and the order's reference in their places. */
-export function fileNameOf({ file }, usual, places) {
-  if (file === undefined) return usual;
-  return file.replace(/\{(day|series|order)\}/g, (_, name) => (places[name] ?? "").replace(/[^\p{L}\p{N}._-]+/gu, "-"));
+  const all = names === false ? lines : [names, ...lines];
+  return (hasMark ? MARK : "") + all.map((line) => line.map(cellOf).join(separator) + LINE_END).join("");
 }

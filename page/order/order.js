@@ -1,171 +1,131 @@
-// The view of an order list: its lines, what the desk answers about each book, and the orders of it.
+// The view of an order list: its text, what the desk answers about each book of it, and the orders.
 
+import { money } from "../text/amounts.js";
 import { isAbandoned } from "../desk/questions.js";
-import { found, refill } from "../text/elements.js";
-import { isbnsIn } from "../text/isbn-in-text.js";
-import { aMoment } from "../text/moments.js";
-import { eachOf, OrderAsking } from "./asking.js";
-import { FormerOrders } from "./before.js";
-import { hasCarriage } from "./carriage.js";
-import { OrderInput } from "./input.js";
-import { OrderList } from "./list.js";
-import { edited, withOneMore } from "./text.js";
-import { OrderQuestion } from "./question.js";
-import {
-  OrderResults, showAge, showChecking, showCopies, showHands, showProgress, summaryOf,
-} from "./results.js";
-import { copyLines, copyText, download, printList, printOrder } from "./saving.js";
-import { askToSave, endQuestion, offerRest, restInWords } from "./save-question.js";
-import { wholesalerOf } from "../desk/settings.js";
+import { kindOf } from "../desk/price-types.js";
 import { fileOf, titlesOf } from "../desk/titles.js";
-import { say, sayCount } from "../text/wording.js";
+import { element, found } from "../text/elements.js";
+import { messagesNotes } from "../missing/reports.js";
+import { wholesalerOf } from "../desk/settings.js";
+import { formatter, say, sayCount } from "../text/wording.js";
+import { askedOf, changeOf, CONFIRMABLE, confirmKey, stateOf } from "./answers.js";
+import { eachOf, OrderAsking } from "./asking.js";
+import { isTable } from "./csv-table.js";
+import { isFormula } from "./csv-form.js";
+import { countOf, Editor } from "./editor.js";
+import { textOfFile } from "./files.js";
+import { hideOrders, showOrders, showRest, tellSaved } from "./orders.js";
+import { Rows } from "./rows.js";
+import { copyText, download, linesToPaste, printOrder } from "./saving.js";
+import { sumsOf } from "./sums.js";
+import { TableForm } from "./table-form.js";
+import { rowsOf, struckBooks, withLines, withMore, withSeries } from "./text.js";
 
-/** Says something in the live region. */
+// A list of more rows asks the desk more than the web server lets pass at once.
+const MOST_ROWS = 1000;
+
+// How long a buyer may write on before the desk is asked, and answers are gathered before they are drawn.
+const PAUSE = 400;
+const GATHERED = 200;
+
+// How long an order may leave the page after all of it was asked for once more.
+const FRESH = 120_000;
+
 function tell(words) {
   found("list-status").textContent = words;
 }
 
-/** Says at the buttons what became of an order. */
-function tellSaved(words) {
-  found("saved-status").textContent = words;
-}
-
-/** Nothing is said any longer of an order that left the page. */
-function forgetSaved() {
-  endQuestion();
-  tellSaved("");
-  offerRest({ count: 0, rows: [] });
-  found("saved").replaceChildren();
-}
+/** Nodes in words. */
+const inWords = (nodes) => nodes.map((node) => node.textContent ?? node).join("");
 
 /** The view, over the settings and the reports on messages; `watch` is told when the desk is down and up. */
 export class Order {
   #settings;
   #reports;
   #watch;
-  #question;
-  #results;
-  #input;
-  #before;
-  #list;
+  #editor;
+  #form;
+  #rows;
+  // What the desk answered, by book and copies, and what feeds said of it.
+  #answers = new Map();
+  #titles = new Map();
+  // What a person has looked at: rows, and wholesalers whose messages are missing.
+  #confirmed = new Set();
+  #trusted = new Set();
+  // What was ordered of rows that the desk answered otherwise before they were saved.
+  #changes = new Map();
+  #isFiltered = false;
+  #isShown = false;
+  #isSaving = false;
+  #checkedAt = -Infinity;
   #asking = new AbortController();
-  // A row was changed by Enter: then the next one that needs a person has the focus.
-  #isEntered = false;
-  // A list that was pasted elsewhere is looked up once the view is shown.
-  #isTaken = false;
+  #pause;
+  #drawing;
 
   constructor(settings, reports, watch) {
     this.#settings = settings;
     this.#reports = reports;
     this.#watch = watch;
-    this.#list = new OrderList(settings);
-    this.#question = new OrderQuestion(settings, () => this.#noteChanges());
-    this.#input = new OrderInput({ changed: () => this.#noteChanges(), lookUp: () => this.#lookUp() });
-    this.#results = new OrderResults(settings, reports, {
-      choose: (book, hand) => this.#choose(book, hand),
-      confirm: (book) => this.#confirm(book),
-      beforeOf: (isbn) => this.#before.of(isbn),
-      move: (moves) => this.#move(moves),
-      edit: (book, changes, isEntered = false) => {
-        this.#isEntered = isEntered;
-        this.#rewrite(edited(this.#list.books, book, changes));
+    this.#editor = new Editor(() => this.#changed());
+    this.#form = new TableForm({
+      take: ({ lines }) => this.#take(lines),
+      asText: (text) => this.#editor.insert(text),
+    });
+    this.#rows = new Rows({
+      settings,
+      titles: this.#titles,
+      changes: this.#changes,
+      goTo: (number) => {
+        const line = this.#editor.lines[number - 1];
+        this.#editor.goTo(line, line.start, line.end);
       },
-      save: (way, series) => this.#save(way, series),
+      choose: (row, series) => this.#editor.change(withSeries(this.#editor.text, row, series)),
+      confirm: (row, state) => this.#confirm(row, state),
+      doubtOf: (series) => (this.#doubtOf(series) === "" ? "" : say("order.mayBeOld")),
     });
+    this.#listen();
+    found("list-retail").hidden = kindOf(settings.type) !== "retail";
     reports.subscribe((series) => {
-      if (series === undefined && this.#list.books.length > 0) this.#results.drawMarks(this.#list);
+      if (series === undefined && this.#isShown) this.#draw();
     });
-    found("stop").addEventListener("click", () => {
-      this.#stop();
-      found(found("go-on").hidden ? "look-up" : "go-on").focus();
+  }
+
+  #listen() {
+    found("lines").addEventListener("paste", (event) => {
+      if (this.#asTable(event.clipboardData?.getData("text") ?? "")) event.preventDefault();
     });
-    found("go-on").addEventListener("click", () => {
-      if (this.#list.open().length === 0) this.#list.reopen();
-      this.#goOn();
-      found("stop").focus();
+    found("open-file").addEventListener("click", () => found("list-file").click());
+    found("list-file").addEventListener("change", () => this.#open(found("list-file").files[0]));
+    found("lines").addEventListener("drop", (event) => {
+      const [file] = event.dataTransfer.files;
+      if (file === undefined) return;
+      event.preventDefault();
+      this.#open(file);
     });
-    this.#before = new FormerOrders(settings, () => this.#list.books.length > 0 && this.#show());
-    this.#readAdded();
-    found("budget").addEventListener("input", () => {
-      if (this.#list.books.length > 0) this.#results.drawSums(this.#list);
-    });
-    found("forget-hands").addEventListener("click", () => this.#forgetHands());
-    this.#input.takeFrom(found("isbn"), () => {
-      this.#isTaken = true;
-      location.hash = "#order";
-    });
-    window.addEventListener("beforeunload", (event) => {
-      if (this.#isUnsaved()) event.preventDefault();
+    found("get-orders").addEventListener("click", () => this.#getOrders());
+    for (const id of ["show-rows", "show-needs"]) {
+      found(id).addEventListener("click", () => this.#filter(id === "show-needs"));
+    }
+    found("copy-rest").addEventListener("click", async () => {
+      const lines = [...found("rest-lines").children].map(({ textContent }) => `${textContent}\n`).join("");
+      if (await copyText(lines, found("saved"))) tell(say("order.restCopied"));
     });
   }
 
   show() {
-    this.#noteChanges();
-    if (this.#isTaken) this.#lookUp();
-    else if (this.#list.isAsking) this.#goOn();
-    else {
-      if (this.#list.books.length > 0) {
-        this.#stop();
-        this.#ask(async () => {});
-      }
-      found("lines").focus({ preventScroll: true });
-    }
+    this.#isShown = true;
+    for (const [key, { refusal }] of this.#answers) if (refusal !== undefined) this.#answers.delete(key);
+    this.#draw();
+    this.#lookUp();
+    found("lines").focus({ preventScroll: true });
   }
 
   /** What is not answered yet is asked for once the view is shown again. */
   leave() {
+    this.#isShown = false;
+    clearTimeout(this.#pause);
     this.#asking.abort();
     this.#watch.up();
-  }
-
-  /** What a scanner has read is a line more. */
-  scanned(code) {
-    if (this.#isLookedUp()) this.#add(code, 1);
-    else {
-      this.#input.add(code);
-      this.#noteChanges();
-    }
-    tell(say("order.scanned", { code }));
-  }
-
-  /** Puts a book of an article on the list, which is looked up once its view is shown; gives how many lines it has. */
-  take(isbn, copies) {
-    const isLookedUp = this.#isLookedUp();
-    // What a buyer is still writing there is looked up where the buyer wants it.
-    this.#isTaken ||= isLookedUp || this.#input.text.trim() === "";
-    if (isLookedUp) this.#input.rewrite(withOneMore(this.#list.books, isbn, copies));
-    else this.#input.add(`${isbn} ${copies}`);
-    return this.#input.read().count;
-  }
-
-  /** Whether the lines are those that were looked up, so that a row may be changed by itself. */
-  #isLookedUp() {
-    return this.#list.books.length > 0 && this.#input.text === this.#list.text;
-  }
-
-  /** A book more, or more copies of it. */
-  #add(text, copies) {
-    const isbn = isbnsIn(text)[0] ?? text.trim();
-    this.#rewrite(withOneMore(this.#list.books, isbn, copies));
-  }
-
-  /** Other books in place of those of the list, of which those are asked for that are new or have other copies. */
-  #rewrite(books) {
-    this.#input.rewrite(books);
-    this.#lookUp();
-  }
-
-  #readAdded() {
-    found("add-isbn").addEventListener("scanned", () => found("add-form").requestSubmit());
-    found("add-form").addEventListener("submit", (event) => {
-      event.preventDefault();
-      const { isbn, copies } = { isbn: found("add-isbn").value, copies: Number(found("add-copies").value) };
-      if (isbn.trim() === "" || !Number.isInteger(copies) || copies < 1) return;
-      this.#add(isbn, copies);
-      found("add-isbn").value = "";
-      found("add-copies").value = "1";
-      found("add-isbn").focus();
-    });
   }
 
   /** The title of the view, for the window. */
@@ -173,269 +133,296 @@ export class Order {
     return say("order.view");
   }
 
-  /** Whether there are lines that are in no order yet. */
-  #isUnsaved() {
-    const { text } = this.#input;
-    return text.trim() !== "" && (text !== this.#list.text || this.#list.isUnsaved());
+  /** What a scanner has read is a line of its own, or one copy more. */
+  scanned(code) {
+    this.#editor.change(withMore(this.#editor.text, code));
+    tell(say("order.scanned", { code }));
   }
 
-  /** Counts the lines, and dims what was looked up of others. */
-  #noteChanges() {
-    const { count, columns } = this.#input.read();
-    refill(found("look-up"), count === 0 ? say("order.lookUpNone") : sayCount("order.lookUp", count));
-    refill(found("list-asked"), ...this.#question.inWords());
-    const { books, question, text } = this.#list;
-    const isOld = text !== this.#input.text || this.#columnsOf(columns) !== this.#list.columns;
-    const isLookedUp = books.length > 0 && !isOld && this.#question.is(question);
-    showAge(books.length > 0 && !isLookedUp);
-    // What is done already is no longer what to do.
-    found("look-up").classList.toggle("main", !isLookedUp);
+  /** Puts a book of an article on the list; gives how many lines it has then. */
+  take(isbn, copies) {
+    this.#editor.change(withMore(this.#editor.text, isbn, copies));
+    return countOf(this.#editor.text);
   }
 
-  /** What the columns of a list are, as a text, by which another choice is known. */
-  #columnsOf(columns) {
-    return JSON.stringify([columns?.isbn, columns?.copies]);
+  /** Asks for the columns of a text that is a table; gives whether it is one. */
+  #asTable(text) {
+    const lines = text.replace(/\r\n?/g, "\n");
+    if (!isTable(lines)) return false;
+    this.#form.ask(lines);
+    return true;
   }
 
-  #lookUp() {
-    this.#isTaken = false;
-    const question = this.#question.read();
-    const taken = this.#input.take();
-    this.#noteChanges();
-    if (taken === undefined || question === undefined) return;
-    const { books, text, columns, isSame } = taken;
-    this.#list.begin(text, question, books, isSame);
-    this.#list.columns = this.#columnsOf(columns);
-    this.#list.heading = columns?.heading?.line;
-    showHands(this.#list.hands);
-    this.#noteChanges();
-    this.#goOn();
+  async #open(file) {
+    if (file === undefined) return;
+    const { text, wrong } = await textOfFile(file);
+    // The same file can be opened once more.
+    found("list-file").value = "";
+    tell(wrong ?? "");
+    if (wrong === undefined && !this.#asTable(text)) this.#take(text.split("\n"));
   }
 
-  /** The focus goes to where the books stand that need a person, or else to the first order. */
-  #goToNeeds() {
-    const place = document.querySelector("#list-needs button, #sums button") ?? found("lines");
-    place.focus({ preventScroll: true });
+  /** Lines behind those that are there. */
+  #take(lines) {
+    this.#editor.change(withLines(this.#editor.text, lines));
+    this.#editor.goToMarked();
   }
 
-  #forgetHands() {
-    const list = this.#list;
-    list.forgetHands();
-    forgetSaved();
-    showHands(0);
-    this.#show();
-    this.#askShort();
-    found("look-up").focus();
+  #changed() {
+    this.#checkedAt = -Infinity;
+    hideOrders();
+    showRest([], []);
+    tell("");
+    if (!this.#isShown) return;
+    clearTimeout(this.#pause);
+    this.#pause = setTimeout(() => this.#lookUp(), PAUSE);
+    this.#drawSoon();
   }
 
-  /** Asks for the books that have no answer yet. */
-  #goOn() {
-    const list = this.#list;
-    return this.#ask(async (asking, signal) => {
-      list.isAsking = true;
-      forgetSaved();
-      tell(say("article.asking"));
-      this.#show();
-      await this.#askEach(asking, list.open());
-      // What a hand chose meanwhile.
-      await this.#askEach(asking, list.short());
-      await eachOf(list.withoutOrder(), (book) => asking.lookForMore(book));
-      list.isAsking = false;
-      const places = [document.body, ...["stop", "look-up", "lines"].map(found)];
-      const isLost = places.includes(document.activeElement);
-      this.#show();
-      // To lead to a place lays the page out, which takes as long as to draw it.
-      await aMoment();
-      signal.throwIfAborted();
-      if (this.#isEntered) this.#results.goToWork(list);
-      else if (isLost) this.#goToNeeds();
-      this.#isEntered = false;
-      tell(summaryOf(list));
+  /** Why prices of a series may be old, in words; empty where nothing says so. */
+  #doubtOf(series) {
+    return messagesNotes([series], this.#reports).map(inWords).join(" ");
+  }
+
+  /** Whether prices of a series may be old, and nobody has confirmed that. */
+  #isDoubtful(series) {
+    const doubt = this.#doubtOf(series);
+    return doubt !== "" && !this.#trusted.has(`${series} ${doubt}`);
+  }
+
+  /** The rows of the list, each with its `row`, `answer` and `state`, and whether a person should look at it. */
+  #all() {
+    const { manyCopies, type } = this.#settings;
+    const shop = { manyCopies, type, confirmed: this.#confirmed, changes: this.#changes };
+    const doubtful = new Map();
+    const isDoubtful = (series) => {
+      if (!doubtful.has(series)) doubtful.set(series, this.#isDoubtful(series));
+      return doubtful.get(series);
+    };
+    return rowsOf(this.#editor.lines).map((row) => {
+      const answer = this.#answers.get(askedOf(row));
+      const state = stateOf(row, answer, shop);
+      const isToCheck = state.need !== undefined || (state.offer !== undefined && isDoubtful(state.offer.series));
+      return { row, answer, state, isToCheck };
     });
   }
 
-  /** Asks what feeds said of the books, once the desk has answered. */
-  async #askTitles(signal) {
-    const books = this.#settings.hasTitles ? this.#list.askable().filter(({ titles }) => titles === undefined) : [];
-    const files = new Set(books.map(({ isbn }) => fileOf(isbn)));
-    await eachOf([...files], async (file) => {
-      const those = books.filter(({ isbn }) => fileOf(isbn) === file);
-      const titles = await titlesOf(those.map(({ isbn }) => isbn), signal);
-      for (const book of those) {
-        book.titles = titles.get(book.isbn);
-        this.#results.drawSoon(this.#list, book);
-      }
-    });
+  #drawSoon() {
+    this.#drawing ??= setTimeout(() => {
+      this.#drawing = undefined;
+      if (this.#isShown) this.#draw();
+    }, GATHERED);
   }
 
-  /** Looks for what is better, once nothing else is asked: an order does not wait for it. */
-  #askBetter(asking) {
-    const list = this.#list;
-    const books = list.withoutBetter();
-    showCopies(0, books.length);
-    return asking.lookForBetter(books, (book, done, all) => {
-      this.#results.drawCopies(list, book);
-      showCopies(done, all);
-    });
+  #draw() {
+    const all = this.#all();
+    const toCheck = all.filter(({ isToCheck }) => isToCheck);
+    if (toCheck.length === 0) this.#isFiltered = false;
+    this.#rows.draw(this.#isFiltered ? toCheck : all);
+    found("list-part").hidden = all.length === 0;
+    const number = formatter(Intl.NumberFormat);
+    found("show-rows").textContent = say("order.all", { count: number.format(all.length) });
+    found("show-needs").textContent = say("order.toCheck", { count: number.format(toCheck.length) });
+    found("show-rows").setAttribute("aria-pressed", String(!this.#isFiltered));
+    found("show-needs").setAttribute("aria-pressed", String(this.#isFiltered));
+    found("show-needs").disabled = toCheck.length === 0;
+    this.#drawDoubts(all);
+    this.#drawBar(all, toCheck.length);
   }
 
-  /** Does what asks the desk, which ends where something else is asked for, or is stopped. */
+  #filter(isFiltered) {
+    this.#isFiltered = isFiltered;
+    this.#draw();
+  }
+
+  /** What is missing of each wholesaler that something is ordered from, to be confirmed once. */
+  #drawDoubts(all) {
+    const names = [...new Set(all.flatMap(({ state: { offer } }) => offer?.series ?? []))];
+    const notes = names.filter((name) => this.#isDoubtful(name)).map((name) => {
+      const wholesaler = wholesalerOf(this.#settings, name);
+      const words = say("order.confirmWholesaler", { wholesaler });
+      const button = element("button", { type: "button", class: "small confirm" }, words);
+      button.addEventListener("click", () => {
+        this.#trusted.add(`${name} ${this.#doubtOf(name)}`);
+        this.#draw();
+        found("get-orders").focus({ preventScroll: true });
+      });
+      return element("p", { class: "note" }, ...messagesNotes([name], this.#reports).flat(), " ", button);
+    });
+    found("list-doubts").replaceChildren(...notes);
+  }
+
+  /** The bar that stays: how many books, what they cost, how many to check, and how far the list is looked up. */
+  #drawBar(all, toCheck) {
+    const ordered = all.filter(({ state }) => state.offer !== undefined);
+    const waiting = all.filter(({ answer }) => answer === undefined).length;
+    const { books, amount } = sumsOf(ordered).all;
+    const parts = [
+      sayCount("order.books", books),
+      money(amount, this.#settings.currency),
+      ...(toCheck > 0 ? [sayCount("order.checkBar", toCheck)] : []),
+      ...(this.#editor.marked.length > 0 ? [sayCount("order.markedBar", this.#editor.marked.length)] : []),
+      ...(waiting > 0 ? [sayCount("order.waitingBar", waiting)] : []),
+    ];
+    found("list-bar-words").replaceChildren(...parts.flatMap((part) => [" · ", element("span", {}, part)]).slice(1));
+  }
+
+  #confirm(row, { need, offer }) {
+    this.#confirmed.add(confirmKey(need, row, offer));
+    this.#draw();
+    (document.querySelector("#list .confirm") ?? found("get-orders")).focus({ preventScroll: true });
+  }
+
+  /** Does what asks the desk; what was asked before ends. */
   async #ask(act) {
     this.#asking.abort();
     this.#asking = new AbortController();
     const { signal } = this.#asking;
     this.#watch.up();
-    showCopies(0, 0);
     try {
-      const asking = new OrderAsking(this.#list.question, this.#settings, signal, this.#watch);
-      await act(asking, signal);
-      await this.#askTitles(signal);
-      await this.#askBetter(asking);
+      await act(new OrderAsking(this.#settings, signal, this.#watch), signal);
+      return true;
     } catch (fault) {
       if (!isAbandoned(fault)) throw fault;
+      return false;
     }
   }
 
-  #stop() {
-    this.leave();
-    this.#list.isAsking = false;
-    this.#show();
-    tell(summaryOf(this.#list));
-  }
-
-  #show() {
-    this.#results.draw(this.#list);
-    showProgress(this.#list);
-  }
-
-  /** Asks for books, which are drawn as they are answered. */
-  #askEach(asking, books) {
-    return eachOf(books, async (book) => {
-      book.answer = await asking.answerOf(book, this.#list.handOf(book));
-      if (this.#list.isAsking) this.#results.drawSoon(this.#list, book);
-      else this.#results.drawBook(this.#list, book);
+  /** Asks for the rows that have no answer yet, and then for titles: an order does not wait for those. */
+  #lookUp() {
+    const rows = rowsOf(this.#editor.lines);
+    if (rows.length > MOST_ROWS) {
+      tell(sayCount("order.tooMany", rows.length, { most: formatter(Intl.NumberFormat).format(MOST_ROWS) }));
+      return undefined;
+    }
+    return this.#ask(async (asking, signal) => {
+      const open = rows.filter((row) => !this.#answers.has(askedOf(row)));
+      await eachOf(open, async (row) => {
+        this.#answers.set(askedOf(row), await asking.answerOf(row));
+        this.#drawSoon();
+      });
+      await this.#askTitles(rows, signal);
     });
   }
 
-  #choose(book, hand) {
-    const list = this.#list;
-    list.choose(book, hand);
-    forgetSaved();
-    this.#results.drawBook(list, book);
-    this.#askShort();
-  }
-
-  /** Orders books from another wholesaler. */
-  #move(moves) {
-    for (const { book, offer } of moves) this.#list.choose(book, offer);
-    forgetSaved();
-    this.#show();
-    this.#askShort();
-  }
-
-  /** Asks for what the answers do not say of what is ordered now. */
-  #askShort() {
-    const list = this.#list;
-    if (list.isAsking || list.short().length === 0) return;
-    this.#ask(async (asking) => {
-      // An order that was to be saved is another one now.
-      showProgress(list);
-      tell(summaryOf(list));
-      await this.#askEach(asking, list.short());
-      showProgress(list);
+  async #askTitles(rows, signal) {
+    const isbns = this.#settings.hasTitles ? rows.map(({ isbn }) => isbn).filter((isbn) => !this.#titles.has(isbn)) : [];
+    const files = new Set(isbns.map(fileOf));
+    await eachOf([...files], async (file) => {
+      const found = await titlesOf(isbns.filter((isbn) => fileOf(isbn) === file), signal);
+      for (const [isbn, titles] of found) this.#titles.set(isbn, titles);
+      this.#drawSoon();
     });
   }
 
-  /** A buyer says that a book is right, for which a person should look. */
-  #confirm(book) {
-    this.#list.confirm(book);
-    endQuestion();
-    this.#results.drawBook(this.#list, book);
-    if (!this.#list.isAsking) tell(summaryOf(this.#list));
+  /** Why no order can leave the page yet, with where to go; `undefined` where nothing speaks against it. */
+  #obstacle(all) {
+    const first = (selector) => document.querySelector(selector);
+    if (this.#form.isShown) return { words: say("order.blocked.table"), place: found("isbn-column") };
+    const marked = this.#editor.marked.length;
+    if (marked > 0) return { words: sayCount("order.blocked.marked", marked), place: first("#marked-lines button") };
+    if (all.length > MOST_ROWS) return { words: found("list-status").textContent };
+    if (all.some(({ answer }) => answer === undefined)) return { words: say("order.blocked.waiting") };
+    const open = all.filter(({ state }) => CONFIRMABLE.includes(state.need));
+    const doubts = document.querySelectorAll("#list-doubts .confirm").length;
+    if (open.length + doubts > 0) {
+      this.#filter(true);
+      return { words: say("order.blocked.check"), place: first("#list-doubts .confirm, #list .confirm") };
+    }
+    if (all.every(({ state }) => state.offer === undefined)) return { words: say("order.blocked.nothing") };
+    return undefined;
   }
 
-  /** The rows of an order that leave the page, as a buyer says where something speaks against it. */
-  async #rowsToSave(series) {
-    const rows = this.#list.ordered(series);
-    const needs = rows.filter(({ state }) => state.need !== undefined);
-    const old = rows.filter(({ state: { offer } }) => this.#reports.stateOf(offer.series).count > 0);
-    const given = await askToSave(rows.length, { needs: needs.length, old: old.length });
-    if (given === "none") return [];
-    return given === "all" ? rows : rows.filter((row) => !needs.includes(row));
+  /** The rows that may leave the page now, asked for once more; none where something speaks against it. */
+  async #checked() {
+    const all = this.#all();
+    const obstacle = this.#obstacle(all);
+    if (obstacle !== undefined) {
+      tell(obstacle.words);
+      obstacle.place?.focus();
+      return [];
+    }
+    const rows = all.filter(({ state }) => state.offer !== undefined);
+    if (Date.now() - this.#checkedAt < FRESH) return rows;
+    const { text } = this.#editor;
+    const changed = await this.#changedOf(rows);
+    if (changed === undefined || text !== this.#editor.text) return [];
+    if (changed.length > 0) {
+      hideOrders();
+      this.#filter(true);
+      tell(sayCount("order.changed", changed.length));
+      return [];
+    }
+    this.#checkedAt = Date.now();
+    return rows;
   }
 
-  /** Asks once more for what is ordered of a series, or of all, and lets it go where nothing has changed. */
-  async #save(way, series) {
-    const list = this.#list;
-    const held = document.activeElement;
-    forgetSaved();
-    const rows = await this.#rowsToSave(series);
-    held?.focus();
-    if (rows.length === 0) return undefined;
-    return this.#ask(async (asking) => {
-      tellSaved(say("order.askingOnceMore"));
-      if (!this.#question.is(list.question)) {
-        this.#noteChanges();
-        return tellSaved(say("order.old"));
-      }
-      const changed = await this.#changedOf(rows, asking);
-      if (changed.length > 0) list.noteChange();
-      this.#show();
-      if (changed.length > 0) return tellSaved(sayCount("order.changed", changed.length));
-      for (const { book } of rows) book.change = undefined;
-      // Before what is printed is on paper.
-      list.noteSaved(series, rows.map(({ book }) => book), way, Date.now());
-      this.#results.drawSums(list);
-      return this.#letGo(way, series, rows);
-    });
-  }
-
-  /** The books of rows that have changed since they were answered, with their new answers. */
-  async #changedOf(rows, asking) {
+  /** The rows that the desk answers otherwise now, which it is asked for anew; `undefined` where that was left. */
+  async #changedOf(rows) {
     const changed = [];
     let done = 0;
-    showChecking(done, rows.length);
-    await eachOf(rows, async ({ book, state }) => {
-      if (await asking.isAsBefore(book, state)) book.answer.at = Date.now();
-      else {
-        const { series, amount } = state.offer;
-        book.answer = await asking.answerOf(book, this.#list.handOf(book));
-        book.change = { series, amount };
-        changed.push(book);
+    const isDone = await this.#ask((asking) => eachOf(rows, async ({ row, state }) => {
+      if (!(await asking.isAsBefore(row, state))) {
+        this.#answers.set(askedOf(row), await asking.answerOf(row));
+        this.#changes.set(changeOf(row), state.offer);
+        changed.push(row);
       }
       done += 1;
-      showChecking(done, rows.length);
-    });
-    return changed;
+      tell(say("order.checking", { done, all: rows.length }));
+    }));
+    return isDone ? changed : undefined;
   }
 
-  async #letGo(way, series, rows) {
-    const list = this.#list;
-    const { day, currency, type } = list.question;
-    const name = series === undefined ? say("order.all") : wholesalerOf(this.#settings, series);
-    const lines = sayCount("order.lines", rows.length);
-    const chosen = rows.map(({ book }) => book);
-    const rest = list.rest(list.ordered(series).map(({ book }) => book).filter((book) => !chosen.includes(book)));
-    const told = restInWords(rest.count);
-    const isOld = (wholesaler) => this.#reports.stateOf(wholesaler).count > 0;
-    const order = found("order-reference").value.trim();
-    const settings = this.#settings;
-    const context = { settings, isOld, day, currency, type, order, hasCarriage: hasCarriage(list.question, settings) };
-    if (way === "csv") {
-      const file = download(rows, { ...context, series });
-      tellSaved(say("order.saved", { file, lines }) + told);
-    } else if (way === "copy") {
-      const isCopied = await copyLines(rows, isOld, found("saved"));
-      tellSaved(isCopied ? say("order.copied", { name, lines }) + told : say("missing.copyByHand"));
-    } else {
-      if (series === undefined) printList(rows);
-      else printOrder(rows, series, context);
-      tellSaved(say("order.printed", { name, lines }) + told);
+  /** Does what saves, unless something is being saved already. */
+  async #saving(act) {
+    if (this.#isSaving) return;
+    this.#isSaving = true;
+    try {
+      await act();
+    } finally {
+      this.#isSaving = false;
     }
-    offerRest(rest, async (text) => {
-      if (!(await copyText(text, found("saved")))) return;
-      list.noteGone(rest.books);
-      tellSaved(sayCount("order.restCopied", rest.count));
+  }
+
+  /** Asks for each book once more, and shows the orders where nothing has changed. */
+  #getOrders() {
+    return this.#saving(async () => {
+      const rows = await this.#checked();
+      if (rows.length === 0) return;
+      this.#showRest();
+      showOrders(rows, { settings: this.#settings, save: (way, series) => this.#save(way, series) });
+      tell(say("order.ready"));
+      found("orders-heading").focus();
+      found("orders").scrollIntoView({ block: "nearest" });
     });
+  }
+
+  #showRest() {
+    const rest = this.#all().filter(({ state }) => state.offer === undefined);
+    showRest(rest, struckBooks(this.#editor.lines));
+  }
+
+  #save(way, series) {
+    return this.#saving(async () => {
+      const order = found("order-reference").value.trim();
+      if (isFormula(order)) {
+        tell(say("order.blocked.reference"));
+        found("order-reference").focus();
+        return;
+      }
+      const rows = (await this.#checked()).filter(({ state }) => state.offer.series === series);
+      if (rows.length === 0) return;
+      const words = await this.#letGo(way, series, rows, { settings: this.#settings, order });
+      this.#showRest();
+      tellSaved(series, words);
+    });
+  }
+
+  async #letGo(way, series, rows, context) {
+    const books = sayCount("order.books", rows.length);
+    if (way === "csv") return say("order.saved", { file: download(rows, series, context), books });
+    if (way === "print") printOrder(rows, series, context);
+    else if (!(await copyText(linesToPaste(rows), found("saved")))) return say("order.copyByHand");
+    return say(way === "print" ? "order.printed" : "order.copied", { books });
   }
 }

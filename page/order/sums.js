@@ -1,23 +1,21 @@
 // Sums of an order list, by wholesaler and in all.
 
-import { compareAmounts, difference, sumOf, times } from "../text/amounts.js";
+import { compareAmounts, sumOf, times } from "../text/amounts.js";
 
 function summed(rows) {
   return {
-    lines: rows.length,
-    copies: rows.reduce((count, { copies }) => count + copies, 0),
-    amount: sumOf(rows.map(({ amount, copies }) => times(amount, copies))),
+    books: rows.length,
+    copies: rows.reduce((count, { row }) => count + row.copies, 0),
+    amount: sumOf(rows.map(({ row, state }) => times(state.offer.amount, row.copies))),
   };
 }
 
-/** The sums of rows of `series`, `copies` and `amount` a copy: of each series, in their order, and of all. */
+/** The sums of ordered rows: of each series, in their order, and of all. */
 export function sumsOf(rows) {
-  const names = [...new Set(rows.map(({ series }) => series))];
-  const ofSeries = (name) => summed(rows.filter(({ series }) => series === name));
+  const names = [...new Set(rows.map(({ state }) => state.offer.series))];
+  const ofSeries = (name) => summed(rows.filter(({ state }) => state.offer.series === name));
   return { bySeries: names.map((series) => ({ series, ...ofSeries(series) })), all: summed(rows) };
 }
 
-/** What is lacking up to an amount, or `undefined` where nothing is. */
-export function lackingTo(amount, least) {
-  return compareAmounts(amount, least) < 0 ? difference(least, amount) : undefined;
-}
+/** Whether a sum is one from which on the carriage is free. */
+export const isFree = (amount, freeFrom) => compareAmounts(amount, freeFrom) >= 0;

@@ -1,34 +1,79 @@
-// The text of an order list, made of its books, so that what a buyer changes in a row stands in the lines too.
+// The text of an order list: its lines, the rows that they are, and what the page itself changes in it.
 
-/** A field between tabulators. */
-const fieldOf = (text) => (/["\t]/.test(text) ? `"${text.replaceAll('"', '""')}"` : text);
+import { isLikeIsbn, MOST_COPIES, readLine } from "./line.js";
 
-/** The line of a book. Where it is not sure how many copies are meant, it stays free text. */
-function lineOf({ isbn, written, copies, given = "", wrong, isUnsure, note }) {
-  const number = wrong === undefined || wrong === "copies" ? isbn : written;
-  if (wrong === "none" || isUnsure) return `${number} ${note}`.trim();
-  return [number, String(copies ?? given), note].map(fieldOf).join("\t").replace(/\t$/, "");
+/** The lines of a text as `readLine` has them, each with its `text` and its `number`, from 1. */
+export function linesOf(text) {
+  return text.split("\n").map((line, at) => ({ ...readLine(line), text: line, number: at + 1 }));
 }
 
-/** The text of books, a line for each: ISBN, copies and note, between tabulators. */
-export function textOfBooks(books) {
-  return books.map((book) => `${lineOf(book)}\n`).join("");
+const ofKind = (kind) => (lines) => lines.filter((line) => line.kind === kind);
+
+export const goodOf = ofKind("good");
+export const markedOf = ofKind("marked");
+
+/** The struck lines that have something like an ISBN: they are in no order. */
+export const struckBooks = (lines) => ofKind("struck")(lines).filter(({ text }) => isLikeIsbn(text));
+
+/**
+ * The rows of good lines: one for each ISBN and wholesaler, in the order of the text, with its `key`, `isbn`, `series`,
+ * the sum of its `copies`, its `lines` and their `note`.
+ */
+export function rowsOf(lines) {
+  const rows = new Map();
+  for (const line of goodOf(lines)) {
+    const { isbn, series } = line;
+    const key = `${isbn}@${series ?? ""}`;
+    if (!rows.has(key)) rows.set(key, { key, isbn, series, copies: 0, lines: [], note: "" });
+    const row = rows.get(key);
+    row.copies += line.copies;
+    row.lines.push(line);
+    row.note = [row.note, line.note].filter((note) => note !== "").join(", ");
+  }
+  return [...rows.values()];
 }
 
-/** The columns of such a text. */
-export const COLUMNS_OF_TEXT = { isbn: 0, copies: 1 };
-
-/** Books of which one has another ISBN or other copies, as texts, or, with `undefined`, is left out. */
-export function edited(books, book, changes) {
-  if (changes === undefined) return books.filter((other) => other !== book);
-  const { isbn = book.wrong === "copies" || book.wrong === undefined ? book.isbn : book.written } = changes;
-  const { copies = book.copies ?? book.given } = changes;
-  return books.map((other) => (other === book ? { isbn, copies, isUnsure: false, note: book.note } : other));
+/** A text with more lines behind its own. */
+export function withLines(text, lines) {
+  return `${[text.trimEnd(), ...lines].filter((line) => line !== "").join("\n")}\n`;
 }
 
-/** Books with one more, or with a copy more of one that is there. */
-export function withOneMore(books, isbn, copies) {
-  const same = books.find((book) => book.wrong === undefined && book.isbn === isbn);
-  if (same !== undefined) return edited(books, same, { copies: same.copies + copies });
-  return [...books, { isbn, copies, isUnsure: false, note: "" }];
+/** A text with other texts in place of some of its lines, as `change` gives them. */
+function changed(text, change) {
+  return linesOf(text).map((line) => change(line)).join("\n");
+}
+
+/** The digits of a bar code without the add-on code that a scanner may write behind them. */
+const withoutAddOn = (code) => ([15, 18].includes(code.length) ? code.slice(0, 13) : code);
+
+/** A text with copies more of what was scanned or added: in the last line of that ISBN, or in a line of its own. */
+export function withMore(text, code, copies = 1) {
+  const isbn = withoutAddOn(code);
+  const line = goodOf(linesOf(text)).findLast((each) => each.isbn === isbn);
+  const sum = copies + (line?.copies ?? 0);
+  if (line === undefined || sum > MOST_COPIES) return withLines(text, [`${isbn} ${copies}`]);
+  const more = line.text.slice(0, line.start) + sum + line.text.slice(line.end);
+  return changed(text, ({ number, text: old }) => (number === line.number ? more : old));
+}
+
+/** A text in which the lines of those numbers are struck out: they stay, behind `#`. */
+export function struck(text, numbers) {
+  return changed(text, ({ number, text: old }) => (numbers.includes(number) ? `# ${old}` : old));
+}
+
+/** A text whose lines of an ISBN alone are of one copy. */
+export function withOneCopy(text) {
+  return changed(text, ({ reason, text: old, bodyEnd }) => (
+    reason === "lone" ? `${old.slice(0, bodyEnd)} 1${old.slice(bodyEnd)}` : old
+  ));
+}
+
+/** A text in which the wholesaler of a row is that `series`, or, with `undefined`, the one that the shop's rules take. */
+export function withSeries(text, { lines }, series) {
+  const numbers = lines.map(({ number }) => number);
+  return changed(text, ({ number, text: old, bodyEnd, note }) => {
+    if (!numbers.includes(number)) return old;
+    const parts = [old.slice(0, bodyEnd), ...(series === undefined ? [] : [`@${series}`])];
+    return [...parts, ...(note === "" ? [] : [`# ${note}`])].join(" ");
+  });
 }

@@ -48,24 +48,18 @@ export class Burst {
 /** What a field has, so that what a scanner types there can be taken out of it again. */
 function remembered(field) {
   if (!field.matches(FIELDS)) return () => {};
-  const { value } = field;
+  const { value, selectionStart } = field;
   return () => {
     if (field.value === value) return;
+    if (field.localName === "textarea") {
+      // By the browser's own undo, which a text keeps.
+      field.setSelectionRange(selectionStart, field.selectionStart);
+      document.execCommand("delete");
+      return;
+    }
     field.value = value;
     field.dispatchEvent(new Event(field.localName === "select" ? "change" : "input", { bubbles: true }));
   };
-}
-
-// What is scanned into a text of several lines is a line of it.
-const isText = (field) => field.localName === "textarea" && !field.readOnly;
-
-// A field that a bar code may be scanned into: it hears of that as the event `scanned`.
-const takesScans = (field) => field.matches("[data-scan]");
-
-/** Ends the line at which a text has its caret. */
-function endLine(field) {
-  field.setRangeText("\n", field.selectionStart, field.selectionEnd, "end");
-  field.dispatchEvent(new Event("input", { bubbles: true }));
 }
 
 /**
@@ -88,8 +82,6 @@ export function placeOf(view, { field, article, order, open }) {
 export class Scanner {
   #place;
   #burst = new Burst();
-  // Where the burst began.
-  #field = document.body;
   #restore = () => {};
   #timer;
   // When the last digit came, and when that of the bar code came that was asked for last.
@@ -128,9 +120,7 @@ export class Scanner {
   #digit({ key, timeStamp }) {
     const field = document.activeElement ?? document.body;
     if (this.#burst.begins(timeStamp)) {
-      this.#field = field;
-      const isOwn = field === this.#place.field || isText(field) || takesScans(field);
-      this.#restore = isOwn ? () => {} : remembered(field);
+      this.#restore = field === this.#place.field ? () => {} : remembered(field);
     }
     if (!takesDigits(field)) this.#place.begin();
     this.#burst.add(key, timeStamp);
@@ -144,15 +134,6 @@ export class Scanner {
     const { code } = this.#burst;
     this.#burst.end();
     this.#askedAt = this.#digitAt;
-    if (isText(this.#field)) {
-      endLine(this.#field);
-      return;
-    }
-    if (takesScans(this.#field)) {
-      this.#field.value = code;
-      this.#field.dispatchEvent(new CustomEvent("scanned"));
-      return;
-    }
     this.#restore();
     this.#place.scanned(code);
   }

@@ -1,0 +1,26 @@
+// Files that a buyer opens in place of pasting them.
+
+import { say } from "../text/wording.js";
+
+const MOST_BYTES = 1_000_000;
+
+/** The text of bytes, as spreadsheets and tills save it; `undefined` where they are none. */
+function textOf(bytes) {
+  const [first, second] = bytes;
+  if (first === 0xff && second === 0xfe) return new TextDecoder("utf-16le").decode(bytes);
+  if (first === 0xfe && second === 0xff) return new TextDecoder("utf-16be").decode(bytes);
+  if (bytes.includes(0)) return undefined;
+  try {
+    return new TextDecoder("utf-8", { fatal: true }).decode(bytes);
+  } catch {
+    return new TextDecoder("windows-1252").decode(bytes);
+  }
+}
+
+/** The `text` of a file, with a line break as a text field has it, or what is `wrong` with it. */
+export async function textOfFile(file) {
+  if (file.size > MOST_BYTES) return { wrong: say("order.wrong.tooLarge", { name: file.name }) };
+  const text = textOf(new Uint8Array(await file.arrayBuffer()));
+  if (text === undefined) return { wrong: say("order.wrong.noText", { name: file.name }) };
+  return { text: text.replace(/\r\n?/g, "\n") };
+}

@@ -1,0 +1,95 @@
+// A line of an order list: an ISBN and copies, then perhaps `@series` and `# note`. Every other line is marked.
+
+import { isBook, isChecked, isTen, toThirteen } from "../text/isbn.js";
+
+/** The most copies of a line. */
+export const MOST_COPIES = 9999;
+
+const HYPHENS = /[\u00ad\u2010-\u2015\u2212\ufe58\ufe63\uff0d]/g;
+// Spaces of any width, and signs that are not seen.
+const SPACES = /[\s\u200b-\u200f\u202a-\u202e\u2060-\u2069]/g;
+
+// Thirteen digits with hyphens or none, with one space behind 978, or in five groups; ten, likewise in four groups.
+const THIRTEEN = "97[89](?:(?:-?\\d){10}| \\d{10}|(?:[ -]\\d{1,7}){3}[ -]\\d)";
+const TEN = "\\d(?:-?\\d){8}-?[\\dX]|(?:\\d{1,7}[ -]){3}[\\dX]";
+const LABEL = "(?:isbn(?:-1[03])?:? *)?";
+const COPIES = "[1-9]\\d{0,3}";
+
+const isbnAs = (name) => `${LABEL}(?<${name}>${THIRTEEN}|${TEN})`;
+const GOOD = new RegExp(
+  `^ *(?:${isbnAs("isbn")} +(?:x?(?<copies>${COPIES})|(?<before>${COPIES})[x×])|(?<first>${COPIES})[x×] +${isbnAs("behind")}) *$`,
+  "di",
+);
+const LONE = new RegExp(`^ *${isbnAs("isbn")} *$`, "i");
+const ANYWHERE = new RegExp(`(?<![\\dA-Za-z])(?:${THIRTEEN}|${TEN})(?![\\dA-Za-z])`, "gi");
+
+// What may be meant as an ISBN: whole or mistyped, too long or too short, or shortened by a spreadsheet.
+const LIKE = /(?:\d[ -]?){8,}[\dX]|97[89][ -]?[\dA-Z-]{5,}|\d[.,]\d+E\+?\d+/i;
+const SHORTENED = /\d[.,]\d+E\+?\d+/i;
+
+// As most lines are.
+const IS_PLAIN = /^[ -~]*$/;
+
+/** A text with plain hyphens and spaces, each sign at its place. */
+export function plain(text) {
+  return IS_PLAIN.test(text) ? text : text.replace(HYPHENS, "-").replace(SPACES, " ");
+}
+
+/** The thirteen digits of an ISBN as it is written; `undefined` where its last digit does not fit, or it is no book's. */
+export function isbnOf(written) {
+  const signs = written.replace(/[- ]/g, "").toUpperCase();
+  if (isTen(signs)) return isChecked(signs) ? toThirteen(signs) : undefined;
+  return signs.length === 13 && isBook(signs) && isChecked(signs) ? signs : undefined;
+}
+
+/** The ISBN that a text is, and nothing else. */
+export function isbnIn(text) {
+  const match = LONE.exec(plain(text));
+  return match === null ? undefined : isbnOf(match.groups.isbn);
+}
+
+/** Whether a text has something like an ISBN in it, whole or broken. */
+export function isLikeIsbn(text) {
+  return LIKE.test(plain(text));
+}
+
+/** Why what stands before `@` and `#` is no ISBN and copies. */
+function reasonOf(body) {
+  if (isbnIn(body) !== undefined) return "lone";
+  const isbns = [...body.matchAll(ANYWHERE)].filter(([written]) => isbnOf(written) !== undefined);
+  if (isbns.length > 1) return "two";
+  if (isbns.length === 1) return /\p{L}/u.test(body.replace(isbns[0][0], "")) ? "more" : "copies";
+  if (SHORTENED.test(body)) return "shortened";
+  return isLikeIsbn(body) ? "broken" : "none";
+}
+
+/** The number of copies of a body that is good, with the place where it stands. */
+function copiesIn({ groups, indices }) {
+  const name = ["copies", "before", "first"].find((each) => groups[each] !== undefined);
+  const [start, end] = indices.groups[name];
+  return { copies: Number(groups[name]), start, end };
+}
+
+const marked = (reason) => ({ kind: "marked", reason });
+
+/**
+ * What a line is, by its `kind`: `blank`, `struck` (behind `#`), `good`, with its `isbn` of thirteen digits, `copies`,
+ * `series` and `note`, and from where to where its number stands; or `marked`, with the `reason`. `bodyEnd` is where
+ * `@` or `#` begins.
+ */
+export function readLine(text) {
+  const signs = plain(text);
+  if (signs.trim() === "") return { kind: "blank" };
+  const hash = signs.indexOf("#");
+  if (signs.trimStart().startsWith("#")) return { kind: "struck" };
+  const [before, note] = hash < 0 ? [signs, ""] : [signs.slice(0, hash), text.slice(hash + 1).trim()];
+  const at = before.indexOf("@");
+  const body = at < 0 ? before : before.slice(0, at);
+  const bodyEnd = body.trimEnd().length;
+  if (at >= 0 && !/^[a-z0-9-]{1,32} *$/.test(before.slice(at + 1))) return { ...marked("series"), bodyEnd };
+  const match = GOOD.exec(body);
+  const isbn = match === null ? undefined : isbnOf(match.groups.isbn ?? match.groups.behind);
+  if (isbn === undefined) return { ...marked(reasonOf(body)), bodyEnd };
+  const series = at < 0 ? undefined : before.slice(at + 1).trim();
+  return { kind: "good", isbn, ...copiesIn(match), series, note, bodyEnd };
+}

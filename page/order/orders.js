@@ -1,0 +1,75 @@
+// The orders of a list, one for each wholesaler, once all books were asked for once more: their sums, and how each leaves
+// the page.
+
+import { money } from "../text/amounts.js";
+import { timeInWords } from "../text/days.js";
+import { element, found, table } from "../text/elements.js";
+import { wholesalerOf } from "../desk/settings.js";
+import { formatter, say, sayCount } from "../text/wording.js";
+import { isFree, sumsOf } from "./sums.js";
+
+const WAYS = ["csv", "copy", "print"];
+
+const number = (count) => formatter(Intl.NumberFormat).format(count);
+
+/** A sum, and, where desk.json says from which one on the carriage is free, that. */
+function sumInWords(series, amount, { settings }) {
+  const { freeFrom } = settings.series.find(({ name }) => name === series) ?? {};
+  const sum = money(amount, settings.currency);
+  if (freeFrom === undefined) return sum;
+  const least = money(freeFrom, settings.currency);
+  return say(isFree(amount, freeFrom) ? "order.carriageFree" : "order.carriageFrom", { sum, least });
+}
+
+/** The buttons by which the order of a wholesaler leaves the page, and what became of it. */
+function waysCell(series, { settings, save }) {
+  const name = wholesalerOf(settings, series);
+  const status = element("span", { role: "status", tabindex: "-1", "data-saved": series });
+  const buttons = WAYS.flatMap((way) => {
+    const button = element("button", { type: "button", class: "small", "data-way": way, "data-series": series }, say(`order.ways.${way}`));
+    button.setAttribute("aria-label", say(`order.waysFor.${way}`, { name }));
+    button.addEventListener("click", () => save(way, series));
+    return [button, " "];
+  });
+  return [...buttons, status];
+}
+
+/** Shows the orders of rows; the context has the `settings` and `save`, which gets a way and a series. */
+export function showOrders(rows, context) {
+  const { bySeries } = sumsOf(rows);
+  const heads = ["wholesaler", "books", "copies", "sum", "save"].map((name) => ({
+    name: say(`order.columns.${name}`), className: ["books", "copies", "sum"].includes(name) ? "amount" : "ways",
+  }));
+  const lines = bySeries.map(({ series, books, copies, amount }) => ({
+    cells: [
+      [wholesalerOf(context.settings, series)], [number(books)], [number(copies)], [sumInWords(series, amount, context)],
+      waysCell(series, context),
+    ],
+  }));
+  found("orders-table").replaceChildren(table("orders-heading", heads, lines));
+  found("orders").hidden = false;
+}
+
+export function hideOrders() {
+  found("orders").hidden = true;
+  found("orders-table").replaceChildren();
+  found("saved").replaceChildren();
+}
+
+/** Says at a wholesaler what became of its order: the focus goes there, so that a second Enter saves nothing. */
+export function tellSaved(series, words) {
+  const status = document.querySelector(`[data-saved="${series}"]`);
+  status.textContent = say("order.savedAt", { words, time: timeInWords(new Date()) });
+  status.focus({ preventScroll: true });
+}
+
+/** Lists what is in no order: rows that nobody offers or no rule takes, and lines with an ISBN that were struck out. */
+export function showRest(rows, struck) {
+  const texts = [
+    ...rows.map(({ row }) => `${row.isbn} ${row.copies}`),
+    ...struck.map(({ text }) => text.trim()),
+  ];
+  found("rest").hidden = texts.length === 0;
+  found("rest-words").textContent = sayCount("order.rest", texts.length);
+  found("rest-lines").replaceChildren(...texts.map((text) => element("li", {}, element("bdi", {}, text))));
+}

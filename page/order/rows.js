@@ -1,0 +1,199 @@
+// The table beside an order list: a row for each ISBN and wholesaler, in the order of the text.
+
+import { addressOf } from "../text/address.js";
+import { money, times } from "../text/amounts.js";
+import { catalogueLink } from "../article/catalogue.js";
+import { element, found, table, tableRow } from "../text/elements.js";
+import { farInWords, farOf } from "../article/retail.js";
+import { titleNodes, titlesOfOffers } from "../desk/titles.js";
+import { wholesalerOf } from "../desk/settings.js";
+import { formatter, say, sayCount, wordsOfCode } from "../text/wording.js";
+import { changeOf, CONFIRMABLE, priced, savingOf, unpricedOf } from "./answers.js";
+
+const COLUMNS = ["title", "copies", "wholesaler", "availability", "price", "sum", "note"];
+const AMOUNTS = ["copies", "price", "sum"];
+const CLASSES = { note: "said" };
+
+const columns = () => COLUMNS.map((name) => ({
+  name: say(`order.columns.${name}`),
+  className: AMOUNTS.includes(name) ? `${name} amount` : CLASSES[name] ?? name,
+  isHeader: name === "title",
+}));
+
+const number = (count) => formatter(Intl.NumberFormat).format(count);
+const inPlainWords = (availability) => wordsOfCode("availabilities", availability) ?? availability;
+
+/** The title that a feed said, or only the ISBN, with a link to the article. */
+function titleCell(row, answer, { settings, titles }) {
+  const { isbn, copies, lines } = row;
+  const said = titlesOfOffers(titles.get(isbn) ?? [], answer?.offers ?? []);
+  const title = settings.hasTitles && said.length > 0 ? [...titleNodes(said, settings), " "] : [];
+  const link = element("a", { href: addressOf("article", { isbn, quantity: String(copies) }) }, isbn);
+  const names = lines.map((line) => number(line.number)).join(", ");
+  return [...title, element("small", {}, link, " · ", sayCount("order.ofLines", lines.length, { lines: names }))];
+}
+
+/** The copies, as a button that leads to their number in the text. */
+function copiesCell({ isbn, copies, lines }, { goTo }) {
+  const button = element("button", { type: "button", class: "number" }, number(copies));
+  button.setAttribute("aria-label", say("order.toNumber", { isbn, copies: number(copies), line: lines[0].number }));
+  button.addEventListener("click", () => goTo(lines[0].number));
+  return [button];
+}
+
+function offerInWords({ series, amount, availability }, { settings }) {
+  const price = money(amount, settings.currency);
+  return say("order.offer", { wholesaler: wholesalerOf(settings, series), price, availability: inPlainWords(availability) });
+}
+
+/** The field by which a hand chooses a wholesaler, which then stands behind `@` in the text. */
+function wholesalerCell(row, answer, state, context) {
+  const { settings, choose } = context;
+  if (answer === undefined) return [say("order.waiting")];
+  if (answer.refusal !== undefined) return [];
+  const offers = priced(answer);
+  if (offers.length === 0) return [];
+  const names = [...new Set(offers.map(({ series }) => series))];
+  const all = row.series === undefined || names.includes(row.series) ? names : [row.series, ...names];
+  const ofRules = answer.choice === null ? say("order.noRule") : say("order.byRules", {
+    wholesaler: wholesalerOf(settings, answer.choice.series),
+  });
+  const options = all.map((name) => {
+    const own = offers.filter(({ series }) => series === name);
+    const words = own.length === 1 ? offerInWords(own[0], context) : wholesalerOf(settings, name);
+    return element("option", { value: name }, words);
+  });
+  const field = element("select", { "aria-label": say("order.wholesalerOf", { isbn: row.isbn }) },
+    element("option", { value: "" }, ofRules), ...options);
+  field.value = row.series ?? "";
+  field.addEventListener("change", () => choose(row, field.value === "" ? undefined : field.value));
+  return [field, element("span", { class: "on-paper" }, state.offer ? wholesalerOf(settings, state.offer.series) : "")];
+}
+
+/** Why a person should look at a row, in words. */
+function needInWords(row, answer, { need, offer }, { settings, changes }) {
+  const { currency, type } = settings;
+  const wholesaler = row.series === undefined ? "" : wholesalerOf(settings, row.series);
+  if (need === "far") return farInWords(farOf(offer, { ...answer, type }), offer, currency);
+  if (need === "refused") {
+    const { kind, words, reason } = answer.refusal;
+    return kind === "refused" ? say("wrong.refused", { reason }) : words;
+  }
+  const before = changes.get(changeOf(row));
+  return say(`order.needs.${need}`, {
+    wholesaler: need === "changed" ? wholesalerOf(settings, before.series) : wholesaler,
+    price: need === "changed" ? money(before.amount, currency) : "",
+    copies: number(row.copies),
+    type,
+    sum: offer === undefined ? "" : money(times(offer.amount, row.copies), currency),
+  });
+}
+
+function needPart(row, answer, state, context) {
+  const words = element("strong", { class: "need" }, needInWords(row, answer, state, context));
+  if (!CONFIRMABLE.includes(state.need)) {
+    const link = state.need === "noOffers" ? catalogueLink(row.isbn, say("article.inCatalogue"), context.settings) : [];
+    return [words, " ", ...link];
+  }
+  const button = element("button", { type: "button", class: "small confirm" }, say("order.confirm"));
+  button.setAttribute("aria-label", say("order.confirmOf", { isbn: row.isbn }));
+  button.addEventListener("click", () => context.confirm(row, state));
+  return [words, " ", button];
+}
+
+/** What another offer of the same answer saves, and the rule that preferred the one that is ordered. */
+function savingPart(row, answer, { offer }, { settings }) {
+  const saving = savingOf(answer, offer, row.copies);
+  if (saving === undefined) return [];
+  const words = say("order.saving", {
+    amount: money(saving.amount, settings.currency),
+    wholesaler: wholesalerOf(settings, saving.offer.series),
+    availability: inPlainWords(saving.offer.availability),
+  });
+  const why = row.series === undefined
+    ? say("order.preferred", { rule: answer.choice.rule, wholesaler: wholesalerOf(settings, offer.series) })
+    : say("order.byHand");
+  return [element("span", {}, `${words}; ${why}`)];
+}
+
+/** What is to be said of a row, each part behind the other. */
+function noteCell(row, answer, state, context) {
+  if (answer === undefined) return [];
+  const { settings } = context;
+  const parts = [];
+  if (state.need !== undefined) parts.push(element("span", {}, ...needPart(row, answer, state, context)));
+  if (state.offer !== undefined) {
+    parts.push(...savingPart(row, answer, state, context));
+    const names = unpricedOf(answer).map((name) => wholesalerOf(settings, name));
+    if (names.length > 0) parts.push(say("order.unpriced", { wholesalers: names.join(", "), type: settings.type }));
+    const doubt = context.doubtOf(state.offer.series);
+    if (doubt !== "") parts.push(doubt);
+  }
+  if (row.note !== "") parts.push(element("bdi", { class: "own" }, row.note));
+  return parts.flatMap((part) => [" · ", part]).slice(1);
+}
+
+function cellsOf(row, answer, state, context) {
+  const { offer } = state;
+  const { currency } = context.settings;
+  return [
+    titleCell(row, answer, context),
+    copiesCell(row, context),
+    wholesalerCell(row, answer, state, context),
+    [offer === undefined ? "" : inPlainWords(offer.availability)],
+    [offer === undefined ? "" : money(offer.amount, currency)],
+    [offer === undefined ? "" : money(times(offer.amount, row.copies), currency)],
+    noteCell(row, answer, state, context),
+  ];
+}
+
+/** What a row is drawn of: it is drawn anew where one of these is another one. */
+function drawnOf({ row, answer, state }, { titles, doubtOf }) {
+  const doubt = state.offer === undefined ? "" : doubtOf(state.offer.series);
+  const lines = row.lines.map((line) => line.number).join();
+  return [lines, row.copies, row.note, answer, state.need, state.offer, titles.get(row.isbn), doubt];
+}
+
+/** Puts a row in the place of another one, with the focus at the same field or button. */
+function replaceRow(old, made) {
+  const fields = (place) => [...place.querySelectorAll("a, button, select")];
+  const at = fields(old).indexOf(document.activeElement);
+  old.replaceWith(made);
+  if (at >= 0) fields(made)[at]?.focus({ preventScroll: true });
+}
+
+/** The rows of the table; one stays as long as nothing of it has changed. */
+export class Rows {
+  #context;
+  // For each row of the list its row of the table (`made`), and what that was drawn of.
+  #drawn = new Map();
+
+  /**
+   * The context has the `settings`, the `titles`, the `changes` since a book was answered, `goTo`, `choose`, `confirm`,
+   * and `doubtOf`, which says why prices of a series are doubtful.
+   */
+  constructor(context) {
+    this.#context = context;
+    found("list").replaceChildren(table("list-heading", columns(), []));
+  }
+
+  /** Draws rows, each with its `row`, `answer` and `state`. */
+  draw(shown) {
+    const body = document.querySelector("#list tbody");
+    const drawn = new Map(shown.map((each) => [each.row.key, this.#drawnRow(each)]));
+    const rows = [...drawn.values()].map(({ made }) => made);
+    const isSame = body.children.length === rows.length && rows.every((made, at) => body.children[at] === made);
+    if (!isSame) body.replaceChildren(...rows);
+    this.#drawn = drawn;
+  }
+
+  #drawnRow(each) {
+    const of = drawnOf(each, this.#context);
+    const old = this.#drawn.get(each.row.key);
+    if (old !== undefined && of.every((part, at) => part === old.of[at])) return old;
+    const cells = cellsOf(each.row, each.answer, each.state, this.#context);
+    const made = tableRow(columns(), { cells, className: each.state.need === undefined ? undefined : "needs" });
+    if (old?.made.isConnected) replaceRow(old.made, made);
+    return { made, of };
+  }
+}

@@ -1,0 +1,125 @@
+// The form by which a buyer turns a table into lines: it shows the table, and asks which column has the ISBN and which
+// the copies. Nothing of it is filled in.
+
+import { element, found } from "../text/elements.js";
+import { formatter, say, sayCount } from "../text/wording.js";
+import { parse, separatorIn, SEPARATORS, taken, widthOf } from "./csv-table.js";
+import { goodOf, linesOf, markedOf } from "./text.js";
+
+// As many rows as tell which column is which.
+const SHOWN = 10;
+
+const number = (count) => formatter(Intl.NumberFormat).format(count);
+
+/** The columns of a table in the order of their numbers, behind an empty choice. */
+function fillColumns(field, width) {
+  const options = Array.from({ length: width }, (_, at) => element("option", { value: at }, number(at + 1)));
+  field.replaceChildren(element("option", { value: "" }, ""), ...options);
+  field.value = "";
+}
+
+export class TableForm {
+  #rows = [];
+  #text = "";
+  #take;
+  #asText;
+
+  /** `take` gets the lines that a table becomes; `asText` the text, where the buyer says that it is none. */
+  constructor({ take, asText }) {
+    this.#take = take;
+    this.#asText = asText;
+    const names = { "\t": "tab", ";": "semicolon", ",": "comma" };
+    const options = SEPARATORS.map((sign) => element("option", { value: sign }, say(`order.table.${names[sign]}`)));
+    found("separator").replaceChildren(...options);
+    found("separator").addEventListener("change", () => this.#show(parse(this.#text, found("separator").value)));
+    for (const id of ["isbn-column", "copies-column"]) found(id).addEventListener("change", () => this.#count());
+    found("table-form").addEventListener("submit", (event) => {
+      event.preventDefault();
+      this.#finish();
+    });
+    found("table-as-text").addEventListener("click", () => {
+      this.#hide();
+      this.#asText(this.#text);
+    });
+    found("table-cancel").addEventListener("click", () => {
+      this.#hide();
+      found("lines").focus();
+    });
+  }
+
+  get isShown() {
+    return !found("table-form").hidden;
+  }
+
+  /** Asks for the columns of a text. */
+  ask(text) {
+    this.#text = text;
+    found("separator").value = separatorIn(text);
+    this.#show(parse(text, found("separator").value));
+    found("isbn-column").focus();
+  }
+
+  #hide() {
+    found("table-form").hidden = true;
+  }
+
+  #show(rows) {
+    this.#rows = rows;
+    const width = widthOf(rows);
+    for (const id of ["isbn-column", "copies-column"]) fillColumns(found(id), width);
+    const shown = rows.filter(({ cells }) => cells.length === width).slice(0, SHOWN);
+    const heads = Array.from({ length: width }, (_, at) => {
+      const box = element("input", { type: "checkbox", value: at, class: "note-column" });
+      return element("th", { scope: "col" }, number(at + 1), element("label", {}, box, ` ${say("order.table.note")}`));
+    });
+    const body = shown.map(({ cells }) => (
+      element("tr", {}, ...cells.map((cell) => element("td", {}, element("bdi", {}, cell))))
+    ));
+    found("table-rows").replaceChildren(
+      element("thead", {}, element("tr", {}, ...heads)),
+      element("tbody", {}, ...body),
+    );
+    found("table-form").hidden = false;
+    this.#count();
+  }
+
+  /** What the table becomes by the columns that are named; `undefined` before both are. */
+  #taken() {
+    const [isbn, copies] = ["isbn-column", "copies-column"].map((id) => found(id).value);
+    if (isbn === "" || copies === "" || isbn === copies) return undefined;
+    const boxes = [...document.querySelectorAll(".note-column:checked")];
+    const notes = boxes.map(({ value }) => Number(value));
+    return taken(this.#rows, { isbn: Number(isbn), copies: Number(copies), notes });
+  }
+
+  #count() {
+    const result = this.#taken();
+    found("take-table").disabled = result === undefined;
+    found("table-count").textContent = result === undefined ? say("order.table.choose") : this.#inWords(result);
+  }
+
+  #inWords({ lines, zeros, rest }) {
+    const all = linesOf(lines.join("\n"));
+    const copies = goodOf(all).map((line) => line.copies);
+    const sum = copies.reduce((total, count) => total + count, 0);
+    const parts = [sayCount("order.table.lines", copies.length, {
+      copies: sayCount("article.copies", sum), most: number(Math.max(0, ...copies)),
+    })];
+    const marked = markedOf(all).length;
+    if (marked > 0) parts.push(sayCount("order.table.marked", marked));
+    if (zeros > 0) parts.push(sayCount("order.table.zeros", zeros));
+    if (rest.length > 0) parts.push(sayCount("order.table.rest", rest.length));
+    return parts.join(" ");
+  }
+
+  #finish() {
+    const result = this.#taken();
+    if (result === undefined) return;
+    this.#hide();
+    this.#take(result);
+    if (result.rest.length === 0) return;
+    this.#text = result.rest.map(({ text }) => text).join("\n");
+    this.#show(result.rest);
+    found("isbn-column").focus();
+  }
+}

@@ -22,7 +22,7 @@ export function marksOf(series, reports, place = "offer") {
   const found = reports.stateOf(series);
   if (!found.isWatched) return [tag("quiet", say("article.unwatchedTag"))];
   const counted = sayCount("missing.atTab", found.count);
-  const words = { sum: counted, row: say("order.oldTag"), offer: say("article.oldTag") }[place];
+  const words = { sum: counted, offer: say("article.oldTag") }[place];
   const missing = found.count > 0 ? [tag("unusual", words, place === "sum" ? undefined : counted)] : [];
   const silent = found.isSilent ? [tag("unusual", sayCount("article.silentTag", found.days))] : [];
   return [...missing, ...silent];

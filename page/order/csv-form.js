@@ -52,9 +52,10 @@ function decimalSign() {
 
 /** The whole form of the file of a series. */
 export function formOf(settings, series) {
-  const { csv } = settings.series.find(({ name }) => name === series) ?? {};
+  const { csv, account } = settings.series.find(({ name }) => name === series) ?? {};
   const { decimal } = { decimal: decimalSign(), ...csv };
-  return { columns: USUAL, heading: true, separator: decimal === "," ? ";" : ",", byte_order_mark: true, ...csv, decimal };
+  const columns = USUAL.filter((name) => name !== "account" || account !== undefined);
+  return { columns, heading: true, separator: decimal === "," ? ";" : ",", byte_order_mark: true, ...csv, decimal };
 }
 
 /** Whether a text begins as a formula does, so that a file would have to change it. */

@@ -56,9 +56,12 @@ export function isLikeIsbn(text) {
 /** Why what stands before `@` and `#` is no ISBN and copies. */
 function reasonOf(body) {
   if (isbnIn(body) !== undefined) return "lone";
-  const isbns = [...body.matchAll(ANYWHERE)].filter(([written]) => isbnOf(written) !== undefined);
-  if (isbns.length > 1) return "two";
-  if (isbns.length === 1) return /\p{L}/u.test(body.replace(isbns[0][0], "")) ? "more" : "copies";
+  const isbn = body.match(ANYWHERE)?.find((written) => isbnOf(written) !== undefined);
+  if (isbn !== undefined) {
+    const beside = body.replace(isbn, " ");
+    if (LIKE.test(beside)) return "two";
+    return /\p{L}/u.test(beside) ? "more" : "copies";
+  }
   if (SHORTENED.test(body)) return "shortened";
   return isLikeIsbn(body) ? "broken" : "none";
 }

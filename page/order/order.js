@@ -82,6 +82,7 @@ export class Order {
       choose: (row, series) => this.#editor.change(withSeries(this.#editor.text, row, series)),
       confirm: (row, state) => this.#confirm(row, state),
       doubtOf: (series) => (this.#doubtOf(series) === "" ? "" : say("order.mayBeOld")),
+      doubtful: () => settings.series.map(({ name }) => name).filter((name) => this.#doubtOf(name) !== ""),
     });
     this.#listen();
     found("list-retail").hidden = kindOf(settings.type) !== "retail";
@@ -245,7 +246,7 @@ export class Order {
       button.addEventListener("click", () => {
         this.#trusted.add(`${name} ${this.#doubtOf(name)}`);
         this.#draw();
-        found("get-orders").focus({ preventScroll: true });
+        this.#nextToCheck().focus({ preventScroll: true });
       });
       return element("p", { class: "note" }, ...messagesNotes([name], this.#reports).flat(), " ", button);
     });
@@ -270,7 +271,12 @@ export class Order {
   #confirm(row, { need, offer }) {
     this.#confirmed.add(confirmKey(need, row, offer));
     this.#draw();
-    (document.querySelector("#list .confirm") ?? found("get-orders")).focus({ preventScroll: true });
+    this.#nextToCheck().focus({ preventScroll: true });
+  }
+
+  /** What is to be confirmed next, or else the button of the orders. */
+  #nextToCheck() {
+    return document.querySelector("#list-doubts .confirm, #list .confirm") ?? found("get-orders");
   }
 
   /** Does what asks the desk; what was asked before ends. */
@@ -317,17 +323,18 @@ export class Order {
 
   /** Why no order can leave the page yet, with where to go; `undefined` where nothing speaks against it. */
   #obstacle(all) {
-    const first = (selector) => document.querySelector(selector);
     if (this.#form.isShown) return { words: say("order.blocked.table"), place: found("isbn-column") };
     const marked = this.#editor.marked.length;
-    if (marked > 0) return { words: sayCount("order.blocked.marked", marked), place: first("#marked-lines button") };
+    if (marked > 0) {
+      return { words: sayCount("order.blocked.marked", marked), place: document.querySelector("#marked-lines button") };
+    }
     if (all.length > MOST_ROWS) return { words: found("list-status").textContent };
     if (all.some(({ answer }) => answer === undefined)) return { words: say("order.blocked.waiting") };
     const open = all.filter(({ state }) => CONFIRMABLE.includes(state.need));
     const doubts = document.querySelectorAll("#list-doubts .confirm").length;
     if (open.length + doubts > 0) {
       this.#filter(true);
-      return { words: say("order.blocked.check"), place: first("#list-doubts .confirm, #list .confirm") };
+      return { words: say("order.blocked.check"), place: this.#nextToCheck() };
     }
     if (all.every(({ state }) => state.offer === undefined)) return { words: say("order.blocked.nothing") };
     return undefined;

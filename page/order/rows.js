@@ -70,8 +70,16 @@ function wholesalerCell(row, answer, state, context) {
   return [field, element("span", { class: "on-paper" }, state.offer ? wholesalerOf(settings, state.offer.series) : "")];
 }
 
+/** That nobody offers a book, or, where messages of a wholesaler have not come, that it may. */
+function noOffersInWords({ settings, doubtful }) {
+  const names = doubtful().map((name) => wholesalerOf(settings, name));
+  if (names.length === 0) return say("order.needs.noOffers");
+  return say("order.needs.noOffersYet", { wholesalers: names.join(", ") });
+}
+
 /** Why a person should look at a row, in words. */
-function needInWords(row, answer, { need, offer }, { settings, changes }) {
+function needInWords(row, answer, { need, offer }, context) {
+  const { settings, changes } = context;
   const { currency, type } = settings;
   const wholesaler = row.series === undefined ? "" : wholesalerOf(settings, row.series);
   if (need === "far") return farInWords(farOf(offer, { ...answer, type }), offer, currency);
@@ -80,6 +88,7 @@ function needInWords(row, answer, { need, offer }, { settings, changes }) {
     return kind === "refused" ? say("wrong.refused", { reason }) : words;
   }
   const before = changes.get(changeOf(row));
+  if (need === "noOffers") return noOffersInWords(context);
   return say(`order.needs.${need}`, {
     wholesaler: need === "changed" ? wholesalerOf(settings, before.series) : wholesaler,
     price: need === "changed" ? money(before.amount, currency) : "",
@@ -148,8 +157,8 @@ function cellsOf(row, answer, state, context) {
 }
 
 /** What a row is drawn of: it is drawn anew where one of these is another one. */
-function drawnOf({ row, answer, state }, { titles, doubtOf }) {
-  const doubt = state.offer === undefined ? "" : doubtOf(state.offer.series);
+function drawnOf({ row, answer, state }, { titles, doubtOf, doubtful }) {
+  const doubt = state.offer === undefined ? doubtful().join() : doubtOf(state.offer.series);
   const lines = row.lines.map((line) => line.number).join();
   return [lines, row.copies, row.note, answer, state.need, state.offer, titles.get(row.isbn), doubt];
 }

@@ -237,6 +237,7 @@ export const texts = {
     waiting: "…",
     needs: {
       noOffers: "Niemand bietet es an.",
+      noOffersYet: "Kein Angebot ist da, aber es fehlen Nachrichten: {wholesalers}.",
       unpriced: "Im Angebot, aber ohne Preis der Art {type} für {copies}.",
       notChosen: "Keine Regel lässt eines der Angebote zu.",
       handLacks: "{wholesaler} bietet es nicht an.",

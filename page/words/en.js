@@ -237,6 +237,7 @@ export const texts = {
     waiting: "…",
     needs: {
       noOffers: "Nobody offers it.",
+      noOffersYet: "No offer has come, but messages are missing: {wholesalers}.",
       unpriced: "Offered, but no price of type {type} for {copies}.",
       notChosen: "No rule of the shop allows any of the offers.",
       handLacks: "{wholesaler} does not offer it.",

@@ -1,5 +1,5 @@
 // The text of an order list as a buyer writes it: every line that orders nothing is marked in its place, with what it
-// lacks. What the page itself changes goes through the browser's own undo.
+// lacks. What the page itself changes can be undone by Ctrl+Z, as what is typed can.
 
 import { element, found } from "../text/elements.js";
 import { formatter, say, sayCount } from "../text/wording.js";
@@ -27,14 +27,10 @@ function keep(text) {
 
 const isEmpty = ({ text }) => !isLikeIsbn(text);
 
-/** The part of a text that another one has in its place: from where to where, and what. */
-function differenceOf(before, after) {
-  const most = Math.min(before.length, after.length);
-  let start = 0;
-  while (start < most && before[start] === after[start]) start += 1;
-  let same = 0;
-  while (same < most - start && before.at(-1 - same) === after.at(-1 - same)) same += 1;
-  return { start, end: before.length - same, text: after.slice(start, after.length - same) };
+/** Whether a key undoes, and no other field takes it. */
+function isUndo({ key, ctrlKey, metaKey, shiftKey, target }) {
+  const isFree = target.id === "lines" || !target.matches("input, textarea");
+  return isFree && (ctrlKey || metaKey) && !shiftKey && key.toLowerCase() === "z";
 }
 
 /** How many marked lines are shown with a button each; there is a button for all the others. */
@@ -44,6 +40,8 @@ export class Editor {
   #field = found("lines");
   #changed;
   #lines = [];
+  // What the page itself has changed: the text `before` and `after`.
+  #steps = [];
 
   /** `changed` hears of each change. */
   constructor(changed) {
@@ -69,26 +67,34 @@ export class Editor {
     return markedOf(this.#lines);
   }
 
-  /** Puts another text in place of this one, as one step of the field's undo where it is seen. */
+  /** Puts another text in place of this one, which Ctrl+Z brings back. */
   change(after) {
-    const { start, end, text } = differenceOf(this.text, after);
-    const { activeElement: before } = document;
-    const caret = before === this.#field ? Math.min(this.#field.selectionStart, after.length) : undefined;
-    this.#field.focus({ preventScroll: true });
-    this.#field.setSelectionRange(start, end);
-    const isDone = document.execCommand(text === "" ? "delete" : "insertText", false, text);
-    if (!isDone || this.text !== after) {
-      this.#field.value = after;
-      this.#read();
-    }
-    if (caret !== undefined) this.#field.setSelectionRange(caret, caret);
-    else if (before !== document.body) before.focus({ preventScroll: true });
+    this.#steps.push({ before: this.text, after });
+    this.#put(after);
   }
 
   /** Puts a text where the caret is. */
   insert(text) {
+    const { selectionStart: start, selectionEnd: end } = this.#field;
+    this.change(this.text.slice(0, start) + text + this.text.slice(end));
     this.#field.focus();
-    document.execCommand("insertText", false, text);
+    this.#field.setSelectionRange(start + text.length, start + text.length);
+  }
+
+  /** Brings back what the page changed last, where nobody has written anything since. */
+  undo(event) {
+    const { before, after } = this.#steps.at(-1) ?? {};
+    if (!isUndo(event) || after !== this.text) return;
+    event.preventDefault();
+    this.#steps.pop();
+    this.#put(before);
+  }
+
+  #put(text) {
+    const { selectionStart: caret } = this.#field;
+    this.#field.value = text;
+    this.#field.setSelectionRange(caret, caret);
+    this.#read();
   }
 
   /** Leads to a part of a line, from one place to another one, or to all of it. */

@@ -81,6 +81,11 @@ export class Order {
       },
       choose: (row, series) => this.#editor.change(withSeries(this.#editor.text, row, series)),
       confirm: (row, state) => this.#confirm(row, state),
+      askAgain: (row) => {
+        this.#answers.delete(askedOf(row));
+        this.#draw();
+        this.#lookUp();
+      },
       doubtOf: (series) => (this.#doubtOf(series) === "" ? "" : say("order.mayBeOld")),
       doubtful: () => settings.series.map(({ name }) => name).filter((name) => this.#doubtOf(name) !== ""),
     });
@@ -94,6 +99,9 @@ export class Order {
   #listen() {
     found("lines").addEventListener("paste", (event) => {
       if (this.#asTable(event.clipboardData?.getData("text") ?? "")) event.preventDefault();
+    });
+    document.addEventListener("keydown", (event) => {
+      if (this.#isShown) this.#editor.undo(event);
     });
     found("open-file").addEventListener("click", () => found("list-file").click());
     found("list-file").addEventListener("change", () => this.#open(found("list-file").files[0]));

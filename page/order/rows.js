@@ -98,16 +98,23 @@ function needInWords(row, answer, { need, offer }, context) {
   });
 }
 
+/** A button at a row, by the path of its words. */
+function rowButton(path, className, { isbn }, act) {
+  const button = element("button", { type: "button", class: `small ${className}` }, say(path));
+  button.setAttribute("aria-label", say(`${path}Of`, { isbn }));
+  button.addEventListener("click", act);
+  return button;
+}
+
 function needPart(row, answer, state, context) {
   const words = element("strong", { class: "need" }, needInWords(row, answer, state, context));
-  if (!CONFIRMABLE.includes(state.need)) {
-    const link = state.need === "noOffers" ? catalogueLink(row.isbn, say("article.inCatalogue"), context.settings) : [];
-    return [words, " ", ...link];
+  const { need } = state;
+  if (CONFIRMABLE.includes(need)) {
+    return [words, " ", rowButton("order.confirm", "confirm", row, () => context.confirm(row, state))];
   }
-  const button = element("button", { type: "button", class: "small confirm" }, say("order.confirm"));
-  button.setAttribute("aria-label", say("order.confirmOf", { isbn: row.isbn }));
-  button.addEventListener("click", () => context.confirm(row, state));
-  return [words, " ", button];
+  if (need === "refused") return [words, " ", rowButton("order.askAgain", "again", row, () => context.askAgain(row))];
+  if (need === "noOffers") return [words, " ", ...catalogueLink(row.isbn, say("article.inCatalogue"), context.settings)];
+  return [words];
 }
 
 /** What another offer of the same answer saves, and the rule that preferred the one that is ordered. */
@@ -179,7 +186,7 @@ export class Rows {
 
   /**
    * The context has the `settings`, the `titles`, the `changes` since a book was answered, `goTo`, `choose`, `confirm`,
-   * and `doubtOf`, which says why prices of a series are doubtful.
+   * `askAgain`, and `doubtOf`, which says why prices of a series are doubtful.
    */
   constructor(context) {
     this.#context = context;

@@ -51,13 +51,8 @@ function remembered(field) {
   const { value, selectionStart } = field;
   return () => {
     if (field.value === value) return;
-    if (field.localName === "textarea") {
-      // By the browser's own undo, which a text keeps.
-      field.setSelectionRange(selectionStart, field.selectionStart);
-      document.execCommand("delete");
-      return;
-    }
     field.value = value;
+    if (field.localName === "textarea") field.setSelectionRange(selectionStart, selectionStart);
     field.dispatchEvent(new Event(field.localName === "select" ? "change" : "input", { bubbles: true }));
   };
 }

@@ -248,6 +248,8 @@ export const texts = {
     },
     confirm: "Bestätigen",
     confirmOf: "{isbn} bestätigen",
+    askAgain: "Noch einmal fragen",
+    askAgainOf: "Noch einmal nach {isbn} fragen",
     confirmWholesaler: "Trotzdem bei {wholesaler} bestellen",
     saving: "{amount} weniger bei {wholesaler} ({availability})",
     preferred: "Regel {rule} zieht {wholesaler} vor",

@@ -248,6 +248,8 @@ export const texts = {
     },
     confirm: "Confirm",
     confirmOf: "Confirm {isbn}",
+    askAgain: "Ask again",
+    askAgainOf: "Ask again for {isbn}",
     confirmWholesaler: "Order from {wholesaler} all the same",
     saving: "{amount} less from {wholesaler} ({availability})",
     preferred: "rule {rule} prefers {wholesaler}",

@@ -1,15 +1,13 @@
 """Tests the buyers' page: a real nginx, the real program over a file, and Chromium without a window.
 
-    tests/page/run [-k PATTERN].. [--case TEXT] [--pictures | --longest] [PROGRAM]
+    tests/page/run [-k PATTERN].. [--case TEXT] [PROGRAM]
     tests/page/run --list
 
 It needs Debian's packages nginx, openssl, chromium, chromium-headless-shell, chromium-driver and python3-selenium,
 and Debian's own Python. Where only the page itself counts it is opened in Chromium's shell. PROGRAM is
 crates/onixdesk/out/onixdesk where none is named. With -k only the groups are run that have the text in their name, which
 --list tells, and those that they build on; with --case only those of their cases are counted. For each case that failed
-a line is written, and at the end `page: N cases, M failed`; no file of the repository changes. With --pictures
-no case is tried but those that take the pictures of docs/ anew, and with --longest none but those of a list of a thousand
-lines, whose questions take as long as all other cases of lists. Status 0; 1 where a case failed; 2 where no case was
+a line is written, and at the end `page: N cases, M failed`; no file of the repository changes. Status 0; 1 where a case failed; 2 where no case was
 run, there is no program or a package is missing.
 """
 
@@ -22,9 +20,6 @@ from tests.running import PROGRAM, choice, command_line, left_out_whole, run_sid
 
 def main() -> int:
     parser = command_line("tests/page/run", __doc__)
-    alone = parser.add_mutually_exclusive_group()
-    alone.add_argument("--pictures", action="store_true", help="take the pictures of docs/ anew, and try nothing else")
-    alone.add_argument("--longest", action="store_true", help="try a list of a thousand lines, and nothing else")
     given = parser.parse_args()
     os.environ["PATH"] += ":/usr/sbin"
     program = (given.program or PROGRAM).resolve()
@@ -34,11 +29,10 @@ def main() -> int:
         print(f"tests/page/run: {why}", file=sys.stderr)
         return 2
     # It needs Selenium.
-    from tests.page.sequences import LONGEST, PICTURES, SEQUENCES, chosen_groups, lanes
+    from tests.page.sequences import SEQUENCES, chosen_groups, lanes
 
     chosen = choice(given)
-    sequences = [PICTURES] if given.pictures else [LONGEST] if given.longest else SEQUENCES
-    found = chosen_groups(sequences, chosen)
+    found = chosen_groups(SEQUENCES, chosen)
     if given.list:
         print("\n".join(group.id() for groups in found for group in groups))
         return 0

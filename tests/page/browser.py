@@ -16,6 +16,7 @@ from selenium.webdriver.chrome.service import Service
 from selenium.webdriver.common.by import By
 from selenium.webdriver.remote.webelement import WebElement
 
+from tests.page.list_desk import PlainSite
 from tests.page.site import NAME, PASSWORD, USER, Site
 from tests.program.room import SECONDS
 from tests.program.serving import HOST
@@ -78,10 +79,12 @@ class Browser:
     """`is_recorded` keeps what pages ask for, which costs the browser much; `is_trusting` takes the site for one
     whose files may be kept; `is_whole` is Chromium with all that stands around a page."""
 
-    def __init__(self, site: Site, is_recorded: bool = False, is_trusting: bool = False, is_whole: bool = True) -> None:
+    def __init__(
+        self, site: Site | PlainSite, is_recorded: bool = False, is_trusting: bool = False, is_whole: bool = True
+    ) -> None:
         self.site = site
         self.opened = 0
-        key = site.key_digest() if is_trusting else ""
+        key = site.key_digest() if is_trusting and isinstance(site, Site) else ""
         self.driver = webdriver.Chrome(options=options(is_recorded, key, is_whole), service=Service(DRIVER))
         self.size(*WIDE)
         # The browser asks for the name and the password once; from then on it knows them. There is nothing to be kept.
@@ -203,7 +206,7 @@ class Browser:
 
 @contextlib.contextmanager
 def browsing(
-    site: Site, is_recorded: bool = False, is_trusting: bool = False, is_whole: bool = True
+    site: Site | PlainSite, is_recorded: bool = False, is_trusting: bool = False, is_whole: bool = True
 ) -> Iterator[Browser]:
     browser = Browser(site, is_recorded, is_trusting, is_whole)
     try:

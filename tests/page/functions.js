@@ -77,156 +77,6 @@ function headings() {
     .filter((head) => head.getClientRects().length > 0).map((head) => Number(head.localName[1]))
 }
 
-function putLines(text) {
-  const lines = document.getElementById('lines');
-  lines.value = text;
-  lines.dispatchEvent(new Event('input'));
-}
-
-// No reply comes to what is asked about a book, as where the desk ends by it.
-function loseReplies(isbn) {
-  const real = window.fetch;
-  window.isLosing = true;
-  window.lost = 0;
-  window.fetch = async (url, ...rest) => {
-    if (!window.isLosing || !String(url).includes(isbn)) return real(url, ...rest);
-    window.lost += 1;
-    return new Response('', { status: 502 });
-  };
-}
-
-// Of the questions about articles each of so many is lost the first time, as where the web server closes a connection; what
-// the page then says of it is noted.
-function cutConnections(each) {
-  const real = window.fetch;
-  const note = document.getElementById('down');
-  const cut = new Set();
-  let count = 0;
-  window.told = [];
-  new MutationObserver(() => { if (!note.hidden) window.told.push(note.textContent); }).observe(note, { attributes: true });
-  window.fetch = async (url, ...rest) => {
-    const path = String(url);
-    count += path.includes('/desk/articles/');
-    if (!path.includes('/desk/articles/') || count % each !== 0 || cut.has(path)) return real(url, ...rest);
-    cut.add(path);
-    window.cut = cut.size;
-    throw new TypeError('the connection is closed');
-  };
-}
-
-// How a list is laid out: its height, that of the line above it, and what is cut or takes more than a line.
-function basket(name) {
-  const all = (selector) => [...document.querySelectorAll(selector)];
-  const height = (selector) => Math.ceil(document.querySelector(selector).getBoundingClientRect().height);
-  // As wide as its name is a field of which nothing holds the width; all stand beside theirs before one is measured.
-  const cutOf = (fields) => {
-    const free = fields.map((field) => {
-      const copy = field.cloneNode(true);
-      copy.value = field.value;
-      Object.assign(copy.style, { position: 'absolute', maxWidth: 'none' });
-      field.after(copy);
-      return copy;
-    });
-    const width = (field) => field.getBoundingClientRect().width;
-    const cut = fields.filter((field, at) => width(free[at]) > width(field) + 0.5);
-    free.forEach((copy) => copy.remove());
-    return cut;
-  };
-  return {
-    height: height('#list-part'),
-    state: height('#list-state'),
-    cutNames: cutOf(all('#list select').filter((field) => field.selectedOptions[0].textContent.includes(name)))
-      .map((field) => `${field.clientWidth}`),
-    cutFields: all('#list tbody input').filter((field) => field.scrollWidth > field.clientWidth).map(({ value }) => value),
-    tallTitles: all('#list .clamped').filter((title) => title.getClientRects().length !== 1 || title.clientHeight > 24)
-      .map((title) => title.clientHeight),
-    cutHeads: all('#list thead th').filter((head) => head.clientWidth > 0 && head.scrollWidth > head.clientWidth)
-      .map((head) => head.textContent),
-  };
-}
-
-// Notes when a list is looked up, when the last of its books is answered, by the page's own clock, and how many rows
-// come into its table and leave it.
-function noteLookUp() {
-  const status = document.getElementById('list-status');
-  window.drawn = [0, 0];
-  const rowsOf = (nodes) => [...nodes].filter(({ localName }) => localName === 'tr').length;
-  new MutationObserver((changes) => {
-    for (const { addedNodes, removedNodes } of changes) {
-      window.drawn[0] += rowsOf(addedNodes);
-      window.drawn[1] += rowsOf(removedNodes);
-    }
-  }).observe(document.getElementById('list'), { childList: true, subtree: true });
-  performance.setResourceTimingBufferSize(20000);
-  performance.clearResourceTimings();
-  window.shifts = [];
-  window.blocks = [];
-  new PerformanceObserver((list) => {
-    for (const { value, startTime, sources, hadRecentInput } of list.getEntries()) {
-      const isRow = sources.some(({ node }) => node?.parentElement?.closest('#list tbody') ?? false);
-      if (isRow && !hadRecentInput && window.lookedUpAt === undefined) window.shifts.push([startTime, value]);
-    }
-  }).observe({ type: 'layout-shift' });
-  new PerformanceObserver((list) => {
-    window.blocks.push(...list.getEntries().map(({ startTime, duration }) => [startTime, duration]));
-  }).observe({ type: 'longtask' });
-  document.getElementById('look-up').addEventListener(
-    'click', () => { window.pressedAt = performance.now(); }, { capture: true, once: true });
-  new MutationObserver(() => {
-    if (status.textContent.startsWith('500 books')) window.lookedUpAt ??= performance.now();
-  }).observe(status, { childList: true, characterData: true, subtree: true });
-}
-
-// Marks the rows of a list, so that those that are made anew or moved are known.
-function markRows() {
-  window.drawnThen = [...window.drawn];
-  for (const row of document.querySelectorAll('#list tbody tr')) row.isMarked = true;
-}
-
-// How many rows there are, and how many of them were made since they were marked.
-function newRows() {
-  const rows = [...document.querySelectorAll('#list tbody tr')];
-  return [rows.length, rows.filter(({ isMarked }) => !isMarked).length];
-}
-
-// Notes the rows that move from now on.
-function noteShifts() {
-  window.shifts = [];
-  new PerformanceObserver((list) => {
-    for (const { value, sources, hadRecentInput } of list.getEntries()) {
-      const isRow = sources.some(({ node }) => node?.parentElement?.closest('#list tbody') ?? false);
-      if (isRow && !hadRecentInput) window.shifts.push(value);
-    }
-  }).observe({ type: 'layout-shift' });
-}
-
-// The seconds between the two, the paths of the questions that were answered meanwhile, and the milliseconds of one. Of
-// a question whose reply was lost, and that was asked again, the second one counts.
-function lookUpTimes() {
-  const answered = performance.getEntriesByType('resource').filter(({ name, responseStatus, responseEnd }) =>
-    name.includes('/desk/articles/') && responseStatus === 200 && responseEnd <= window.lookedUpAt);
-  const each = answered.reduce((sum, { duration }) => sum + duration, 0) / answered.length;
-  const paths = answered.map(({ name }) => new URL(name).pathname);
-  return [(window.lookedUpAt - window.pressedAt) / 1000, paths, each];
-}
-
-function refuseTwice() {
-  const real = window.fetch;
-  window.refusals = [[429, ''], [503, '{"answer":"fault","reason":"disk"}']];
-  window.fetch = async (url, ...rest) => {
-    if (!String(url).includes('/choice?') || window.refusals.length === 0) return real(url, ...rest);
-    const [status, body] = window.refusals.shift();
-    return new Response(body, { status });
-  };
-}
-
-// What changes from run to run has no place in a picture that is kept.
-function standStill() {
-  document.getElementById('as-of').textContent = 'As of 09:30:00; the page refreshes this every minute.';
-  document.getElementById('answer-time').textContent = 'as of 09:30:00';
-  document.getElementById('list-as-of').textContent = 'As of 09:30:00 to 09:30:01.';
-}
-
 // Missing numbers are red, and nothing else is.
 function redParts() {
   return [...document.querySelectorAll('body *')].filter((found) => {
@@ -498,4 +348,24 @@ function beginWith(hash) {
 
 function keepNothing() {
   Object.defineProperty(window, 'localStorage', { get() { throw new Error('kept'); } });
+}
+
+// Puts a text into the lines as a paste does.
+function pasteLines(text) {
+  const lines = document.getElementById('lines');
+  lines.focus();
+  const clipboardData = new DataTransfer();
+  clipboardData.setData('text/plain', text);
+  const event = new ClipboardEvent('paste', { clipboardData, bubbles: true, cancelable: true });
+  if (!lines.dispatchEvent(event)) return;
+  lines.setRangeText(text, lines.selectionStart, lines.selectionEnd, 'end');
+  lines.dispatchEvent(new Event('input', { bubbles: true }));
+}
+
+// Notes how long the page is busy at once, from now on.
+function noteBlocks() {
+  window.blocks = [];
+  new PerformanceObserver((list) => {
+    window.blocks.push(...list.getEntries().map(({ duration }) => duration));
+  }).observe({ type: 'longtask' });
 }

@@ -10,21 +10,16 @@ from typing import NamedTuple
 
 from tests.page import (
     articles,
-    baskets,
     calendars,
     days,
     ended,
     hostile,
     isbns,
     keyboard,
-    long_lists,
-    lost_questions,
     misleading,
-    order_screens,
     orders,
     origins,
     passwords,
-    pictures,
     prices,
     refusals,
     reports,
@@ -56,27 +51,18 @@ SEQUENCES = [
     Sequence("minutes", [*reports.OVER_TIME, *titles.CASES]),
     Sequence("questions", [*articles.CASES, *isbns.CASES, *days.CASES, *prices.CASES]),
     Sequence("views", [*calendars.CASES, *reports.CASES, *hostile.CASES, *refusals.CASES]),
-    Sequence("orders", [*orders.CASES, *lost_questions.CASES]),
-    Sequence("long lists", long_lists.CASES),
-    Sequence("baskets", [*baskets.CASES, *order_screens.CASES]),
+    Sequence("orders", orders.CASES),
     Sequence("misleading", misleading.CASES),
     Sequence("screens", screens.CASES),
     Sequence(
         "browsers",
-        [*keyboard.CASES, *origins.CASES, *ended.CASES, *baskets.OF_A_TILL, *passwords.CASES, *origins.AT_THE_END],
+        [*keyboard.CASES, *origins.CASES, *ended.CASES, *passwords.CASES, *origins.AT_THE_END],
         is_whole=True,
     ),
 ]
-PICTURES = Sequence("pictures", pictures.CASES, is_whole=True)
-LONGEST = Sequence("the longest list", long_lists.OF_THE_LONGEST)
 
 # What the groups of a module build on, and is run before one of them.
 GROUND: dict[str, Check] = {
-    "orders": orders.begins,
-    "lost_questions": orders.begins,
-    "baskets": baskets.with_wholesalers,
-    "order_screens": baskets.with_wholesalers,
-    "long_lists": baskets.with_wholesalers,
     "titles": titles.not_kept,
 }
 

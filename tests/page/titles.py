@@ -4,22 +4,18 @@ import json
 import time
 from collections.abc import Iterator
 
-from tests.page import order_desk
 from tests.page.browser import Browser
-from tests.page.order_desk import isbn_of
-from tests.page.orders import file_rows, look_up, row_of, save_to, saved
+from tests.page.list_desk import isbn_of, standing_in
+from tests.page.orders import looked_up, open_list
 from tests.page.site import Site
 from tests.page.week import HOSTILE
 from tests.running import Outcome
 
 ISBN, OTHER, HOSTILE_ISBN, UNTITLED, LONG_ISBN = (isbn_of(number) for number in (1, 4, 7, 10, 13))
+NOBODYS = isbn_of(9001)
 
-# The column of the table, and that of a file.
-COLUMN = "Title (not proved)"
-HEAD = "Title, as a feed said last (not proved)"
 SAID = "as a feed of Beta & Sons said last; not proved"
 UNKNOWN = "no feed of its wholesalers has said a title"
-UNKNOWN_HERE = "no title known"
 DIFFERS = "Alpha Books says: Older"
 WHOLE = "The Lamplighter’s Almanac: A year of small lights · Éilís Byrne (author); Noor Haddad (illustrator) · Quayside Editions"
 
@@ -64,20 +60,17 @@ def asked(site: Site, since: int) -> list[str]:
 
 def not_kept(site: Site, browser: Browser) -> Iterator[Outcome]:
     """A shop that keeps none sees nothing of them, and the page asks for none."""
-    order_desk.deliver(site)
-    site.write_settings(order_desk.settings())
-    since = len(site.requests())
-    browser.complaints()
-    browser.open(article(ISBN))
-    browser.wait_for_text("#article-status", "Buy 1 from")
-    yield Outcome("no titles are kept: the answer", browser.text("#title"), "")
-    browser.go("#order")
-    look_up(browser, ISBN)
-    heads = browser.texts("#list thead th")
-    yield Outcome("no titles are kept: the columns", COLUMN in heads, False)
-    found = {path for path in asked(site, since) if path.startswith("/titles")}
-    yield Outcome("no titles are kept: what is asked for", found, {"/titles.json"})
-    yield Outcome("no titles are kept: no complaint", browser.complaints(), [])
+    with standing_in(site):
+        since = len(site.requests())
+        browser.complaints()
+        browser.open(article(ISBN))
+        browser.wait_for_text("#article-status", "Buy 1 from")
+        yield Outcome("no titles are kept: the answer", browser.text("#title"), "")
+        open_list(browser, f"{ISBN} 2\n")
+        looked_up(browser, 1)
+        found = {path for path in asked(site, since) if path.startswith("/titles")}
+        yield Outcome("no titles are kept: what is asked for", found, {"/titles.json"})
+        yield Outcome("no titles are kept: no complaint", browser.complaints(), [])
     site.titles.joinpath("titles.json").write_text("{}", encoding="utf-8")
     with open(file_of(site, ISBN), "w", encoding="utf-8") as file:
         json.dump(TITLES, file)
@@ -85,103 +78,86 @@ def not_kept(site: Site, browser: Browser) -> Iterator[Outcome]:
 
 def of_an_article(site: Site, browser: Browser) -> Iterator[Outcome]:
     """It comes behind the answer, and says whose feed said it."""
-    browser.complaints()
-    since = len(site.requests())
-    browser.open(article(ISBN))
-    yield Outcome("a title", browser.wait_for_text("#title", "Almanac"), f"Title: {WHOLE} · {DIFFERS} · {SAID}")
-    yield Outcome("a title is inside the box", browser.count("#verdict #title"), 1)
-    paths = asked(site, since)
-    answers = [paths.index(f"/desk/articles/{ISBN}/{what}") for what in ("price", "choice")]
-    title = paths.index(f"/titles/{ISBN[:5]}/{ISBN[:8]}.json")
-    yield Outcome("it is asked for behind the answer", max(answers) < title, True)
-    for isbn, wanted in [
-        (OTHER, f"Title: =1+1 · {SAID}"),
-        (UNTITLED, UNKNOWN),
-        (HOSTILE_ISBN, f"Title: {HOSTILE}: onetwo · \u05d0\u05d1 (author) · {{isbn}} · {SAID}"),
-        (order_desk.NOBODYS, UNKNOWN),
-    ]:
-        browser.go(article(isbn))
-        browser.wait_for_text("#title", wanted[:16])
-        came = browser.run("return document.getElementById('title').textContent")
-        yield Outcome(f"the title of {isbn}", came, wanted)
-        yield Outcome(f"no element of the title of {isbn}", browser.all("main img, main script"), [])
-    yield Outcome("no complaint of the browser", browser.complaints(), [])
-    browser.go(article(ISBN))
-    browser.wait_for_text("#title", "Almanac")
-    site.freeze_desk()
-    browser.run("location.hash = arguments[0]", article(OTHER))
-    browser.wait(lambda: not browser.shows("#article-status", ISBN))
-    yield Outcome("while the next book is asked for", browser.text("#title"), "")
-    site.thaw_desk()
-    browser.wait_for_text("#title", "=1+1")
-    browser.driver.execute_cdp_cmd("Emulation.setEmulatedMedia", {"media": "print"})
-    yield Outcome("it is on paper", browser.one("#title").is_displayed(), True)
-    browser.driver.execute_cdp_cmd("Emulation.setEmulatedMedia", {"media": ""})
+    with standing_in(site):
+        browser.complaints()
+        since = len(site.requests())
+        browser.open(article(ISBN))
+        yield Outcome("a title", browser.wait_for_text("#title", "Almanac"), f"Title: {WHOLE} · {DIFFERS} · {SAID}")
+        yield Outcome("a title is inside the box", browser.count("#verdict #title"), 1)
+        paths = asked(site, since)
+        answers = [paths.index(f"/desk/articles/{ISBN}/{what}") for what in ("price", "choice")]
+        title = paths.index(f"/titles/{ISBN[:5]}/{ISBN[:8]}.json")
+        yield Outcome("it is asked for behind the answer", max(answers) < title, True)
+        for isbn, wanted in [
+            (OTHER, f"Title: =1+1 · {SAID}"),
+            (UNTITLED, UNKNOWN),
+            (HOSTILE_ISBN, f"Title: {HOSTILE}: onetwo · \u05d0\u05d1 (author) · {{isbn}} · {SAID}"),
+            (NOBODYS, UNKNOWN),
+        ]:
+            browser.go(article(isbn))
+            browser.wait_for_text("#title", wanted[:16])
+            came = browser.run("return document.getElementById('title').textContent")
+            yield Outcome(f"the title of {isbn}", came, wanted)
+            yield Outcome(f"no element of the title of {isbn}", browser.all("main img, main script"), [])
+        yield Outcome("no complaint of the browser", browser.complaints(), [])
+        browser.go(article(ISBN))
+        browser.wait_for_text("#title", "Almanac")
+        browser.driver.execute_cdp_cmd("Emulation.setEmulatedMedia", {"media": "print"})
+        yield Outcome("it is on paper", browser.one("#title").is_displayed(), True)
+        browser.driver.execute_cdp_cmd("Emulation.setEmulatedMedia", {"media": ""})
 
 
 def of_many_letters(site: Site, browser: Browser) -> Iterator[Outcome]:
     """A long title is cut, and pushes out of sight neither who said it nor what others say."""
-    browser.size(400, 900)
-    browser.go(article(LONG_ISBN))
-    came = browser.wait_for_text("#title", "says")
-    said = f"Title: {LONG[:119]}… · Alpha Books says: {LONG[1:120]}… · {SAID}"
-    yield Outcome("a long title", came, said)
-    beyond = browser.run(
-        """
-      const place = document.getElementById('title').getBoundingClientRect().bottom;
-      return [...document.querySelectorAll('#title > :is(strong, small)')]
-        .map((part) => part.getBoundingClientRect().bottom > place + 1);"""
-    )
-    yield Outcome("a long title leaves in sight who said it, and what others say", beyond, [False, False])
-    browser.size(1100, 900)
+    with standing_in(site):
+        browser.size(400, 900)
+        browser.go(article(LONG_ISBN))
+        came = browser.wait_for_text("#title", "says")
+        said = f"Title: {LONG[:119]}… · Alpha Books says: {LONG[1:120]}… · {SAID}"
+        yield Outcome("a long title", came, said)
+        beyond = browser.run(
+            """
+          const place = document.getElementById('title').getBoundingClientRect().bottom;
+          return [...document.querySelectorAll('#title > :is(strong, small)')]
+            .map((part) => part.getBoundingClientRect().bottom > place + 1);"""
+        )
+        yield Outcome("a long title leaves in sight who said it, and what others say", beyond, [False, False])
+        browser.size(1100, 900)
 
 
 def that_cannot_be_read(site: Site, browser: Browser) -> Iterator[Outcome]:
     """The answer stands, and no title is said to be unknown."""
-    path = file_of(site, "97899999")
-    with open(path, "w", encoding="utf-8") as file:
-        file.write("{")
-    browser.go(article("9789999900003"))
-    none = "No wholesaler offers this book"
-    yield Outcome("a damaged file: the answer", none in browser.wait_for_text("#article-status", none), True)
-    was_asked = browser.wait(lambda: any("/titles/97899/" in path for path in asked(site, 0)))
-    # A wrong title would be drawn a moment later.
-    time.sleep(0.5)
-    yield Outcome("a damaged file: the title", (was_asked, browser.text("#title")), (True, ""))
+    with standing_in(site):
+        path = file_of(site, "97899999")
+        with open(path, "w", encoding="utf-8") as file:
+            file.write("{")
+        browser.go(article("9789999900003"))
+        none = "No wholesaler offers this book"
+        yield Outcome("a damaged file: the answer", none in browser.wait_for_text("#article-status", none), True)
+        was_asked = browser.wait(lambda: any("/titles/97899/" in path for path in asked(site, 0)))
+        # A wrong title would be drawn a moment later.
+        time.sleep(0.5)
+        yield Outcome("a damaged file: the title", (was_asked, browser.text("#title")), (True, ""))
 
 
 def of_a_list(site: Site, browser: Browser) -> Iterator[Outcome]:
-    """A column of the table, on paper too, and the last one of the file; books are asked for by their files."""
-    folder = site.room.path("titles-of-orders")
-    save_to(browser, folder)
-    since = len(site.requests())
-    browser.go("#order")
-    look_up(browser, f"{ISBN} 2\n{OTHER}\n{HOSTILE_ISBN}\n{UNTITLED}\n{order_desk.NOBODYS}")
-    came = browser.wait(lambda: row_of(browser, UNTITLED)[2])
-    yield Outcome("a book without a title", came, UNKNOWN_HERE)
-    found = [row_of(browser, isbn)[2] for isbn in (ISBN, OTHER, HOSTILE_ISBN, order_desk.NOBODYS)]
-    whole = f"{HOSTILE}: onetwo · \u05d0\u05d1 (author) · {{isbn}}"
-    yield Outcome("the titles of a list", found, [f"{WHOLE} · {DIFFERS}", "=1+1", whole, UNKNOWN_HERE])
-    yield Outcome("their column", browser.texts("#list thead th")[2], COLUMN)
-    paths = asked(site, since)
-    files = [path for path in paths if path.startswith("/titles/")]
-    wanted = {f"/titles/{isbn[:5]}/{isbn[:8]}.json" for isbn in (ISBN, order_desk.NOBODYS)}
-    yield Outcome("each file is asked for once", (sorted(files), len(files)), (sorted(wanted), len(wanted)))
-    answers = [at for at, path in enumerate(paths) if path.endswith("/choice")]
-    yield Outcome("behind the answers", max(answers[:5]) < paths.index(files[0]), True)
-    row = row_of(browser, order_desk.NOBODYS)
-    yield Outcome("a book without an offer keeps its columns", len(row), 6)
-    wide = browser.run("return document.documentElement.scrollWidth <= innerWidth")
-    yield Outcome("the table is no wider than the window", wide, True)
-    browser.driver.execute_cdp_cmd("Emulation.setEmulatedMedia", {"media": "print"})
-    seen = [text for _, text in browser.call("seen", "#list tbody [data-column^=Title]")]
-    yield Outcome("titles on paper", f"{WHOLE} · {DIFFERS}" in seen, True)
-    browser.driver.execute_cdp_cmd("Emulation.setEmulatedMedia", {"media": ""})
-    browser.one("#csv-all").click()
-    rows = file_rows(saved(browser, folder))
-    yield Outcome("the columns of the file", [rows[0][0], *rows[0][-2:]], ["ISBN", "Order reference", HEAD])
-    wanted_rows = [(ISBN, WHOLE), (OTHER, "'=1+1"), (HOSTILE_ISBN, whole), (UNTITLED, "")]
-    yield Outcome("the titles of the file", [(row[0], row[-1]) for row in rows[1:]], wanted_rows)
+    """Books are asked for by their files, behind the desk's answers."""
+    with standing_in(site):
+        since = len(site.requests())
+        open_list(browser, "".join(f"{isbn} 2\n" for isbn in (ISBN, OTHER, HOSTILE_ISBN, UNTITLED, NOBODYS)))
+        looked_up(browser, 5)
+        browser.wait_for_text("#list", "Almanac")
+        whole = f"{HOSTILE}: onetwo · \u05d0\u05d1 (author) · {{isbn}}"
+        found = browser.run(
+            "return [...document.querySelectorAll('#list th.title')].map((cell) => cell.querySelector('.clamped')?.textContent)"
+        )
+        yield Outcome("the titles of a list", found[1:], [WHOLE, "=1+1", whole, None, None])
+        paths = asked(site, since)
+        files = [path for path in paths if path.startswith("/titles/")]
+        wanted = {f"/titles/{isbn[:5]}/{isbn[:8]}.json" for isbn in (ISBN, NOBODYS)}
+        yield Outcome("each file is asked for once", (sorted(files), len(files)), (sorted(wanted), len(wanted)))
+        answers = [at for at, path in enumerate(paths) if path.endswith("/choice")]
+        yield Outcome("behind the answers", max(answers[:5]) < paths.index(files[0]), True)
 
 
 def of_the_site(site: Site, browser: Browser) -> Iterator[Outcome]:

@@ -36,7 +36,7 @@ test("columns, heading, signs and mark are those of the form", () => {
     "EAN,QTY,REF,KDNR\r\n9780140000016,2,A-7,1177\r\n",
   );
   const german = { columns: ["price", "sum", "isbn"], heading: false, separator: ";", decimal: ",", byte_order_mark: false };
-  assert.equal(fileOf(german, [row("9780140000016", 3, "1234.505")]), "1234,505;3703,515;9780140000016\r\n");
+  assert.equal(fileOf(german, [row("9780140000016", 3, "1234.505")]), '"1234,505";"3703,515";9780140000016\r\n');
   const tabs = { columns: ["isbn", "copies"], heading: false, separator: "\t", byte_order_mark: true };
   assert.equal(fileOf(tabs, [row("9780140000016", 3, "1.000")]), `${MARK}9780140000016\t3\r\n`);
 });
@@ -45,7 +45,7 @@ test("without signs in the form, those of the page's language", () => {
   speak("de-DE", shippedWords("de-DE"));
   const came = fileOf({ columns: ["isbn", "price"], byte_order_mark: false }, [row("9780140000016", 2, "9.990")]);
   speak("en-GB", shippedWords("en-GB"));
-  assert.equal(came, "ISBN;Preis\r\n9780140000016;9,99\r\n");
+  assert.equal(came, 'ISBN;Preis\r\n9780140000016;"9,99"\r\n');
 });
 
 test("a text is one cell, and no formula", () => {

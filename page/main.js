@@ -8,8 +8,7 @@ import { Order } from "./order/order.js";
 import { Reports } from "./missing/reports.js";
 import { loadRules } from "./desk/rules.js";
 import { placeOf, Scanner } from "./text/scan.js";
-import { areRenewed, loadSettings, loadWords } from "./desk/settings.js";
-import { areTitlesKept } from "./desk/titles.js";
+import { loadSettings, problemInWords } from "./desk/settings.js";
 import { formatter, labelAll, say, sayCount, speak } from "./text/wording.js";
 
 /** What a view tells of the desk, in the note above it. */
@@ -30,7 +29,7 @@ const watch = {
 /** Says what is wrong with a file of the shop's, in the note above the views. */
 function showProblems(file, problems) {
   if (problems.length === 0) return;
-  const items = problems.map(({ path, values }) => element("li", {}, say(path, values)));
+  const items = problems.map((problem) => element("li", {}, problemInWords(problem)));
   found("settings-wrong").append(
     element("h2", {}, say("settings.heading", { file })),
     element("ul", {}, ...items),
@@ -75,22 +74,14 @@ function countMissing(settings, reports) {
   found("missing-count").replaceChildren(...parts);
 }
 
-/** Says behind the answer that the shop has other settings or words than those that the browser had kept. */
-async function tellRenewed() {
-  found("load-anew").addEventListener("click", () => location.reload());
-  found("renewed").hidden = !(await areRenewed());
-}
-
 async function start() {
-  const [{ settings, problems }, rules, hasTitles] = await Promise.all([loadSettings(), loadRules(), areTitlesKept()]);
-  const words = await loadWords(settings.language);
-  Object.assign(settings, { rules, hasTitles });
-  speak(settings.language, words.texts);
+  const [{ settings, problems }, rules] = await Promise.all([loadSettings(), loadRules()]);
+  Object.assign(settings, { rules });
+  speak(settings.language);
   document.documentElement.lang = settings.language;
   labelAll(document);
   if (settings.shop !== "") found("shop").textContent = say("page.shop", { shop: settings.shop });
   showProblems("desk.json", problems);
-  showProblems("words.json", words.problems);
   const reports = new Reports(settings);
   const order = new Order(settings, reports, watch);
   const article = new Article(settings, reports, watch, order);
@@ -110,7 +101,6 @@ async function start() {
   });
   show(views);
   reports.begin();
-  tellRenewed();
 }
 
 start();

@@ -58,8 +58,8 @@ export function rulesOf(text) {
 }
 
 /** The shop's rules, as rules.toml has them; with "no-cache" now. `undefined` where it cannot be read. */
-export async function loadRules(cache) {
-  const { text } = await load(FILE, true, cache);
+export async function loadRules() {
+  const { text } = await load(FILE, true);
   return text === undefined ? undefined : rulesOf(text);
 }
 

@@ -1,54 +1,22 @@
-// desk.json, words.json and rules.toml, which the operator writes: the names of series, what the fields begin
-// with, the page's language and words, and the rules. What is wrong with them is a `path` of the words for
-// it, and `values`.
+// desk.json, which the operator writes: the names of series, what the fields begin with, and the page's language. What is
+// wrong with it is a `path` of the words for it, and `values`.
 
 import { urlBeside } from "../text/address.js";
 import { isCatalogue } from "../article/catalogue.js";
 import { wrongKey } from "../order/csv-form.js";
-import { isChecked } from "../text/isbn.js";
-import { withOwnWords } from "./own-words.js";
 import { kindOf } from "./price-types.js";
-import { say, shippedWords } from "../text/wording.js";
+import { say } from "../text/wording.js";
 
 const FILE = "desk.json";
-const WORDS = "words.json";
 
 const NEEDED = ["series", "country", "currency", "price_type"];
-const KEYS = [
-  ...NEEDED, "shop", "language", "quantities", "minutes_to_usual", "catalogue", "many_copies", "many_money",
-  "recommended_type", "currencies", "address", "terms",
-];
-const PRICE_FILE = "price_file";
-const SERIES_KEYS = [
-  "name", "words", "days_without_message", "parts", "number_offset", "sender", "addressee", "mail",
-  "free_from", "account", "csv",
-];
-const LANGUAGE = "en-GB";
 const MOST_QUANTITIES = 8;
-const MINUTES_TO_USUAL = 10;
-const MANY_COPIES = 50;
-const MOST_CURRENCIES = 4;
-const DAY = 1440;
 
 const isText = (value) => typeof value === "string";
 const isObject = (value) => typeof value === "object" && value !== null && !Array.isArray(value);
 const isCount = (value, most) => Number.isInteger(value) && value >= 1 && value <= most;
+const isLike = (grammar) => (value) => isText(value) && grammar.test(value);
 const shown = (value) => JSON.stringify(value);
-
-function tell(problems, path, values = {}) {
-  problems.push({ path: `settings.${path}`, values });
-}
-
-/** The value of a key, where it is there and as it should be; else another one. */
-function read(given, key, isRight, otherwise, problems, path) {
-  if (!Object.hasOwn(given, key)) return otherwise;
-  if (isRight(given[key])) return given[key];
-  tell(problems, path, { value: shown(given[key]) });
-  return otherwise;
-}
-
-const readCode = (given, key, grammar, problems, path) =>
-  read(given, key, (value) => isText(value) && grammar.test(value), "", problems, path);
 
 function isLanguage(value) {
   try {
@@ -64,10 +32,34 @@ function areQuantities(value) {
   return value.every((count, at) => isCount(count, 999_999) && !(value[at - 1] >= count));
 }
 
-/** Whether a value is a list of a few currencies, each once. */
-function areCurrencies(value) {
-  if (!Array.isArray(value) || value.length > MOST_CURRENCIES || new Set(value).size < value.length) return false;
-  return value.every((code) => isText(code) && /^[A-Z]{3}$/.test(code));
+// The keys of the shop: what each may be, under which name the page has it, and what it is where it is not there.
+const SHOP = {
+  shop: [isText, "shop", ""],
+  address: [isText, "address", ""],
+  language: [isLanguage, "language", "en-GB"],
+  country: [isLike(/^[A-Z]{2}$/), "country", ""],
+  currency: [isLike(/^[A-Z]{3}$/), "currency", ""],
+  price_type: [isLike(/^\d\d$/), "type", ""],
+  quantities: [areQuantities, "quantities", []],
+  catalogue: [isCatalogue, "catalogue", ""],
+  many_copies: [(value) => isCount(value, 999_999), "manyCopies", 50],
+  recommended_type: [(value) => kindOf(value) === "retail", "retailType", ""],
+};
+
+// Of a series, what it may have beside its name and words.
+const SERIES = {
+  parts: [(value) => isCount(value, 9999), "parts"],
+  number_offset: [(value) => value === 0 || isCount(value, 999_999_999), "offset"],
+  mail: [isLike(/^[^\s@<>,;:?&"]+@[^\s@<>,;:?&"]+$/), "mail"],
+  free_from: [isLike(/^\d{1,9}(\.\d{1,3})?$/), "freeFrom"],
+  account: [isText, "account"],
+};
+
+// What desk-prices reads, and tells of itself.
+const OF_OTHERS = ["price_file"];
+
+function tell(problems, path, values = {}) {
+  problems.push({ path: `settings.${path}`, values });
 }
 
 function checkKeys(given, known, problems, path, values = {}) {
@@ -76,62 +68,41 @@ function checkKeys(given, known, problems, path, values = {}) {
   }
 }
 
-/** Whether a value is a GLN, whose last digit is made as that of an ISBN. */
-const isGln = (value) => isText(value) && /^\d{13}$/.test(value) && isChecked(value);
-
-const isAmount = (value) => isText(value) && /^\d{1,9}(\.\d{1,3})?$/.test(value);
-
-const isMail = (value) => isText(value) && /^[^\s@<>,;:?&"]+@[^\s@<>,;:?&"]+$/.test(value);
-
-// What a series may have beside its name and words: under which name the page has it, what it may be, and the
-// path of what is said where it is something else.
-const OPTIONAL = {
-  days_without_message: ["days", (value) => isCount(value, 9999), "seriesDays"],
-  parts: ["parts", (value) => isCount(value, 9999), "seriesParts"],
-  number_offset: ["offset", (value) => value === 0 || isCount(value, 999_999_999), "seriesOffset"],
-  sender: ["sender", isGln, "seriesGln"],
-  addressee: ["addressee", isGln, "seriesGln"],
-  mail: ["mail", isMail, "seriesMail"],
-  free_from: ["freeFrom", isAmount, "seriesFree"],
-  account: ["account", isText, "seriesAccount"],
-};
-
-/** The form of a file, or `undefined` with what is wrong with it added to the problems. */
-function readForm(value, problems, path, values) {
-  const wrong = wrongKey(value);
-  if (wrong === undefined) return value;
-  tell(problems, path, { ...values, wrong });
-  return undefined;
+/** What is right of an object, by the keys that it may have, under the names that the page has for them. */
+function readKeys(given, keys, problems, values = {}) {
+  const found = {};
+  for (const [key, [isRight, name, otherwise]] of Object.entries(keys)) {
+    const isThere = Object.hasOwn(given, key);
+    if (isThere && isRight(given[key])) found[name] = given[key];
+    else if (otherwise !== undefined) found[name] = otherwise;
+    if (!isThere || isRight(given[key])) continue;
+    const path = values.number === undefined ? "wrong" : "seriesWrong";
+    tell(problems, path, { key, value: shown(given[key]), ...values });
+  }
+  return found;
 }
 
-function readOptional(item, number, problems) {
-  const found = {};
-  for (const [key, [name, isRight, path]] of Object.entries(OPTIONAL)) {
-    if (item[key] === undefined) continue;
-    if (isRight(item[key])) found[name] = item[key];
-    else tell(problems, path, { key, number, value: shown(item[key]) });
-  }
-  if (item.csv !== undefined) found.csv = readForm(item.csv, problems, "seriesCsv", { key: "csv", number });
-  return found;
+/** What is wrong with the name and the words of a series; `undefined` where nothing is. */
+function wrongSeries(item, earlier) {
+  if (!isObject(item) || !isText(item.name) || !isText(item.words)) return "seriesItem";
+  if (!/^[a-z0-9-]{1,32}$/.test(item.name)) return "seriesName";
+  return earlier.some(({ name }) => name === item.name) ? "seriesTwice" : undefined;
 }
 
 /** One series, or `undefined` with what is wrong with it added to the problems. */
 function readSeries(item, number, earlier, problems) {
-  if (!isObject(item) || !isText(item.name) || !isText(item.words)) {
-    tell(problems, "seriesItem", { number, value: shown(item) });
+  const wrong = wrongSeries(item, earlier);
+  if (wrong !== undefined) {
+    tell(problems, wrong, { number, value: shown(item?.name ?? item) });
     return undefined;
   }
-  const value = shown(item.name);
-  if (!/^[a-z0-9-]{1,32}$/.test(item.name)) {
-    tell(problems, "seriesName", { number, value });
-    return undefined;
-  }
-  if (earlier.some(({ name }) => name === item.name)) {
-    tell(problems, "seriesTwice", { number, value });
-    return undefined;
-  }
-  checkKeys(item, SERIES_KEYS, problems, "seriesUnknown", { number });
-  return { name: item.name, words: item.words, ...readOptional(item, number, problems) };
+  checkKeys(item, ["name", "words", "csv", ...Object.keys(SERIES)], problems, "seriesUnknown", { number });
+  const { name, words, csv } = item;
+  const found = { name, words, ...readKeys(item, SERIES, problems, { number }) };
+  const wrongInCsv = csv === undefined ? undefined : wrongKey(csv);
+  if (wrongInCsv !== undefined) tell(problems, "seriesCsv", { key: "csv", number, wrong: wrongInCsv });
+  else if (csv !== undefined) found.csv = csv;
+  return found;
 }
 
 function readAllSeries(given, problems) {
@@ -160,39 +131,9 @@ function readObject(text, problems) {
   return undefined;
 }
 
-/** Whether a value is a list of names of these series, each once. */
-function areNamesOf(series, value) {
-  if (!Array.isArray(value) || new Set(value).size < value.length) return false;
-  return value.every((name) => series.some((each) => each.name === name));
-}
-
-function settingsOf(given, problems) {
-  const isMinutes = (value) => value === 0 || isCount(value, DAY);
-  const series = readAllSeries(given, problems);
-  return {
-    shop: read(given, "shop", isText, "", problems, "shop"),
-    address: read(given, "address", isText, "", problems, "address"),
-    language: read(given, "language", isLanguage, LANGUAGE, problems, "language"),
-    series,
-    country: readCode(given, "country", /^[A-Z]{2}$/, problems, "country"),
-    currency: readCode(given, "currency", /^[A-Z]{3}$/, problems, "currency"),
-    type: readCode(given, "price_type", /^\d\d$/, problems, "priceType"),
-    quantities: read(given, "quantities", areQuantities, [], problems, "quantities"),
-    minutesToUsual: read(
-      given, "minutes_to_usual", isMinutes, MINUTES_TO_USUAL, problems, "minutesToUsual",
-    ),
-    catalogue: read(given, "catalogue", isCatalogue, "", problems, "catalogue"),
-    manyCopies: read(
-      given, "many_copies", (value) => isCount(value, 999_999), MANY_COPIES, problems, "manyCopies",
-    ),
-    retailType: read(
-      given, "recommended_type", (value) => kindOf(value) === "retail", "", problems, "recommendedType",
-    ),
-    currencies: read(given, "currencies", areCurrencies, [], problems, "currencies"),
-    manyMoney: read(given, "many_money", isAmount, undefined, problems, "manyMoney"),
-    terms: read(given, "terms", (value) => areNamesOf(series, value), [], problems, "terms"),
-  };
-}
+const settingsOf = (given, problems) => ({
+  series: readAllSeries(given, problems), ...readKeys(given, SHOP, problems),
+});
 
 /** The settings of a text, those that are right, with what is wrong with the others. */
 export function readSettings(text) {
@@ -202,27 +143,21 @@ export function readSettings(text) {
   for (const key of NEEDED) {
     if (!Object.hasOwn(given, key)) tell(problems, "lacks", { key });
   }
-  if (Object.hasOwn(given, "rules")) tell(problems, "rules");
-  checkKeys(given, [...KEYS, PRICE_FILE, "rules"], problems, "unknown");
-  const settings = settingsOf(given, problems);
-  return { settings, problems };
+  checkKeys(given, ["series", ...Object.keys(SHOP), ...OF_OTHERS], problems, "unknown");
+  return { settings: settingsOf(given, problems), problems };
 }
 
-// The texts that the page began with, by their files.
-const begun = new Map();
+/** A problem in words, with what a key should be. */
+export function problemInWords({ path, values }) {
+  const isOfKind = path.endsWith("rong");
+  return say(path, isOfKind ? { ...values, kind: say(`settings.kinds.${values.key}`, { isbn: "{isbn}" }) } : values);
+}
 
-/**
- * The text of a file beside the page, or a problem; neither where an `isOptional` one is not there. What index.html
- * has loaded is used by the default way of caching alone, by which it may be what it was the last time.
- */
-export async function load(file, isOptional = false, cache = "default") {
+/** The text of a file beside the page, or a problem; neither where an `isOptional` one is not there. */
+export async function load(file, isOptional = false) {
   try {
-    const reply = await fetch(urlBeside(file), { cache });
-    if (reply.ok) {
-      const text = await reply.text();
-      if (!begun.has(file)) begun.set(file, text);
-      return { text };
-    }
+    const reply = await fetch(urlBeside(file));
+    if (reply.ok) return { text: await reply.text() };
     if (isOptional && reply.status === 404) return {};
     return { problem: { path: "settings.unread", values: { file, status: reply.status } } };
   } catch {
@@ -235,24 +170,6 @@ export async function loadSettings() {
   const { text, problem } = await load(FILE);
   if (problem === undefined) return readSettings(text);
   return { settings: settingsOf({}, []), problems: [problem] };
-}
-
-/** Whether the shop's own files have other texts now than those that the page began with. */
-export async function areRenewed() {
-  for (const file of [FILE, WORDS]) {
-    const before = begun.get(file);
-    const { text } = await load(file, true, "no-cache");
-    if (text !== undefined && text !== before) return true;
-  }
-  return false;
-}
-
-/** The words of a language with those of the page's words.json, and what is wrong with that. */
-export async function loadWords(language) {
-  const shipped = shippedWords(language);
-  const { text, problem } = await load(WORDS, true);
-  if (text !== undefined) return withOwnWords(shipped, text);
-  return { texts: shipped, problems: problem === undefined ? [] : [problem] };
 }
 
 /** The words of a series, with its name behind them where another one has the same words. */

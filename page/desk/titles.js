@@ -7,8 +7,6 @@ import { shortened, undirected } from "../text/said.js";
 import { wholesalerOf } from "./settings.js";
 import { say, sayParts, wordsOfCode } from "../text/wording.js";
 
-const MARK = "titles.json";
-
 // What is not there is answered 204, or 404 by a server that is not asked for titles.
 const FOUND = 200;
 const NONE = [204, 404];
@@ -25,18 +23,9 @@ const areTexts = (values) => values.every((value) => typeof value === "string");
 const isTitle = (entry) =>
   Array.isArray(entry) && entry.length === LENGTH && areTexts([entry[0], ...entry.slice(HEAD)]);
 
-/** Whether the shop keeps titles. */
-export async function areTitlesKept() {
-  try {
-    return (await fetch(urlBeside(MARK))).status === FOUND;
-  } catch {
-    return false;
-  }
-}
-
 /** The address of the file that has the title of an ISBN. */
 export function fileOf(isbn) {
-  return `titles/${isbn.slice(0, 5)}/${isbn.slice(0, 8)}.json`;
+  return `state/titles/${isbn.slice(0, 5)}/${isbn.slice(0, 8)}.json`;
 }
 
 /** What a file says of an ISBN: the titles that feeds said last, one of each series, the last taken first. */

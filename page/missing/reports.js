@@ -125,7 +125,7 @@ export class Reports {
     const begun = Date.now();
     const watch = { down: (words) => this.#watch.down(words), up: () => this.#watch.up() };
     try {
-      this.#settings.rules = (await loadRules("no-cache")) ?? this.#settings.rules;
+      this.#settings.rules = (await loadRules()) ?? this.#settings.rules;
       for (const series of asked) {
         this.#note(series, await ask(`series/${series.name}/gaps`, {}, signal, watch));
       }

@@ -320,7 +320,7 @@ export class Order {
   }
 
   async #askTitles(rows, signal) {
-    const isbns = this.#settings.hasTitles ? rows.map(({ isbn }) => isbn).filter((isbn) => !this.#titles.has(isbn)) : [];
+    const isbns = rows.map(({ isbn }) => isbn).filter((isbn) => !this.#titles.has(isbn));
     const files = new Set(isbns.map(fileOf));
     await eachOf([...files], async (file) => {
       const found = await titlesOf(isbns.filter((isbn) => fileOf(isbn) === file), signal);

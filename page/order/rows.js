@@ -27,7 +27,7 @@ const inPlainWords = (availability) => wordsOfCode("availabilities", availabilit
 function titleCell(row, answer, { settings, titles }) {
   const { isbn, copies, lines } = row;
   const said = titlesOfOffers(titles.get(isbn) ?? [], answer?.offers ?? []);
-  const title = settings.hasTitles && said.length > 0 ? [...titleNodes(said, settings), " "] : [];
+  const title = said.length > 0 ? [...titleNodes(said, settings), " "] : [];
   const link = element("a", { href: addressOf("article", { isbn, quantity: String(copies) }) }, isbn);
   const names = lines.map((line) => number(line.number)).join(", ");
   return [...title, element("small", {}, link, " · ", sayCount("order.ofLines", lines.length, { lines: names }))];

@@ -8,16 +8,11 @@ const SHIPPED = { de, en };
 const spoken = { language: "en-GB", texts: en };
 const formatters = new Map();
 
-/** The words that the page brings along for a language such as de-AT; English where there are none. */
-export function shippedWords(language) {
+/** From now on the page speaks a language such as de-AT, in English words where it has no others. */
+export function speak(language) {
   const [name] = language.split("-");
-  return Object.hasOwn(SHIPPED, name) ? SHIPPED[name] : en;
-}
-
-/** From now on the page speaks this language, in these words. */
-export function speak(language, texts) {
   spoken.language = language;
-  spoken.texts = texts;
+  spoken.texts = Object.hasOwn(SHIPPED, name) ? SHIPPED[name] : en;
 }
 
 /** The language of the page, as Intl has it. */

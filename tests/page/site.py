@@ -18,7 +18,6 @@ from typing import Any
 
 from tests.program.room import SECONDS, Room
 from tests.program.serving import HOST, TRIES, connected, free_port, receive
-from tools.page_files import put_up
 from tools.root import ROOT
 from tools.words import Word
 
@@ -100,11 +99,10 @@ class Site:
         self.desk: Server | None = None
         self.nginx: Server | None = None
         self.page = room.path("page")
-        put_up(self.page)
+        subprocess.run([ROOT / "tools/put-up-page", self.page], check=True)
         # The shop's own files lie apart from the page.
         self.own = room.path("own")
         self.own.mkdir(exist_ok=True)
-        (self.page / "words.json").rename(self.own / "words.json")
         (self.page / "desk.json").unlink()
         self.write_settings()
         self.titles = room.path("titles")
@@ -145,8 +143,7 @@ class Site:
             ("/etc/nginx/onixdesk.passwords", f"{folder}/passwords"),
             ("/usr/share/onixdesk/page", str(self.page)),
             ("/etc/onixdesk/page", str(self.own)),
-            ("/etc/onixdesk/rules.toml", str(self.rules)),
-            ("/var/lib/onixdesk-titles", str(self.titles)),
+            ("/var/lib/onixdesk-state", str(self.state)),
         ]:
             if written not in text:
                 raise ValueError(f"examples/page/nginx.conf does not have {written}")

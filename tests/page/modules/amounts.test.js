@@ -6,9 +6,9 @@ import { afterEach, test } from "node:test";
 import {
   bareMoney, compareAmounts, difference, isNothing, money, mostBelow, signedMoney, sumOf, times,
 } from "../page/text/amounts.js";
-import { shippedWords, speak } from "../page/text/wording.js";
+import { speak } from "../page/text/wording.js";
 
-const speaking = (language) => speak(language, shippedWords(language));
+const speaking = speak;
 const plain = (text) => text.replaceAll(/[\u00a0\u202f]/g, " ");
 
 afterEach(() => speaking("en-GB"));

@@ -5,7 +5,7 @@ import { test } from "node:test";
 
 import { isFormula, wrongKey } from "../page/order/csv-form.js";
 import { fileText } from "../page/order/saving.js";
-import { shippedWords, speak } from "../page/text/wording.js";
+import { speak } from "../page/text/wording.js";
 import { today } from "../page/text/days.js";
 
 const MARK = "\ufeff";
@@ -42,9 +42,9 @@ test("columns, heading, signs and mark are those of the form", () => {
 });
 
 test("without signs in the form, those of the page's language", () => {
-  speak("de-DE", shippedWords("de-DE"));
+  speak("de-DE");
   const came = fileOf({ columns: ["isbn", "price"], byte_order_mark: false }, [row("9780140000016", 2, "9.990")]);
-  speak("en-GB", shippedWords("en-GB"));
+  speak("en-GB");
   assert.equal(came, 'ISBN;Preis\r\n9780140000016;"9,99"\r\n');
 });
 

@@ -3,7 +3,7 @@
 import assert from "node:assert/strict";
 import { afterEach, beforeEach, test } from "node:test";
 
-import { areTitlesKept, differing, fileOf, titlesOf, titlesOfOffers, titleTexts } from "../page/desk/titles.js";
+import { differing, fileOf, titlesOf, titlesOfOffers, titleTexts } from "../page/desk/titles.js";
 
 const ISBN = "9781900001014";
 const OTHER = "9781900001021";
@@ -37,8 +37,8 @@ const NORTH = ["north", 5, 1795849200, "The Lamplighter’s Almanac", "A Year", 
 test("a title is asked for by the first digits of its ISBN, in the file of others that begin so", async () => {
   has({ [ISBN]: [NORTH] });
   const titles = await titlesOf([ISBN, OTHER], signal);
-  assert.deepEqual(asked, ["/titles/97819/97819000.json"]);
-  assert.equal(fileOf(ISBN), "titles/97819/97819000.json");
+  assert.deepEqual(asked, ["/state/titles/97819/97819000.json"]);
+  assert.equal(fileOf(ISBN), "state/titles/97819/97819000.json");
   assert.deepEqual([...titles.keys()], [ISBN, OTHER]);
   assert.deepEqual(titles.get(ISBN).map(({ series }) => series), ["north"]);
   assert.deepEqual(titles.get(OTHER), []);
@@ -116,14 +116,3 @@ test("where the file cannot be read, nothing is known", async () => {
   await assert.rejects(titlesOf([ISBN], left.signal), { name: "AbortError" });
 });
 
-test("titles are kept where their mark is there", async () => {
-  has("{}");
-  assert.equal(await areTitlesKept(), true);
-  for (const status of [204, 404]) {
-    reply = () => new Response(null, { status });
-    assert.equal(await areTitlesKept(), false);
-  }
-  reply = () => { throw new TypeError("unreached"); };
-  assert.equal(await areTitlesKept(), false);
-  assert.deepEqual(new Set(asked), new Set(["/titles.json"]));
-});

@@ -4,7 +4,7 @@ import assert from "node:assert/strict";
 import { readdirSync, readFileSync } from "node:fs";
 import { afterEach, test } from "node:test";
 
-import { say, sayCount, sayParts, shippedWords, speak } from "../page/text/wording.js";
+import { say, sayCount, sayParts, speak } from "../page/text/wording.js";
 import { texts as de } from "../page/words/de.js";
 import { texts as en } from "../page/words/en.js";
 
@@ -54,28 +54,27 @@ const counted = Object.fromEntries(
 );
 
 test("words of a language, and of one that the page has not", () => {
-  assert.equal(shippedWords("de-AT"), de);
-  assert.equal(shippedWords("de"), de);
-  assert.equal(shippedWords("en-US"), en);
-  assert.equal(shippedWords("fr"), en);
-  assert.equal(shippedWords("constructor"), en);
+  for (const [language, texts] of [["de-AT", de], ["de", de], ["en-US", en], ["fr", en], ["constructor", en]]) {
+    speak(language);
+    assert.equal(say("order.view"), texts.order.view, language);
+  }
+  speak("en-GB");
 });
 
 test("forms for counts", () => {
   assert.equal(sayCount("article.copies", 1), "1 copy");
   assert.equal(sayCount("article.copies", 0), "0 copies");
   assert.equal(sayCount("article.copies", 1000), "1,000 copies");
-  speak("de", de);
+  speak("de");
   assert.equal(sayCount("article.copies", 1), "1 Exemplar");
   assert.equal(sayCount("article.copies", 1000), "1.000 Exemplare");
 });
 
 test("what stands in braces is filled in once, and what nobody gives stays", () => {
-  speak("en-GB", { text: "{one} and {two}", forms: { other: "{count} x" } });
-  assert.equal(say("text", { one: "{two}", two: "2" }), "{two} and 2");
-  assert.equal(say("text", { one: "1" }), "1 and {two}");
+  speak("en-GB");
+  assert.equal(say("order.onPaper.to", { text: "{one}" }), "To: {one}");
+  assert.equal(say("order.onPaper.to", {}), "To: {text}");
   const node = { isNode: true };
-  assert.deepEqual(sayParts("text", { one: node, two: "" }), ["", node, " and ", "", ""]);
-  assert.equal(sayCount("forms", 1), "1 x");
+  assert.deepEqual(sayParts("order.onPaper.to", { text: node }), ["To: ", node, ""]);
   assert.throws(() => say("nothing"), /nothing/);
 });

@@ -60,17 +60,15 @@ function show(views) {
   document.title = say("page.title", { view: views[view].title(), shop: found("shop").textContent });
 }
 
-/** Counts at the tab what is missing, in every view, and the wholesalers that are silent. */
-function countMissing(settings, reports) {
-  const states = settings.series.map(({ name }) => reports.stateOf(name));
-  const count = states.reduce((sum, state) => sum + state.count, 0);
-  const silent = states.filter(({ isSilent }) => isSilent).length;
+/** Counts at the tab, in every view, the messages that are missing, and the wholesalers of whom somebody should look. */
+function countMissing({ series }, reports) {
+  const count = series.reduce((sum, { name }) => sum + reports.missingOf(name), 0);
+  const stops = reports.doubtful().length;
   const number = formatter(Intl.NumberFormat).format(count);
-  const words = sayCount("missing.atTab", count);
   const missing = element("span", { class: "count", "aria-hidden": "true" }, number);
-  const heard = element("span", { class: "heard" }, words);
-  const quiet = element("span", { class: "tag unusual" }, sayCount("missing.silentAtTab", silent));
-  const parts = [...(count > 0 ? [" ", missing, heard] : []), ...(silent > 0 ? [" ", quiet] : [])];
+  const heard = element("span", { class: "heard" }, sayCount("missing.atTab", count));
+  const parts = count > 0 ? [" ", missing, heard] : [];
+  if (stops > 0) parts.push(" ", element("span", { class: "tag unusual" }, sayCount("missing.stopsAtTab", stops)));
   found("missing-count").replaceChildren(...parts);
 }
 

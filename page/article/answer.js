@@ -1,55 +1,22 @@
-// The answer of a day: the sentence that says what to do, what speaks against it, and the table of offers.
+// The answer of a day: what book it is, the sentence that says what to do, what speaks against it, and the offers.
 
 import { money } from "../text/amounts.js";
-import { elsewhereInWords, fallsInWords, onlyMoreInWords } from "./better.js";
-import { catalogueLink } from "./catalogue.js";
 import { inWords, timeInWords } from "../text/days.js";
-import {
-  betterInWords, conditionsOf, copiesInWords, detailsOf, kindOfAnswer, otherRules, sentenceOf, sumInWords, whyOf,
-} from "./decision.js";
-import { element, found } from "../text/elements.js";
-import { areUnpriced, keyOf, ORDERS } from "../desk/offers.js";
-import { offersInWords, offersTable, referencesTable } from "./offers-table.js";
-import { kindOf } from "../desk/price-types.js";
-import { changesOf } from "./quantities.js";
+import { element, found, refill } from "../text/elements.js";
 import { messagesNotes } from "../missing/reports.js";
-import { farInWords, farOf } from "./retail.js";
+import { kindOf } from "../desk/price-types.js";
+import { ruleInWords } from "../desk/rules.js";
 import { wholesalerOf } from "../desk/settings.js";
-import { keep, recall } from "../text/storage.js";
 import { titleSaid, titlesOfOffers } from "../desk/titles.js";
-import { formatter, say, sayCount } from "../text/wording.js";
-
-const KEY = "onixdesk-order";
+import { keyOf } from "../desk/offers.js";
+import { codeInWords, formatter, say, sayCount } from "../text/wording.js";
+import { catalogueLink } from "./catalogue.js";
+import { inOrder, offersInWords, offersTable, referencesTable } from "./offers-table.js";
+import { farInWords, farOf } from "./retail.js";
+import { conditionsOf, detailsOf, kindOfAnswer, sentenceOf, sumInWords, whyOf } from "./words.js";
 
 // How many offers are shown at first: a book of more is one that many small sellers offer.
 const FIRST_OFFERS = 50;
-
-const isOfChosen = (choice) => (offer) => keyOf(offer) === keyOf(choice);
-
-/** The order that the buyer chose last, in this browser. */
-function keptOrder() {
-  const by = recall(KEY)?.by;
-  return Object.hasOwn(ORDERS, by) ? by : "series";
-}
-
-/** What speaks against the number of copies, of the chosen offer. */
-function copiesNotes({ choice, copies, question: { quantity, currency } }) {
-  if (choice === null || copies === undefined) return [];
-  return betterInWords(changesOf(choice, copies), Number(quantity), currency);
-}
-
-/** What is better at the other offers: other numbers of copies, a price soon, a price for more copies alone. */
-function otherNotes({ offers, choice, copies, ahead, question }, settings) {
-  const { day, quantity, currency } = question;
-  const ordered = choice ?? undefined;
-  const asked = { answers: copies, quantity: Number(quantity), ordered, day, currency };
-  const later = offers.map((offer) => ({ ...offer, later: ahead?.get(keyOf(offer))?.later }));
-  return [
-    ...fallsInWords(later, asked, settings),
-    ...(copies === undefined ? [] : elsewhereInWords(offers, asked, settings)),
-    ...(copies === undefined ? [] : onlyMoreInWords(offers, asked, settings)),
-  ];
-}
 
 /** That the chosen price is far from the recommended one, or from the next. */
 function farNotes({ offers, choice, retail, question }) {
@@ -58,25 +25,28 @@ function farNotes({ offers, choice, retail, question }) {
 }
 
 /** Until when the price of the chosen offer holds, where it ends. */
-export function untilNotes({ choice, ahead, question }, settings) {
-  const until = choice === null ? undefined : ahead?.get(keyOf(choice))?.holds;
+function untilNotes({ choice, ahead, question }, settings) {
+  const until = choice === null ? undefined : ahead?.get(keyOf(choice));
   if (until?.last === undefined) return [];
   const [last, from] = [inWords(until.last), inWords(until.from)];
   const wholesaler = wholesalerOf(settings, choice.series);
   if (until.then === null) return [say("article.untilNone", { last, from, wholesaler })];
-  const amount = money(until.then, question.currency);
-  return [say("article.until", { last, from, wholesaler, amount })];
+  return [say("article.until", { last, from, wholesaler, amount: money(until.then, question.currency) })];
 }
 
-/**
- * Puts nodes and texts into a place that has other words, and says whether it had: a screen reader reads what is put
- * there anew, even if it is the same.
- */
-function putWhereNew(place, nodes) {
-  const words = nodes.map((node) => node.textContent ?? node).join("");
-  if (place.textContent === words) return false;
-  place.replaceChildren(...nodes);
-  return true;
+/** Special net prices that wholesalers have beside those of the type that is asked for. */
+function specialNotes({ special = [], question }, settings) {
+  return special.map(({ type, series, amount }) => say("article.special", {
+    wholesaler: wholesalerOf(settings, series), amount: money(amount, question.currency), type: codeInWords("priceTypes", type),
+  }));
+}
+
+/** That wholesalers say recommended prices that differ. */
+function retailNotes({ retail = [], question }, settings) {
+  const priced = retail.filter(({ amount }) => amount !== null);
+  if (new Set(priced.map(({ amount }) => amount)).size < 2) return [];
+  const all = priced.map(({ series, amount }) => `${wholesalerOf(settings, series)} ${money(amount, question.currency)}`);
+  return [say("article.retailsDiffer", { all: [...new Set(all)].join(", ") })];
 }
 
 export class Answer {
@@ -84,30 +54,14 @@ export class Answer {
   #shown;
   #isWhole = false;
 
-  /**
-   * `place` has the settings, the reports on messages, and `addressWith`, which gives the address of the
-   * question with something else; `reorder` hears of an order.
-   */
-  constructor(place, reorder) {
+  /** `place` has the settings, the reports, and `addressWith`, which gives the question with something else. */
+  constructor(place) {
     this.#place = place;
-    const options = Object.keys(ORDERS).map((by) =>
-      element("option", { value: by }, say(`article.orders.${by}`)),
-    );
-    found("order").replaceChildren(...options);
-    found("order").value = keptOrder();
-    found("order").addEventListener("change", () => {
-      keep(KEY, { by: found("order").value });
-      this.#drawOffers();
-      reorder();
-    });
     found("show-all").addEventListener("click", () => {
       this.#isWhole = true;
-      this.#drawOffers();
-    });
-    place.reports.subscribe(() => {
-      this.noteDay();
       this.#draw();
     });
+    place.reports.subscribe(() => this.#draw());
   }
 
   clear(words = "") {
@@ -118,27 +72,23 @@ export class Answer {
     found("answer-time").textContent = "";
     found("to-list").hidden = true;
     found("answer").hidden = true;
-    for (const id of ["title", "notes", "offers", "references-table"]) found(id).replaceChildren();
+    for (const id of ["title", "notes", "offers", "references-table", "rules-list"]) found(id).replaceChildren();
   }
 
   /** Shows the offers and the choice of a question; `before` is what was said until it changed. */
   show(answer, before) {
     this.#shown = answer;
     if (before !== undefined) {
-      const time = timeInWords(answer.time);
-      answer.changed = say("article.changed", { time, sentence: before });
+      answer.changed = say("article.changed", { time: timeInWords(answer.time), sentence: before });
     }
-    this.#drawSentence();
     found("in-list").textContent = "";
     this.noteTime(answer.time);
     this.#draw();
-    found("answer").hidden = answer.offers.length === 0;
   }
 
-  /** Adds what is known of the shown answer by now: `copies`, `types`, `currencies`, `ahead`, `retail`, `titles`. */
+  /** Adds what is known of the shown answer by now: `copies`, `ahead`, `retail`, `special`, `titles`. */
   add(parts) {
     Object.assign(this.#shown, parts);
-    this.#drawSentence();
     this.#draw();
   }
 
@@ -152,30 +102,35 @@ export class Answer {
     found("answer-time").textContent = say("article.asOf", { time: timeInWords(time) });
   }
 
-  /** Says anew what depends on which day is today, and on the words of rules. */
+  /** Says anew what depends on which day is today. */
   noteDay() {
     if (this.#shown !== undefined) this.#drawSentence();
   }
 
-  /** The offers of a calendar, in the order in which the table has them. */
-  ordered(offers) {
-    const keys = this.#inOrder().map(keyOf);
-    const placeOf = (offer) => (keys.includes(keyOf(offer)) ? keys.indexOf(keyOf(offer)) : keys.length);
-    return [...offers].sort((one, other) => placeOf(one) - placeOf(other));
-  }
-
   #sentence() {
-    const { settings } = this.#place;
-    return [conditionsOf(this.#shown.question, settings), sentenceOf(this.#shown, settings)]
-      .filter((words) => words !== "")
-      .join(" ");
+    const { settings, reports } = this.#place;
+    return sentenceOf(this.#shown, settings, reports.doubtful());
   }
 
-  /** What stands below the sentence, and where the book itself is to be seen; the rule is folded behind it. */
+  #draw() {
+    if (this.#shown === undefined) return;
+    this.#drawTitle();
+    this.#drawSentence();
+    this.#drawNotes();
+    this.#drawOffers();
+    this.#drawRules();
+  }
+
+  #drawTitle() {
+    const { titles, offers, choice } = this.#shown;
+    const said = titles === undefined ? undefined : titlesOfOffers(titles, offers, choice ?? undefined);
+    refill(found("title"), ...(said === undefined ? [] : titleSaid(said, this.#place.settings)));
+  }
+
+  /** What stands below the sentence; the rule is folded behind it. */
   #details() {
     const { settings } = this.#place;
-    const { isbn } = this.#shown.question;
-    const link = catalogueLink(isbn, say("article.inCatalogue"), settings);
+    const link = catalogueLink(this.#shown.question.isbn, say("article.inCatalogue"), settings);
     const parts = [...detailsOf(this.#shown), ...link];
     const line = element("p", {}, ...parts.flatMap((part) => [" · ", part]).slice(1));
     const words = whyOf(this.#shown, settings);
@@ -185,99 +140,69 @@ export class Answer {
     return element("div", { class: "details" }, line, why);
   }
 
-  /** The button that puts what the sentence says to buy on the order list. */
-  #drawToList() {
-    found("to-list").hidden = kindOfAnswer(this.#shown) !== "net";
-    found("add-to-list").textContent = sayCount("article.toList", Number(this.#shown.question.quantity));
-  }
-
   #drawSentence() {
     const { settings } = this.#place;
-    this.#drawToList();
+    const kind = kindOfAnswer(this.#shown);
+    // The button puts what the sentence says to buy on the order list.
+    found("to-list").hidden = kind !== "net";
+    found("add-to-list").textContent = sayCount("article.toList", Number(this.#shown.question.quantity));
     const conditions = conditionsOf(this.#shown.question, settings);
     const sum = sumInWords(this.#shown);
     const parts = [
       ...(conditions === "" ? [] : [element("span", { class: "unusual" }, conditions), " "]),
-      sentenceOf(this.#shown, settings),
+      this.#sentence(),
     ];
     const sentence = [element("strong", { class: "sentence" }, ...parts)];
     if (sum !== "") sentence.push(" ", element("strong", { class: "sum" }, sum));
-    const status = [
-      element("p", { class: "decision" }, ...sentence),
-      this.#details(),
-    ];
-    if (putWhereNew(found("article-status"), status)) found("verdict").className = `verdict ${kindOfAnswer(this.#shown)}`;
-  }
-
-  /** The offers, in the order that the buyer chose. */
-  #inOrder() {
-    return ORDERS[found("order").value](this.#shown.offers);
-  }
-
-  #draw() {
-    if (this.#shown === undefined) return;
-    this.#drawTitle();
-    this.#drawNotes();
-    this.#drawOffers();
-  }
-
-  #drawTitle() {
-    const { titles, offers, choice } = this.#shown;
-    const said = titles === undefined ? undefined : titlesOfOffers(titles, offers, choice ?? undefined);
-    const nodes = said === undefined ? [] : titleSaid(said, this.#place.settings);
-    putWhereNew(found("title"), nodes);
+    found("verdict").className = `verdict ${kind}`;
+    refill(found("article-status"), element("p", { class: "decision" }, ...sentence), this.#details());
   }
 
   #drawNotes() {
     const { settings, reports } = this.#place;
     const answer = this.#shown;
     const isRetail = answer.choice !== null && kindOf(answer.question.type) === "retail";
-    const series = [...new Set(answer.offers.map((offer) => offer.series))];
-    const all = [
-      answer.changed,
+    const series = answer.offers.length === 0 ? reports.doubtful() : [...new Set(answer.offers.map((offer) => offer.series))];
+    const notes = [
+      ...(answer.changed === undefined ? [] : [answer.changed]),
       ...(isRetail ? [say("article.notPaid")] : []),
       ...farNotes(answer),
       ...untilNotes(answer, settings),
-      ...copiesNotes(answer),
-      ...otherNotes(answer, settings),
-      otherRules(answer, settings),
-    ].filter((words) => words !== undefined);
-    const notes = [...all.map((words) => [words]), ...messagesNotes(series, reports)];
-    const items = notes.map((parts) => element("li", { class: "note" }, ...parts));
-    putWhereNew(found("notes"), items);
+      ...specialNotes(answer, settings),
+      ...retailNotes(answer, settings),
+    ].map((words) => [words]);
+    const all = [...notes, ...messagesNotes(series, reports, settings)];
+    refill(found("notes"), ...all.map((parts) => element("li", { class: "note" }, ...parts)));
   }
 
   #drawOffers() {
     const answer = this.#shown;
-    if (answer === undefined) return;
-    found("answer-heading").textContent = offersInWords(answer.question);
-    const offers = this.#firstOffers();
-    const isFew = answer.offers.length < 2 || areUnpriced(answer.offers);
-    found("order-field").hidden = isFew;
     const { length } = answer.offers;
-    const isWhole = offers.length === length;
-    found("show-all").hidden = isWhole;
-    found("show-all").textContent = say("article.showAll", { count: formatter(Intl.NumberFormat).format(length) });
+    found("answer").hidden = length === 0;
     if (length === 0) return;
+    const ordered = inOrder(answer);
+    const offers = this.#isWhole ? ordered : ordered.slice(0, FIRST_OFFERS);
+    found("answer-heading").textContent = offersInWords(answer.question);
+    found("show-all").hidden = offers.length === length;
+    found("show-all").textContent = say("article.showAll", { count: formatter(Intl.NumberFormat).format(length) });
     this.#keepingFocus(found("offers"), offersTable("answer-heading", offers, answer, this.#place));
-    const references = referencesTable("references-heading", offers, this.#place.settings);
-    found("references-table").replaceChildren(references);
+    refill(found("references-table"), referencesTable("references-heading", offers, this.#place.settings));
   }
 
-  /** The offers to show, at first not too many, with the chosen one before all others where it is left out. */
-  #firstOffers() {
-    const offers = this.#inOrder();
-    if (this.#isWhole || offers.length <= FIRST_OFFERS) return offers;
-    const { choice } = this.#shown;
-    const chosen = choice === null ? [] : offers.filter(isOfChosen(choice));
-    return [...chosen, ...offers.filter((offer) => !chosen.includes(offer))].slice(0, FIRST_OFFERS);
+  /** The shop's rules, which stand open where none of them takes an offer. */
+  #drawRules() {
+    const { settings } = this.#place;
+    const { rules } = settings;
+    found("rules").hidden = rules === undefined;
+    if (rules === undefined) return;
+    if (kindOfAnswer(this.#shown) === "notChosen") found("rules").open = true;
+    refill(found("rules-list"), ...rules.map((rule) => element("li", {}, ruleInWords(rule, settings))));
   }
 
   /** Puts a table in the place of another one, with the focus at the link that has it. */
   #keepingFocus(place, table) {
-    const links = [...place.querySelectorAll("a")];
-    const at = links.indexOf(document.activeElement);
-    place.replaceChildren(table);
+    const at = [...place.querySelectorAll("a")].indexOf(document.activeElement);
+    refill(place, table);
     if (at >= 0) place.querySelectorAll("a")[at]?.focus({ preventScroll: true });
   }
 }

@@ -1,22 +1,24 @@
 // The view of an article: the question, its answer, which is asked for anew each minute, and the calendar.
 
-import { addressOf, ASKED, RANGE, readAddress } from "../text/address.js";
-import { Answer } from "./answer.js";
-import { askCalendar, askCopies, askCurrencies, askDay, askRetail, askTypes } from "./asking.js";
-import { CalendarPart } from "./calendar-part.js";
-import { copiesInWords } from "./decision.js";
-import { today } from "../text/days.js";
+import { addressOf, ASKED, readAddress } from "../text/address.js";
 import { isAbandoned } from "../desk/questions.js";
+import { keyOf } from "../desk/offers.js";
+import { titlesOf } from "../desk/titles.js";
+import { today } from "../text/days.js";
 import { found } from "../text/elements.js";
 import { readAll } from "../text/fields.js";
-import { Form, markAll, refuse, textsFor, yearAround } from "./form.js";
-import { keyOf } from "../desk/offers.js";
-import { changesOf, firstQuantities } from "./quantities.js";
-import { holdsUntil, laterThan } from "./spans.js";
-import { titlesOf } from "../desk/titles.js";
 import { say, sayCount } from "../text/wording.js";
+import { Answer } from "./answer.js";
+import { askCalendar, askCopies, askDay, askOtherwise } from "./asking.js";
+import { hideCalendar, showCalendar } from "./calendar.js";
+import { Form, markAll, refuse, textsFor, yearAround } from "./form.js";
+import { holdsUntil } from "./spans.js";
+import { copiesInWords } from "./words.js";
 
 const MINUTE = 60_000;
+
+// How long after the last question the next book begins with one copy and today.
+const USUAL_AFTER = 10 * MINUTE;
 
 // How often the view looks whether another day has begun, and whether its answer is a minute old.
 const LOOK = 5_000;
@@ -24,27 +26,18 @@ const LOOK = 5_000;
 // After how long a wait for an answer is said to be one.
 const LATE = 3_000;
 
+// Special net prices: of a sale, and before publication.
+const SPECIAL = ["15", "17", "25", "27"];
+
 const asText = (values) => JSON.stringify(ASKED.map((name) => values[name]));
-
-/** Of each offer of a calendar until when its price of a day holds, what comes later, and where the calendar ends. */
-function aheadOf(offers, { day, until }) {
-  return new Map(offers.map((offer) => [
-    keyOf(offer), { holds: holdsUntil(offer, day), later: laterThan(offer, day), until },
-  ]));
-}
-
-/** The offers that have no price for any number of copies. */
-function withoutPrice({ offers, copies }) {
-  return offers.filter((offer) => changesOf(offer, copies).every(({ amount }) => amount === null));
-}
 
 /** The view, over the settings and the reports on messages; `watch` is told when the desk is down and up. */
 export class Article {
   #settings;
+  #reports;
   #watch;
   #form;
   #answer;
-  #calendar;
   #asking = new AbortController();
   #timer;
   #given = {};
@@ -59,15 +52,11 @@ export class Article {
   /** `order` gets what a buyer puts on its list, and says how many lines that has then. */
   constructor(settings, reports, watch, order) {
     this.#settings = settings;
+    this.#reports = reports;
     this.#watch = watch;
     this.#form = new Form(settings);
     const addressWith = (changes) => addressOf("article", { ...this.#given, ...changes });
-    this.#answer = new Answer({ settings, reports, addressWith }, () => this.#calendar.draw());
-    this.#calendar = new CalendarPart(
-      { settings, ordered: (offers) => this.#answer.ordered(offers) },
-      () => this.#form.range(),
-      (range) => this.#go({ ...this.#texts, day: this.#given.day, ...range }),
-    );
+    this.#answer = new Answer({ settings, reports, addressWith });
     found("question").addEventListener("submit", (event) => this.#submit(event));
     for (const kind of ["input", "change"]) {
       found("question").addEventListener(kind, (event) => this.#edited(event));
@@ -86,12 +75,9 @@ export class Article {
     this.leave();
     this.#given = given;
     this.#texts = textsFor(given, this.#settings);
-    const keepsFocus = found("calendar").contains(document.activeElement);
     this.#form.fill(this.#texts, given.day !== undefined);
-    if (!keepsFocus) {
-      this.#form.focusIsbn();
-      window.scrollTo(0, 0);
-    }
+    this.#form.focusIsbn();
+    window.scrollTo(0, 0);
     if (given.isbn === undefined) this.#clear();
     else this.#ask();
     this.#timer = setInterval(() => this.#look(), LOOK);
@@ -131,7 +117,7 @@ export class Article {
 
   #clear() {
     this.#answer.clear();
-    this.#calendar.clear();
+    hideCalendar();
     this.#answered = undefined;
     found("not-looked-for").hidden = true;
     this.#noteOutdated();
@@ -163,16 +149,12 @@ export class Article {
     const day = values.day === today() ? undefined : values.day;
     const isbn = remarks.isbn === undefined ? values.isbn : asked.isbn.trim();
     const country = remarks.country === undefined ? values.country : asked.country.trim().toUpperCase();
-    // A range that was set stays while the day lies in it.
-    const { from, until } = this.#given;
-    const range = from <= values.day && values.day <= until ? { from, until } : {};
-    this.#go({ ...values, isbn, day, country, ...range });
+    this.#go({ ...values, isbn, day, country });
   }
 
   /** The first digit of another book: after a while, its question begins with one copy and today. */
   #begins() {
-    const minutes = this.#settings.minutesToUsual;
-    if (this.#lastAsked === undefined || Date.now() - this.#lastAsked < minutes * MINUTE) return;
+    if (this.#lastAsked === undefined || Date.now() - this.#lastAsked < USUAL_AFTER) return;
     this.#lastAsked = undefined;
     this.#form.setUsual();
     this.#noteOutdated();
@@ -216,7 +198,6 @@ export class Article {
     if (this.#answered === undefined || this.#isAsking) return;
     if (this.#given.day === undefined && this.#texts.day !== today()) {
       this.#texts = textsFor(this.#given, this.#settings);
-      this.#form.fillRange(this.#texts);
       this.#stop();
       this.#ask();
       return;
@@ -245,49 +226,17 @@ export class Article {
   /** Asks what the texts say. */
   async #ask() {
     const { values, problems, remarks } = readAll(this.#texts);
-    const asked = asText(values);
     const isWrong = remarks.isbn !== undefined && this.#wantedAnyway !== this.#given.isbn;
-    // Where only the range is another one, the offers stay, and the buttons with the focus.
-    if (isWrong || this.#answered?.asked !== asked) this.#clear();
+    this.#clear();
     if (!markAll(ASKED, problems)) return;
     if (isWrong) {
       this.#notLookedFor(remarks.isbn);
       return;
     }
-    markAll(RANGE, problems);
     await this.#whileWanted(async (signal) => {
-      const [calendar, ahead] = this.#askForCalendars(values, signal);
-      if (this.#answered === undefined) await this.#askForDay(values, asked, signal);
-      if (this.#answered === undefined) return;
-      const title = this.#askForTitle(signal);
-      if (this.#answered.offers.length === 0) await title;
-      else await Promise.all([title, this.#showCalendars(values, calendar, ahead), this.#askForMore(signal)]);
+      await this.#askForDay(values, signal);
+      if (this.#answered !== undefined) await this.#askForMore(signal);
     });
-  }
-
-  /**
-   * The calendars of a question, which are waited for later: that of the range that is shown, and that from its day
-   * on, by which the notes go. They are one where no range was set.
-   */
-  #askForCalendars(question, signal) {
-    const calendar = this.#askForCalendar(question, signal);
-    const { from, until } = this.#given;
-    if (from === undefined && until === undefined) return [calendar, calendar];
-    return [calendar, this.#askForCalendar(this.#fromDay(question), signal)];
-  }
-
-  /** The question of a calendar from the day on. */
-  #fromDay(question) {
-    return { ...question, from: question.day, until: yearAround(question.day).until };
-  }
-
-  /** The calendar of a question, which is waited for later; `undefined` where its range is wrong. */
-  #askForCalendar(question, signal) {
-    if (question.from === undefined || question.until === undefined) return Promise.resolve(undefined);
-    const calendar = askCalendar(question, signal, this.#watch);
-    // Where nobody waits any longer, the other questions say so too.
-    calendar.catch(() => {});
-    return calendar;
   }
 
   #notLookedFor(words) {
@@ -298,7 +247,7 @@ export class Article {
   }
 
   /** Shows the offers and the choice; nothing is answered where they were refused. */
-  async #askForDay(question, asked, signal) {
+  async #askForDay(question, signal) {
     this.#answer.clear(say("article.asking"));
     this.#lastAsked = Date.now();
     const late = setTimeout(() => this.#answer.clear(say("article.askingLong")), LATE);
@@ -308,16 +257,50 @@ export class Article {
       refuse(day.refusal);
       return;
     }
-    this.#answered = { ...day, asked, checked: Date.now() };
+    this.#answered = { ...day, asked: asText(question), checked: Date.now() };
     this.#answer.show(this.#answered);
   }
 
-  /** Shows what a feed said of the book, behind the answer. */
-  async #askForTitle(signal) {
-    const { titles, question: { isbn } } = this.#answered;
-    if (!this.#settings.hasTitles || titles !== undefined) return;
-    const found = await titlesOf([isbn], signal);
-    this.#answer.add({ titles: found.get(isbn) });
+  /** What an answer is told with: the title, and of offers the calendar, other copies, and prices of other types. */
+  async #askForMore(signal) {
+    const { question, offers } = this.#answered;
+    const add = async (name, asking) => {
+      const answer = await asking;
+      signal.throwIfAborted();
+      this.#answer.add({ [name]: answer });
+    };
+    const title = add("titles", titlesOf([question.isbn], signal).then((all) => all.get(question.isbn)));
+    const { quantities, retailType } = this.#settings;
+    const otherwise = (type) => askOtherwise(question, { type }, signal, this.#watch);
+    await Promise.all(offers.length === 0 ? [title] : [
+      title,
+      this.#askForCalendar(question, signal),
+      ...(quantities.length === 0 ? [] : [add("copies", askCopies(this.#answered, quantities, signal, this.#watch))]),
+      ...(retailType === "" || retailType === question.type ? [] : [add("retail", otherwise(retailType))]),
+      add("special", this.#specialOf(otherwise)),
+    ]);
+  }
+
+  /** The special net prices of a book, of the types that its wholesalers' messages had lately. */
+  async #specialOf(otherwise) {
+    const { question, offers } = this.#answered;
+    const named = offers.flatMap(({ series }) => this.#reports.typesOf(series, question.currency));
+    const types = SPECIAL.filter((type) => type !== question.type && named.includes(type));
+    const answers = await Promise.all(types.map(async (type) => (await otherwise(type)).map((offer) => ({ ...offer, type }))));
+    return answers.flat().filter(({ amount }) => amount !== null);
+  }
+
+  /** The calendar of a year around the day, and until when each price holds. */
+  async #askForCalendar(question, signal) {
+    const asked = { ...question, ...yearAround(question.day) };
+    const outcome = await askCalendar(asked, signal, this.#watch);
+    if (outcome.kind !== "answer") {
+      this.#refused(outcome);
+      return;
+    }
+    const { offers } = outcome.body;
+    this.#answer.add({ ahead: new Map(offers.map((offer) => [keyOf(offer), holdsUntil(offer, question.day)])) });
+    showCalendar({ offers, question: asked, choice: this.#answered.choice }, this.#settings);
   }
 
   /** Says what the desk refused; after a fault of its own the shown answer is not asked for anew. */
@@ -326,62 +309,10 @@ export class Article {
     if (outcome.kind === "fault") this.#answered.checked = Infinity;
   }
 
-  async #showCalendars(question, calendar, ahead) {
-    this.#showCalendar(question, await calendar);
-    const outcome = await ahead;
-    if (outcome?.kind !== "answer") return;
-    const { until } = this.#fromDay(question);
-    this.#answer.add({ ahead: aheadOf(outcome.body.offers, { day: question.day, until }) });
-  }
-
-  #showCalendar(question, outcome) {
-    if (outcome === undefined) return;
-    if (outcome.kind !== "answer") {
-      this.#calendar.clear();
-      found("calendar").hidden = false;
-      this.#refused(outcome);
-      return;
-    }
-    const { offers } = outcome.body;
-    this.#answer.add({ question });
-    this.#calendar.show({ offers, question, choice: this.#answered.choice });
-  }
-
-  /** What the answer is worth more with: other numbers of copies, and, without any price, other types. */
-  async #askForMore(signal) {
-    const answered = this.#answered;
-    if (answered.isWhole) return;
-    const { quantities } = this.#settings;
-    const first = firstQuantities(Number(answered.question.quantity), quantities);
-    const show = (copies) => this.#answer.add({ copies });
-    await Promise.all([
-      this.#askForRetail(answered.question, signal),
-      askCopies(answered, first, show, signal, this.#watch).then(show),
-    ]);
-    const lacking = withoutPrice(answered);
-    if (lacking.length > 0) await this.#askForOthers(answered.question, lacking, signal);
-    answered.isWhole = true;
-  }
-
-  /** The recommended price, where desk.json says of which type it is. */
-  async #askForRetail(question, signal) {
-    const { retailType } = this.#settings;
-    if (retailType === "" || retailType === question.type) return;
-    this.#answer.add({ retail: await askRetail(question, retailType, signal, this.#watch) });
-  }
-
-  /** The other currencies and types in which offers without a price have one. */
-  async #askForOthers(question, lacking, signal) {
-    const { currencies } = this.#settings;
-    this.#answer.add({ currencies: await askCurrencies(question, lacking, currencies, signal, this.#watch) });
-    this.#answer.add({ types: await askTypes(question, lacking, signal, this.#watch) });
-  }
-
   /** Asks once more what is shown, and says what has changed. */
   #askAnew() {
     const { question, asked } = this.#answered;
     return this.#whileWanted(async (signal) => {
-      const [calendar, ahead] = this.#askForCalendars(question, signal);
       const day = await askDay(question, signal, this.#watch);
       this.#answered.checked = Date.now();
       if (day.refusal !== undefined) {
@@ -395,8 +326,7 @@ export class Article {
         this.#answered = { ...day, titles: this.#answered.titles, asked, checked: Date.now() };
         this.#answer.show(this.#answered, before);
       }
-      if (this.#answered.offers.length === 0) return;
-      await Promise.all([this.#showCalendars(question, calendar, ahead), this.#askForMore(signal)]);
+      await this.#askForMore(signal);
     });
   }
 }

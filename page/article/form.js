@@ -1,7 +1,7 @@
 // The fields of a question about an article: what they begin with, what their codes mean, what is not as the
 // shop asks mostly, and what is wrong with them.
 
-import { ASKED, RANGE } from "../text/address.js";
+import { ASKED } from "../text/address.js";
 import { endOfMonths, inFullWords, isDay, plusMonths, today } from "../text/days.js";
 import { element, found } from "../text/elements.js";
 import { readAll } from "../text/fields.js";
@@ -19,17 +19,9 @@ export function yearAround(day) {
   return { from, until: endOfMonths(from, YEAR) };
 }
 
-/** The range that is given, or else a year around the day. */
-function rangeAround(day, given) {
-  if (!isDay(day)) return { from: given.from ?? "", until: given.until ?? "" };
-  const from = given.from ?? yearAround(day).from;
-  return { from, until: given.until ?? (isDay(from) ? endOfMonths(from, YEAR) : "") };
-}
-
 /** The texts of all fields for what an address gives; without a day it is today. */
 export function textsFor(given, { country, currency, type }) {
-  const texts = { isbn: "", day: today(), quantity: "1", country, currency, type, ...given };
-  return { ...texts, ...rangeAround(texts.day, given) };
+  return { isbn: "", day: today(), quantity: "1", country, currency, type, ...given };
 }
 
 /** Says what is wrong with a field, or, with the empty text, that nothing is. */
@@ -108,15 +100,10 @@ export class Form {
   fill(texts, isSet) {
     fillTypes(texts.type);
     for (const name of ASKED) found(name).value = texts[name];
-    this.fillRange(texts);
     this.#today = isSet ? undefined : texts.day;
     this.describe();
-    markAll([...ASKED, ...RANGE], {});
+    markAll(ASKED, {});
     found("question-wrong").textContent = "";
-  }
-
-  fillRange(texts) {
-    for (const name of RANGE) found(name).value = texts[name];
   }
 
   /** The next ISBN, typed or from a scanner, takes the place of this one. */
@@ -136,10 +123,6 @@ export class Form {
   asked() {
     this.followToday();
     return textsOf(ASKED);
-  }
-
-  range() {
-    return textsOf(RANGE);
   }
 
   /** Puts today into the field of the day, unless a day was set there. */
@@ -194,9 +177,6 @@ export class Form {
 export function refuse({ kind, reason, words }) {
   if (kind === "strange") found("question-wrong").textContent = words;
   else if (kind === "fault") found("question-wrong").textContent = `${words} ${say("article.notAgain")}`;
-  else if (reason === "bad-range") {
-    found("calendar").open = true;
-    markAll(["until"], { until: say("wrong.range") });
-  } else if (reason === "bad-query") found("question-wrong").textContent = say("wrong.query");
+  else if (reason === "bad-query") found("question-wrong").textContent = say("wrong.query");
   else found("question-wrong").textContent = say("wrong.refused", { reason });
 }

@@ -1,40 +1,26 @@
-// The table of the offers of a day: what each costs, how much more than the chosen one, for how long, and why
-// one of them misleads.
+// The table of the offers of a day: what each costs, how much more than the chosen one, and until when.
 
 import { compareAmounts, difference, money, signedMoney } from "../text/amounts.js";
-import { copiesInWords, kindOfAnswer } from "./decision.js";
 import { dayInShort, inWords } from "../text/days.js";
 import { element, table } from "../text/elements.js";
 import { keyOf, nameOf, referenceOf } from "../desk/offers.js";
 import { kindOf } from "../desk/price-types.js";
-import { changesOf } from "./quantities.js";
 import { wholesalerOf } from "../desk/settings.js";
-import { codeInWords, formatter, say, sayCount, wordsOfCode } from "../text/wording.js";
+import { formatter, say, sayCount, wordsOfCode } from "../text/wording.js";
+import { copiesInWords, kindOfAnswer } from "./words.js";
 
 const number = (count) => formatter(Intl.NumberFormat).format(count);
 const tag = (className, words, title) => element("span", { class: `tag ${className}`, title }, words);
 
-/**
- * What a wholesaler's messages lack, as marks behind its name: how many at its `sum`, or else what that means for its
- * prices, since a number in the row of a book is read as one of copies; in a `row` of a list there is room for two words.
- */
-export function marksOf(series, reports, place = "offer") {
-  const found = reports.stateOf(series);
-  if (!found.isWatched) return [tag("quiet", say("article.unwatchedTag"))];
-  const counted = sayCount("missing.atTab", found.count);
-  const words = { sum: counted, offer: say("article.oldTag") }[place];
-  const missing = found.count > 0 ? [tag("unusual", words, place === "sum" ? undefined : counted)] : [];
-  const silent = found.isSilent ? [tag("unusual", sayCount("article.silentTag", found.days))] : [];
-  return [...missing, ...silent];
-}
+const isChosen = (offer, choice) => choice !== null && keyOf(choice) === keyOf(offer);
 
-function nameCell(offer, answer, { settings, reports }) {
-  const { choice, question, offers } = answer;
-  const isChosen = choice !== null && keyOf(choice) === keyOf(offer);
+function nameCell(offer, { choice, question, offers }, { settings, reports }) {
   const words = kindOf(question.type) === "retail" ? "article.ruleTakes" : "article.ruleChooses";
-  const chosen = isChosen ? [tag("mark", say(words, { rule: choice.rule }))] : [];
+  const chosen = isChosen(offer, choice) ? [tag("mark", say(words, { rule: choice.rule }))] : [];
+  const reasons = reports.reasonsOf(offer.series);
+  const old = reasons.length > 0 ? [tag("unusual", say("article.oldTag"), reasons.join("; "))] : [];
   const parts = [element("span", { class: "name" }, ...nameOf(offer, offers, settings))];
-  for (const mark of [...chosen, ...marksOf(offer.series, reports)]) parts.push(" ", mark);
+  for (const mark of [...chosen, ...old]) parts.push(" ", mark);
   return parts;
 }
 
@@ -46,136 +32,87 @@ function availabilityCell({ availability: code }) {
 }
 
 /** The price of an offer, or that it has none of the type for so few copies, in the currency. */
-export function priceCell({ amount }, { type, currency, quantity }) {
+function priceCell({ amount }, { type, currency, quantity }) {
   if (amount !== null) return [money(amount, currency)];
-  const words = say("article.noPriceOf", { type, copies: copiesInWords(quantity), currency });
-  return [element("span", { class: "lacking" }, words)];
+  return [element("span", { class: "lacking" }, say("article.noPriceOf", { type, copies: copiesInWords(quantity), currency }))];
 }
 
-/** How much more an offer costs than the chosen one, and, of one that costs less, why it is not chosen, in words. */
-export function differenceInWords(offer, { choice, question }) {
-  if (choice === null || offer.amount === null) return [""];
-  if (keyOf(choice) === keyOf(offer)) return ["–"];
+/** How much more an offer costs than the chosen one, and, of one that costs less, why it is not chosen. */
+function differenceCell(offer, { choice, question }) {
+  if (offer.amount === null) return [""];
+  if (isChosen(offer, choice)) return ["–"];
   const words = signedMoney(difference(offer.amount, choice.amount), question.currency);
   if (compareAmounts(offer.amount, choice.amount) >= 0) return [words];
-  return [words, sayCount("article.cheaper", choice.rule)];
+  return [words, " ", element("small", {}, sayCount("article.cheaper", choice.rule))];
 }
 
-function differenceCell(offer, answer) {
-  const [words, ...why] = differenceInWords(offer, answer);
-  return [words, ...why.flatMap((text) => [" ", element("small", {}, text)])];
-}
-
-/** The other currencies and types in which an offer has a price in place of what was asked for, as links. */
-function othersCell(types, currencies = [], { currency }, addressWith) {
-  const inOthers = currencies.map(({ currency: other, amount }) => {
-    const text = say("article.otherCurrency", { amount: money(amount, other) });
-    return element("li", {}, element("a", { href: addressWith({ currency: other }) }, text));
-  });
-  if (types === undefined && inOthers.length === 0) return [say("article.askingTypes")];
-  if (inOthers.length + types?.length === 0) {
-    return [element("span", { class: "lacking" }, say("article.noOtherType"))];
-  }
-  const links = (types ?? []).map(({ type, amount }) => {
-    const words = codeInWords("priceTypes", type);
-    const text = say("article.otherType", { words, amount: money(amount, currency) });
-    return element("li", {}, element("a", { href: addressWith({ type }) }, text));
-  });
-  return [element("ul", { class: "plain" }, ...inOthers, ...links)];
-}
-
-/** What is known of other numbers of copies, or, of an offer without any price, of other currencies and types. */
-function copiesCell(offer, { question, copies, types, currencies }, { settings, addressWith }) {
+/** The prices of an offer at the shop's numbers of copies; a link asks for each. */
+function copiesCell(offer, { question, copies }, { settings, addressWith }) {
   if (copies === undefined) return [say("article.askingCopies")];
-  const changes = changesOf(offer, copies);
-  if (changes.every(({ amount }) => amount === null)) {
-    return othersCell(types?.get(keyOf(offer)), currencies?.get(keyOf(offer)), question, addressWith);
-  }
-  const asked = Number(question.quantity);
-  if (changes.length === 1) {
-    return [element("span", { class: "lacking" }, say("article.sameForCopies"))];
-  }
   const wholesaler = wholesalerOf(settings, offer.series);
-  return [copiesList(changes, { asked, currency: question.currency, wholesaler, addressWith })];
-}
-
-/** The changes of an offer's price, and the number that was asked for, wherever it lies. */
-function withAsked(changes, asked) {
-  if (changes.some(({ quantity }) => quantity === asked)) return changes;
-  const here = changes.findLast(({ quantity }) => quantity < asked);
-  if (here === undefined) return changes;
-  const at = changes.indexOf(here) + 1;
-  return changes.toSpliced(at, 0, { quantity: asked, amount: here.amount, isExact: true });
-}
-
-function copiesList(changes, { asked, currency, wholesaler, addressWith }) {
-  const items = withAsked(changes, asked).map(({ quantity, amount, isExact }) => {
-    const price = amount === null ? say("article.noPrice") : money(amount, currency);
-    const path = isExact ? "article.atCopies" : "article.aboutCopies";
-    const words = say(path, { count: number(quantity), price });
-    if (quantity === asked) return element("li", {}, element("strong", {}, words));
-    const copies = copiesInWords(quantity);
-    const label = `${say("article.copiesFrom", { copies, wholesaler })}: ${price}`;
-    const link = { href: addressWith({ quantity: String(quantity) }), "aria-label": label };
-    return element("li", {}, element("a", link, words));
+  const items = copies.map(({ quantity, offers }) => {
+    const amount = offers.find((other) => keyOf(other) === keyOf(offer))?.amount ?? null;
+    const price = amount === null ? say("article.noPrice") : money(amount, question.currency);
+    const words = say("article.atCopies", { count: number(quantity), price });
+    if (quantity === Number(question.quantity)) return element("li", {}, element("strong", {}, words));
+    const label = say("article.copiesFrom", { copies: copiesInWords(quantity), wholesaler, price });
+    return element("li", {}, element("a", { href: addressWith({ quantity: String(quantity) }), "aria-label": label }, words));
   });
-  return element("ul", { class: "copies" }, ...items);
+  return [element("ul", { class: "copies" }, ...items)];
 }
 
+/** Until when the price of an offer holds, where it ends within the calendar. */
 function holdsCell(offer, { ahead, question }) {
-  const { holds: found, until } = ahead?.get(keyOf(offer)) ?? {};
-  if (found === undefined || offer.amount === null) return [""];
-  if (found.last === undefined) return [say("article.holdsOn", { until: dayInShort(until) })];
+  const found = ahead?.get(keyOf(offer));
+  if (found?.last === undefined || offer.amount === null) return [""];
   const amount = found.then === null ? say("article.noPrice") : money(found.then, question.currency);
   return [say("article.holdsUntil", { last: dayInShort(found.last), amount })];
 }
 
 function rowOf(offer, answer, place) {
-  const { choice, question } = answer;
-  const isChosen = choice !== null && keyOf(choice) === keyOf(offer);
   const isWorthIt = ["net", "other"].includes(kindOfAnswer(answer));
-  const className = isChosen && isWorthIt ? "chosen" : undefined;
   return {
-    className,
+    className: isChosen(offer, answer.choice) && isWorthIt ? "chosen" : undefined,
     cells: [
       nameCell(offer, answer, place),
       availabilityCell(offer),
-      priceCell(offer, question),
-      ...(choice === null ? [] : [differenceCell(offer, answer)]),
-      copiesCell(offer, answer, place),
+      priceCell(offer, answer.question),
+      ...(answer.choice === null ? [] : [differenceCell(offer, answer)]),
+      ...(place.settings.quantities.length === 0 ? [] : [copiesCell(offer, answer, place)]),
       holdsCell(offer, answer),
     ],
   };
 }
 
+/** The offers in the order of their table: the chosen one first, then by price. */
+export function inOrder({ offers, choice }) {
+  const weight = (offer) => (isChosen(offer, choice) ? 0 : 1);
+  return [...offers].sort((one, other) => weight(one) - weight(other) || compareAmounts(one.amount, other.amount));
+}
+
 /**
- * The table of offers of an answer, named by the heading with that id. `place` has the settings, the reports
- * on messages, and `addressWith`, which gives the address of the same question with something else in it.
+ * The table of some offers of an answer, named by the heading with that id. `place` has the settings, the reports on
+ * messages, and `addressWith`, which gives the address of the same question with something else in it.
  */
 export function offersTable(heading, offers, answer, place) {
   const { question, choice } = answer;
   const price = say(`article.price.${kindOf(question.type)}`, { copies: copiesInWords(question.quantity) });
   const amount = (name) => ({ name, className: "amount" });
-  return table(
-    heading,
-    [
-      say("article.wholesaler"),
-      say("article.availability"),
-      amount(price),
-      ...(choice === null ? [] : [amount(say("article.difference"))]),
-      say("article.byCopies"),
-      say("article.holds"),
-    ],
-    offers.map((offer) => rowOf(offer, answer, place)),
-  );
+  const columns = [
+    say("article.wholesaler"),
+    say("article.availability"),
+    amount(price),
+    ...(choice === null ? [] : [amount(say("article.difference"))]),
+    ...(place.settings.quantities.length === 0 ? [] : [say("article.byCopies")]),
+    say("article.holds"),
+  ];
+  return table(heading, columns, offers.map((offer) => rowOf(offer, answer, place)));
 }
 
 /** The references by which the wholesalers call what they offer, named by the heading with that id. */
 export function referencesTable(heading, offers, settings) {
   const names = ["wholesaler", "reference"].map((name) => say(`article.${name}`));
-  const rows = offers.map((offer) => ({
-    cells: [[wholesalerOf(settings, offer.series)], [referenceOf(offer)]],
-  }));
+  const rows = offers.map((offer) => ({ cells: [[wholesalerOf(settings, offer.series)], [referenceOf(offer)]] }));
   return table(heading, names, rows);
 }
 

@@ -55,6 +55,7 @@ export function farOf(offer, { offers, retail, type }) {
 
 /** The same in words. */
 export function farInWords(far, { amount }, currency) {
-  const [name] = Object.keys(far);
-  return say(`article.far.${name}`, { amount: money(amount, currency), other: money(far[name], currency) });
+  const [[name, other]] = Object.entries(far);
+  const side = name === "next" ? "next" : compareAmounts(amount, other) > 0 ? "retailAbove" : "retailBelow";
+  return say(`article.far.${side}`, { amount: money(amount, currency), other: money(other, currency) });
 }

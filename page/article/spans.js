@@ -2,11 +2,6 @@
 
 import { fromDesk } from "../text/days.js";
 
-/** What an offer's price is after a day: of each later span its first day, `from`, and its `amount`. */
-export function laterThan({ spans }, day) {
-  return spans.map(({ first, amount }) => ({ from: fromDesk(first), amount })).filter(({ from }) => from > day);
-}
-
 /**
  * Of an offer's spans the one that has a day: its `amount`, `null` where there is no price, its `last` day,
  * and the amount `then`, from the day `from` on. These three are missing where the price holds to the end of

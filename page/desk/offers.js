@@ -1,6 +1,5 @@
 // The offers of a day, as the desk answers them.
 
-import { compareAmounts } from "../text/amounts.js";
 import { element } from "../text/elements.js";
 import { undirected } from "../text/said.js";
 import { wholesalerOf } from "./settings.js";
@@ -10,12 +9,6 @@ import { sayParts } from "../text/wording.js";
 export function keyOf({ series, reference, place }) {
   return JSON.stringify([series, reference, place]);
 }
-
-/** What offers can be ordered by: as the desk has them, or by price. */
-export const ORDERS = {
-  series: (offers) => offers,
-  price: (offers) => [...offers].sort((one, other) => compareAmounts(one.amount, other.amount)),
-};
 
 /** Whether no offer has a price. */
 export function areUnpriced(offers) {
@@ -35,4 +28,10 @@ export function nameOf(offer, offers, settings) {
   const isAlone = offers.filter(({ series }) => series === offer.series).length < 2;
   if (isAlone) return [words];
   return [words, " ", element("small", { class: "reference" }, referenceOf(offer))];
+}
+
+/** Whether an answer to the choice and one about the offers are of one moment. */
+export function agree(choice, offers) {
+  if (choice === null) return true;
+  return offers.some((offer) => keyOf(offer) === keyOf(choice) && offer.amount === choice.amount);
 }

@@ -47,7 +47,7 @@ function outcomeOf(status, body) {
   if (DOWN.includes(status)) return downOutcome(status, body);
   if (body?.answer === "refused") return { kind: "refused", reason: body.reason };
   if (status === 200 && body?.answer !== undefined) return { kind: "answer", body };
-  const path = status === 401 || status === 403 ? "wrong.forbidden" : "wrong.strange";
+  const path = { 401: "wrong.password", 403: "wrong.forbidden" }[status] ?? "wrong.strange";
   return { kind: "strange", words: say(path, { status }) };
 }
 

@@ -1,90 +1,41 @@
-// The shop's rules as rules.toml has them, the desk's own file: the words of each, which are the comment above
-// it, and what it admits, by which the page sees whether the desk still chooses by this file.
+// The shop's rules, as the desk has read them when it started, for a buyer to read: the page judges by none of them.
 
-import { compareAmounts } from "../text/amounts.js";
-import { keyOf } from "./offers.js";
-import { load } from "./settings.js";
+import { bareMoney } from "../text/amounts.js";
+import { urlBeside } from "../text/address.js";
+import { say, wordsOfCode } from "../text/wording.js";
+import { wholesalerOf } from "./settings.js";
 
-const FILE = "rules.toml";
+const isText = (value) => typeof value === "string";
 
-const RULE = /^\s*\[\[\s*(?:rule|"rule"|'rule')\s*\]\]\s*(?:#.*)?$/;
-const COMMENT = /^\s*#+\s?(.*)$/;
+function isRule({ series, codes, max } = {}) {
+  return isText(series) && Array.isArray(codes) && codes.every(isText) && (max === undefined || isText(max));
+}
 
-// A comment that is a rule put out of use, or a line of one.
-const OUT_OF_USE = /^\s*(?:\[|[\w-]+\s*=)/;
-
-/** The comment that ends directly above a line, in one line; empty where there is none. */
-function commentAbove(lines, at) {
-  const found = [];
-  for (let above = at - 1; above >= 0; above -= 1) {
-    const words = COMMENT.exec(lines[above])?.[1];
-    if (words === undefined || OUT_OF_USE.test(words)) break;
-    found.unshift(words.trim());
+/** The rules of a text, in order; `undefined` where it cannot be read. */
+export function readRules(text) {
+  try {
+    const { version, rules } = JSON.parse(text);
+    return version === 1 && Array.isArray(rules) && rules.every(isRule) ? rules : undefined;
+  } catch {
+    return undefined;
   }
-  return found.join(" ").trim().replace(/\.$/, "");
 }
 
-/** What stands behind a key, as far as a pattern takes it; no text of a rule has a `#` in it. */
-function valueOf(lines, key, pattern) {
-  const text = lines.map((line) => line.replace(/#.*/, "")).join("\n");
-  return new RegExp(`(?:^|\\n)\\s*(?:${key}|"${key}"|'${key}')\\s*=\\s*${pattern}`).exec(text);
-}
-
-/** The texts of a list in brackets, each of two digits; `undefined` where it has others. */
-function codesOf(list) {
-  const texts = list.split(",").map((text) => text.trim()).filter((text) => text !== "");
-  return texts.every((text) => /^(["'])\d\d\1$/.test(text)) ? texts.map((text) => text.slice(1, 3)) : undefined;
-}
-
-/** What a rule of these lines admits; `undefined` where they are written in a way that is not read here. */
-function admittedBy(lines) {
-  const series = valueOf(lines, "series", String.raw`(["'])([a-z0-9-]+|\*)\1\s*(?:\n|$)`)?.[2];
-  const list = valueOf(lines, "codes", String.raw`\[([^\]]*)\]`)?.[1];
-  const codes = list === undefined ? undefined : codesOf(list);
-  const hasMax = valueOf(lines, "max", "") !== null;
-  const max = valueOf(lines, "max", String.raw`(["'])(\d+(?:\.\d{1,3})?)\1`)?.[2];
-  const isRead = series !== undefined && codes !== undefined && (!hasMax || max !== undefined);
-  return isRead ? { series, codes, max } : undefined;
-}
-
-/** The rules of a text of rules.toml, in order: each with its `words`, empty without a comment, and what it `admits`. */
-export function rulesOf(text) {
-  const lines = text.split(/\r?\n/);
-  const places = [...lines.keys()].filter((at) => RULE.test(lines[at]));
-  return places.map((at, place) => ({
-    words: commentAbove(lines, at),
-    admits: admittedBy(lines.slice(at + 1, places[place + 1])),
-  }));
-}
-
-/** The shop's rules, as rules.toml has them; with "no-cache" now. `undefined` where it cannot be read. */
+/** The rules that the desk has; `undefined` where they cannot be read. */
 export async function loadRules() {
-  const { text } = await load(FILE, true);
-  return text === undefined ? undefined : rulesOf(text);
+  try {
+    const reply = await fetch(urlBeside("state/rules.json"), { cache: "no-store" });
+    return reply.ok ? readRules(await reply.text()) : undefined;
+  } catch {
+    return undefined;
+  }
 }
 
-const admitsOffer = ({ series, codes, max }) => ({ amount, ...offer }) =>
-  amount !== null
-  && (series === "*" || series === offer.series)
-  && codes.includes(offer.availability)
-  && (max === undefined || compareAmounts(amount, max) <= 0);
-
-/**
- * Whether one of the rules admits an offer, at whatever price where it has none. So it is where the rules cannot be
- * read (`undefined`), or one of them is written in a way that is not read here.
- */
-export function areAdmitting(rules, offer) {
-  if (rules === undefined || rules.some(({ admits }) => admits === undefined)) return true;
-  const priced = offer.amount === null ? { ...offer, amount: "0" } : offer;
-  return rules.some(({ admits }) => admitsOffer(admits)(priced));
-}
-
-/** Whether rules choose of offers what the desk chose, of equal amounts any; so too where one of them is not read. */
-export function chooseSo(rules, offers, choice) {
-  if (rules.some(({ admits }) => admits === undefined)) return true;
-  const at = rules.findIndex(({ admits }) => offers.some(admitsOffer(admits)));
-  if (at < 0 || choice === null) return at < 0 && choice === null;
-  const found = offers.filter(admitsOffer(rules[at].admits));
-  const isLeast = found.every(({ amount }) => compareAmounts(choice.amount, amount) <= 0);
-  return choice.rule === at + 1 && isLeast && found.some((offer) => keyOf(offer) === keyOf(choice));
+/** A rule in words: whose offers, how they can be had, and at most at which price. */
+export function ruleInWords({ series, codes, max }, settings) {
+  const wholesaler = series === "*" ? say("rules.anyone") : wholesalerOf(settings, series);
+  const availabilities = codes.map((code) => wordsOfCode("availabilities", code) ?? code).join(", ");
+  const words = say("rules.rule", { wholesaler, availabilities });
+  // A rule's greatest amount has no currency: it counts in whatever is asked for.
+  return max === undefined ? words : say("rules.atMost", { words, amount: bareMoney(max, settings.currency) });
 }

@@ -93,24 +93,24 @@ export function titleTexts(titles) {
 function differNodes(titles, settings) {
   return differing(titles).flatMap(({ series, title }) => [
     " · ",
-    element("strong", { class: "need" }, ...sayParts("titles.differs", {
-      wholesaler: wholesalerOf(settings, series), title: element("bdi", {}, shortened(title, MOST_LETTERS)),
+    element("span", {}, ...sayParts("titles.differs", {
+      wholesaler: wholesalerOf(settings, series), title: element("q", {}, shortened(title, MOST_LETTERS)),
     })),
   ]);
 }
 
-/** The same as nodes, each text kept apart from what stands beside it, and in small where no feed said a title. */
-export function titleNodes(titles, settings, none = "titles.noneHere") {
-  const texts = titleTexts(titles);
-  if (texts.length === 0) return [element("small", {}, say(none))];
-  const nodes = texts.flatMap((text) => [" · ", element("bdi", {}, shortened(text, MOST_LETTERS))]).slice(1);
-  const whole = { class: "clamped", title: texts.join(" · ") };
-  return [element("span", whole, ...nodes), ...differNodes(titles, settings)];
+/** The same as nodes: the title as what it is, a text of others. Empty where no feed said one. */
+export function titleNodes(titles, settings) {
+  const [title, ...others] = titleTexts(titles);
+  if (title === undefined) return [];
+  const behind = others.flatMap((text) => [" · ", element("bdi", {}, shortened(text, MOST_LETTERS))]);
+  const whole = { class: "clamped", title: [title, ...others].join(" · ") };
+  return [element("span", whole, element("q", {}, shortened(title, MOST_LETTERS)), ...behind), ...differNodes(titles, settings)];
 }
 
-/** The same behind "Title", with whose feed said it, and that it is not proved. */
+/** The same with whose feed said it, and that it is not proved, or that none did. */
 export function titleSaid(titles, settings) {
-  if (titles.length === 0) return titleNodes(titles, settings, "titles.none");
+  if (titles.length === 0) return [element("small", {}, say("titles.none"))];
   const said = say("titles.said", { wholesaler: wholesalerOf(settings, titles[0].series) });
-  return [say("titles.label"), " ", ...titleNodes(titles, settings), " · ", element("small", {}, said)];
+  return [...titleNodes(titles, settings), " ", element("small", {}, said)];
 }

@@ -1,29 +1,15 @@
-// Reports on messages of each series of desk.json, asked for once a minute while somebody sees the page.
+// How the series of desk.json stand, asked for once a minute while somebody sees the page: of the desk, and of the inbox.
 
-import { today } from "../text/days.js";
 import { ask, isAbandoned } from "../desk/questions.js";
 import { element } from "../text/elements.js";
-import { loadRules } from "../desk/rules.js";
-import { daysSince, see } from "./seen.js";
 import { wholesalerOf } from "../desk/settings.js";
-import { say, sayCount } from "../text/wording.js";
+import { say } from "../text/wording.js";
+import { allOf } from "./ranges.js";
+import { loadState, reasonsOf, typesIn } from "./series.js";
 
 const MINUTE = 60_000;
 
 const NOBODY = { down() {}, up() {} };
-
-/** How many numbers a range has. */
-export const howMany = ([from, to]) => to - from + 1;
-
-/** How many numbers ranges have. */
-export const allOf = (ranges) => ranges.reduce((sum, range) => sum + howMany(range), 0);
-
-/** Ranges of numbers in words, such as 3 to 4, 7. */
-export function rangesInShort(ranges) {
-  return ranges
-    .map(([from, until]) => (from === until ? String(from) : say("missing.short", { from, until })))
-    .join(", ");
-}
 
 export class Reports {
   /** When the last round ended; `undefined` before the first. */
@@ -31,7 +17,7 @@ export class Reports {
 
   #settings;
   #outcomes = new Map();
-  #seen = new Map();
+  #states = new Map();
   #listeners = [];
   #watch = NOBODY;
   #asking = new AbortController();
@@ -72,34 +58,37 @@ export class Reports {
     return this.#outcomes.get(name);
   }
 
-  /** Since when the browser has seen a series as it stands; `undefined` without a report. */
-  seenOf(name) {
-    return this.#seen.get(name);
-  }
-
-  /**
-   * Whether a series is watched at all, how many of its messages are missing and which (`ranges`), how many
-   * later ones wait, for how many `days` nothing new has come, and whether that is longer than it may be.
-   */
+  /** What the inbox says of a series; `undefined` where that cannot be seen. */
   stateOf(name) {
-    const series = this.#settings.series.find((found) => found.name === name);
-    const outcome = this.#outcomes.get(name);
-    const report = outcome?.kind === "answer" ? outcome.body : { missing: [], held: 0 };
-    const seen = this.#seen.get(name);
-    const days = seen === undefined ? 0 : daysSince(seen, today());
-    return {
-      isWatched: series !== undefined && (outcome === undefined || outcome.kind === "answer"),
-      count: allOf(report.missing),
-      ranges: report.missing,
-      held: report.held,
-      days,
-      isSilent: series?.days !== undefined && days > series.days,
-    };
+    return this.#states.get(name);
   }
 
-  /** The words of a series. */
-  wholesaler(name) {
-    return wholesalerOf(this.#settings, name);
+  /** The desk's report on a series; `undefined` where there is none. */
+  reportOf(name) {
+    const outcome = this.#outcomes.get(name);
+    return outcome?.kind === "answer" ? outcome.body : undefined;
+  }
+
+  /** How many messages of a series are missing. */
+  missingOf(name) {
+    return allOf(this.reportOf(name)?.missing ?? []);
+  }
+
+  /** Why prices of a series may be old, each reason in words; none before the first report, and none for sure. */
+  reasonsOf(name) {
+    if (!this.#settings.series.some((series) => series.name === name)) return [say("missing.reasons.unwatched")];
+    if (!this.#outcomes.has(name)) return [];
+    return reasonsOf(this.#states.get(name), this.reportOf(name), Date.now() / 1000);
+  }
+
+  /** The names of the series of which somebody should look. */
+  doubtful() {
+    return this.#settings.series.map(({ name }) => name).filter((name) => this.reasonsOf(name).length > 0);
+  }
+
+  /** The price types in the currency that messages of a series had lately. */
+  typesOf(name, currency) {
+    return typesIn(this.#states.get(name), currency);
   }
 
   #isLate() {
@@ -125,9 +114,10 @@ export class Reports {
     const begun = Date.now();
     const watch = { down: (words) => this.#watch.down(words), up: () => this.#watch.up() };
     try {
-      this.#settings.rules = (await loadRules()) ?? this.#settings.rules;
       for (const series of asked) {
-        this.#note(series, await ask(`series/${series.name}/gaps`, {}, signal, watch));
+        this.#states.set(series.name, await loadState(series.name, signal));
+        this.#outcomes.set(series.name, await ask(`series/${series.name}/gaps`, {}, signal, watch));
+        this.#tell(series);
       }
     } catch (fault) {
       if (isAbandoned(fault)) return;
@@ -143,27 +133,14 @@ export class Reports {
   #next() {
     if (document.visibilityState === "visible") this.#begin();
   }
-
-  #note(series, outcome) {
-    this.#outcomes.set(series.name, outcome);
-    if (outcome.kind === "answer") this.#seen.set(series.name, see(series.name, outcome.body, today()));
-    this.#tell(series);
-  }
 }
 
-/** What the messages of series lack, a note for each in nodes, with a link to where it is told at length. */
-export function messagesNotes(names, reports) {
+/** Why prices of series may be old, a note for each in nodes, with a link to where it is told at length. */
+export function messagesNotes(names, reports, settings) {
   return names.flatMap((name) => {
-    const { count, ranges, held, isSilent, days } = reports.stateOf(name);
-    const wholesaler = reports.wholesaler(name);
-    const parts = [];
-    if (count > 0) {
-      parts.push(say("article.missingNote", { wholesaler, ranges: rangesInShort(ranges) }));
-      if (held > 0) parts.push(sayCount("missing.wait", held));
-    }
-    if (isSilent) parts.push(sayCount("article.silentNote", days, { wholesaler }));
-    if (parts.length === 0) return [];
-    parts.push(say("article.mayBeOld"));
-    return [[`${parts.join(" ")} `, element("a", { href: "#missing" }, say("missing.view"))]];
+    const reasons = reports.reasonsOf(name);
+    if (reasons.length === 0) return [];
+    const words = say("article.doubt", { wholesaler: wholesalerOf(settings, name), reasons: reasons.join("; ") });
+    return [[`${words} `, element("a", { href: "#missing" }, say("missing.view"))]];
   });
 }

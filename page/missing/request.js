@@ -1,25 +1,47 @@
-// The request to a wholesaler to send messages again, in the wholesaler's own numbers: where `onixdesk convert`
-// makes several messages of one, or adds to its number, those of the desk's report are other ones.
+// The request to a wholesaler to send messages again, in the wholesaler's own numbers: where `onixdesk convert` has
+// `--parts` or `--number-offset`, the desk's numbers are others, and desk.json says so.
 
-/** The number of the wholesaler's message that one of the desk's was made of. */
-export function numberOfSender(number, { parts = 1, offset = 0 }) {
+import { inWords, today } from "../text/days.js";
+import { say, sayCount } from "../text/wording.js";
+import { allOf, rangesInShort } from "./ranges.js";
+
+/** The wholesaler's number of the message that a number of the desk is a part of; it may be below 1, where none is. */
+export function ofSender(number, { parts = 1, offset = 0 }) {
   return Math.ceil(number / parts) - offset;
 }
 
-/** Ranges of the desk's numbers as ranges of the wholesaler's, each number once. */
+/** The wholesaler's last message of which all parts are applied; below 1 where none is. */
+export function lastOfSender(next, { parts = 1, offset = 0 }) {
+  return Math.floor((next - 1) / parts) - offset;
+}
+
+/** Ranges of the desk's numbers in the wholesaler's own, those from 1 on alone, each once. */
 export function rangesOfSender(ranges, series) {
   const found = [];
-  for (const [from, to] of ranges) {
-    const range = [numberOfSender(from, series), numberOfSender(to, series)];
-    const last = found.at(-1);
-    // Two ranges may lack parts of one message.
-    if (last !== undefined && range[0] <= last[1]) last[1] = Math.max(last[1], range[1]);
-    else found.push(range);
+  for (const [from, until] of ranges) {
+    const [first, last] = [from, until].map((number) => ofSender(number, series));
+    const begin = Math.max(first, 1, (found.at(-1)?.[1] ?? 0) + 1);
+    if (begin <= last) found.push([begin, last]);
   }
   return found;
 }
 
-/** The wholesaler's last message of which all is applied; below its first where none is. */
-export function lastOfSender(next, { parts = 1, offset = 0 }) {
-  return Math.floor((next - 1) / parts) - offset;
+/** The letter, as a text; `undefined` where no message of the wholesaler's own numbers is missing. */
+export function requestFor({ first, next, held, missing }, series, { shop }) {
+  const ranges = rangesOfSender(missing, series);
+  if (ranges.length === 0) return undefined;
+  const last = lastOfSender(next, series);
+  const parts = [
+    say("missing.request.to", { wholesaler: series.words }),
+    ...(shop === "" ? [] : [say("missing.request.from", { shop })]),
+    say("missing.request.date", { day: inWords(today()) }),
+    "",
+    say("missing.request.body", {
+      ranges: rangesInShort(ranges), messages: sayCount("missing.messages", allOf(ranges)),
+    }),
+    "",
+    next === first || last < 1 ? say("missing.request.none") : say("missing.request.applied", { last }),
+    ...(held > 0 ? [say("missing.request.held")] : []),
+  ];
+  return `${parts.join("\n")}\n`;
 }

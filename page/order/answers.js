@@ -11,12 +11,6 @@ export const askedOf = ({ isbn, copies }) => `${isbn} ${copies} ${today()}`;
 /** By which it is kept that a row was answered otherwise before. */
 export const changeOf = ({ key, copies }) => `${key} ${copies}`;
 
-/** Whether an answer to the choice and one about the offers are of one moment. */
-export function agree(choice, offers) {
-  if (choice === null) return true;
-  return offers.some((offer) => keyOf(offer) === keyOf(choice) && offer.amount === choice.amount);
-}
-
 const isPriced = ({ amount }) => amount !== null;
 
 /** The offer that the rules take, or, of a row whose wholesaler a hand chose, that one's: `offer`, or a `need`. */

@@ -3,8 +3,7 @@
 import { today } from "../text/days.js";
 import { ask } from "../desk/questions.js";
 import { dayKeys } from "../text/fields.js";
-import { keyOf } from "../desk/offers.js";
-import { agree } from "./answers.js";
+import { agree, keyOf } from "../desk/offers.js";
 
 const AT_ONCE = 8;
 

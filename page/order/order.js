@@ -35,9 +35,6 @@ function tell(words) {
   found("list-status").textContent = words;
 }
 
-/** Nodes in words. */
-const inWords = (nodes) => nodes.map((node) => node.textContent ?? node).join("");
-
 /** The view, over the settings and the reports on messages; `watch` is told when the desk is down and up. */
 export class Order {
   #settings;
@@ -87,7 +84,7 @@ export class Order {
         this.#lookUp();
       },
       doubtOf: (series) => (this.#doubtOf(series) === "" ? "" : say("order.mayBeOld")),
-      doubtful: () => settings.series.map(({ name }) => name).filter((name) => this.#doubtOf(name) !== ""),
+      doubtful: () => reports.doubtful(),
     });
     this.#listen();
     found("list-retail").hidden = kindOf(settings.type) !== "retail";
@@ -190,7 +187,7 @@ export class Order {
 
   /** Why prices of a series may be old, in words; empty where nothing says so. */
   #doubtOf(series) {
-    return messagesNotes([series], this.#reports).map(inWords).join(" ");
+    return this.#reports.reasonsOf(series).join("; ");
   }
 
   /** Whether prices of a series may be old, and nobody has confirmed that. */
@@ -256,7 +253,7 @@ export class Order {
         this.#draw();
         this.#nextToCheck().focus({ preventScroll: true });
       });
-      return element("p", { class: "note" }, ...messagesNotes([name], this.#reports).flat(), " ", button);
+      return element("p", { class: "note" }, ...messagesNotes([name], this.#reports, this.#settings).flat(), " ", button);
     });
     found("list-doubts").replaceChildren(...notes);
   }

@@ -5,7 +5,6 @@ const VIEWS = ["article", "order", "missing"];
 
 /** What an address may ask for. */
 export const ASKED = ["isbn", "day", "quantity", "country", "currency", "type"];
-export const RANGE = ["from", "until"];
 
 /**
  * The view and the texts by name of an address. An unknown view is the first one; an unknown name, as a
@@ -16,13 +15,13 @@ export function readAddress(hash) {
   const all = [...new URLSearchParams(query)];
   return {
     view: VIEWS.includes(name) ? name : VIEWS[0],
-    given: Object.fromEntries(all.filter(([key]) => [...ASKED, ...RANGE].includes(key))),
+    given: Object.fromEntries(all.filter(([key]) => ASKED.includes(key))),
   };
 }
 
 /** The address of a view with what is asked there, in one order. */
 export function addressOf(view, given) {
-  const names = [...ASKED, ...RANGE].filter((name) => given[name] !== undefined);
+  const names = ASKED.filter((name) => given[name] !== undefined);
   return `#${view}?${new URLSearchParams(names.map((name) => [name, given[name]]))}`;
 }
 

@@ -56,12 +56,6 @@ export function times(amount, copies) {
   return amountOf(thousandths(amount) * BigInt(copies));
 }
 
-/** The most copies that cost less than a sum at an amount; `Infinity` where the amount is nothing. */
-export function mostBelow(amount, sum) {
-  const each = thousandths(amount);
-  return each === 0n ? Infinity : Number((thousandths(sum) - 1n) / each);
-}
-
 /** The sum of amounts, exactly. */
 export function sumOf(amounts) {
   return amountOf(amounts.reduce((sum, amount) => sum + thousandths(amount), 0n));

@@ -26,7 +26,7 @@ export function isDay(text) {
 }
 
 /** The number of a day; 1970-01-01 is 0. */
-export function numberOf(day) {
+function numberOf(day) {
   return instant(day).getTime() / MILLISECONDS;
 }
 
@@ -37,7 +37,7 @@ function dayOf(number) {
 }
 
 /** The day so many days later. */
-export function plusDays(day, count) {
+function plusDays(day, count) {
   return dayOf(numberOf(day) + count);
 }
 
@@ -94,44 +94,6 @@ export function endOfMonths(from, months) {
 /** How many days a range has. */
 export function lengthOf({ from, until }) {
   return numberOf(until) - numberOf(from) + 1;
-}
-
-function tick(day, parts) {
-  return { day, text: formatted(day, parts) };
-}
-
-/** The days of a short range, every day or every few of them. */
-function dayTicks({ from, until }, most) {
-  const step = [1, 2, 7, 14].find((days) => lengthOf({ from, until }) / days <= most) ?? 28;
-  const found = [];
-  for (let day = from; day <= until; day = plusDays(day, step)) {
-    found.push(tick(day, { day: "numeric" }));
-    if (plusDays(day, step) === day) break;
-  }
-  return found;
-}
-
-/** The first days of months, or of every few months; a January has its year. */
-function monthTicks({ from, until }, most) {
-  const months = lengthOf({ from, until }) / 30;
-  const step = [1, 2, 3, 6, 12, 24, 60].find((count) => months / count <= most) ?? 120;
-  const found = [];
-  let day = plusMonths(`${from.slice(0, 7)}-01`, from.endsWith("-01") ? 0 : 1);
-  while (day <= until) {
-    const place = Number(day.slice(0, 4)) * 12 + Number(day.slice(5, 7)) - 1;
-    const isJanuary = day.slice(5, 7) === "01";
-    if (place % step === 0) found.push(tick(day, isJanuary ? { year: "numeric" } : { month: "short" }));
-    const next = plusMonths(day, 1);
-    if (next <= day || !next.endsWith("-01")) break;
-    day = next;
-  }
-  return found;
-}
-
-/** The days that an axis of so many pixels names, with their texts. */
-export function ticksOf(from, until, pixels) {
-  const range = { from, until };
-  return lengthOf(range) <= 62 ? dayTicks(range, pixels / 26) : monthTicks(range, pixels / 44);
 }
 
 /** The time of a clock, with its seconds. */

@@ -1,27 +1,17 @@
 // Elements made by calls of the DOM alone. Texts become text nodes, so that nothing that a message
 // brought is ever read as markup.
 
-const DRAWING = "http://www.w3.org/2000/svg";
-
 /** The element of the page that has that id. */
 export const found = (id) => document.getElementById(id);
 
-function built(made, attributes, children) {
-  for (const [name, value] of Object.entries(attributes)) {
-    if (value !== undefined) made.setAttribute(name, value);
+/** An HTML element; an attribute that is `undefined` is left out, and texts become text nodes. */
+export function element(name, attributes = {}, ...children) {
+  const made = document.createElement(name);
+  for (const [key, value] of Object.entries(attributes)) {
+    if (value !== undefined) made.setAttribute(key, value);
   }
   made.append(...children);
   return made;
-}
-
-/** An HTML element; an attribute that is `undefined` is left out, and texts become text nodes. */
-export function element(name, attributes = {}, ...children) {
-  return built(document.createElement(name), attributes, children);
-}
-
-/** An SVG element, likewise. */
-export function drawn(name, attributes = {}, ...children) {
-  return built(document.createElementNS(DRAWING, name), attributes, children);
 }
 
 /** Puts children into a place that has others: for what is the same nothing is laid out anew. */

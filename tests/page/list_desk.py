@@ -3,6 +3,7 @@ expected of them is reckoned here, in decimals. No nginx, no password and no pro
 
 import json
 import threading
+import time
 from decimal import Decimal
 from http.server import ThreadingHTTPServer
 from typing import NamedTuple
@@ -74,7 +75,11 @@ class ListDesk:
             missing = self.missing.get(name, [])
             return 200, {"answer": "gaps", "series": name, "first": 1, "next": 2, "missing": missing, "held": len(missing)}
         book = self.books.get(name, Book([], None))
-        offers = [offer.body() for offer in book.offers if parse_qs(parts.query)["type"] == ["05"]]
+        keys = parse_qs(parts.query)
+        offers = [offer.body() for offer in book.offers if keys["type"] == ["05"]]
+        if what == "calendar":
+            for offer in offers:
+                offer["spans"] = [{"first": keys["from"][0], "last": keys["to"][0], "amount": offer.pop("amount")}]
         if what != "choice":
             return 200, {"answer": what, "isbn": name, "offers": offers}
         choice = None if book.chosen is None else offers[book.chosen] | {"rule": book.rule}
@@ -90,6 +95,21 @@ def settings(forms: dict[str, object] | None = None, **others: object) -> str:
             item["csv"] = forms[str(item["name"])]
     shop = {"country": "GB", "currency": "GBP", "price_type": "05"}
     return json.dumps({"language": "en-GB", "series": series, **shop, **others})
+
+
+def state(**others: object) -> str:
+    """What the inbox says of a wholesaler whose numbered files are complete."""
+    now = int(time.time())
+    whole: dict[str, object] = {
+        "version": 1, "at": now, "numbered": True, "desk": True, "silent": False, "waiting": 0, "quarantined": 0,
+        "refused": 0, "first": 1, "next": 2, "greatest": None, "taken_at": now, "heard_at": now,
+        "prices": [["05", "GBP"]], "older_terms": 0,
+    }  # fmt: skip
+    return json.dumps(whole | others)
+
+
+# The rules of the shop, as the service has written them.
+RULES = [{"series": "*", "codes": ["20", "21"], "max": "15.00"}, {"series": "*", "codes": ["20", "21", "22"]}]
 
 
 class PlainSite:
@@ -112,6 +132,8 @@ class PlainSite:
         """The desk and the shop's own files as they are at first, with other settings."""
         self.desk = ListDesk()
         self.files = {"/desk.json": settings(**others)}  # type: ignore[arg-type]
+        self.files |= {f"/state/{name}.json": state() for name in WHOLESALERS}
+        self.files["/state/rules.json"] = json.dumps({"version": 1, "at": 1, "rules": RULES})
         self.asked: list[str] = []
         return self.desk
 
@@ -124,8 +146,8 @@ class PlainSite:
         if target in self.files:
             return 200, KINDS["json"], self.files[target].encode()
         file = PAGE / ("index.html" if target == "/" else target.lstrip("/"))
-        if target.startswith("/titles") or not file.is_file():
-            return (204 if target.startswith("/titles") else 404), KINDS["json"], b""
+        if not file.is_file():
+            return (204 if target.startswith("/state/titles/") else 404), KINDS["json"], b""
         return 200, KINDS[file.suffix[1:]], file.read_bytes()
 
     def address(self, path: str = "/", user: str = "") -> str:

@@ -1,0 +1,92 @@
+// How a wholesaler's files stand, as the inbox says in /state/NAME.json and the desk in its report: complete, only the time
+// of the last file, or a reason to stop and look. What cannot be seen is never complete.
+
+import { urlBeside } from "../text/address.js";
+import { formatter, say, sayCount } from "../text/wording.js";
+import { allOf, rangesInShort } from "./ranges.js";
+
+// The inbox writes its file at each run; an older one says nothing of now.
+const FRESH_SECONDS = 15 * 60;
+
+const isCount = (value) => Number.isSafeInteger(value) && value >= 0;
+const isTime = (value) => value === null || isCount(value);
+const isFlag = (value) => typeof value === "boolean";
+
+// What a file has to have, so that it can be read.
+const KEYS = {
+  at: isCount, numbered: isFlag, desk: isFlag, silent: isFlag, waiting: isCount, quarantined: isCount, refused: isCount,
+  heard_at: isTime, older_terms: isCount, prices: Array.isArray,
+};
+
+/** What a text of the inbox says; `undefined` where it cannot be read. */
+export function readState(text) {
+  try {
+    const found = JSON.parse(text);
+    const isWhole = found.version === 1 && Object.entries(KEYS).every(([key, isRight]) => isRight(found[key]));
+    return isWhole ? found : undefined;
+  } catch {
+    return undefined;
+  }
+}
+
+/** The file of a series; `undefined` where there is none, or it cannot be read. */
+export async function loadState(name, signal) {
+  try {
+    const reply = await fetch(urlBeside(`state/${name}.json`), { cache: "no-store", signal });
+    return reply.ok ? readState(await reply.text()) : undefined;
+  } catch {
+    signal.throwIfAborted();
+    return undefined;
+  }
+}
+
+/** A time in seconds since 1970, in words: today's by the clock, another one by its day. */
+function momentInWords(seconds) {
+  const time = new Date(seconds * 1000);
+  const dayOf = formatter(Intl.DateTimeFormat, { dateStyle: "long" });
+  if (dayOf.format(time) !== dayOf.format(new Date())) return dayOf.format(time);
+  return say("missing.todayAt", { time: formatter(Intl.DateTimeFormat, { timeStyle: "short" }).format(time) });
+}
+
+/**
+ * Why somebody should stop and look at a series, each reason in words: by its `state` of the inbox and the `report` of
+ * the desk, either of which may be `undefined`, at a time in seconds.
+ */
+export function reasonsOf(state, report, seconds) {
+  const isSeen = state !== undefined && seconds - state.at <= FRESH_SECONDS;
+  const found = [];
+  if (!isSeen) found.push(say("missing.reasons.unseen"));
+  if (report === undefined) found.push(say("missing.reasons.noReport"));
+  const missing = report?.missing ?? [];
+  if (missing.length > 0) {
+    found.push(sayCount("missing.reasons.missing", allOf(missing), { ranges: rangesInShort(missing) }));
+  }
+  if (report?.held > 0) found.push(sayCount("missing.reasons.held", report.held));
+  if (!isSeen) return found;
+  for (const key of ["quarantined", "refused", "waiting"]) {
+    if (state[key] > 0) found.push(sayCount(`missing.reasons.${key}`, state[key]));
+  }
+  if (!state.desk) found.push(say("missing.reasons.desk"));
+  if (state.silent) {
+    found.push(state.heard_at === null ? say("missing.reasons.neverHeard")
+      : say("missing.reasons.silent", { time: momentInWords(state.heard_at) }));
+  }
+  return found;
+}
+
+/** What is said of a series of which nothing speaks against: that it is complete, or when its last file came. */
+export function restInWords({ numbered, heard_at: heardAt }) {
+  if (numbered) return say("missing.complete");
+  return heardAt === null ? say("missing.noFileYet") : say("missing.lastFile", { time: momentInWords(heardAt) });
+}
+
+/** The price types in the currency that the messages of a series had lately. */
+export function typesIn(state, currency) {
+  const pairs = (state?.prices ?? []).filter((pair) => Array.isArray(pair) && pair[1] === currency);
+  return pairs.map(([type]) => type).filter((type) => typeof type === "string");
+}
+
+/** Of how many articles the prices are by an older table of terms, in words; empty where of none. */
+export function termsInWords(state) {
+  return state?.older_terms > 0 ? sayCount("missing.olderTerms", state.older_terms) : "";
+}

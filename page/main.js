@@ -2,13 +2,15 @@
 
 import { addressOf, readAddress } from "./text/address.js";
 import { Article } from "./article/article.js";
+import { today } from "./text/days.js";
 import { element, found } from "./text/elements.js";
 import { Missing } from "./missing/missing.js";
 import { Order } from "./order/order.js";
+import { allOf } from "./missing/ranges.js";
 import { Reports } from "./missing/reports.js";
 import { loadRules } from "./desk/rules.js";
 import { placeOf, Scanner } from "./text/scan.js";
-import { loadSettings, problemInWords } from "./desk/settings.js";
+import { loadSettings } from "./desk/settings.js";
 import { formatter, labelAll, say, sayCount, speak } from "./text/wording.js";
 
 /** What a view tells of the desk, in the note above it. */
@@ -27,15 +29,25 @@ const watch = {
 };
 
 /** Says what is wrong with a file of the shop's, in the note above the views. */
-function showProblems(file, problems) {
+function showProblems(problems) {
   if (problems.length === 0) return;
-  const items = problems.map((problem) => element("li", {}, problemInWords(problem)));
+  const items = problems.map((problem) => element("li", {}, say(problem.path, problem.values)));
   found("settings-wrong").append(
-    element("h2", {}, say("settings.heading", { file })),
+    element("h2", {}, say("settings.heading")),
     element("ul", {}, ...items),
     element("p", {}, say("settings.whom")),
   );
   found("settings-wrong").hidden = false;
+}
+
+/** Another day has other prices: the page begins anew, once somebody sees it, and a list is kept. */
+function reloadAtMidnight() {
+  const begun = today();
+  const look = () => {
+    if (document.visibilityState === "visible" && today() !== begun) location.reload();
+  };
+  setInterval(look, 10_000);
+  document.addEventListener("visibilitychange", look);
 }
 
 // The part of the address that is shown.
@@ -62,7 +74,7 @@ function show(views) {
 
 /** Counts at the tab, in every view, the messages that are missing, and the wholesalers of whom somebody should look. */
 function countMissing({ series }, reports) {
-  const count = series.reduce((sum, { name }) => sum + reports.missingOf(name), 0);
+  const count = allOf(series.flatMap(({ name }) => reports.reportOf(name)?.missing ?? []));
   const stops = reports.doubtful().length;
   const number = formatter(Intl.NumberFormat).format(count);
   const missing = element("span", { class: "count", "aria-hidden": "true" }, number);
@@ -79,7 +91,7 @@ async function start() {
   document.documentElement.lang = settings.language;
   labelAll(document);
   if (settings.shop !== "") found("shop").textContent = say("page.shop", { shop: settings.shop });
-  showProblems("desk.json", problems);
+  showProblems(problems);
   const reports = new Reports(settings);
   const order = new Order(settings, reports, watch);
   const article = new Article(settings, reports, watch, order);
@@ -97,8 +109,9 @@ async function start() {
   window.addEventListener("hashchange", () => {
     if (location.hash !== shownHash) show(views);
   });
-  show(views);
   reports.begin();
+  show(views);
+  reloadAtMidnight();
 }
 
 start();

@@ -9,14 +9,11 @@ import { ruleInWords } from "../desk/rules.js";
 import { wholesalerOf } from "../desk/settings.js";
 import { titleSaid, titlesOfOffers } from "../desk/titles.js";
 import { keyOf } from "../desk/offers.js";
-import { codeInWords, formatter, say, sayCount } from "../text/wording.js";
+import { codeInWords, say, sayCount } from "../text/wording.js";
 import { catalogueLink } from "./catalogue.js";
-import { inOrder, offersInWords, offersTable, referencesTable } from "./offers-table.js";
+import { offersTable } from "./offers-table.js";
 import { farInWords, farOf } from "./retail.js";
-import { conditionsOf, detailsOf, kindOfAnswer, sentenceOf, sumInWords, whyOf } from "./words.js";
-
-// How many offers are shown at first: a book of more is one that many small sellers offer.
-const FIRST_OFFERS = 50;
+import { conditionsOf, detailsOf, kindOfAnswer, sentenceOf, sumInWords } from "./words.js";
 
 /** That the chosen price is far from the recommended one, or from the next. */
 function farNotes({ offers, choice, retail, question }) {
@@ -52,27 +49,21 @@ function retailNotes({ retail = [], question }, settings) {
 export class Answer {
   #place;
   #shown;
-  #isWhole = false;
 
   /** `place` has the settings, the reports, and `addressWith`, which gives the question with something else. */
   constructor(place) {
     this.#place = place;
-    found("show-all").addEventListener("click", () => {
-      this.#isWhole = true;
-      this.#draw();
-    });
     place.reports.subscribe(() => this.#draw());
   }
 
   clear(words = "") {
     this.#shown = undefined;
-    this.#isWhole = false;
     found("verdict").className = "verdict";
     found("article-status").replaceChildren(words);
     found("answer-time").textContent = "";
     found("to-list").hidden = true;
     found("answer").hidden = true;
-    for (const id of ["title", "notes", "offers", "references-table", "rules-list"]) found(id).replaceChildren();
+    for (const id of ["title", "notes", "offers", "rules-list"]) found(id).replaceChildren();
   }
 
   /** Shows the offers and the choice of a question; `before` is what was said until it changed. */
@@ -102,11 +93,6 @@ export class Answer {
     found("answer-time").textContent = say("article.asOf", { time: timeInWords(time) });
   }
 
-  /** Says anew what depends on which day is today. */
-  noteDay() {
-    if (this.#shown !== undefined) this.#drawSentence();
-  }
-
   #sentence() {
     const { settings, reports } = this.#place;
     return sentenceOf(this.#shown, settings, reports.doubtful());
@@ -127,17 +113,11 @@ export class Answer {
     refill(found("title"), ...(said === undefined ? [] : titleSaid(said, this.#place.settings)));
   }
 
-  /** What stands below the sentence; the rule is folded behind it. */
+  /** What stands below the sentence. */
   #details() {
-    const { settings } = this.#place;
-    const link = catalogueLink(this.#shown.question.isbn, say("article.inCatalogue"), settings);
+    const link = catalogueLink(this.#shown.question.isbn, say("article.inCatalogue"), this.#place.settings);
     const parts = [...detailsOf(this.#shown), ...link];
-    const line = element("p", {}, ...parts.flatMap((part) => [" · ", part]).slice(1));
-    const words = whyOf(this.#shown, settings);
-    if (words === "") return element("div", { class: "details" }, line);
-    const open = found("article-status").querySelector("details")?.open ? "" : undefined;
-    const why = element("details", { open }, element("summary", {}, say("article.why")), element("p", {}, words));
-    return element("div", { class: "details" }, line, why);
+    return element("p", { class: "details" }, ...parts.flatMap((part) => [" · ", part]).slice(1));
   }
 
   #drawSentence() {
@@ -177,16 +157,14 @@ export class Answer {
 
   #drawOffers() {
     const answer = this.#shown;
-    const { length } = answer.offers;
-    found("answer").hidden = length === 0;
-    if (length === 0) return;
-    const ordered = inOrder(answer);
-    const offers = this.#isWhole ? ordered : ordered.slice(0, FIRST_OFFERS);
-    found("answer-heading").textContent = offersInWords(answer.question);
-    found("show-all").hidden = offers.length === length;
-    found("show-all").textContent = say("article.showAll", { count: formatter(Intl.NumberFormat).format(length) });
-    this.#keepingFocus(found("offers"), offersTable("answer-heading", offers, answer, this.#place));
-    refill(found("references-table"), referencesTable("references-heading", offers, this.#place.settings));
+    found("answer").hidden = answer.offers.length === 0;
+    if (answer.offers.length === 0) return;
+    found("answer-heading").textContent = say("article.offers", { day: inWords(answer.question.day) });
+    // The focus stays at the link that has it.
+    const links = () => [...found("offers").querySelectorAll("a")];
+    const at = links().indexOf(document.activeElement);
+    refill(found("offers"), offersTable("answer-heading", answer, this.#place));
+    if (at >= 0) links()[at]?.focus({ preventScroll: true });
   }
 
   /** The shop's rules, which stand open where none of them takes an offer. */
@@ -196,13 +174,8 @@ export class Answer {
     found("rules").hidden = rules === undefined;
     if (rules === undefined) return;
     if (kindOfAnswer(this.#shown) === "notChosen") found("rules").open = true;
-    refill(found("rules-list"), ...rules.map((rule) => element("li", {}, ruleInWords(rule, settings))));
-  }
-
-  /** Puts a table in the place of another one, with the focus at the link that has it. */
-  #keepingFocus(place, table) {
-    const at = [...place.querySelectorAll("a")].indexOf(document.activeElement);
-    refill(place, table);
-    if (at >= 0) place.querySelectorAll("a")[at]?.focus({ preventScroll: true });
+    const chosen = this.#shown.choice?.rule;
+    const items = rules.map((rule, at) => element("li", { class: at + 1 === chosen ? "mark" : undefined }, ruleInWords(rule, settings)));
+    refill(found("rules-list"), ...items);
   }
 }

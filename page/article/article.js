@@ -2,29 +2,23 @@
 
 import { addressOf, ASKED, readAddress } from "../text/address.js";
 import { isAbandoned } from "../desk/questions.js";
+import { typesIn } from "../missing/series.js";
 import { keyOf } from "../desk/offers.js";
 import { titlesOf } from "../desk/titles.js";
 import { today } from "../text/days.js";
 import { found } from "../text/elements.js";
 import { readAll } from "../text/fields.js";
-import { say, sayCount } from "../text/wording.js";
+import { say } from "../text/wording.js";
 import { Answer } from "./answer.js";
 import { askCalendar, askCopies, askDay, askOtherwise } from "./asking.js";
-import { hideCalendar, showCalendar } from "./calendar.js";
-import { Form, markAll, refuse, textsFor, yearAround } from "./form.js";
-import { holdsUntil } from "./spans.js";
+import { hideCalendar, holdsUntil, showCalendar, yearAround } from "./calendar.js";
+import { Form, markAll, refuse, textsFor } from "./form.js";
 import { copiesInWords } from "./words.js";
 
 const MINUTE = 60_000;
 
-// How long after the last question the next book begins with one copy and today.
-const USUAL_AFTER = 10 * MINUTE;
-
-// How often the view looks whether another day has begun, and whether its answer is a minute old.
+// How often the view looks whether its answer is a minute old.
 const LOOK = 5_000;
-
-// After how long a wait for an answer is said to be one.
-const LATE = 3_000;
 
 // Special net prices: of a sale, and before publication.
 const SPECIAL = ["15", "17", "25", "27"];
@@ -43,13 +37,9 @@ export class Article {
   #given = {};
   #texts = {};
   #answered;
-  // An ISBN that ends in a wrong digit and that the buyer has asked for all the same.
-  #wantedAnyway;
-  // When the last question was asked; none since the fields are as usual again.
-  #lastAsked;
   #isAsking = false;
 
-  /** `order` gets what a buyer puts on its list, and says how many lines that has then. */
+  /** `order` gets what a buyer puts on its list. */
   constructor(settings, reports, watch, order) {
     this.#settings = settings;
     this.#reports = reports;
@@ -59,14 +49,14 @@ export class Article {
     this.#answer = new Answer({ settings, reports, addressWith });
     found("question").addEventListener("submit", (event) => this.#submit(event));
     for (const kind of ["input", "change"]) {
-      found("question").addEventListener(kind, (event) => this.#edited(event));
+      found("question").addEventListener(kind, () => this.#noteOutdated());
     }
     found("as-usual").addEventListener("click", () => this.#asUsual());
     found("add-to-list").addEventListener("click", () => {
       const { isbn, quantity } = this.#answered.question;
-      found("in-list").textContent = sayCount("article.inList", order.take(isbn, Number(quantity)));
+      order.take(isbn, Number(quantity));
+      found("in-list").textContent = say("article.inList");
     });
-    found("ask-anyway").addEventListener("click", () => this.#askAnyway());
     document.addEventListener("visibilitychange", () => this.#look());
   }
 
@@ -75,7 +65,7 @@ export class Article {
     this.leave();
     this.#given = given;
     this.#texts = textsFor(given, this.#settings);
-    this.#form.fill(this.#texts, given.day !== undefined);
+    this.#form.fill(this.#texts);
     this.#form.focusIsbn();
     window.scrollTo(0, 0);
     if (given.isbn === undefined) this.#clear();
@@ -98,13 +88,11 @@ export class Article {
   /** Begins an ISBN at its first digit, which some other place of the page has got. */
   beginIsbn() {
     this.#form.setIsbn("");
-    this.#begins();
   }
 
   /** Asks for what a scanner has read. */
   scanned(code) {
     this.#form.setIsbn(code);
-    this.#begins();
     this.#submit();
   }
 
@@ -119,7 +107,6 @@ export class Article {
     this.#answer.clear();
     hideCalendar();
     this.#answered = undefined;
-    found("not-looked-for").hidden = true;
     this.#noteOutdated();
   }
 
@@ -136,33 +123,16 @@ export class Article {
 
   #submit(event) {
     event?.preventDefault();
-    const asked = this.#form.asked();
-    const { values, problems, remarks } = readAll(asked);
-    if (!markAll(ASKED, problems)) {
+    const { values, problems } = readAll(this.#form.asked());
+    if (!markAll(problems)) {
       if (problems.isbn !== undefined) this.#form.focusIsbn();
       this.#stop();
       this.#clear();
       return;
     }
-    // A day is in the address where it is not today's, so that tomorrow the same address asks for that
-    // day. What looks wrong stays as it was typed.
+    // A day is in the address where it is not today's, so that tomorrow the same address asks for that day.
     const day = values.day === today() ? undefined : values.day;
-    const isbn = remarks.isbn === undefined ? values.isbn : asked.isbn.trim();
-    const country = remarks.country === undefined ? values.country : asked.country.trim().toUpperCase();
-    this.#go({ ...values, isbn, day, country });
-  }
-
-  /** The first digit of another book: after a while, its question begins with one copy and today. */
-  #begins() {
-    if (this.#lastAsked === undefined || Date.now() - this.#lastAsked < USUAL_AFTER) return;
-    this.#lastAsked = undefined;
-    this.#form.setUsual();
-    this.#noteOutdated();
-  }
-
-  #edited({ target }) {
-    if (target === found("isbn")) this.#begins();
-    this.#noteOutdated();
+    this.#go({ ...values, day });
   }
 
   /** Dims an answer that is not that of the fields any more, and says so. */
@@ -179,29 +149,14 @@ export class Article {
   #asUsual() {
     const { isbn } = this.#given;
     if (isbn === undefined) {
-      this.#form.fill(textsFor({ isbn: found("isbn").value }, this.#settings), false);
+      this.#form.fill(textsFor({ isbn: found("isbn").value }, this.#settings));
       this.#form.focusIsbn();
     } else this.#go({ isbn });
   }
 
-  #askAnyway() {
-    this.#wantedAnyway = this.#given.isbn;
-    this.#form.focusIsbn();
-    this.#ask();
-  }
-
-  /** Where another day has begun, it is the one asked for, unless the buyer set one. */
+  /** An answer that is a minute old is asked for anew, while somebody sees it. */
   #look() {
-    if (this.#timer === undefined) return;
-    this.#form.followToday();
-    this.#answer.noteDay();
-    if (this.#answered === undefined || this.#isAsking) return;
-    if (this.#given.day === undefined && this.#texts.day !== today()) {
-      this.#texts = textsFor(this.#given, this.#settings);
-      this.#stop();
-      this.#ask();
-      return;
-    }
+    if (this.#timer === undefined || this.#answered === undefined || this.#isAsking) return;
     const isSeen = document.visibilityState === "visible";
     if (isSeen && Date.now() - this.#answered.checked >= MINUTE) this.#askAnew();
   }
@@ -225,33 +180,19 @@ export class Article {
 
   /** Asks what the texts say. */
   async #ask() {
-    const { values, problems, remarks } = readAll(this.#texts);
-    const isWrong = remarks.isbn !== undefined && this.#wantedAnyway !== this.#given.isbn;
+    const { values, problems } = readAll(this.#texts);
     this.#clear();
-    if (!markAll(ASKED, problems)) return;
-    if (isWrong) {
-      this.#notLookedFor(remarks.isbn);
-      return;
-    }
+    if (!markAll(problems)) return;
     await this.#whileWanted(async (signal) => {
       await this.#askForDay(values, signal);
       if (this.#answered !== undefined) await this.#askForMore(signal);
     });
   }
 
-  #notLookedFor(words) {
-    found("isbn-wrong").textContent = words;
-    found("isbn").setAttribute("aria-invalid", "true");
-    found("not-looked-for-words").textContent = say("article.notLookedFor", { isbn: this.#given.isbn });
-    found("not-looked-for").hidden = false;
-  }
-
   /** Shows the offers and the choice; nothing is answered where they were refused. */
   async #askForDay(question, signal) {
     this.#answer.clear(say("article.asking"));
-    this.#lastAsked = Date.now();
-    const late = setTimeout(() => this.#answer.clear(say("article.askingLong")), LATE);
-    const day = await askDay(question, signal, this.#watch).finally(() => clearTimeout(late));
+    const day = await askDay(question, signal, this.#watch);
     if (day.refusal !== undefined) {
       this.#answer.clear();
       refuse(day.refusal);
@@ -284,7 +225,7 @@ export class Article {
   /** The special net prices of a book, of the types that its wholesalers' messages had lately. */
   async #specialOf(otherwise) {
     const { question, offers } = this.#answered;
-    const named = offers.flatMap(({ series }) => this.#reports.typesOf(series, question.currency));
+    const named = offers.flatMap(({ series }) => typesIn(this.#reports.stateOf(series), question.currency));
     const types = SPECIAL.filter((type) => type !== question.type && named.includes(type));
     const answers = await Promise.all(types.map(async (type) => (await otherwise(type)).map((offer) => ({ ...offer, type }))));
     return answers.flat().filter(({ amount }) => amount !== null);

@@ -1,16 +1,28 @@
-// The calendar of prices over a year: a small picture with a lane for each offer, and the same as a table.
+// The calendar of prices over a year: a small picture with a lane for each offer, whose bars say what they are.
 
 import { bareMoney, money } from "../text/amounts.js";
-import { dayInShort, fromDesk, inWords, lengthOf } from "../text/days.js";
-import { element, found, table } from "../text/elements.js";
-import { keyOf, nameOf } from "../desk/offers.js";
-import { say, sayCount, sayParts, wordsOfCode } from "../text/wording.js";
+import { dayInShort, fromDesk, inWords, lengthOf, plusDays } from "../text/days.js";
+import { element, found } from "../text/elements.js";
+import { keyOf, referenceOf } from "../desk/offers.js";
+import { wholesalerOf } from "../desk/settings.js";
+import { say, wordsOfCode } from "../text/wording.js";
 
-/** The name of an offer among all offers of a calendar. */
-function laneName(offer, offers, settings) {
-  const words = wordsOfCode("availabilities", offer.availability) ?? offer.availability;
-  const wholesaler = element("span", {}, ...nameOf(offer, offers, settings));
-  return element("span", {}, ...sayParts("calendar.lane", { wholesaler, availability: words }));
+/** From a month before a day on, a year. */
+export function yearAround(day) {
+  return { from: plusDays(day, -30), until: plusDays(day, 335) };
+}
+
+/**
+ * Of an offer's spans the one that has a day: its `amount`, `null` where there is no price, its `last` day,
+ * and the amount `then`, from the day `from` on. These three are missing where the price holds to the end of
+ * the calendar; `undefined` where the calendar leaves the day out.
+ */
+export function holdsUntil({ spans }, day) {
+  const at = spans.findIndex(({ first, last }) => fromDesk(first) <= day && day <= fromDesk(last));
+  if (at < 0) return undefined;
+  const [{ amount, last }, next] = [spans[at], spans[at + 1]];
+  if (next === undefined) return { amount };
+  return { amount, last: fromDesk(last), from: fromDesk(next.first), then: next.amount };
 }
 
 /** The bar of a span, as wide as it has days; the chosen offer's on the day asked for stands out. */
@@ -18,70 +30,44 @@ function bar({ first, last, amount }, { currency, day }, isChosen) {
   const [from, until] = [fromDesk(first), fromDesk(last)];
   const days = { from: inWords(from), until: inWords(until) };
   const isNow = isChosen && from <= day && day <= until;
-  const className = amount === null ? "gap" : isNow ? "span chosen" : "span";
   const title = amount === null ? say("calendar.gap", days) : say("calendar.span", { amount: money(amount, currency), ...days });
-  const made = element("span", { class: className, title }, amount === null ? "" : bareMoney(amount, currency));
+  const short = element("span", { "aria-hidden": "true" }, amount === null ? "" : bareMoney(amount, currency));
+  const className = amount === null ? "gap" : isNow ? "span chosen" : "span";
+  const made = element("li", { class: className, title }, short, element("span", { class: "heard" }, title));
   made.style.flexGrow = lengthOf({ from, until });
   return made;
 }
 
 /** A line at the day asked for. */
 function dayLine({ day, from, until }) {
-  const line = element("span", { class: "day" });
+  const line = element("li", { class: "day", "aria-hidden": "true" });
   line.style.left = `${((lengthOf({ from, until: day }) - 0.5) / lengthOf({ from, until })) * 100}%`;
   return line;
 }
 
-function lane(offer, { offers, question, choice }, settings) {
+function lane(offer, { question, choice }, settings) {
   const isChosen = choice !== null && keyOf(offer) === keyOf(choice);
+  const availability = wordsOfCode("availabilities", offer.availability) ?? offer.availability;
+  const name = [wholesalerOf(settings, offer.series), " ", referenceOf(offer), `, ${availability}`];
   const bars = offer.spans.map((span) => bar(span, question, isChosen));
   return [
-    element("p", { class: isChosen ? "lane-name chosen" : "lane-name" }, laneName(offer, offers, settings)),
-    element("div", { class: "lane" }, ...bars, dayLine(question)),
+    element("p", { class: isChosen ? "lane-name chosen" : "lane-name" }, ...name),
+    element("ul", { class: "lane" }, ...bars, dayLine(question)),
   ];
-}
-
-/** The picture of a calendar's offers. */
-function picture(calendar, settings) {
-  const { offers, question } = calendar;
-  const days = { from: inWords(question.from), until: inWords(question.until) };
-  const ends = [question.from, question.until].map((day) => element("span", {}, dayInShort(day)));
-  return element(
-    "div",
-    { role: "img", "aria-label": sayCount("calendar.picture", offers.length, days) },
-    ...offers.flatMap((offer) => lane(offer, calendar, settings)),
-    element("div", { class: "axis" }, ...ends),
-  );
-}
-
-function rowsOf(offer, offers, currency, settings) {
-  return offer.spans.map(({ first, last, amount }) => ({
-    cells: [
-      [laneName(offer, offers, settings)],
-      [inWords(fromDesk(first))],
-      [inWords(fromDesk(last))],
-      [amount === null ? say("calendar.noPrice") : money(amount, currency)],
-    ],
-  }));
-}
-
-/** The calendar as a table with a row for each span. */
-function spansTable({ offers, question: { currency } }, settings) {
-  const heads = ["offer", "first", "last", "price"].map((name) => say(`calendar.${name}`));
-  return table("spans-heading", heads, offers.flatMap((offer) => rowsOf(offer, offers, currency, settings)));
 }
 
 export function hideCalendar() {
   found("calendar").hidden = true;
-  for (const id of ["picture", "spans"]) found(id).replaceChildren();
+  found("picture").replaceChildren();
 }
 
 /** Shows the `offers` of a calendar, its `question`, and the `choice` of the day asked for. */
 export function showCalendar(calendar, settings) {
   const { from, until, day } = calendar.question;
+  const ends = [from, until].map((end) => element("span", {}, dayInShort(end)));
+  const lanes = calendar.offers.flatMap((offer) => lane(offer, calendar, settings));
   found("calendar-heading").textContent = say("calendar.titled", { from: inWords(from), until: inWords(until) });
   found("calendar-asked").textContent = say("calendar.legend", { day: inWords(day) });
-  found("picture").replaceChildren(picture(calendar, settings));
-  found("spans").replaceChildren(spansTable(calendar, settings));
+  found("picture").replaceChildren(...lanes, element("div", { class: "axis" }, ...ends));
   found("calendar").hidden = false;
 }

@@ -1,9 +1,9 @@
 // The table of the offers of a day: what each costs, how much more than the chosen one, and until when.
 
 import { compareAmounts, difference, money, signedMoney } from "../text/amounts.js";
-import { dayInShort, inWords } from "../text/days.js";
+import { dayInShort } from "../text/days.js";
 import { element, table } from "../text/elements.js";
-import { keyOf, nameOf, referenceOf } from "../desk/offers.js";
+import { keyOf, referenceOf } from "../desk/offers.js";
 import { kindOf } from "../desk/price-types.js";
 import { wholesalerOf } from "../desk/settings.js";
 import { formatter, say, sayCount, wordsOfCode } from "../text/wording.js";
@@ -14,21 +14,17 @@ const tag = (className, words, title) => element("span", { class: `tag ${classNa
 
 const isChosen = (offer, choice) => choice !== null && keyOf(choice) === keyOf(offer);
 
-function nameCell(offer, { choice, question, offers }, { settings, reports }) {
+function nameCell(offer, { choice, question }, { settings, reports }) {
   const words = kindOf(question.type) === "retail" ? "article.ruleTakes" : "article.ruleChooses";
   const chosen = isChosen(offer, choice) ? [tag("mark", say(words, { rule: choice.rule }))] : [];
   const reasons = reports.reasonsOf(offer.series);
   const old = reasons.length > 0 ? [tag("unusual", say("article.oldTag"), reasons.join("; "))] : [];
-  const parts = [element("span", { class: "name" }, ...nameOf(offer, offers, settings))];
+  const parts = [
+    element("span", { class: "name" }, wholesalerOf(settings, offer.series)), " ",
+    element("small", { class: "reference" }, referenceOf(offer)),
+  ];
   for (const mark of [...chosen, ...old]) parts.push(" ", mark);
   return parts;
-}
-
-/** How an offer can be had, in words alone: a code beside "in stock" is read as copies. */
-function availabilityCell({ availability: code }) {
-  const words = wordsOfCode("availabilities", code);
-  if (words === undefined) return [say("article.wordsOfCode", { words: say("article.unknownCode"), code })];
-  return [element("span", { title: say("article.onixCode", { code }) }, words)];
 }
 
 /** The price of an offer, or that it has none of the type for so few copies, in the currency. */
@@ -48,7 +44,7 @@ function differenceCell(offer, { choice, question }) {
 
 /** The prices of an offer at the shop's numbers of copies; a link asks for each. */
 function copiesCell(offer, { question, copies }, { settings, addressWith }) {
-  if (copies === undefined) return [say("article.askingCopies")];
+  if (copies === undefined) return ["…"];
   const wholesaler = wholesalerOf(settings, offer.series);
   const items = copies.map(({ quantity, offers }) => {
     const amount = offers.find((other) => keyOf(other) === keyOf(offer))?.amount ?? null;
@@ -75,7 +71,7 @@ function rowOf(offer, answer, place) {
     className: isChosen(offer, answer.choice) && isWorthIt ? "chosen" : undefined,
     cells: [
       nameCell(offer, answer, place),
-      availabilityCell(offer),
+      [wordsOfCode("availabilities", offer.availability) ?? offer.availability],
       priceCell(offer, answer.question),
       ...(answer.choice === null ? [] : [differenceCell(offer, answer)]),
       ...(place.settings.quantities.length === 0 ? [] : [copiesCell(offer, answer, place)]),
@@ -85,16 +81,16 @@ function rowOf(offer, answer, place) {
 }
 
 /** The offers in the order of their table: the chosen one first, then by price. */
-export function inOrder({ offers, choice }) {
+function inOrder({ offers, choice }) {
   const weight = (offer) => (isChosen(offer, choice) ? 0 : 1);
   return [...offers].sort((one, other) => weight(one) - weight(other) || compareAmounts(one.amount, other.amount));
 }
 
 /**
- * The table of some offers of an answer, named by the heading with that id. `place` has the settings, the reports on
+ * The table of the offers of an answer, named by the heading with that id. `place` has the settings, the reports on
  * messages, and `addressWith`, which gives the address of the same question with something else in it.
  */
-export function offersTable(heading, offers, answer, place) {
+export function offersTable(heading, answer, place) {
   const { question, choice } = answer;
   const price = say(`article.price.${kindOf(question.type)}`, { copies: copiesInWords(question.quantity) });
   const amount = (name) => ({ name, className: "amount" });
@@ -106,17 +102,5 @@ export function offersTable(heading, offers, answer, place) {
     ...(place.settings.quantities.length === 0 ? [] : [say("article.byCopies")]),
     say("article.holds"),
   ];
-  return table(heading, columns, offers.map((offer) => rowOf(offer, answer, place)));
-}
-
-/** The references by which the wholesalers call what they offer, named by the heading with that id. */
-export function referencesTable(heading, offers, settings) {
-  const names = ["wholesaler", "reference"].map((name) => say(`article.${name}`));
-  const rows = offers.map((offer) => ({ cells: [[wholesalerOf(settings, offer.series)], [referenceOf(offer)]] }));
-  return table(heading, names, rows);
-}
-
-/** Of which day the offers are. */
-export function offersInWords({ day }) {
-  return say("article.offers", { day: inWords(day) });
+  return table(heading, columns, inOrder(answer).map((offer) => rowOf(offer, answer, place)));
 }

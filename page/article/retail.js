@@ -1,13 +1,13 @@
 // The recommended price of a book, the margin that a net price leaves, and net prices that are far from it or from
 // those of others: a sign that a feed has a wrong one.
 
-import { compareAmounts, money, times } from "../text/amounts.js";
+import { compareAmounts, isNothing, money, times } from "../text/amounts.js";
 import { keyOf } from "../desk/offers.js";
 import { kindOf } from "../desk/price-types.js";
 import { formatter, say } from "../text/wording.js";
 
 /** The recommended price of an offer, by offers of that type: its own, else its wholesaler's, else another one's. */
-export function retailOf(retail, offer) {
+function retailOf(retail, offer) {
   const priced = (retail ?? []).filter(({ amount }) => amount !== null);
   const found = priced.find((other) => keyOf(other) === keyOf(offer))
     ?? priced.find(({ series }) => series === offer.series)
@@ -15,25 +15,13 @@ export function retailOf(retail, offer) {
   return found?.amount;
 }
 
-/** What a net price leaves of a recommended one, as a share of that, such as 0.42; it may be below nothing. */
-export function marginOf(amount, retail) {
-  return compareAmounts(retail, "0") === 0 ? undefined : 1 - Number(amount) / Number(retail);
-}
-
-/** A share as whole percents in the page's language. */
-export const inPercent = (share) => formatter(Intl.NumberFormat, { style: "percent" }).format(share);
-
-/** The recommended price (`retail`) and the `margin` of an offer as texts; empty where there is none, or no net price. */
-export function retailTexts(retail, offer, { type, currency }) {
+/** The recommended price of an offer and the margin, in words; none where there is none, or no net price. */
+export function retailInWords(retail, offer, { type, currency }) {
   const found = kindOf(type) === "net" ? retailOf(retail, offer) : undefined;
-  const margin = found === undefined ? undefined : marginOf(offer.amount, found);
-  return margin === undefined ? {} : { retail: money(found, currency), margin: inPercent(margin) };
-}
-
-/** Both in words; empty where there is none. */
-export function retailInWords(retail, offer, question) {
-  const texts = retailTexts(retail, offer, question);
-  return texts.retail === undefined ? "" : say("article.retail", texts);
+  if (found === undefined || isNothing(found)) return [];
+  const share = 1 - Number(offer.amount) / Number(found);
+  const margin = formatter(Intl.NumberFormat, { style: "percent" }).format(share);
+  return [say("article.retail", { retail: money(found, currency), margin })];
 }
 
 // A fifth of a recommended price, or of the next offer's, is less than any wholesaler takes.

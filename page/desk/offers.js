@@ -2,7 +2,6 @@
 
 import { element } from "../text/elements.js";
 import { undirected } from "../text/said.js";
-import { wholesalerOf } from "./settings.js";
 import { sayParts } from "../text/wording.js";
 
 /** What tells an offer from all others. */
@@ -20,14 +19,6 @@ export function referenceOf({ reference, place }) {
   const isolated = element("bdi", {}, undirected(reference));
   if (place === 1) return isolated;
   return element("span", {}, ...sayParts("article.place", { reference: isolated, place }));
-}
-
-/** Who offers, in nodes, with the reference where the same wholesaler has another one of the offers. */
-export function nameOf(offer, offers, settings) {
-  const words = wholesalerOf(settings, offer.series);
-  const isAlone = offers.filter(({ series }) => series === offer.series).length < 2;
-  if (isAlone) return [words];
-  return [words, " ", element("small", { class: "reference" }, referenceOf(offer))];
 }
 
 /** Whether an answer to the choice and one about the offers are of one moment. */

@@ -64,21 +64,11 @@ async function askOnce(path, keys, signal) {
   } catch (fault) {
     signal.throwIfAborted();
     if (fault.name !== "AbortError" && fault.name !== "TypeError") throw fault;
-    const isCut = fault.name === "TypeError";
-    return { kind: "down", words: say(`down.${isCut ? "unreached" : "late"}`), isLost: true, isCut };
+    return { kind: "down", words: say(`down.${fault.name === "TypeError" ? "unreached" : "late"}`), isLost: true };
   } finally {
     clearTimeout(timer);
     signal.removeEventListener("abort", stop);
   }
-}
-
-/**
- * Asks, and once more at once where the connection was cut: a web server closes one after so many questions, or when it
- * is reloaded, and a question that is just on its way is lost then, though both are there.
- */
-async function askConnected(path, keys, signal) {
-  const outcome = await askOnce(path, keys, signal);
-  return outcome.isCut ? askOnce(path, keys, signal) : outcome;
 }
 
 function pause(signal) {
@@ -122,7 +112,7 @@ async function askOnceThere(path, keys, signal, watch) {
  * While the desk is down, `watch.down` has the words for it; `watch.up` is called where it replies.
  */
 export async function ask(path, keys, signal, watch) {
-  let outcome = await askConnected(path, keys, signal);
+  let outcome = await askOnce(path, keys, signal);
   while (outcome.kind === "down") {
     const { isLost } = outcome;
     tellDown(watch, outcome);

@@ -5,7 +5,7 @@ import { urlBeside } from "../text/address.js";
 import { element } from "../text/elements.js";
 import { shortened, undirected } from "../text/said.js";
 import { wholesalerOf } from "./settings.js";
-import { say, sayParts, wordsOfCode } from "../text/wording.js";
+import { say, sayParts } from "../text/wording.js";
 
 // What is not there is answered 204, or 404 by a server that is not asked for titles.
 const FOUND = 200;
@@ -54,9 +54,7 @@ export async function titlesOf(isbns, signal) {
 }
 
 // The codes of roles, behind names.
-const ROLE = /\(([A-Z]\d\d)\)/g;
-
-const withRoles = (names) => names.replace(ROLE, (code, role) => `(${wordsOfCode("roles", role) ?? role})`);
+const ROLE = / \([A-Z]\d\d\)/g;
 
 /**
  * The titles of the series that offer a book, that of the `chosen` offer first: a feed may name any ISBN, and what it
@@ -86,7 +84,7 @@ export function titleTexts(titles) {
   if (titles.length === 0) return [];
   const [{ title, subtitle, contributors, publisher }] = titles;
   const whole = [title, subtitle].filter((text) => text !== "").join(": ");
-  return [whole, withRoles(contributors), publisher].map(undirected).filter((text) => text !== "");
+  return [whole, contributors.replace(ROLE, ""), publisher].map(undirected).filter((text) => text !== "");
 }
 
 /** That others say another title, which is a sign of a wrong ISBN. */

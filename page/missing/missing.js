@@ -1,9 +1,10 @@
 // The view of missing messages: for each wholesaler how its series stands, and a letter that asks for what is missing.
 
 import { timeInWords } from "../text/days.js";
+import { copyText } from "../text/clipboard.js";
 import { element, found } from "../text/elements.js";
-import { seriesInWords } from "../desk/settings.js";
-import { say, sayCount } from "../text/wording.js";
+import { wholesalerOf } from "../desk/settings.js";
+import { say } from "../text/wording.js";
 import { requestFor } from "./request.js";
 import { restInWords, termsInWords } from "./series.js";
 
@@ -14,22 +15,13 @@ export function standsInWords({ first, next }) {
   return say("missing.stands", { first, last: next - 1, next });
 }
 
-/** Copies a text, or, where the browser does not let the page, shows it to be copied. */
 async function copy(text, series, place) {
-  try {
-    await navigator.clipboard.writeText(text);
-    place.replaceChildren(say("missing.copied", { wholesaler: series.words }));
-  } catch {
-    const id = `request-${series.name}`;
-    const area = element("textarea", { id, rows: 8, readonly: "" }, text);
-    place.replaceChildren(element("label", { for: id }, say("missing.copyByHand")), area);
-    area.select();
-  }
+  if (await copyText(text, place)) place.replaceChildren(say("missing.copied", { wholesaler: series.words }));
 }
 
 /** A link that opens a mail with the request in the buyer's own program. */
 function mailLink(text, series) {
-  if (series.mail === undefined) return [];
+  if (series.mail === "") return [];
   const subject = encodeURIComponent(say("missing.request.subject"));
   const body = encodeURIComponent(text.replaceAll("\n", "\r\n"));
   const href = `mailto:${series.mail}?subject=${subject}&body=${body}`;
@@ -79,27 +71,20 @@ export class Missing {
   #settings;
   #reports;
   #watch;
-  #shown = new Map();
+  #shown;
 
   constructor(settings, reports, watch) {
     this.#settings = settings;
     this.#reports = reports;
     this.#watch = watch;
-    found("series").replaceChildren(...settings.series.map((series) => this.#card(series)));
-    reports.subscribe((series) => {
-      if (series === undefined) this.#drawWhole();
-      else this.#drawCard(series);
-    });
+    reports.subscribe(() => this.#draw());
   }
 
   /** Asks at once, and tells of the desk until the view is left. */
   show() {
-    if (this.#settings.series.length === 0) {
-      this.#say(say("missing.noSeries"));
-      return;
-    }
-    if (this.#reports.time === undefined) this.#say(say("missing.asking"));
-    this.#reports.show(this.#watch);
+    const isNone = this.#settings.series.length === 0;
+    if (isNone || this.#reports.time === undefined) this.#say(say(isNone ? "missing.noSeries" : "missing.asking"));
+    this.#reports.begin(this.#watch);
   }
 
   leave() {
@@ -111,50 +96,37 @@ export class Missing {
     return say("missing.view");
   }
 
-  #card({ name }) {
-    const heading = element("h2", { id: `series-${name}` }, seriesInWords(this.#settings, name));
-    return element(
-      "section",
-      { class: "card", id: `card-${name}`, "aria-labelledby": heading.id },
-      heading,
-      element("div", { id: `report-${name}` }),
-    );
-  }
-
   /** Says something in the live region, unless it is what stands there. */
   #say(words) {
     const place = found("missing-status");
     if (place.textContent !== words) place.textContent = words;
   }
 
-  #drawWhole() {
+  #draw() {
     const { series } = this.#settings;
     if (series.length === 0) return;
     found("as-of").textContent = say("missing.asOf", { time: timeInWords(this.#reports.time) });
     const names = this.#reports.doubtful();
-    const wholesalers = names.map((name) => seriesInWords(this.#settings, name)).join(", ");
-    this.#say(names.length === 0
-      ? sayCount("missing.allThere", series.length)
-      : sayCount("missing.someStop", names.length, { wholesalers }));
+    const wholesalers = names.map((name) => wholesalerOf(this.#settings, name)).join(", ");
+    this.#say(names.length === 0 ? say("missing.allThere") : say("missing.someStop", { wholesalers }));
+    // What is as it was keeps what the buyer has in hand there.
+    const state = JSON.stringify(series.map(({ name }) => (
+      [this.#reports.outcomeOf(name), this.#reports.reasonsOf(name), this.#reports.stateOf(name)?.heard_at]
+    )));
+    if (state === this.#shown) return;
+    this.#shown = state;
     // What somebody should look at comes first.
-    const cards = [...series].sort((one, other) => names.includes(other.name) - names.includes(one.name))
-      .map(({ name }) => found(`card-${name}`));
-    cards.forEach((card, at) => card.classList.toggle("whole", at >= names.length));
-    if (cards.every((card, at) => card === found("series").children[at])) return;
-    const focus = document.activeElement;
-    found("series").replaceChildren(...cards);
-    focus?.focus({ preventScroll: true });
+    const ordered = [...series].sort((one, other) => names.includes(other.name) - names.includes(one.name));
+    found("series").replaceChildren(...ordered.map((each) => this.#card(each, names.includes(each.name))));
   }
 
-  /** Draws a report that changed; another one keeps what the buyer has in hand there. */
-  #drawCard(series) {
-    const { name } = series;
-    const text = JSON.stringify([this.#reports.outcomeOf(name), this.#reports.reasonsOf(name), this.#reports.stateOf(name)?.older_terms]);
-    if (this.#shown.get(name) === text) return;
-    this.#shown.set(name, text);
-    const place = found(`report-${name}`);
-    const hadFocus = place.contains(document.activeElement);
-    place.replaceChildren(...cardParts(series, this.#reports, this.#settings));
-    if (hadFocus) place.querySelector("button")?.focus();
+  #card(series, isStop) {
+    const id = `series-${series.name}`;
+    return element(
+      "section",
+      { class: isStop ? "card" : "card whole", "aria-labelledby": id },
+      element("h2", { id }, series.words),
+      ...cardParts(series, this.#reports, this.#settings),
+    );
   }
 }

@@ -4,8 +4,7 @@ import { ask, isAbandoned } from "../desk/questions.js";
 import { element } from "../text/elements.js";
 import { wholesalerOf } from "../desk/settings.js";
 import { say } from "../text/wording.js";
-import { allOf } from "./ranges.js";
-import { loadState, reasonsOf, typesIn } from "./series.js";
+import { loadState, reasonsOf } from "./series.js";
 
 const MINUTE = 60_000;
 
@@ -22,35 +21,32 @@ export class Reports {
   #watch = NOBODY;
   #asking = new AbortController();
   #timer;
-  #isBegun = false;
 
   constructor(settings) {
     this.#settings = settings;
     document.addEventListener("visibilitychange", () => {
-      if (document.visibilityState === "visible" && this.#isLate()) this.#begin();
+      if (document.visibilityState === "visible" && Date.now() - (this.time ?? Infinity) >= MINUTE) this.begin();
     });
   }
 
-  /** Calls a function at each report that comes, with its series, and, at the end of a round, without one. */
+  /** Calls a function at the end of each round. */
   subscribe(listener) {
     this.#listeners.push(listener);
   }
 
-  /** Asks at once; `watch` is told when the desk is down and up, until the reports are left. */
-  show(watch) {
+  /** Asks at once, and once a minute from then on; `watch` is told when the desk is down and up, until they are left. */
+  begin(watch = NOBODY) {
     this.#watch = watch;
-    this.#begin(true);
+    clearTimeout(this.#timer);
+    this.#asking.abort();
+    this.#asking = new AbortController();
+    this.#round(this.#asking.signal);
   }
 
-  /** Asks on, once a minute, and tells nobody when the desk is down: the view that is seen does. */
+  /** Asks on, and tells nobody when the desk is down: the view that is seen does. */
   leave() {
     this.#watch.up();
     this.#watch = NOBODY;
-  }
-
-  /** Begins to ask, once a minute, unless a view has begun. */
-  begin() {
-    if (!this.#isBegun) this.#begin();
   }
 
   /** What came of a series: its report, or what is no answer; `undefined` where nothing came yet. */
@@ -69,15 +65,9 @@ export class Reports {
     return outcome?.kind === "answer" ? outcome.body : undefined;
   }
 
-  /** How many messages of a series are missing. */
-  missingOf(name) {
-    return allOf(this.reportOf(name)?.missing ?? []);
-  }
-
-  /** Why prices of a series may be old, each reason in words; none before the first report, and none for sure. */
+  /** Why prices of a series may be old, each reason in words: what is not known yet cannot be seen. */
   reasonsOf(name) {
     if (!this.#settings.series.some((series) => series.name === name)) return [say("missing.reasons.unwatched")];
-    if (!this.#outcomes.has(name)) return [];
     return reasonsOf(this.#states.get(name), this.reportOf(name), Date.now() / 1000);
   }
 
@@ -86,52 +76,24 @@ export class Reports {
     return this.#settings.series.map(({ name }) => name).filter((name) => this.reasonsOf(name).length > 0);
   }
 
-  /** The price types in the currency that messages of a series had lately. */
-  typesOf(name, currency) {
-    return typesIn(this.#states.get(name), currency);
-  }
-
-  #isLate() {
-    return this.time !== undefined && Date.now() - this.time >= MINUTE;
-  }
-
-  /** Begins a round; one that nobody asked for leaves out what the desk had too little memory for. */
-  #begin(isWanted = false) {
-    this.#isBegun = true;
-    clearTimeout(this.#timer);
-    this.#asking.abort();
-    this.#asking = new AbortController();
-    const isAsked = ({ name }) => isWanted || this.#outcomes.get(name)?.kind !== "fault";
-    this.#round(this.#settings.series.filter(isAsked), this.#asking.signal);
-  }
-
-  #tell(series) {
-    for (const listener of this.#listeners) listener(series);
-  }
-
   /** Asks about each series, one after the other: the desk answers one question at a time. */
-  async #round(asked, signal) {
+  async #round(signal) {
     const begun = Date.now();
     const watch = { down: (words) => this.#watch.down(words), up: () => this.#watch.up() };
     try {
-      for (const series of asked) {
-        this.#states.set(series.name, await loadState(series.name, signal));
-        this.#outcomes.set(series.name, await ask(`series/${series.name}/gaps`, {}, signal, watch));
-        this.#tell(series);
+      for (const { name } of this.#settings.series) {
+        this.#states.set(name, await loadState(name, signal));
+        this.#outcomes.set(name, await ask(`series/${name}/gaps`, {}, signal, watch));
       }
     } catch (fault) {
       if (isAbandoned(fault)) return;
       throw fault;
     }
     this.time = Date.now();
-    this.#tell();
-    // While the desk is down the round goes on, and asks again by itself.
-    this.#timer = setTimeout(() => this.#next(), Math.max(0, begun + MINUTE - Date.now()));
-  }
-
-  /** Nobody is told anything in a tab that nobody sees; what comes is asked for once it is seen again. */
-  #next() {
-    if (document.visibilityState === "visible") this.#begin();
+    for (const listener of this.#listeners) listener();
+    // Nobody is told anything in a tab that nobody sees.
+    const next = () => document.visibilityState === "visible" && this.begin(this.#watch);
+    this.#timer = setTimeout(next, Math.max(0, begun + MINUTE - Date.now()));
   }
 }
 

@@ -6,12 +6,12 @@ import { say, sayCount } from "../text/wording.js";
 import { allOf, rangesInShort } from "./ranges.js";
 
 /** The wholesaler's number of the message that a number of the desk is a part of; it may be below 1, where none is. */
-export function ofSender(number, { parts = 1, offset = 0 }) {
+export function ofSender(number, { parts, offset }) {
   return Math.ceil(number / parts) - offset;
 }
 
 /** The wholesaler's last message of which all parts are applied; below 1 where none is. */
-export function lastOfSender(next, { parts = 1, offset = 0 }) {
+export function lastOfSender(next, { parts, offset }) {
   return Math.floor((next - 1) / parts) - offset;
 }
 
@@ -19,9 +19,11 @@ export function lastOfSender(next, { parts = 1, offset = 0 }) {
 export function rangesOfSender(ranges, series) {
   const found = [];
   for (const [from, until] of ranges) {
-    const [first, last] = [from, until].map((number) => ofSender(number, series));
-    const begin = Math.max(first, 1, (found.at(-1)?.[1] ?? 0) + 1);
-    if (begin <= last) found.push([begin, last]);
+    const [first, last] = [ofSender(from, series), ofSender(until, series)];
+    const before = found.at(-1);
+    // Two ranges may lack parts of one message.
+    if (before !== undefined && first <= before[1]) before[1] = Math.max(before[1], last);
+    else if (last >= 1) found.push([Math.max(first, 1), last]);
   }
   return found;
 }

@@ -19,40 +19,22 @@ export async function eachOf(items, askFor) {
   await Promise.all(Array.from({ length: AT_ONCE }, worker));
 }
 
-/** For each question of its own the watch that is told; the desk is up once it is for all of them. */
-export function sharedWatch(watch) {
-  const waiting = new Set();
-  return () => {
-    const question = {};
-    return {
-      down(words) {
-        waiting.add(question);
-        watch.down(words);
-      },
-      up() {
-        waiting.delete(question);
-        if (waiting.size === 0) watch.up();
-      },
-    };
-  };
-}
-
 /** The questions of a list by the shop's `settings`, while `signal` waits. */
 export class OrderAsking {
   #settings;
   #signal;
-  #watchOfOne;
+  #watch;
 
   constructor(settings, signal, watch) {
     this.#settings = settings;
     this.#signal = signal;
-    this.#watchOfOne = sharedWatch(watch);
+    this.#watch = watch;
   }
 
   #ask({ isbn, copies }, what, changes = {}) {
     const { country, currency, type } = this.#settings;
     const keys = dayKeys({ day: today(), country, currency, type, quantity: String(copies), ...changes });
-    return ask(`articles/${isbn}/${what}`, keys, this.#signal, this.#watchOfOne());
+    return ask(`articles/${isbn}/${what}`, keys, this.#signal, this.#watch);
   }
 
   /** The offers of a book by the type of recommended prices, where desk.json has another one than is asked for. */

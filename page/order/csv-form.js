@@ -13,7 +13,6 @@ export const ABOVE = ["currency", "order", "account", "date", "shop", "address"]
 // What a wholesaler gets whose form desk.json does not have.
 const USUAL = ["isbn", "copies", "price", "sum", "currency", "reference", "order", "account", "date"];
 
-const MOST_COLUMNS = 30;
 const MARK = "\ufeff";
 const LINE_END = "\r\n";
 const AMOUNTS = ["price", "sum"];
@@ -26,7 +25,7 @@ const FORMULA = /(?<=^|[,;|])(?=[\s'"]*[=+\-@\uff1d\uff0b\uff0d\uff20])/g;
 const CUTS = /[",;|]/;
 
 const areTexts = (value) => Array.isArray(value) && value.every((text) => typeof text === "string");
-const areColumns = (value) => value.length > 0 && value.length <= MOST_COLUMNS && value.every((name) => COLUMNS.includes(name));
+const areColumns = (value) => value.length > 0 && value.every((name) => COLUMNS.includes(name));
 
 // What each key may have.
 const RIGHT = {
@@ -52,9 +51,9 @@ function decimalSign() {
 
 /** The whole form of the file of a series. */
 export function formOf(settings, series) {
-  const { csv, account } = settings.series.find(({ name }) => name === series) ?? {};
+  const { csv, account = "" } = settings.series.find(({ name }) => name === series) ?? {};
   const { decimal } = { decimal: decimalSign(), ...csv };
-  const columns = USUAL.filter((name) => name !== "account" || account !== undefined);
+  const columns = USUAL.filter((name) => name !== "account" || account !== "");
   return { columns, heading: true, separator: decimal === "," ? ";" : ",", byte_order_mark: true, ...csv, decimal };
 }
 

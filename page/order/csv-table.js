@@ -2,7 +2,8 @@
 // guessed.
 
 import { goodOf, linesOf } from "./text.js";
-import { isbnIn, isLikeIsbn, plain, readLine } from "./line.js";
+import { plain } from "../text/isbn.js";
+import { isbnIn, isLikeIsbn, readLine } from "./line.js";
 
 /** What may stand between the cells of a row. */
 export const SEPARATORS = ["\t", ";", ","];

@@ -3,7 +3,7 @@
 
 import { element, found } from "../text/elements.js";
 import { formatter, say, sayCount } from "../text/wording.js";
-import { goodOf, linesOf, markedOf, struck, withOneCopy } from "./text.js";
+import { linesOf, markedOf, struck, withOneCopy } from "./text.js";
 import { isLikeIsbn } from "./line.js";
 
 const KEY = "onixdesk-list";
@@ -161,6 +161,3 @@ export class Editor {
     return element("li", {}, go, " ", element("q", {}, line.text.trim()), " ", strike);
   }
 }
-
-/** How many lines order something. */
-export const countOf = (text) => goodOf(linesOf(text)).length;

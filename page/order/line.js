@@ -1,46 +1,22 @@
 // A line of an order list: an ISBN and copies, then perhaps `@series` and `# note`. Every other line is marked.
 
-import { isBook, isChecked, isTen, toThirteen } from "../text/isbn.js";
+import { ANYWHERE, isbnOf, isbnsIn, plain, WRITTEN } from "../text/isbn.js";
 
 /** The most copies of a line. */
 export const MOST_COPIES = 9999;
 
-const HYPHENS = /[\u00ad\u2010-\u2015\u2212\ufe58\ufe63\uff0d]/g;
-// Spaces of any width, and signs that are not seen.
-const SPACES = /[\s\u200b-\u200f\u202a-\u202e\u2060-\u2069]/g;
-
-// Thirteen digits with hyphens or none, with one space behind 978, or in five groups; ten, likewise in four groups.
-const THIRTEEN = "97[89](?:(?:-?\\d){10}| \\d{10}|(?:[ -]\\d{1,7}){3}[ -]\\d)";
-const TEN = "\\d(?:-?\\d){8}-?[\\dX]|(?:\\d{1,7}[ -]){3}[\\dX]";
 const LABEL = "(?:isbn(?:-1[03])?:? *)?";
 const COPIES = "[1-9]\\d{0,3}";
 
-const isbnAs = (name) => `${LABEL}(?<${name}>${THIRTEEN}|${TEN})`;
+const isbnAs = (name) => `${LABEL}(?<${name}>${WRITTEN})`;
 const GOOD = new RegExp(
   `^ *(?:${isbnAs("isbn")} +(?:x?(?<copies>${COPIES})|(?<before>${COPIES})[x×])|(?<first>${COPIES})[x×] +${isbnAs("behind")}) *$`,
   "di",
 );
 const LONE = new RegExp(`^ *${isbnAs("isbn")} *$`, "i");
-const ANYWHERE = new RegExp(`(?<![\\dA-Za-z])(?:${THIRTEEN}|${TEN})(?![\\dA-Za-z])`, "gi");
-
 // What may be meant as an ISBN: whole or mistyped, too long or too short, or shortened by a spreadsheet.
 const LIKE = /(?:\d[ -]?){8,}[\dX]|97[89][ -]?[\dA-Z-]{5,}|\d[.,]\d+E\+?\d+/i;
 const SHORTENED = /\d[.,]\d+E\+?\d+/i;
-
-// As most lines are.
-const IS_PLAIN = /^[ -~]*$/;
-
-/** A text with plain hyphens and spaces, each sign at its place. */
-export function plain(text) {
-  return IS_PLAIN.test(text) ? text : text.replace(HYPHENS, "-").replace(SPACES, " ");
-}
-
-/** The thirteen digits of an ISBN as it is written; `undefined` where its last digit does not fit, or it is no book's. */
-export function isbnOf(written) {
-  const signs = written.replace(/[- ]/g, "").toUpperCase();
-  if (isTen(signs)) return isChecked(signs) ? toThirteen(signs) : undefined;
-  return signs.length === 13 && isBook(signs) && isChecked(signs) ? signs : undefined;
-}
 
 /** The ISBN that a text is, and nothing else. */
 export function isbnIn(text) {
@@ -56,9 +32,10 @@ export function isLikeIsbn(text) {
 /** Why what stands before `@` and `#` is no ISBN and copies. */
 function reasonOf(body) {
   if (isbnIn(body) !== undefined) return "lone";
-  const isbn = body.match(ANYWHERE)?.find((written) => isbnOf(written) !== undefined);
-  if (isbn !== undefined) {
-    const beside = body.replace(isbn, " ");
+  const isbns = isbnsIn(body);
+  if (isbns.length > 1) return "two";
+  if (isbns.length === 1) {
+    const beside = body.replace(ANYWHERE, (written) => (isbnOf(written) === undefined ? written : " "));
     if (LIKE.test(beside)) return "two";
     return /\p{L}/u.test(beside) ? "more" : "copies";
   }

@@ -4,6 +4,7 @@ import { money } from "../text/amounts.js";
 import { isAbandoned } from "../desk/questions.js";
 import { kindOf } from "../desk/price-types.js";
 import { fileOf, titlesOf } from "../desk/titles.js";
+import { copyText } from "../text/clipboard.js";
 import { element, found } from "../text/elements.js";
 import { messagesNotes } from "../missing/reports.js";
 import { wholesalerOf } from "../desk/settings.js";
@@ -12,11 +13,11 @@ import { askedOf, changeOf, CONFIRMABLE, confirmKey, stateOf } from "./answers.j
 import { eachOf, OrderAsking } from "./asking.js";
 import { isTable } from "./csv-table.js";
 import { isFormula } from "./csv-form.js";
-import { countOf, Editor } from "./editor.js";
+import { Editor } from "./editor.js";
 import { textOfFile } from "./files.js";
 import { hideOrders, showOrders, showRest, tellSaved } from "./orders.js";
 import { Rows } from "./rows.js";
-import { copyText, download, linesToPaste, printOrder } from "./saving.js";
+import { download, linesToPaste, printOrder } from "./saving.js";
 import { sumsOf } from "./sums.js";
 import { TableForm } from "./table-form.js";
 import { rowsOf, struckBooks, withLines, withMore, withSeries } from "./text.js";
@@ -88,9 +89,7 @@ export class Order {
     });
     this.#listen();
     found("list-retail").hidden = kindOf(settings.type) !== "retail";
-    reports.subscribe((series) => {
-      if (series === undefined && this.#isShown) this.#draw();
-    });
+    reports.subscribe(() => this.#isShown && this.#draw());
   }
 
   #listen() {
@@ -102,20 +101,10 @@ export class Order {
     });
     found("open-file").addEventListener("click", () => found("list-file").click());
     found("list-file").addEventListener("change", () => this.#open(found("list-file").files[0]));
-    found("lines").addEventListener("drop", (event) => {
-      const [file] = event.dataTransfer.files;
-      if (file === undefined) return;
-      event.preventDefault();
-      this.#open(file);
-    });
     found("get-orders").addEventListener("click", () => this.#getOrders());
     for (const id of ["show-rows", "show-needs"]) {
       found(id).addEventListener("click", () => this.#filter(id === "show-needs"));
     }
-    found("copy-rest").addEventListener("click", async () => {
-      const lines = [...found("rest-lines").children].map(({ textContent }) => `${textContent}\n`).join("");
-      if (await copyText(lines, found("saved"))) tell(say("order.restCopied"));
-    });
   }
 
   show() {
@@ -145,10 +134,9 @@ export class Order {
     tell(say("order.scanned", { code }));
   }
 
-  /** Puts a book of an article on the list; gives how many lines it has then. */
+  /** Puts a book of an article on the list. */
   take(isbn, copies) {
     this.#editor.change(withMore(this.#editor.text, isbn, copies));
-    return countOf(this.#editor.text);
   }
 
   /** Asks for the columns of a text that is a table; gives whether it is one. */
@@ -265,7 +253,7 @@ export class Order {
     const { books, amount } = sumsOf(ordered).all;
     const parts = [
       sayCount("order.books", books),
-      money(amount, this.#settings.currency),
+      ...(books > 0 ? [money(amount, this.#settings.currency)] : []),
       ...(toCheck > 0 ? [sayCount("order.checkBar", toCheck)] : []),
       ...(this.#editor.marked.length > 0 ? [sayCount("order.markedBar", this.#editor.marked.length)] : []),
       ...(waiting > 0 ? [sayCount("order.waitingBar", waiting)] : []),
@@ -303,7 +291,7 @@ export class Order {
   #lookUp() {
     const rows = rowsOf(this.#editor.lines);
     if (rows.length > MOST_ROWS) {
-      tell(sayCount("order.tooMany", rows.length, { most: formatter(Intl.NumberFormat).format(MOST_ROWS) }));
+      tell(say("order.tooMany", { most: formatter(Intl.NumberFormat).format(MOST_ROWS) }));
       return undefined;
     }
     return this.#ask(async (asking, signal) => {
@@ -329,9 +317,8 @@ export class Order {
   /** Why no order can leave the page yet, with where to go; `undefined` where nothing speaks against it. */
   #obstacle(all) {
     if (this.#form.isShown) return { words: say("order.blocked.table"), place: found("isbn-column") };
-    const marked = this.#editor.marked.length;
-    if (marked > 0) {
-      return { words: sayCount("order.blocked.marked", marked), place: document.querySelector("#marked-lines button") };
+    if (this.#editor.marked.length > 0) {
+      return { words: say("order.blocked.marked"), place: document.querySelector("#marked-lines button") };
     }
     if (all.length > MOST_ROWS) return { words: found("list-status").textContent };
     if (all.some(({ answer }) => answer === undefined)) return { words: say("order.blocked.waiting") };

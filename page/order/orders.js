@@ -14,9 +14,9 @@ const number = (count) => formatter(Intl.NumberFormat).format(count);
 
 /** A sum, and, where desk.json says from which one on the carriage is free, that. */
 function sumInWords(series, amount, { settings }) {
-  const { freeFrom } = settings.series.find(({ name }) => name === series) ?? {};
+  const { freeFrom = "" } = settings.series.find(({ name }) => name === series) ?? {};
   const sum = money(amount, settings.currency);
-  if (freeFrom === undefined) return sum;
+  if (freeFrom === "") return sum;
   const least = money(freeFrom, settings.currency);
   return say(isFree(amount, freeFrom) ? "order.carriageFree" : "order.carriageFrom", { sum, least });
 }

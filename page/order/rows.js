@@ -17,7 +17,6 @@ const CLASSES = { note: "said" };
 const columns = () => COLUMNS.map((name) => ({
   name: say(`order.columns.${name}`),
   className: AMOUNTS.includes(name) ? `${name} amount` : CLASSES[name] ?? name,
-  isHeader: name === "title",
 }));
 
 const number = (count) => formatter(Intl.NumberFormat).format(count);
@@ -49,15 +48,13 @@ function offerInWords({ series, amount, availability }, { settings }) {
 /** The field by which a hand chooses a wholesaler, which then stands behind `@` in the text. */
 function wholesalerCell(row, answer, state, context) {
   const { settings, choose } = context;
-  if (answer === undefined) return [say("order.waiting")];
+  if (answer === undefined) return ["…"];
   if (answer.refusal !== undefined) return [];
   const offers = priced(answer);
   if (offers.length === 0) return [];
   const names = [...new Set(offers.map(({ series }) => series))];
   const all = row.series === undefined || names.includes(row.series) ? names : [row.series, ...names];
-  const ofRules = answer.choice === null ? say("order.noRule") : say("order.byRules", {
-    wholesaler: wholesalerOf(settings, answer.choice.series),
-  });
+  const ofRules = answer.choice === null ? say("order.noRule") : wholesalerOf(settings, answer.choice.series);
   const options = all.map((name) => {
     const own = offers.filter(({ series }) => series === name);
     const words = own.length === 1 ? offerInWords(own[0], context) : wholesalerOf(settings, name);

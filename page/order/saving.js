@@ -7,7 +7,7 @@ import { undirected } from "../text/said.js";
 import { wholesalerOf } from "../desk/settings.js";
 import { formatter, say, wordsOfCode } from "../text/wording.js";
 import { ABOVE, formOf, textIn, withSign } from "./csv-form.js";
-import { isFree, sumsOf } from "./sums.js";
+import { sumsOf } from "./sums.js";
 
 const ON_PAPER = "order-on-paper";
 const AMOUNTS = ["copies", "price", "sum"];
@@ -57,20 +57,6 @@ export function download(rows, series, context) {
 /** An order as lines of ISBN and copies, as a list has them. */
 export const linesToPaste = (rows) => rows.map(({ row }) => `${row.isbn}\t${row.copies}\n`).join("");
 
-/** Copies a text; where the browser does not let the page, shows it in a place, and gives false. */
-export async function copyText(text, place) {
-  place.replaceChildren();
-  try {
-    await navigator.clipboard.writeText(text);
-    return true;
-  } catch {
-    const area = element("textarea", { id: "order-by-hand", rows: 8, readonly: "" }, text);
-    place.append(element("label", { for: area.id }, say("missing.copyByHand")), area);
-    area.select();
-    return false;
-  }
-}
-
 /** What stands once above the order of a wholesaler: to whom and from whom it goes, and what its prices are. */
 function paperHead(series, { settings }) {
   const { shop, address, currency, type } = settings;
@@ -91,13 +77,6 @@ function totalRow(columns, { copies, amount }, { settings }) {
   return { cells: texts.map((text) => [text]), className: "total" };
 }
 
-/** That the carriage of an order is free, where desk.json says so. */
-function carriage(series, amount, { settings }) {
-  const { freeFrom } = settings.series.find(({ name }) => name === series) ?? {};
-  if (freeFrom === undefined || !isFree(amount, freeFrom)) return [];
-  return [element("p", {}, say("order.onPaper.carriage", { least: money(freeFrom, settings.currency) }))];
-}
-
 /** Prints the order of a wholesaler: what its form has, and nothing of another one. */
 export function printOrder(rows, series, context) {
   const form = formOf(context.settings, series);
@@ -114,7 +93,6 @@ export function printOrder(rows, series, context) {
     element("h1", { id: "paper-order" }, say("order.onPaper.heading", { order: context.order }).trim()),
     ...paperHead(series, context),
     table("paper-order", heads, [...lines, totalRow(columns, all, context)]),
-    ...carriage(series, all.amount, context),
   );
   document.body.classList.add(ON_PAPER);
   window.addEventListener("afterprint", () => document.body.classList.remove(ON_PAPER), { once: true });

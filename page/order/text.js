@@ -1,5 +1,6 @@
 // The text of an order list: its lines, the rows that they are, and what the page itself changes in it.
 
+import { withoutAddOn } from "../text/isbn.js";
 import { isLikeIsbn, MOST_COPIES, readLine } from "./line.js";
 
 /** The lines of a text as `readLine` has them, each with its `text` and its `number`, from 1. */
@@ -42,9 +43,6 @@ export function withLines(text, lines) {
 function changed(text, change) {
   return linesOf(text).map((line) => change(line)).join("\n");
 }
-
-/** The digits of a bar code without the add-on code that a scanner may write behind them. */
-const withoutAddOn = (code) => ([15, 18].includes(code.length) ? code.slice(0, 13) : code);
 
 /** A text with copies more of what was scanned or added: in the last line of that ISBN, or in a line of its own. */
 export function withMore(text, code, copies = 1) {

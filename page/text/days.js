@@ -25,33 +25,12 @@ export function isDay(text) {
   return !Number.isNaN(found.getTime()) && found.toISOString().startsWith(text);
 }
 
-/** The number of a day; 1970-01-01 is 0. */
-function numberOf(day) {
-  return instant(day).getTime() / MILLISECONDS;
-}
+const numberOf = (day) => instant(day).getTime() / MILLISECONDS;
 
-/** The day of a number; before the first and after the last day, that one. */
-function dayOf(number) {
-  const within = Math.min(Math.max(number, numberOf(FIRST)), numberOf(LAST));
+/** The day so many days later; before the first and after the last day, that one. */
+export function plusDays(day, count) {
+  const within = Math.min(Math.max(numberOf(day) + count, numberOf(FIRST)), numberOf(LAST));
   return new Date(within * MILLISECONDS).toISOString().slice(0, 10);
-}
-
-/** The day so many days later. */
-function plusDays(day, count) {
-  return dayOf(numberOf(day) + count);
-}
-
-/** The same day so many months later, or the last day of that month where it is shorter. */
-export function plusMonths(day, count) {
-  const months = Number(day.slice(0, 4)) * 12 + Number(day.slice(5, 7)) - 1 + count;
-  if (months < 12) return FIRST;
-  if (months >= 120_000) return LAST;
-  const year = String(Math.floor(months / 12)).padStart(4, "0");
-  const month = String((months % 12) + 1).padStart(2, "0");
-  for (let date = Number(day.slice(8)); ; date -= 1) {
-    const found = `${year}-${month}-${String(date).padStart(2, "0")}`;
-    if (isDay(found)) return found;
-  }
 }
 
 /** Today, by the clock and the time zone of the browser. */
@@ -84,11 +63,6 @@ export function inFullWords(day) {
 /** A day in short words, such as 10 Apr 2025. */
 export function dayInShort(day) {
   return formatted(day, SHORT);
-}
-
-/** The last day of a range that begins with a day and is so many months long. */
-export function endOfMonths(from, months) {
-  return plusDays(plusMonths(from, months), -1);
 }
 
 /** How many days a range has. */

@@ -28,14 +28,9 @@ function cell({ name, className }, content, isHeader) {
 
 const columnOf = (column) => (typeof column === "string" ? { name: column } : column);
 
-/**
- * A row of a table with those columns: of `cells`, a list of children for each, and `className`. Its headers are the
- * cells of the columns that are `isHeader`, else the first one.
- */
+/** A row of a table with those columns: of `cells`, a list of children for each, and `className`. */
 export function tableRow(columns, { cells, className }) {
-  const isFirst = !columns.some(({ isHeader }) => isHeader);
-  const isHeader = (at) => (isFirst ? at === 0 : columns[at].isHeader);
-  const made = cells.map((content, at) => cell(columnOf(columns[at]), content, isHeader(at)));
+  const made = cells.map((content, at) => cell(columnOf(columns[at]), content, at === 0));
   return element("tr", { role: "row", class: className }, ...made);
 }
 

@@ -6,14 +6,6 @@ const GAP = 60;
 // How long a scanner may take for what stands behind the digits: an add-on, Enter or Tab.
 const BEHIND = 120;
 
-const FIELDS = "input, select, textarea";
-
-/** Whether a field takes digits: any but a choice of which no option begins with one. */
-function takesDigits(field) {
-  if (!field.matches("select")) return field.matches(FIELDS);
-  return [...field.options].some(({ text }) => /^\d/.test(text));
-}
-
 /** The digits that came one after the other as quickly as a scanner types them. */
 export class Burst {
   #digits = "";
@@ -45,9 +37,11 @@ export class Burst {
   }
 }
 
-/** What a field has, so that what a scanner types there can be taken out of it again. */
+const isField = (element) => element.matches("input, select, textarea");
+
+/** What takes what a scanner types into a field out of it again. */
 function remembered(field) {
-  if (!field.matches(FIELDS)) return () => {};
+  if (!isField(field)) return () => {};
   const { value, selectionStart } = field;
   return () => {
     if (field.value === value) return;
@@ -73,20 +67,19 @@ export function placeOf(view, { field, article, order, open }) {
   };
 }
 
-/** Listens to the keys of the page for bar codes, which are asked for wherever the focus is. */
+/**
+ * Listens to the keys of the page for bar codes. `place` has `field`, where ISBNs are typed, `begin`, which is called at a
+ * digit that no field waits for, and `scanned`, which gets the digits of a bar code.
+ */
 export class Scanner {
   #place;
   #burst = new Burst();
   #restore = () => {};
   #timer;
-  // When the last digit came, and when that of the bar code came that was asked for last.
+  // When the last digit came, and when that of the bar code came that was read last.
   #digitAt = -Infinity;
-  #askedAt = -Infinity;
+  #scannedAt = -Infinity;
 
-  /**
-   * `place` has `field`, where ISBNs are typed, `begin`, which is called at a digit that no field waits for,
-   * the first one of an ISBN, and `scanned`, which gets the digits of a bar code.
-   */
   constructor(place) {
     this.#place = place;
     document.addEventListener("keydown", (event) => this.#hear(event), true);
@@ -96,10 +89,10 @@ export class Scanner {
     if (event.ctrlKey || event.altKey || event.metaKey || event.isComposing) return;
     const isEnd = event.key === "Enter" || event.key === "Tab";
     if (/^\d$/.test(event.key) && !event.repeat) this.#digit(event);
-    else if (isEnd && this.#isWhole(event)) {
+    else if (isEnd && this.#burst.isBehind(event.timeStamp) && this.#burst.code !== undefined) {
       event.preventDefault();
       this.#finish();
-    } else if (isEnd && event.timeStamp - this.#askedAt <= BEHIND) {
+    } else if (isEnd && event.timeStamp - this.#scannedAt <= BEHIND) {
       // The page had so much to do that it came behind the end of the wait for it.
       event.preventDefault();
     } else if (isEnd || event.key.length === 1) {
@@ -108,16 +101,10 @@ export class Scanner {
     }
   }
 
-  #isWhole({ timeStamp }) {
-    return this.#burst.code !== undefined && this.#burst.isBehind(timeStamp);
-  }
-
   #digit({ key, timeStamp }) {
     const field = document.activeElement ?? document.body;
-    if (this.#burst.begins(timeStamp)) {
-      this.#restore = field === this.#place.field ? () => {} : remembered(field);
-    }
-    if (!takesDigits(field)) this.#place.begin();
+    if (this.#burst.begins(timeStamp)) this.#restore = field === this.#place.field ? () => {} : remembered(field);
+    if (!isField(field)) this.#place.begin();
     this.#burst.add(key, timeStamp);
     this.#digitAt = timeStamp;
     clearTimeout(this.#timer);
@@ -128,7 +115,7 @@ export class Scanner {
     clearTimeout(this.#timer);
     const { code } = this.#burst;
     this.#burst.end();
-    this.#askedAt = this.#digitAt;
+    this.#scannedAt = this.#digitAt;
     this.#restore();
     this.#place.scanned(code);
   }

@@ -15,11 +15,6 @@ export function speak(language) {
   spoken.texts = Object.hasOwn(SHIPPED, name) ? SHIPPED[name] : en;
 }
 
-/** The language of the page, as Intl has it. */
-export function language() {
-  return spoken.language;
-}
-
 /** A formatter of Intl in the page's language, made once for each kind and options. */
 export function formatter(Kind, options = {}) {
   const key = JSON.stringify([spoken.language, Kind.name, options]);

@@ -4,10 +4,10 @@ import { test } from "node:test";
 import { addressOf, readAddress } from "../page/text/address.js";
 
 test("an address is read as it is written", () => {
-  const given = { isbn: "9780306406157", day: "2025-04-10", type: "02", from: "2025-01-01", until: "2025-02-01" };
+  const given = { isbn: "9780306406157", day: "2025-04-10", type: "02" };
   const address = addressOf("article", given);
   assert.equal(
-    address, "#article?isbn=9780306406157&day=2025-04-10&type=02&from=2025-01-01&until=2025-02-01",
+    address, "#article?isbn=9780306406157&day=2025-04-10&type=02",
   );
   assert.deepEqual(readAddress(address), { view: "article", given });
 });

@@ -4,7 +4,7 @@ import assert from "node:assert/strict";
 import { afterEach, test } from "node:test";
 
 import {
-  bareMoney, compareAmounts, difference, isNothing, money, mostBelow, signedMoney, sumOf, times,
+  bareMoney, compareAmounts, difference, isNothing, money, signedMoney, sumOf, times,
 } from "../page/text/amounts.js";
 import { speak } from "../page/text/wording.js";
 
@@ -56,11 +56,6 @@ test("sums are exact", () => {
   assert.equal(times("999999999.999", 999999), "999998999999000.001");
   assert.equal(sumOf(["0.100", "0.200", "9007199254740993.001"]), "9007199254740993.301");
   assert.equal(sumOf([]), "0.000");
-});
-
-test("the most copies for less than a sum are one fewer where they come to just the sum", () => {
-  assert.deepEqual(["9.999", "10.000", "10.001"].map((sum) => mostBelow("2.500", sum)), [3, 3, 4]);
-  assert.equal(mostBelow("0.000", "1.000"), Infinity);
 });
 
 test("differences have a sign", () => {

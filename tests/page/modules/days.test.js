@@ -3,9 +3,7 @@
 import assert from "node:assert/strict";
 import { test } from "node:test";
 
-import {
-  dayInShort, endOfMonths, fromDesk, inWords, isDay, lengthOf, numberOf, plusDays, plusMonths, ticksOf, toDesk, today,
-} from "../page/text/days.js";
+import { dayInShort, fromDesk, inWords, isDay, lengthOf, plusDays, toDesk, today } from "../page/text/days.js";
 
 test("days that there are, and that there are not", () => {
   for (const day of ["2024-02-29", "2000-02-29", "0001-01-01", "9999-12-31"]) assert.equal(isDay(day), true, day);
@@ -14,9 +12,7 @@ test("days that there are, and that there are not", () => {
   }
 });
 
-test("numbers of days", () => {
-  assert.equal(numberOf("1970-01-01"), 0);
-  assert.equal(numberOf("2000-01-01"), 10957);
+test("how many days a range has", () => {
   assert.equal(lengthOf({ from: "2024-01-01", until: "2024-12-31" }), 366);
 });
 
@@ -26,15 +22,6 @@ test("later days, over a month, a leap day and the ends of the calendar", () => 
   assert.equal(plusDays("2025-01-01", -1), "2024-12-31");
   assert.equal(plusDays("9999-12-31", 1), "9999-12-31");
   assert.equal(plusDays("0001-01-01", -1), "0001-01-01");
-});
-
-test("later months, also where they are shorter", () => {
-  assert.equal(plusMonths("2025-01-31", 1), "2025-02-28");
-  assert.equal(plusMonths("2024-01-31", 1), "2024-02-29");
-  assert.equal(plusMonths("2025-01-15", -1), "2024-12-15");
-  assert.equal(plusMonths("2025-11-30", 3), "2026-02-28");
-  assert.equal(endOfMonths("2025-03-10", 12), "2026-03-09");
-  assert.equal(endOfMonths("2024-02-29", 12), "2025-02-27");
 });
 
 test("the desk's form", () => {
@@ -63,14 +50,3 @@ test("today is a day of the clock and the time zone here", (context) => {
   assert.equal(today(), "2026-11-27");
 });
 
-test("an axis names days inside its range, in order, and not too many", () => {
-  for (const [from, until] of [
-    ["2025-04-10", "2025-04-10"], ["2025-03-25", "2025-04-25"], ["2025-03-10", "2026-03-09"],
-    ["2020-01-01", "2029-12-31"], ["9999-12-01", "9999-12-31"],
-  ]) {
-    const days = ticksOf(from, until, 600).map(({ day }) => day);
-    assert.ok(days.length >= 1 && days.length <= 24, `${from}: ${days.length}`);
-    assert.deepEqual(days, [...new Set(days)].sort());
-    assert.ok(days.every((day) => from <= day && day <= until), from);
-  }
-});

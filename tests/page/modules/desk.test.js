@@ -42,7 +42,7 @@ const askFor = (path, signal = new AbortController().signal) => ask(path, {}, si
 const inOrder = (replies) => () => (replies.length > 1 ? replies.shift() : replies[0]);
 
 test("a desk that is away is asked for something else until it is there, and once more then", async () => {
-  for (const [away, first] of [[LOST, 1], [[504, {}], 1], [undefined, 2]]) {
+  for (const [away, first] of [[LOST, 1], [[504, {}], 1], [undefined, 1]]) {
     [asked, told] = [[], []];
     const before = Array(first).fill(away);
     const [questions, others] = [inOrder([...before, ANSWER]), inOrder([away, away, UNKNOWN])];
@@ -52,12 +52,6 @@ test("a desk that is away is asked for something else until it is there, and onc
     assert.deepEqual(asked, wanted);
     assert.deepEqual(told.map((words) => words === "up"), [false, false, false, true]);
   }
-});
-
-test("a question whose connection is cut is asked again at once, and nobody is told", async () => {
-  replyTo = inOrder([undefined, ANSWER]);
-  assert.equal((await askFor("articles/1/price")).kind, "answer");
-  assert.deepEqual([asked, told], [["articles/1/price", "articles/1/price"], ["up"]]);
 });
 
 test("a question that is twice without a reply is not asked again by itself", async () => {

@@ -3,8 +3,7 @@
 import assert from "node:assert/strict";
 import { test } from "node:test";
 
-import { isbnsIn } from "../page/text/isbn-in-text.js";
-import { checkDigit, checkSign, isChecked, isTen, toThirteen, withoutHyphens } from "../page/text/isbn.js";
+import { checkDigit, checkSign, isbnOf, isbnsIn, isTen, plain, toThirteen } from "../page/text/isbn.js";
 
 const PAIRS = [
   ["0306406152", "9780306406157"],
@@ -44,10 +43,8 @@ test("ten digits may end in an X and have none before", () => {
   assert.equal(isTen("9780306406157"), false);
 });
 
-test("hyphens and spaces of any kind are taken out, and nothing else", () => {
-  assert.equal(withoutHyphens("978-0-306\u201040615\u20137"), "9780306406157");
-  assert.equal(withoutHyphens("\u00a0978\u2212 0306\u00ad406157\t"), "9780306406157");
-  assert.equal(withoutHyphens("978.0/306"), "978.0/306");
+test("hyphens and spaces of any kind are plain ones, each at its place", () => {
+  assert.equal(plain("978\u2010\u00a00306\u00ad\u200b4"), "978- 0306- 4");
 });
 
 const BOOK = "9780306406157";
@@ -57,7 +54,7 @@ test("an ISBN is found in what stands around it", () => {
     "9780306406157", "978-0-306-40615-7", "0-306-40615-2", "ISBN: 978-0-306-40615-7", "ISBN-13: 9780306406157",
     '"9780306406157"', "9780306406157,", "'0306406152'", "0-306-40615-2 (hardback)",
     "https://shop.example.org/books/9780306406157?ref=2", "https://example.com/dp/0306406152/ref=x",
-    "９７８０３０６４０６１５７", "٩٧٨٠٣٠٦٤٠٦١٥٧", "978030640615751299", "9780306406157 51299", "978030640615705",
+    "978030640615751299", "9780306406157 51299", "978030640615705",
     "09780306406157", "urn:isbn:9780306406157",
   ]) {
     assert.deepEqual(isbnsIn(text), [BOOK], text);
@@ -81,7 +78,5 @@ test("no ISBN is found where a digit is wrong", () => {
   for (const text of ["9781402037579", "978-1-4020-3757-9", "0306406153", "9780306406158", "97803064061570", "123", ""]) {
     assert.deepEqual(isbnsIn(text), [], text);
   }
-  assert.equal(isChecked("9781402037579"), false);
-  assert.equal(isChecked("9781402037597"), true);
-  assert.equal(isChecked("080442957X"), true);
+  assert.deepEqual(["9781402037579", "9781402037597", "080442957X"].map(isbnOf), [undefined, "9781402037597", "9780804429573"]);
 });

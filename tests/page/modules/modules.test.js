@@ -11,7 +11,7 @@ const FIRST = "main.js";
 const FILES = readdirSync("../page", { recursive: true }).filter((name) => name.endsWith(".js") && name !== FIRST);
 
 test("each module is loaded", async () => {
-  assert.ok(FILES.length > 50);
+  assert.ok(FILES.length > 30);
   for (const file of FILES) {
     const { length } = Object.keys(await import(`../page/${file}`));
     assert.ok(length > 0, `${file} gives nothing to others`);

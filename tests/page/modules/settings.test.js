@@ -4,37 +4,36 @@ import assert from "node:assert/strict";
 import { readFileSync } from "node:fs";
 import { test } from "node:test";
 
-import { problemInWords, readSettings, seriesInWords, wholesalerOf } from "../page/desk/settings.js";
+import { readSettings, wholesalerOf } from "../page/desk/settings.js";
+import { say } from "../page/text/wording.js";
 
-const RIGHT = { series: [{ name: "north", words: "North Books" }], country: "DE", currency: "EUR", price_type: "05" };
-const SERIES = { name: "a", words: "A" };
-const problemsOf = (given) => readSettings(JSON.stringify(given)).problems;
-const withSeries = (more) => ({ ...RIGHT, series: [{ ...SERIES, ...more }] });
+const SERIES = { name: "north", words: "North Books" };
+const RIGHT = { series: [SERIES], country: "DE", currency: "EUR", price_type: "05" };
+const read = (given) => readSettings(JSON.stringify(given));
+const told = (text) => readSettings(text).problems.map(({ path, values }) => say(path, values));
 
 test("the sample has nothing wrong in it", () => {
   assert.deepEqual(readSettings(readFileSync("../page/desk.json", "utf8")).problems, []);
 });
 
 test("what is not named is as the page has it", () => {
-  assert.deepEqual(readSettings(JSON.stringify(RIGHT)), {
-    problems: [],
-    settings: {
-      series: [{ name: "north", words: "North Books" }], shop: "", address: "", language: "en-GB", country: "DE",
-      currency: "EUR", type: "05", quantities: [], catalogue: "", manyCopies: 50, retailType: "",
-    },
-  });
+  const series = [{ ...SERIES, parts: 1, offset: 0, mail: "", freeFrom: "", account: "", csv: {} }];
+  const settings = {
+    series, shop: "", address: "", language: "en-GB", country: "DE", currency: "EUR", type: "05", quantities: [],
+    catalogue: "", manyCopies: 50, retailType: "",
+  };
+  assert.deepEqual(read(RIGHT), { settings, problems: [] });
 });
 
 test("all keys of the shop and of a series", () => {
   const csv = { columns: ["isbn", "copies"] };
-  const series = { ...SERIES, parts: 5, number_offset: 0, mail: "edi@north.example", free_from: "50.00", account: "7", csv };
-  const given = {
+  const series = { ...SERIES, parts: 5, number_offset: 2, mail: "edi@north.example", free_from: "50.00", account: "7", csv };
+  const { settings, problems } = read({
     ...RIGHT, series: [series], shop: "Shop", address: "Street 1", language: "de", quantities: [1, 10],
     catalogue: "https://catalogue.example.org/{isbn}", many_copies: 20, recommended_type: "04", price_file: { columns: [] },
-  };
-  const { settings, problems } = readSettings(JSON.stringify(given));
+  });
   assert.deepEqual(problems, []);
-  assert.deepEqual(settings.series, [{ ...SERIES, parts: 5, offset: 0, mail: "edi@north.example", freeFrom: "50.00", account: "7", csv }]);
+  assert.deepEqual(settings.series, [{ ...SERIES, parts: 5, offset: 2, mail: "edi@north.example", freeFrom: "50.00", account: "7", csv }]);
   const found = [settings.shop, settings.address, settings.language, settings.quantities, settings.manyCopies, settings.retailType];
   assert.deepEqual(found, ["Shop", "Street 1", "de", [1, 10], 20, "04"]);
 });
@@ -48,40 +47,36 @@ const WRONG = {
 };
 const WRONG_OF_SERIES = {
   parts: [0, 10000, "5", 1.5], number_offset: [-1, 1.5, "1"], mail: ["north.example", "a@b?bcc=c@d", "a@b, c@d", 1],
-  free_from: [50, "1,5"], account: [7], csv: [{}, { columns: ["title"] }],
+  free_from: [50, "1,5"], account: [7], csv: [{}, { columns: ["title"] }], words: [5],
 };
 
 test("a value that a key may not have is told, and not used", () => {
-  for (const [key, values] of Object.entries(WRONG)) {
+  const cases = [
+    ...Object.entries(WRONG).map(([key, values]) => [key, values, (value) => ({ ...RIGHT, [key]: value })]),
+    ...Object.entries(WRONG_OF_SERIES).map(([key, values]) => (
+      [key, values, (value) => ({ ...RIGHT, series: [{ ...SERIES, [key]: value }] })]
+    )),
+  ];
+  for (const [key, values, given] of cases) {
     for (const value of values) {
-      const [problem, ...others] = problemsOf({ ...RIGHT, [key]: value });
-      assert.deepEqual([problem?.values.key, others], [key, []], `${key} ${value}`);
+      const [problem, ...others] = read(given(value)).problems;
+      assert.deepEqual([problem?.path, problem?.values.key, others], ["settings.wrong", key, []], `${key} ${value}`);
     }
   }
-  for (const [key, values] of Object.entries(WRONG_OF_SERIES)) {
-    for (const value of values) {
-      const [problem, ...others] = problemsOf(withSeries({ [key]: value }));
-      assert.deepEqual([problem?.values.key, others], [key, []], `${key} ${value}`);
-    }
-  }
-  assert.equal(readSettings(JSON.stringify({ ...RIGHT, currency: "euro" })).settings.currency, "");
+  assert.equal(read({ ...RIGHT, currency: "euro" }).settings.currency, "");
 });
 
 test("what is wrong is told in words", () => {
-  const told = (text) => readSettings(text).problems.map(problemInWords);
   const rest = '"country": "GB", "currency": "GBP", "price_type": "02"';
   for (const [text, words] of [
-    ["[]", "desk.json is not an object: it should begin with { and name “series”, “country”, “currency” and “price_type”."],
+    ["[]", "desk.json is no JSON object."],
     [`{"series": [], ${rest}, "colour": 1}`, "“colour” is no name that the page knows."],
     [`{"series": [], ${rest}, "currencies": ["EUR"]}`, "“currencies” is no name that the page knows."],
+    [`{"series": [], ${rest}, "quantities": 3}`, "“quantities” is 3, which it may not be."],
     [`{${rest}}`, "“series” is not there."],
-    [`{"series": "north", ${rest}}`, "“series” is not a list of series."],
-    [`{"series": ["north"], ${rest}}`, 'Series 1 is "north"; it should have a “name” and “words”, both texts.'],
-    [`{"series": [{"name": "No", "words": ""}], ${rest}}`, 'The name of series 1 is "No"; it should have 1 to 32 of the signs a to z, 0 to 9 and -.'],
-    [`{"series": [{"name": "a", "words": ""}, {"name": "a", "words": ""}], ${rest}}`, 'Series 2 has the name "a", which another one has.'],
-    [`{"series": [{"name": "a", "words": "", "sender": "1"}], ${rest}}`, "“sender” of series 1 is no name that the page knows."],
-    [`{"series": [{"name": "a", "words": "", "parts": 0}], ${rest}}`, "“parts” of series 1 is 0; it should be a whole number from 1 to 9999, as behind --parts."],
-    [`{"series": [], ${rest}, "catalogue": ""}`, '“catalogue” is ""; it should be an address that begins with https:// and has {isbn} once, behind the name of the site.'],
+    [`{"series": [{"name": "a", "words": ""}, {"name": "a", "words": ""}], ${rest}}`, 'series 2: another one has the name "a".'],
+    [`{"series": [{"name": "a", "words": "", "sender": "1"}], ${rest}}`, "series 1: “sender” is no name that the page knows."],
+    [`{"series": [{"words": "A"}], ${rest}}`, "series 1: “name” is not there."],
   ]) {
     assert.deepEqual(told(text), [words]);
   }
@@ -89,7 +84,6 @@ test("what is wrong is told in words", () => {
 });
 
 test("the words of a series", () => {
-  const { settings } = readSettings(JSON.stringify({ ...RIGHT, series: [SERIES, { name: "b", words: "A" }, { name: "c", words: "C" }] }));
-  assert.deepEqual([wholesalerOf(settings, "a"), wholesalerOf(settings, "other")], ["A", "other"]);
-  assert.deepEqual([seriesInWords(settings, "c"), seriesInWords(settings, "b")], ["C", "A (b)"]);
+  const { settings } = read(RIGHT);
+  assert.deepEqual([wholesalerOf(settings, "north"), wholesalerOf(settings, "other")], ["North Books", "other"]);
 });

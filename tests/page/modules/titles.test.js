@@ -44,10 +44,10 @@ test("a title is asked for by the first digits of its ISBN, in the file of other
   assert.deepEqual(titles.get(OTHER), []);
 });
 
-test("it is shown with its subtitle, its contributors with their roles, and its publisher", async () => {
+test("it is shown with its subtitle, its contributors without their roles, and its publisher", async () => {
   has({ [ISBN]: [NORTH] });
   assert.deepEqual(await textsOf(), [
-    "The Lamplighter’s Almanac: A Year", "Éilís Byrne (author); Jo Roe (translator); X (Z99)", "Quay",
+    "The Lamplighter’s Almanac: A Year", "Éilís Byrne; Jo Roe; X", "Quay",
   ]);
   has({ [ISBN]: [["north", 5, 1795849200, "Almanac", "", "", ""]] });
   assert.deepEqual(await textsOf(), ["Almanac"]);

@@ -6,12 +6,11 @@ import { today } from "./text/days.js";
 import { element, found } from "./text/elements.js";
 import { Missing } from "./missing/missing.js";
 import { Order } from "./order/order.js";
-import { allOf } from "./missing/ranges.js";
 import { Reports } from "./missing/reports.js";
 import { loadRules } from "./desk/rules.js";
 import { placeOf, Scanner } from "./text/scan.js";
 import { loadSettings } from "./desk/settings.js";
-import { formatter, labelAll, say, sayCount, speak } from "./text/wording.js";
+import { labelAll, say, sayCount, speak } from "./text/wording.js";
 
 /** What a view tells of the desk, in the note above it. */
 const watch = {
@@ -72,16 +71,11 @@ function show(views) {
   document.title = say("page.title", { view: views[view].title(), shop: found("shop").textContent });
 }
 
-/** Counts at the tab, in every view, the messages that are missing, and the wholesalers of whom somebody should look. */
-function countMissing({ series }, reports) {
-  const count = allOf(series.flatMap(({ name }) => reports.reportOf(name)?.missing ?? []));
-  const stops = reports.doubtful().length;
-  const number = formatter(Intl.NumberFormat).format(count);
-  const missing = element("span", { class: "count", "aria-hidden": "true" }, number);
-  const heard = element("span", { class: "heard" }, sayCount("missing.atTab", count));
-  const parts = count > 0 ? [" ", missing, heard] : [];
-  if (stops > 0) parts.push(" ", element("span", { class: "tag unusual" }, sayCount("missing.stopsAtTab", stops)));
-  found("missing-count").replaceChildren(...parts);
+/** Counts at the tab, in every view, the wholesalers of whom somebody should look. */
+function countStops(reports) {
+  const count = reports.doubtful().length;
+  const words = count > 0 ? [" ", element("span", { class: "tag unusual" }, sayCount("missing.stopsAtTab", count))] : [];
+  found("missing-count").replaceChildren(...words);
 }
 
 async function start() {
@@ -96,7 +90,7 @@ async function start() {
   const order = new Order(settings, reports, watch);
   const article = new Article(settings, reports, watch, order);
   const views = { article, order, missing: new Missing(settings, reports, watch) };
-  reports.subscribe(() => countMissing(settings, reports));
+  reports.subscribe(() => countStops(reports));
   const view = () => readAddress(location.hash).view;
   const open = (isbn) => { location.hash = addressOf("article", { isbn }); };
   new Scanner(placeOf(view, { field: found("isbn"), article, order, open }));

@@ -34,7 +34,9 @@ function untilNotes({ choice, ahead, question }, settings) {
 /** Special net prices that wholesalers have beside those of the type that is asked for. */
 function specialNotes({ special = [], question }, settings) {
   return special.map(({ type, series, amount }) => say("article.special", {
-    wholesaler: wholesalerOf(settings, series), amount: money(amount, question.currency), type: codeInWords("priceTypes", type),
+    wholesaler: wholesalerOf(settings, series),
+    amount: money(amount, question.currency),
+    type: codeInWords("priceTypes", type),
   }));
 }
 
@@ -142,7 +144,8 @@ export class Answer {
     const { settings, reports } = this.#place;
     const answer = this.#shown;
     const isRetail = answer.choice !== null && kindOf(answer.question.type) === "retail";
-    const series = answer.offers.length === 0 ? reports.doubtful() : [...new Set(answer.offers.map((offer) => offer.series))];
+    const offering = [...new Set(answer.offers.map((offer) => offer.series))];
+    const series = offering.length === 0 ? reports.doubtful() : offering;
     const notes = [
       ...(answer.changed === undefined ? [] : [answer.changed]),
       ...(isRetail ? [say("article.notPaid")] : []),
@@ -175,7 +178,8 @@ export class Answer {
     if (rules === undefined) return;
     if (kindOfAnswer(this.#shown) === "notChosen") found("rules").open = true;
     const chosen = this.#shown.choice?.rule;
-    const items = rules.map((rule, at) => element("li", { class: at + 1 === chosen ? "mark" : undefined }, ruleInWords(rule, settings)));
+    const classOf = (at) => (at + 1 === chosen ? "mark" : undefined);
+    const items = rules.map((rule, at) => element("li", { class: classOf(at) }, ruleInWords(rule, settings)));
     refill(found("rules-list"), ...items);
   }
 }

@@ -225,10 +225,11 @@ export class Article {
   /** The special net prices of a book, of the types that its wholesalers' messages had lately. */
   async #specialOf(otherwise) {
     const { question, offers } = this.#answered;
+    await this.#reports.ready;
     const named = offers.flatMap(({ series }) => typesIn(this.#reports.stateOf(series), question.currency));
     const types = SPECIAL.filter((type) => type !== question.type && named.includes(type));
-    const answers = await Promise.all(types.map(async (type) => (await otherwise(type)).map((offer) => ({ ...offer, type }))));
-    return answers.flat().filter(({ amount }) => amount !== null);
+    const offersOf = async (type) => (await otherwise(type)).map((offer) => ({ ...offer, type }));
+    return (await Promise.all(types.map(offersOf))).flat().filter(({ amount }) => amount !== null);
   }
 
   /** The calendar of a year around the day, and until when each price holds. */

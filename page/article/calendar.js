@@ -30,7 +30,9 @@ function bar({ first, last, amount }, { currency, day }, isChosen) {
   const [from, until] = [fromDesk(first), fromDesk(last)];
   const days = { from: inWords(from), until: inWords(until) };
   const isNow = isChosen && from <= day && day <= until;
-  const title = amount === null ? say("calendar.gap", days) : say("calendar.span", { amount: money(amount, currency), ...days });
+  const title = say(amount === null ? "calendar.gap" : "calendar.span", {
+    amount: amount === null ? "" : money(amount, currency), ...days,
+  });
   const short = element("span", { "aria-hidden": "true" }, amount === null ? "" : bareMoney(amount, currency));
   const className = amount === null ? "gap" : isNow ? "span chosen" : "span";
   const made = element("li", { class: className, title }, short, element("span", { class: "heard" }, title));

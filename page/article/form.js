@@ -1,5 +1,4 @@
-// The fields of a question about an article: what they begin with, what is not as the shop asks mostly, and what is wrong
-// with them.
+// The fields of a question about an article: what they begin with, what is not as usual, and what is wrong with them.
 
 import { ASKED } from "../text/address.js";
 import { inFullWords, isDay, today } from "../text/days.js";
@@ -88,9 +87,10 @@ export class Form {
     const texts = this.asked();
     const read = { ...texts, ...readAll(texts).values };
     const typeWords = wordsOfCode("priceTypes", texts.type);
+    const day = isDay(texts.day) ? inFullWords(texts.day) : "";
     const shown = {
       ...read,
-      day: say(texts.day === today() ? "article.today" : "article.notToday", { day: isDay(texts.day) ? inFullWords(texts.day) : "" }),
+      day: say(texts.day === today() ? "article.today" : "article.notToday", { day }),
       type: typeWords === undefined ? texts.type : say("article.wordsOfCode", { words: typeWords, code: texts.type }),
     };
     const usual = { ...this.#settings, day: today(), quantity: "1" };

@@ -6,10 +6,9 @@ import { element, table } from "../text/elements.js";
 import { keyOf, referenceOf } from "../desk/offers.js";
 import { kindOf } from "../desk/price-types.js";
 import { wholesalerOf } from "../desk/settings.js";
-import { formatter, say, sayCount, wordsOfCode } from "../text/wording.js";
+import { inDigits, say, sayCount, wordsOfCode } from "../text/wording.js";
 import { copiesInWords, kindOfAnswer } from "./words.js";
 
-const number = (count) => formatter(Intl.NumberFormat).format(count);
 const tag = (className, words, title) => element("span", { class: `tag ${className}`, title }, words);
 
 const isChosen = (offer, choice) => choice !== null && keyOf(choice) === keyOf(offer);
@@ -30,7 +29,8 @@ function nameCell(offer, { choice, question }, { settings, reports }) {
 /** The price of an offer, or that it has none of the type for so few copies, in the currency. */
 function priceCell({ amount }, { type, currency, quantity }) {
   if (amount !== null) return [money(amount, currency)];
-  return [element("span", { class: "lacking" }, say("article.noPriceOf", { type, copies: copiesInWords(quantity), currency }))];
+  const words = say("article.noPriceOf", { type, copies: copiesInWords(quantity), currency });
+  return [element("span", { class: "lacking" }, words)];
 }
 
 /** How much more an offer costs than the chosen one, and, of one that costs less, why it is not chosen. */
@@ -49,10 +49,11 @@ function copiesCell(offer, { question, copies }, { settings, addressWith }) {
   const items = copies.map(({ quantity, offers }) => {
     const amount = offers.find((other) => keyOf(other) === keyOf(offer))?.amount ?? null;
     const price = amount === null ? say("article.noPrice") : money(amount, question.currency);
-    const words = say("article.atCopies", { count: number(quantity), price });
+    const words = say("article.atCopies", { count: inDigits(quantity), price });
     if (quantity === Number(question.quantity)) return element("li", {}, element("strong", {}, words));
     const label = say("article.copiesFrom", { copies: copiesInWords(quantity), wholesaler, price });
-    return element("li", {}, element("a", { href: addressWith({ quantity: String(quantity) }), "aria-label": label }, words));
+    const link = { href: addressWith({ quantity: String(quantity) }), "aria-label": label };
+    return element("li", {}, element("a", link, words));
   });
   return [element("ul", { class: "copies" }, ...items)];
 }

@@ -5,7 +5,7 @@ import { inWords, today } from "../text/days.js";
 import { areUnpriced } from "../desk/offers.js";
 import { kindOf } from "../desk/price-types.js";
 import { wholesalerOf } from "../desk/settings.js";
-import { codeInWords, formatter, say, sayCount, wordsOfCode } from "../text/wording.js";
+import { codeInWords, inDigits, say, sayCount, wordsOfCode } from "../text/wording.js";
 import { retailInWords } from "./retail.js";
 
 /** How many copies, in words. */
@@ -46,7 +46,7 @@ export function sentenceOf(answer, settings, doubtful) {
   }
   if (kind === "notChosen") return say("article.notChosen");
   return say(`article.chosen.${kind}`, {
-    count: formatter(Intl.NumberFormat).format(Number(quantity)),
+    count: inDigits(Number(quantity)),
     wholesaler: wholesalerOf(settings, answer.choice.series),
     amount: money(answer.choice.amount, currency),
     type: codeInWords("priceTypes", type),

@@ -2,7 +2,6 @@
 
 import { element } from "../text/elements.js";
 import { undirected } from "../text/said.js";
-import { sayParts } from "../text/wording.js";
 
 /** What tells an offer from all others. */
 export function keyOf({ series, reference, place }) {
@@ -16,9 +15,7 @@ export function areUnpriced(offers) {
 
 /** The reference of an offer, in whatever script, with its place where that is not the first. */
 export function referenceOf({ reference, place }) {
-  const isolated = element("bdi", {}, undirected(reference));
-  if (place === 1) return isolated;
-  return element("span", {}, ...sayParts("article.place", { reference: isolated, place }));
+  return element("bdi", {}, place === 1 ? undirected(reference) : `${undirected(reference)} (${place})`);
 }
 
 /** Whether an answer to the choice and one about the offers are of one moment. */

@@ -63,8 +63,11 @@ function readKeys(given, keys, known, problems, values) {
     const isUsed = Object.hasOwn(given, key) && isRight(given[key]);
     found[name] = isUsed ? given[key] : otherwise;
     if (isUsed) continue;
-    if (Object.hasOwn(given, key)) problems.push({ path: "settings.wrong", values: { key, value: JSON.stringify(given[key]), ...values } });
-    else if (keys[key].length < 3) problems.push({ path: "settings.lacks", values: { key, ...values } });
+    const path = Object.hasOwn(given, key) ? "settings.wrong" : "settings.lacks";
+    const isOptional = keys[key].length > 2;
+    if (path === "settings.wrong" || !isOptional) {
+      problems.push({ path, values: { key, value: JSON.stringify(given[key]), ...values } });
+    }
   }
   for (const key of Object.keys(given)) {
     if (!known.includes(key)) problems.push({ path: "settings.unknown", values: { key, ...values } });

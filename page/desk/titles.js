@@ -103,7 +103,8 @@ export function titleNodes(titles, settings) {
   if (title === undefined) return [];
   const behind = others.flatMap((text) => [" · ", element("bdi", {}, shortened(text, MOST_LETTERS))]);
   const whole = { class: "clamped", title: [title, ...others].join(" · ") };
-  return [element("span", whole, element("q", {}, shortened(title, MOST_LETTERS)), ...behind), ...differNodes(titles, settings)];
+  const quoted = element("q", {}, shortened(title, MOST_LETTERS));
+  return [element("span", whole, quoted, ...behind), ...differNodes(titles, settings)];
 }
 
 /** The same with whose feed said it, and that it is not proved, or that none did. */

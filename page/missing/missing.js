@@ -52,13 +52,13 @@ function refusalInWords({ kind, reason, words }, { name }) {
 
 /** What a card says of a series, in nodes. */
 function cardParts(series, reports, settings) {
-  const [outcome, report, state] = [reports.outcomeOf(series.name), reports.reportOf(series.name), reports.stateOf(series.name)];
-  const reasons = reports.reasonsOf(series.name);
+  const { name } = series;
+  const [report, state, reasons] = [reports.reportOf(name), reports.stateOf(name), reports.reasonsOf(name)];
   const parts = reasons.map((words) => element("p", { class: "stop" }, words));
   if (reasons.length === 0) {
     parts.push(element("p", { class: state.numbered ? "complete" : "unnumbered" }, restInWords(state)));
   }
-  if (report === undefined) parts.push(element("p", { class: "wrong" }, refusalInWords(outcome, series)));
+  if (report === undefined) parts.push(element("p", { class: "wrong" }, refusalInWords(reports.outcomeOf(name), series)));
   else parts.push(element("p", {}, standsInWords(report)));
   const terms = termsInWords(state);
   if (terms !== "") parts.push(element("p", {}, terms));

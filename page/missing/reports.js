@@ -11,13 +11,17 @@ const MINUTE = 60_000;
 const NOBODY = { down() {}, up() {} };
 
 export class Reports {
+  #listeners = [];
+
   /** When the last round ended; `undefined` before the first. */
   time;
+
+  /** Fulfilled at the end of the first round. */
+  ready = new Promise((resolve) => this.subscribe(resolve));
 
   #settings;
   #outcomes = new Map();
   #states = new Map();
-  #listeners = [];
   #watch = NOBODY;
   #asking = new AbortController();
   #timer;

@@ -49,8 +49,8 @@ function cellAt(text, start, separator) {
 }
 
 /**
- * The rows of a text, each its `text` and a list of `cells`; of one with a line break in a cell that has something like an ISBN,
- * `isUnsure`: a quote may stand there that nobody closed.
+ * The rows of a text, each its `text` and a list of `cells`; of one with a line break in a cell that has something like
+ * an ISBN, `isUnsure`: a quote may stand there that nobody closed.
  */
 export function parse(text, separator) {
   const rows = [];

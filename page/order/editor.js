@@ -2,7 +2,7 @@
 // lacks. What the page itself changes can be undone by Ctrl+Z, as what is typed can.
 
 import { element, found } from "../text/elements.js";
-import { formatter, say, sayCount } from "../text/wording.js";
+import { say, sayCount } from "../text/wording.js";
 import { linesOf, markedOf, struck, withOneCopy } from "./text.js";
 import { isLikeIsbn } from "./line.js";
 
@@ -107,11 +107,6 @@ export class Editor {
     this.#field.scrollIntoView({ block: "nearest" });
   }
 
-  goToMarked() {
-    const [line] = this.marked;
-    if (line !== undefined) this.goTo(line);
-  }
-
   #read() {
     keep(this.text);
     this.#draw();
@@ -141,9 +136,8 @@ export class Editor {
 
   /** The number of each line, behind which a marked one has another colour. */
   #drawNumbers() {
-    const number = (line) => formatter(Intl.NumberFormat, { useGrouping: false }).format(line.number);
     const className = { marked: "is-marked", struck: "is-struck" };
-    const rows = this.#lines.map((line) => element("span", { class: className[line.kind] }, number(line)));
+    const rows = this.#lines.map((line) => element("span", { class: className[line.kind] }, String(line.number)));
     found("lines-marks").replaceChildren(...rows);
     found("lines").setAttribute("aria-invalid", String(this.marked.length > 0));
   }

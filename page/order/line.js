@@ -9,10 +9,8 @@ const LABEL = "(?:isbn(?:-1[03])?:? *)?";
 const COPIES = "[1-9]\\d{0,3}";
 
 const isbnAs = (name) => `${LABEL}(?<${name}>${WRITTEN})`;
-const GOOD = new RegExp(
-  `^ *(?:${isbnAs("isbn")} +(?:x?(?<copies>${COPIES})|(?<before>${COPIES})[x×])|(?<first>${COPIES})[x×] +${isbnAs("behind")}) *$`,
-  "di",
-);
+const BEHIND = `${isbnAs("isbn")} +(?:x?(?<copies>${COPIES})|(?<before>${COPIES})[x×])`;
+const GOOD = new RegExp(`^ *(?:${BEHIND}|(?<first>${COPIES})[x×] +${isbnAs("behind")}) *$`, "di");
 const LONE = new RegExp(`^ *${isbnAs("isbn")} *$`, "i");
 // What may be meant as an ISBN: whole or mistyped, too long or too short, or shortened by a spreadsheet.
 const LIKE = /(?:\d[ -]?){8,}[\dX]|97[89][ -]?[\dA-Z-]{5,}|\d[.,]\d+E\+?\d+/i;

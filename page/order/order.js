@@ -8,7 +8,7 @@ import { copyText } from "../text/clipboard.js";
 import { element, found } from "../text/elements.js";
 import { messagesNotes } from "../missing/reports.js";
 import { wholesalerOf } from "../desk/settings.js";
-import { formatter, say, sayCount } from "../text/wording.js";
+import { inDigits, say, sayCount } from "../text/wording.js";
 import { askedOf, changeOf, CONFIRMABLE, confirmKey, stateOf } from "./answers.js";
 import { eachOf, OrderAsking } from "./asking.js";
 import { isTable } from "./csv-table.js";
@@ -84,8 +84,6 @@ export class Order {
         this.#draw();
         this.#lookUp();
       },
-      doubtOf: (series) => (this.#doubtOf(series) === "" ? "" : say("order.mayBeOld")),
-      doubtful: () => reports.doubtful(),
     });
     this.#listen();
     found("list-retail").hidden = kindOf(settings.type) !== "retail";
@@ -159,7 +157,8 @@ export class Order {
   /** Lines behind those that are there. */
   #take(lines) {
     this.#editor.change(withLines(this.#editor.text, lines));
-    this.#editor.goToMarked();
+    const [marked] = this.#editor.marked;
+    if (marked !== undefined) this.#editor.goTo(marked);
   }
 
   #changed() {
@@ -212,11 +211,11 @@ export class Order {
     const all = this.#all();
     const toCheck = all.filter(({ isToCheck }) => isToCheck);
     if (toCheck.length === 0) this.#isFiltered = false;
-    this.#rows.draw(this.#isFiltered ? toCheck : all);
+    const isWhole = this.#rows.draw(this.#isFiltered ? toCheck : all, this.#reports.doubtful());
+    if (!isWhole) this.#drawSoon();
     found("list-part").hidden = all.length === 0;
-    const number = formatter(Intl.NumberFormat);
-    found("show-rows").textContent = say("order.all", { count: number.format(all.length) });
-    found("show-needs").textContent = say("order.toCheck", { count: number.format(toCheck.length) });
+    found("show-rows").textContent = say("order.all", { count: inDigits(all.length) });
+    found("show-needs").textContent = say("order.toCheck", { count: inDigits(toCheck.length) });
     found("show-rows").setAttribute("aria-pressed", String(!this.#isFiltered));
     found("show-needs").setAttribute("aria-pressed", String(this.#isFiltered));
     found("show-needs").disabled = toCheck.length === 0;
@@ -291,7 +290,7 @@ export class Order {
   #lookUp() {
     const rows = rowsOf(this.#editor.lines);
     if (rows.length > MOST_ROWS) {
-      tell(say("order.tooMany", { most: formatter(Intl.NumberFormat).format(MOST_ROWS) }));
+      tell(say("order.tooMany", { most: inDigits(MOST_ROWS) }));
       return undefined;
     }
     return this.#ask(async (asking, signal) => {

@@ -1,16 +1,13 @@
-// The orders of a list, one for each wholesaler, once all books were asked for once more: their sums, and how each leaves
-// the page.
+// The orders of a list, one for each wholesaler: their sums, and how each leaves the page.
 
 import { money } from "../text/amounts.js";
 import { timeInWords } from "../text/days.js";
 import { element, found, table } from "../text/elements.js";
 import { wholesalerOf } from "../desk/settings.js";
-import { formatter, say, sayCount } from "../text/wording.js";
+import { inDigits, say, sayCount } from "../text/wording.js";
 import { isFree, sumsOf } from "./sums.js";
 
 const WAYS = ["csv", "copy", "print"];
-
-const number = (count) => formatter(Intl.NumberFormat).format(count);
 
 /** A sum, and, where desk.json says from which one on the carriage is free, that. */
 function sumInWords(series, amount, { settings }) {
@@ -26,7 +23,8 @@ function waysCell(series, { settings, save }) {
   const name = wholesalerOf(settings, series);
   const status = element("span", { role: "status", tabindex: "-1", "data-saved": series });
   const buttons = WAYS.flatMap((way) => {
-    const button = element("button", { type: "button", class: "small", "data-way": way, "data-series": series }, say(`order.ways.${way}`));
+    const attributes = { type: "button", class: "small", "data-way": way, "data-series": series };
+    const button = element("button", attributes, say(`order.ways.${way}`));
     button.setAttribute("aria-label", say(`order.waysFor.${way}`, { name }));
     button.addEventListener("click", () => save(way, series));
     return [button, " "];
@@ -42,7 +40,7 @@ export function showOrders(rows, context) {
   }));
   const lines = bySeries.map(({ series, books, copies, amount }) => ({
     cells: [
-      [wholesalerOf(context.settings, series)], [number(books)], [number(copies)], [sumInWords(series, amount, context)],
+      [wholesalerOf(context.settings, series)], [inDigits(books)], [inDigits(copies)], [sumInWords(series, amount, context)],
       waysCell(series, context),
     ],
   }));

@@ -7,7 +7,7 @@ import { element, found, table, tableRow } from "../text/elements.js";
 import { farInWords, farOf } from "../article/retail.js";
 import { titleNodes, titlesOfOffers } from "../desk/titles.js";
 import { wholesalerOf } from "../desk/settings.js";
-import { formatter, say, sayCount, wordsOfCode } from "../text/wording.js";
+import { inDigits, say, sayCount, wordsOfCode } from "../text/wording.js";
 import { changeOf, CONFIRMABLE, priced, savingOf, unpricedOf } from "./answers.js";
 
 const COLUMNS = ["title", "copies", "wholesaler", "availability", "price", "sum", "note"];
@@ -19,7 +19,6 @@ const columns = () => COLUMNS.map((name) => ({
   className: AMOUNTS.includes(name) ? `${name} amount` : CLASSES[name] ?? name,
 }));
 
-const number = (count) => formatter(Intl.NumberFormat).format(count);
 const inPlainWords = (availability) => wordsOfCode("availabilities", availability) ?? availability;
 
 /** The title that a feed said, or only the ISBN, with a link to the article. */
@@ -28,14 +27,14 @@ function titleCell(row, answer, { settings, titles }) {
   const said = titlesOfOffers(titles.get(isbn) ?? [], answer?.offers ?? []);
   const title = said.length > 0 ? [...titleNodes(said, settings), " "] : [];
   const link = element("a", { href: addressOf("article", { isbn, quantity: String(copies) }) }, isbn);
-  const names = lines.map((line) => number(line.number)).join(", ");
+  const names = lines.map((line) => inDigits(line.number)).join(", ");
   return [...title, element("small", {}, link, " · ", sayCount("order.ofLines", lines.length, { lines: names }))];
 }
 
 /** The copies, as a button that leads to their number in the text. */
 function copiesCell({ isbn, copies, lines }, { goTo }) {
-  const button = element("button", { type: "button", class: "number" }, number(copies));
-  button.setAttribute("aria-label", say("order.toNumber", { isbn, copies: number(copies), line: lines[0].number }));
+  const button = element("button", { type: "button", class: "number" }, inDigits(copies));
+  button.setAttribute("aria-label", say("order.toNumber", { isbn, copies: inDigits(copies), line: lines[0].number }));
   button.addEventListener("click", () => goTo(lines[0].number));
   return [button];
 }
@@ -69,7 +68,7 @@ function wholesalerCell(row, answer, state, context) {
 
 /** That nobody offers a book, or, where messages of a wholesaler have not come, that it may. */
 function noOffersInWords({ settings, doubtful }) {
-  const names = doubtful().map((name) => wholesalerOf(settings, name));
+  const names = doubtful.map((name) => wholesalerOf(settings, name));
   if (names.length === 0) return say("order.needs.noOffers");
   return say("order.needs.noOffersYet", { wholesalers: names.join(", ") });
 }
@@ -89,7 +88,7 @@ function needInWords(row, answer, { need, offer }, context) {
   return say(`order.needs.${need}`, {
     wholesaler: need === "changed" ? wholesalerOf(settings, before.series) : wholesaler,
     price: need === "changed" ? money(before.amount, currency) : "",
-    copies: number(row.copies),
+    copies: inDigits(row.copies),
     type,
     sum: offer === undefined ? "" : money(times(offer.amount, row.copies), currency),
   });
@@ -139,8 +138,7 @@ function noteCell(row, answer, state, context) {
     parts.push(...savingPart(row, answer, state, context));
     const names = unpricedOf(answer).map((name) => wholesalerOf(settings, name));
     if (names.length > 0) parts.push(say("order.unpriced", { wholesalers: names.join(", "), type: settings.type }));
-    const doubt = context.doubtOf(state.offer.series);
-    if (doubt !== "") parts.push(doubt);
+    if (context.doubtful.includes(state.offer.series)) parts.push(say("order.mayBeOld"));
   }
   if (row.note !== "") parts.push(element("bdi", { class: "own" }, row.note));
   return parts.flatMap((part) => [" · ", part]).slice(1);
@@ -161,10 +159,9 @@ function cellsOf(row, answer, state, context) {
 }
 
 /** What a row is drawn of: it is drawn anew where one of these is another one. */
-function drawnOf({ row, answer, state }, { titles, doubtOf, doubtful }) {
-  const doubt = state.offer === undefined ? doubtful().join() : doubtOf(state.offer.series);
+function drawnOf({ row, answer, state }, { titles, doubtful }) {
   const lines = row.lines.map((line) => line.number).join();
-  return [lines, row.copies, row.note, answer, state.need, state.offer, titles.get(row.isbn), doubt];
+  return [lines, row.copies, row.note, answer, state.need, state.offer, titles.get(row.isbn), doubtful];
 }
 
 /** Puts a row in the place of another one, with the focus at the same field or button. */
@@ -175,37 +172,49 @@ function replaceRow(old, made) {
   if (at >= 0) fields(made)[at]?.focus({ preventScroll: true });
 }
 
+// How many rows are drawn before a key is heard.
+const MOST_AT_ONCE = 60;
+
 /** The rows of the table; one stays as long as nothing of it has changed. */
 export class Rows {
   #context;
+  #columns = columns();
   // For each row of the list its row of the table (`made`), and what that was drawn of.
   #drawn = new Map();
 
   /**
-   * The context has the `settings`, the `titles`, the `changes` since a book was answered, `goTo`, `choose`, `confirm`,
-   * `askAgain`, and `doubtOf`, which says why prices of a series are doubtful.
+   * The context has the `settings`, the `titles`, the `changes` since a book was answered, and `goTo`, `choose`, `confirm`
+   * and `askAgain`.
    */
   constructor(context) {
-    this.#context = context;
-    found("list").replaceChildren(table("list-heading", columns(), []));
+    this.#context = { ...context, doubtful: [] };
+    found("list").replaceChildren(table("list-heading", this.#columns, []));
   }
 
-  /** Draws rows, each with its `row`, `answer` and `state`. */
-  draw(shown) {
+  /** Draws rows, each with its `row`, `answer` and `state`, some at a time; gives whether all are drawn. */
+  draw(shown, doubtful) {
+    if (doubtful.join() !== this.#context.doubtful.join()) this.#context.doubtful = doubtful;
+    let left = MOST_AT_ONCE;
+    const drawn = new Map();
+    for (const each of shown) {
+      const old = this.#drawn.get(each.row.key);
+      const of = drawnOf(each, this.#context);
+      const isSame = old !== undefined && of.every((part, at) => part === old.of[at]);
+      if (!isSame) left -= 1;
+      const kept = isSame || left < 0 ? old : this.#madeOf(each, of, old);
+      if (kept !== undefined) drawn.set(each.row.key, kept);
+    }
     const body = document.querySelector("#list tbody");
-    const drawn = new Map(shown.map((each) => [each.row.key, this.#drawnRow(each)]));
     const rows = [...drawn.values()].map(({ made }) => made);
     const isSame = body.children.length === rows.length && rows.every((made, at) => body.children[at] === made);
     if (!isSame) body.replaceChildren(...rows);
     this.#drawn = drawn;
+    return left >= 0;
   }
 
-  #drawnRow(each) {
-    const of = drawnOf(each, this.#context);
-    const old = this.#drawn.get(each.row.key);
-    if (old !== undefined && of.every((part, at) => part === old.of[at])) return old;
+  #madeOf(each, of, old) {
     const cells = cellsOf(each.row, each.answer, each.state, this.#context);
-    const made = tableRow(columns(), { cells, className: each.state.need === undefined ? undefined : "needs" });
+    const made = tableRow(this.#columns, { cells, className: each.state.need === undefined ? undefined : "needs" });
     if (old?.made.isConnected) replaceRow(old.made, made);
     return { made, of };
   }

@@ -5,7 +5,7 @@ import { inWords, today } from "../text/days.js";
 import { element, found, table } from "../text/elements.js";
 import { undirected } from "../text/said.js";
 import { wholesalerOf } from "../desk/settings.js";
-import { formatter, say, wordsOfCode } from "../text/wording.js";
+import { inDigits, say, wordsOfCode } from "../text/wording.js";
 import { ABOVE, formOf, textIn, withSign } from "./csv-form.js";
 import { sumsOf } from "./sums.js";
 
@@ -71,7 +71,7 @@ function paperHead(series, { settings }) {
 
 /** The row of the total: the copies and the sum, each in its column. */
 function totalRow(columns, { copies, amount }, { settings }) {
-  const cells = { copies: formatter(Intl.NumberFormat).format(copies), sum: money(amount, settings.currency) };
+  const cells = { copies: inDigits(copies), sum: money(amount, settings.currency) };
   const texts = columns.map((name) => cells[name] ?? "");
   if (texts[0] === "") texts[0] = say("order.onPaper.total");
   return { cells: texts.map((text) => [text]), className: "total" };

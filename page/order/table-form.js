@@ -2,18 +2,16 @@
 // the copies. Nothing of it is filled in.
 
 import { element, found } from "../text/elements.js";
-import { formatter, say, sayCount } from "../text/wording.js";
+import { inDigits, say, sayCount } from "../text/wording.js";
 import { parse, separatorIn, SEPARATORS, taken, widthOf } from "./csv-table.js";
 import { goodOf, linesOf, markedOf } from "./text.js";
 
 // As many rows as tell which column is which.
 const SHOWN = 10;
 
-const number = (count) => formatter(Intl.NumberFormat).format(count);
-
 /** The columns of a table in the order of their numbers, behind an empty choice. */
 function fillColumns(field, width) {
-  const options = Array.from({ length: width }, (_, at) => element("option", { value: at }, number(at + 1)));
+  const options = Array.from({ length: width }, (_, at) => element("option", { value: at }, inDigits(at + 1)));
   field.replaceChildren(element("option", { value: "" }, ""), ...options);
   field.value = "";
 }
@@ -70,7 +68,7 @@ export class TableForm {
     const shown = rows.filter(({ cells }) => cells.length === width).slice(0, SHOWN);
     const heads = Array.from({ length: width }, (_, at) => {
       const box = element("input", { type: "checkbox", value: at, class: "note-column" });
-      return element("th", { scope: "col" }, number(at + 1), element("label", {}, box, ` ${say("order.table.note")}`));
+      return element("th", { scope: "col" }, inDigits(at + 1), element("label", {}, box, ` ${say("order.table.note")}`));
     });
     const body = shown.map(({ cells }) => (
       element("tr", {}, ...cells.map((cell) => element("td", {}, element("bdi", {}, cell))))
@@ -103,7 +101,7 @@ export class TableForm {
     const copies = goodOf(all).map((line) => line.copies);
     const sum = copies.reduce((total, count) => total + count, 0);
     const parts = [sayCount("order.table.lines", copies.length, {
-      copies: sayCount("article.copies", sum), most: number(Math.max(0, ...copies)),
+      copies: sayCount("article.copies", sum), most: inDigits(Math.max(0, ...copies)),
     })];
     const marked = markedOf(all).length;
     if (marked > 0) parts.push(sayCount("order.table.marked", marked));

@@ -22,6 +22,9 @@ export function formatter(Kind, options = {}) {
   return formatters.get(key);
 }
 
+/** A number as the language writes it. */
+export const inDigits = (number) => formatter(Intl.NumberFormat).format(number);
+
 /** The text or table of texts at a path such as `article.isbn`; throws where there is none. */
 function at(path) {
   const found = path.split(".").reduce((part, key) => part?.[key], spoken.texts);
@@ -44,7 +47,7 @@ export function say(path, values = {}) {
 export function sayCount(path, count, values = {}) {
   const form = formatter(Intl.PluralRules).select(count);
   const chosen = Object.hasOwn(at(path), form) ? form : "other";
-  return say(`${path}.${chosen}`, { count: formatter(Intl.NumberFormat).format(count), ...values });
+  return say(`${path}.${chosen}`, { count: inDigits(count), ...values });
 }
 
 /** The words of a code in a table of texts, such as `availabilities`, or `undefined`. */

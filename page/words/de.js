@@ -81,7 +81,6 @@ export const texts = {
     doubt: "{wholesaler}: {reasons}. Die Preise sind vielleicht veraltet.",
     noPrice: "kein Preis",
     noPriceOf: "kein Preis der Art {type} für {copies} in {currency}",
-    place: "{reference}, Lieferung {place}",
   },
 
   calendar: {
@@ -245,7 +244,6 @@ export const texts = {
     notAgain: "Die Seite fragt erneut, wenn diese Ansicht neu geöffnet wird.",
     allThere: "Nichts hält die Dateien der Lieferanten auf, die diese Seite beobachtet.",
     someStop: "Halt, bitte nachsehen: {wholesalers}.",
-    atTab: { one: "1 Meldung fehlt", other: "{count} Meldungen fehlen" },
     stopsAtTab: { one: "1 prüfen", other: "{count} prüfen" },
     noSeries: "desk.json nennt keine Reihe, daher beobachtet die Seite keinen Lieferanten.",
     messages: { one: "1 Meldung", other: "{count} Meldungen" },

@@ -81,7 +81,6 @@ export const texts = {
     doubt: "{wholesaler}: {reasons}. Its prices may be old.",
     noPrice: "no price",
     noPriceOf: "no price of type {type} for {copies} in {currency}",
-    place: "{reference}, supply {place}",
   },
 
   calendar: {
@@ -245,7 +244,6 @@ export const texts = {
     notAgain: "The page asks again when this view is opened anew.",
     allThere: "Nothing stops the files of any wholesaler that this page watches.",
     someStop: "Stop, and look at: {wholesalers}.",
-    atTab: { one: "1 message missing", other: "{count} messages missing" },
     stopsAtTab: { one: "1 to look at", other: "{count} to look at" },
     noSeries: "desk.json names no series, so the page watches no wholesaler.",
     messages: { one: "1 message", other: "{count} messages" },

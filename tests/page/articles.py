@@ -1,246 +1,157 @@
-"""The view of an article, with the questions and answers of examples/shop/README.md."""
+"""The view of an article, before a stand-in for the desk."""
 
+import json
 from collections.abc import Iterator
-from datetime import date
+from decimal import Decimal
 
-from tests.page.browser import FUNCTIONS, Browser
-from tests.page.site import Site
-from tests.page.week import ISBN, OTHER_ISBN, article
+from tests.page.browser import Browser
+from tests.page.list_desk import Book, Offer, PlainSite, isbn_of, state
+from tests.page.scanning import scan
 from tests.running import Outcome
 
-NORTH = ["North Books", "in stock"]
-SOUTH = ["South Books", "in stock"]
-WEST = ["Western Wholesale", "out of stock"]
-SAME = "same for more"
-SAME_FOR_TEN = "same for more"
-BREAK = "1: £11.8010: £9.95"
-RISE = "until 14 Apr 2025, then £10.75"
-ON = "beyond 9 Mar 2026"
+BOOK, UNADMITTED, NOBODYS, FREE, FAR = (isbn_of(number) for number in (9001, 9002, 9003, 9004, 9005))
+WRONG = BOOK[:12] + str((int(BOOK[12]) + 1) % 10)
 
-ONE_COPY = [
-    [*NORTH, "£11.50", "–", SAME, RISE],
-    [*SOUTH, "£11.80", "+£0.30", BREAK, ON],
-    [*WEST, "£8.00", "-£3.50 rules 1 to 2 do not take it", SAME, ON],
-]
-TEN_COPIES = [
-    [*NORTH, "£11.50", "+£1.55", SAME_FOR_TEN, RISE],
-    [*SOUTH, "£9.95", "–", BREAK, ON],
-    [*WEST, "£8.00", "-£1.95 rule 1 does not take it", SAME_FOR_TEN, ON],
-]
-
-# What is still asked for: other quantities, other types, the calendar.
-WAITING = ("…", "or before")
+# Texts that a feed may say, which mean something in HTML or turn what stands beside them.
+HOSTILE = "<img src=x onerror=alert(1)>"
+TURNING = "one\u202etwo"
 
 
-def has_calendar(browser: Browser) -> bool:
-    """Whether the calendar is there, folded or not, with what it says of each offer."""
-    return bool(browser.run("return !document.getElementById('calendar').hidden"))
+def title_file(isbn: str) -> str:
+    return f"/state/titles/{isbn[:5]}/{isbn[:8]}.json"
 
 
-# The cells of each offer, if the calendar is there too.
-CELLS = f"{FUNCTIONS['offerCells']}\nreturn document.getElementById('calendar').hidden ? [] : offerCells();"
+def fill(site: PlainSite) -> None:
+    desk = site.begin(quantities=[1, 10], recommended_type="02")
+    desk.books |= {
+        BOOK: Book([Offer("alpha", Decimal("14.00")), Offer("beta", Decimal("8.00")), Offer("gamma", None, "34")]),
+        UNADMITTED: Book([Offer("alpha", Decimal("7.00"), "40")], None),
+        FREE: Book([Offer("alpha", Decimal(0))]),
+        FAR: Book([Offer("alpha", Decimal("1.00")), Offer("beta", Decimal("9.00"))]),
+    }
+    desk.others = {
+        (BOOK, "02"): [Offer("alpha", Decimal("20.00")), Offer("beta", Decimal("10.00"))],
+        (BOOK, "15"): [Offer("beta", Decimal("5.00"))],
+    }
+    site.files["/state/beta.json"] = state(prices=[["05", "GBP"], ["15", "GBP"], ["17", "EUR"]])
+    titles = [["alpha", 1, 1, HOSTILE, TURNING, "Éilís Byrne (A01)", "Quay"], ["beta", 1, 1, "Another", "", "", ""]]
+    site.files[title_file(BOOK)] = json.dumps({BOOK: titles})
 
 
-def answered_now(browser: Browser) -> list[list[str]]:
-    """The rows of the offers, if all that is asked beside their prices is answered too."""
-    found: list[list[str]] = browser.run(CELLS)
-    waits = any(word in cell for row in found for cell in row for word in WAITING)
-    return [] if waits else found
+def article(isbn: str, **given: str) -> str:
+    return "#article?" + "&".join(f"{name}={value}" for name, value in {"isbn": isbn, **given}.items())
 
 
-def answered(browser: Browser) -> list[list[str]]:
-    """The rows of the offers, once all that is asked beside their prices is answered too."""
-    return browser.wait(lambda: answered_now(browser)) or []
-
-
-def ask(browser: Browser, address: str) -> list[list[str]]:
-    """Opens a view anew; the rows of the offers, once all is answered."""
+def open_article(browser: Browser, address: str, words: str) -> str:
+    """Opens a view anew; what it says once it has these words."""
     browser.open(address)
-    return answered(browser)
+    return browser.wait_for_text("#article-status", words)
 
 
-def ask_on(browser: Browser, address: str) -> list[list[str]]:
-    """The same in the page that is open, which has the settings already; opens one if none is."""
-    browser.go(address)
-    return answered(browser)
+def chosen(site: PlainSite, browser: Browser) -> Iterator[Outcome]:
+    """What is chosen, what speaks against it, and all offers."""
+    fill(site)
+    browser.complaints()
+    came = open_article(browser, article(BOOK, quantity="9"), "Buy 9")
+    wanted = f"Buy 9 from Alpha Books at £14.00 a copy\n£126.00\nISBN {BOOK} · in stock · RRP £20.00 · margin 30%"
+    browser.wait_for_text("#article-status", "RRP")
+    yield Outcome("chosen: the sentence", (came.splitlines()[:2], browser.text("#article-status")), (wanted.splitlines()[:2], wanted))
+    browser.wait(lambda: not browser.shows("#offers", "…"))
+    cells = [[" ".join(cell.split()) for cell in row] for row in browser.rows("#offers")]
+    rows = [
+        ["Alpha Books alpha-1 chosen, rule 1", "in stock", "£14.00", "–", "1: £14.009: £14.0010: £14.00", ""],
+        ["Beta & Sons beta-1", "in stock", "£8.00", "-£6.00 rule 1 does not take it", "1: £8.009: £8.0010: £8.00", ""],
+        ["Gamma gamma-1", "temporarily withdrawn from sale", "no price of type 05 for 9 copies in GBP", "",
+         "1: no price9: no price10: no price", ""],
+    ]  # fmt: skip
+    yield Outcome("chosen: the offers", cells, rows)
+    notes = [
+        "Beta & Sons also has £5.00 a copy, 15 – special sale, supplier's net price, without tax: ask which one counts.",
+        "Recommended prices differ: Alpha Books £20.00, Beta & Sons £10.00.",
+    ]
+    yield Outcome("chosen: special and recommended prices", browser.texts("#notes li"), notes)
+    title = browser.run("return document.getElementById('title').textContent")
+    said = f"{HOSTILE}: onetwo · Éilís Byrne · Quay · Beta & Sons says: Another as Alpha Books said last, not proved"
+    yield Outcome("chosen: what a feed says, as it stands", title, said)
+    quoted = browser.run("return [...document.querySelectorAll('#title q')].map((text) => getComputedStyle(text).fontWeight)")
+    yield Outcome("chosen: it is quoted, in plain weight", quoted, ["400", "400"])
+    first = browser.run("return document.querySelector('#verdict').firstElementChild.id")
+    yield Outcome("chosen: which book it is comes first", first, "title")
+    yield Outcome("chosen: no element of a feed's", browser.all("main img, main script"), [])
+    bars = browser.run("return [...document.querySelectorAll('#picture .lane')].map((lane) => lane.textContent.slice(0, 11))")
+    yield Outcome("chosen: the year has a lane for each offer", bars, ["14.00£14.00", "8.00£8.00, ", "no price, 3"])
+    yield Outcome("chosen: no complaint of the browser", [text for text in browser.complaints() if "/nothing" not in text], [])
 
 
-def said(browser: Browser, words: str) -> bool:
-    return words in browser.wait_for_text("#article-status", words)
+def not_chosen(site: PlainSite, browser: Browser) -> Iterator[Outcome]:
+    """Why nothing is bought: the rules can be read, and nobody is said to have no offer whose messages are missing."""
+    fill(site)
+    came = open_article(browser, article(UNADMITTED), "No rule")
+    yield Outcome("no rule", came.splitlines()[0], "No rule of the shop allows any of these offers")
+    rules = ["any wholesaler: available, in stock, at most 15.00", "any wholesaler: available, in stock, to order"]
+    browser.wait(lambda: browser.shows("#rules-list"))
+    yield Outcome("no rule: they stand open", browser.texts("#rules-list li"), rules)
+    browser.wait(lambda: site.asked.count("/state/gamma.json") > 0)
+    came = open_article(browser, article(NOBODYS), "No wholesaler")
+    yield Outcome("nobody offers it", came.splitlines()[0], "No wholesaler offers this book")
+    site.desk.missing = {"beta": [[3, 4]]}
+    site.files["/state/gamma.json"] = state(quarantined=1)
+    browser.open(article(NOBODYS))
+    browser.wait_for_text("#notes", "quarantine")
+    sentence = "No offer of this book has come, but something of Beta & Sons, Gamma is missing or cannot be seen"
+    yield Outcome("nobody, as far as it can be seen", browser.text("#article-status").splitlines()[0], sentence)
+    notes = [
+        "Beta & Sons: 2 messages are missing: 3 to 4; 1 later message has come, and waits for what is missing. "
+        "Its prices may be old. Missing messages",
+        "Gamma: 1 file is in quarantine. Its prices may be old. Missing messages",
+    ]
+    yield Outcome("nobody, as far as it can be seen: why", browser.texts("#notes li"), notes)
+    del site.files["/state/alpha.json"]
+    browser.open(article(BOOK))
+    told = browser.wait_for_text("#notes", "cannot be seen")
+    yield Outcome("a file of the inbox that is not there", "Alpha Books: whether a file is stopped" in told, True)
 
 
-def noted(browser: Browser, words: str) -> bool:
-    """Whether something is noted below the answer."""
-    return words in browser.wait_for_text("#notes", words)
+def careful(site: PlainSite, browser: Browser) -> Iterator[Outcome]:
+    """A price of nothing, one far from others, a wrong ISBN, other fields, another answer later."""
+    fill(site)
+    came = open_article(browser, article(FREE), "ask before")
+    yield Outcome("a price of 0", came.splitlines()[0], "Alpha Books says £0.00: ask before you order")
+    yield Outcome("a price of 0: no button to order", browser.one("#to-list").is_displayed(), False)
+    open_article(browser, article(FAR), "Buy 1")
+    far = "£1.00 is far below the next offer, £9.00: ask before you order."
+    yield Outcome("a price far from others", browser.texts("#notes li"), [far])
+    scan(browser, f"{BOOK}\n")
+    browser.wait_for_text("#article-status", BOOK)
+    yield Outcome("a scan is asked for wherever the focus is", BOOK in browser.run("return location.hash"), True)
+    before = len(site.desk.asked)
+    browser.one("#isbn").send_keys(f"{WRONG}\n")
+    told = browser.wait_for_text("#isbn-wrong", "ISBN")
+    yield Outcome("a wrong ISBN", told, "This is no ISBN, which has thirteen digits, or ten: compare it with the book.")
+    asked = [path for path in site.desk.asked[before:] if WRONG in path]
+    yield Outcome("a wrong ISBN: it is not asked for, and no answer stands", (asked, browser.text("#article-status")), ([], ""))
+    open_article(browser, article(FREE, day="2025-04-10", country="DE"), "10 April 2025 · DE:")
+    usual = browser.one("#as-usual").is_displayed()
+    yield Outcome("what is not as usual is said, and can be reset", usual, True)
+    browser.one("#quantity").send_keys("5")
+    told = browser.wait_for_text("#outdated", "not for what")
+    wanted = f"This is the answer for ISBN {FREE}, 1 copy, not for what the fields say now."
+    yield Outcome("fields that differ from the answer", told, wanted)
 
 
-def chosen_rows(browser: Browser) -> list[list[str]]:
-    """The class of each offer's row, and what is said behind the wholesaler of being chosen."""
-    rows: list[list[str]] = browser.call("offerMarks")
-    return rows
+def without_the_desk(site: PlainSite, browser: Browser) -> Iterator[Outcome]:
+    """A password that is no longer right is told as what it is, and a desk that is away is asked again."""
+    fill(site)
+    site.status = 401
+    browser.open(article(BOOK))
+    told = "The web server asks for the password: load the page anew, and give it."
+    yield Outcome("401", browser.wait_for_text("#question-wrong", "password"), told)
+    site.status = 502
+    browser.open(article(BOOK))
+    told = "The desk is not running, or is just being started. The page asks again by itself every 5 seconds."
+    yield Outcome("502", browser.wait_for_text("#down", "not running"), told)
+    site.status = None
+    yield Outcome("502: it goes on by itself", "Buy 1" in browser.wait_for_text("#article-status", "Buy 1"), True)
 
 
-def one_copy(site: Site, browser: Browser) -> Iterator[Outcome]:
-    yield Outcome("one copy: the offers", ask(browser, article()), ONE_COPY)
-    codes = browser.run("return [...document.querySelectorAll('#offers [title^=ONIX]')].map(({ title }) => title)")
-    yield Outcome("one copy: codes are beside no number", codes, ["ONIX code 21", "ONIX code 21", "ONIX code 31"])
-    heads = ["Wholesaler", "Availability", "Retail price", "Dearer than chosen", "By copies", "Price valid"]
-    yield Outcome("one copy: the columns", browser.texts("#offers thead th"), heads)
-    sentence = "On 10 April 2025: North Books: retail price £11.50"
-    details = f"ISBN {ISBN} · in stock"
-    yield Outcome("one copy: the answer", browser.text("#article-status"), f"{sentence}\n{details}\nwhy")
-    browser.one("#article-status summary").click()
-    told = f"{sentence}\n{details}\nwhy\nrule 2: “Else whoever has the book”"
-    yield Outcome("one copy: why", browser.text("#article-status"), told)
-    yield Outcome("one copy: the rule's offer", chosen_rows(browser), [["", "rule 2"], ["", ""], ["", ""]])
-
-
-def empty(site: Site, browser: Browser) -> Iterator[Outcome]:
-    """A page without a question says what it is for, and the ring of the field that has the focus hides no label."""
-    browser.open("")
-    words = browser.wait_for_text("#start", "ISBN")
-    told = "Scan or type an ISBN: the page says from whom to buy the book, at what price, and why."
-    yield Outcome("empty: what to do", words.startswith(told), True)
-    room = browser.run(
-        """
-      const [label, field] = ['label[for=isbn]', '#isbn'].map((name) => document.querySelector(name));
-      const ring = parseFloat(getComputedStyle(field).outlineWidth);
-      return field.getBoundingClientRect().top - label.getBoundingClientRect().bottom - ring;"""
-    )
-    yield Outcome(f"empty: the ring ends {room} below the label", room >= 0, True)
-    tops = browser.run(
-        "return [...document.querySelectorAll('.ask-line label')].map((label) => label.getBoundingClientRect().top)"
-    )
-    yield Outcome("empty: the labels stand on one line", len(set(tops)), 1)
-    ask(browser, article())
-    yield Outcome("an answer is there in its place", browser.one("#start").is_displayed(), False)
-
-
-def ten_copies(site: Site, browser: Browser) -> Iterator[Outcome]:
-    yield Outcome("ten copies: the offers", ask_on(browser, article(quantity="10")), TEN_COPIES)
-    yield Outcome("ten copies: the choice", said(browser, "South Books: retail price £9.95"), True)
-
-
-def another_country(site: Site, browser: Browser) -> Iterator[Outcome]:
-    prices = [row[2] for row in ask_on(browser, article(country="IE", quantity="10"))]
-    none = "no price of type 02 for 10 copies in GBP"
-    yield Outcome("Ireland: South does not sell there", prices, ["£11.50", none, "£8.00"])
-
-
-def no_rule(site: Site, browser: Browser) -> Iterator[Outcome]:
-    rows = [["North Books", "not available", "£25.00", SAME, ON]]
-    yield Outcome("no rule: the offer", ask_on(browser, article(OTHER_ISBN)), rows)
-    words = "No rule of the shop takes one of these offers, so none is chosen"
-    yield Outcome("no rule: it is said", said(browser, words), True)
-
-
-def no_offer(site: Site, browser: Browser) -> Iterator[Outcome]:
-    """A book without offers leaves nothing of the one before."""
-    ask_on(browser, article())
-    browser.run("location.hash = arguments[0]", article("9780000000002"))
-    yield Outcome("no offer: it is said", said(browser, "No wholesaler offers this book"), True)
-    shown = [browser.one(part).is_displayed() for part in ("#answer", "#calendar")]
-    yield Outcome("no offer: no table and no calendar", shown, [False, False])
-    details = browser.text("#article-status .details")
-    yield Outcome("no offer: who else may have it", details, "ISBN 9780000000002 · its publisher may sell it")
-
-
-CATALOGUE = "https://catalogue.example.org/find?book={isbn}&from=desk"
-
-
-def catalogue(site: Site, browser: Browser) -> Iterator[Outcome]:
-    """The shop's catalogue, which has the titles, is a link away: it opens in a window of its own and is not told by
-    whom it was asked."""
-    links = """return [...document.querySelectorAll(arguments[0] + ' a')].map((link) =>
-      [link.textContent, link.href, link.rel, link.target])"""
-    site.write_settings(catalogue=CATALOGUE)
-    for isbn, come in ((ISBN, browser.open), ("9780000000002", browser.go)):
-        come(article(isbn))
-        said(browser, isbn)
-        address = CATALOGUE.replace("{isbn}", isbn)
-        wanted = [["look it up in the catalogue", address, "noreferrer", "_blank"]]
-        yield Outcome(f"the catalogue: {isbn}", browser.run(links, "#article-status"), wanted)
-        height = browser.one("#article-status a").size["height"]
-        yield Outcome(f"the catalogue: {isbn}: {height} pixels high", height >= 24, True)
-    site.write_settings(catalogue="javascript:alert('{isbn}')")
-    ask(browser, article())
-    yield Outcome("a catalogue that is none: no link", browser.run(links, "#article-status"), [])
-    told = browser.texts("#settings-wrong li")
-    yield Outcome("a catalogue that is none: it is told", ["“catalogue” is" in words for words in told], [True])
-    site.write_settings()
-
-
-def typed_question(site: Site, browser: Browser) -> Iterator[Outcome]:
-    """What is typed goes to the address, and the address alone brings the view back."""
-    browser.start()
-    fields = ["#day", "#country", "#currency", "#type", "#quantity"]
-    values = [browser.one(field).get_attribute("value") for field in fields]
-    today = date.today().isoformat()
-    yield Outcome("the fields begin with", values, [today, "GB", "GBP", "02", "1"])
-    browser.one("#isbn").send_keys("978-1-234567 89-7\n")
-    yield Outcome("asked for by Enter", len(answered(browser)), 3)
-    chosen = browser.run("return [document.activeElement.id, String(getSelection())]")
-    yield Outcome("the next ISBN takes its place", chosen, ["isbn", ISBN])
-    browser.one("#quantity").clear()
-    browser.one("#quantity").send_keys("10\n")
-    browser.wait(lambda: "quantity=10" in browser.run("return location.hash"))
-    rows = answered(browser)
-    yield Outcome("hyphens and spaces are taken out", rows[1][:1], SOUTH[:1])
-    address = browser.run("return location.hash")
-    wanted = f"#article?isbn={ISBN}&quantity=10&country=GB&currency=GBP&type=02"
-    yield Outcome("the question's address", address, wanted)
-    yield Outcome("the address brings the answer back", ask(browser, address), rows)
-    browser.run("location.hash = arguments[0]", article(quantity="10"))
-    browser.wait(lambda: browser.shows("#article-status", "On 10 April 2025"))
-    browser.driver.back()
-    browser.wait(lambda: not browser.shows("#article-status", "On 10 April 2025"))
-    yield Outcome("back to the question before", answered(browser), rows)
-    yield Outcome("the window's title", browser.driver.title, f"ISBN {ISBN} – High Street Books · buying")
-    browser.one("#to-missing").click()
-    browser.wait_for_text("#as-of", "As of")
-    browser.one("#to-article").click()
-    yield Outcome("the question is there again behind another view", answered(browser), rows)
-
-
-def own_type(site: Site, browser: Browser) -> Iterator[Outcome]:
-    """A type that has no words here can be asked for by the address."""
-    prices = [row[2] for row in ask_on(browser, article(type="77"))]
-    yield Outcome("a type without words: the answer", prices, ["no price of type 77 for 1 copy in GBP"] * 3)
-    shown = browser.run("return document.querySelector('#type').selectedOptions[0].textContent")
-    yield Outcome("a type without words: its field", shown, "77 – no words for this code")
-
-
-def one_moment(site: Site, browser: Browser) -> Iterator[Outcome]:
-    """A message that comes between the two questions leaves no answer that contradicts itself."""
-    browser.go("#article")
-    browser.call("changePrice", article())
-    rows = answered(browser)
-    yield Outcome("price and choice of one moment", rows, ONE_COPY)
-    # The page may still be fetching files of its own.
-    asked = browser.run("return window.asked.filter((what) => what === 'choice').length")
-    yield Outcome("they are asked for again", asked, 2)
-
-
-def many_offers(site: Site, browser: Browser) -> Iterator[Outcome]:
-    """Of very many offers fifty are shown at first, with the chosen one before all others."""
-    browser.open("")
-    browser.call("answerWithManyOffers", article(type="05"))
-    rows = answered(browser)
-    yield Outcome("many offers: the first of them", (len(rows), rows[0][0]), (50, "odd R59"))
-    browser.one("#show-all").click()
-    yield Outcome("many offers: all of them", len(browser.call("offerCells")), 60)
-
-
-CASES = [
-    empty,
-    one_copy,
-    ten_copies,
-    another_country,
-    no_rule,
-    no_offer,
-    catalogue,
-    typed_question,
-    own_type,
-    one_moment,
-    many_offers,
-]
+CASES = [chosen, not_chosen, careful, without_the_desk]

@@ -63,6 +63,8 @@ class ListDesk:
     def __init__(self) -> None:
         self.books = {isbn_of(number): book_of(number) for number in range(1000)}
         self.missing: dict[str, list[list[int]]] = {}
+        # Offers of other price types, by book and type.
+        self.others: dict[tuple[str, str], list[Offer]] = {}
         self.asked: list[str] = []
 
     def reply(self, path: str) -> tuple[int, dict[str, object]]:
@@ -76,7 +78,8 @@ class ListDesk:
             return 200, {"answer": "gaps", "series": name, "first": 1, "next": 2, "missing": missing, "held": len(missing)}
         book = self.books.get(name, Book([], None))
         keys = parse_qs(parts.query)
-        offers = [offer.body() for offer in book.offers if keys["type"] == ["05"]]
+        own = book.offers if keys["type"] == ["05"] else self.others.get((name, keys["type"][0]), [])
+        offers = [offer.body() for offer in own]
         if what == "calendar":
             for offer in offers:
                 offer["spans"] = [{"first": keys["from"][0], "last": keys["to"][0], "amount": offer.pop("amount")}]
@@ -135,12 +138,16 @@ class PlainSite:
         self.files |= {f"/state/{name}.json": state() for name in WHOLESALERS}
         self.files["/state/rules.json"] = json.dumps({"version": 1, "at": 1, "rules": RULES})
         self.asked: list[str] = []
+        # What the web server replies in the desk's place, if anything.
+        self.status: int | None = None
         return self.desk
 
     def reply(self, path: str) -> tuple[int, str, bytes]:
         target = urlsplit(path).path
         self.asked.append(target)
         if target.startswith(("/desk/articles/", "/desk/series/")):
+            if self.status:
+                return self.status, KINDS["json"], b""
             status, body = self.desk.reply(path.removeprefix("/desk"))
             return status, KINDS["json"], json.dumps(body).encode()
         if target in self.files:

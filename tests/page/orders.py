@@ -114,7 +114,7 @@ def marks(site: PlainSite, browser: Browser) -> Iterator[Outcome]:
     reasons = ["no ISBN", "no number of copies", "copies are a whole number from 1 to 9999"]
     yield Outcome("marks: why", told, [f"Line {at}: {reason}" for at, reason in enumerate(reasons, 2)])
     browser.one("#get-orders").click()
-    wanted = "3 lines order nothing: put them right, or strike them out. Nothing is saved."
+    wanted = "Lines that order nothing stand there: put them right, or strike them out. Nothing is saved."
     yield Outcome("marks: nothing is saved", status(browser, "Nothing is saved"), wanted)
     keys = Keyboard(browser)
     before = lines(browser)

@@ -144,7 +144,7 @@ export class Editor {
 
   #markedItem(line) {
     const words = say("order.markedLine", { number: line.number, reason: say(`order.reasons.${line.reason}`) });
-    const go = element("button", { type: "button", class: "small go" }, words);
+    const go = element("button", { type: "button", class: "link go" }, words);
     go.addEventListener("click", () => this.goTo(line));
     const strike = element("button", { type: "button", class: "small" }, say("order.strikeOne"));
     strike.setAttribute("aria-label", say("order.strikeOneOf", { number: line.number }));

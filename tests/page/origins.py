@@ -1,7 +1,6 @@
 """What the web server lets through to the desk, and what another site makes a buyer's browser send."""
 
 import contextlib
-import re
 import socket
 import ssl
 import time
@@ -10,13 +9,11 @@ from pathlib import Path
 from string import Template
 from urllib.parse import urlsplit
 
-from tests.page.articles import ask, said
-from tests.page.browser import STRANGER, Browser, browsing
-from tests.page.site import NAME, PAGE, Site
+from tests.page.browser import STRANGER, Browser
+from tests.page.site import NAME, Site
 from tests.page.week import ISBN, article, empty_message
 from tests.program.serving import HOST, StandIn, standing_in
 from tests.running import Outcome
-from tools.root import ROOT
 
 PRICE = f"/desk/articles/{ISBN}/price?day=20250410&country=GB&currency=GBP&type=02"
 GAPS = "/desk/series/north/gaps"
@@ -72,11 +69,15 @@ def policies(site: Site) -> list[tuple[str, str, list[Field], int]]:
         ("GET", "/desk/series/nobody/gaps", [], 404),
         ("GET", "/nginx.conf", [], 404),
         ("GET", "/../passwords", [], 400),
-        ("GET", "/words.json", [], 200),
-        ("GET", "/rules.toml", [], 200),
-        ("GET", "/rules.toml", from_site("cross-site"), 403),
-        ("POST", "/rules.toml", [("Content-Length", "0")], 403),
-        ("POST", "/words.json", [("Content-Length", "0")], 403),
+        ("GET", "/state/north.json", [], 200),
+        ("GET", "/state/south.json", [], 404),
+        ("GET", "/state/north.json", from_site("cross-site"), 403),
+        ("POST", "/state/north.json", [("Content-Length", "0")], 403),
+        ("GET", "/state/../desk.json", [], 200),
+        ("GET", "/state/%2e%2e/own/desk.json", [], 404),
+        ("GET", "/state/titles/97812/97812345.json", [], 200),
+        ("GET", "/state/titles/00000/00000000.json", [], 204),
+        ("GET", "/state/titles/secret.json", [], 404),
     ]
 
 
@@ -85,6 +86,10 @@ THROUGH = ["200"] * 5 + ["404"]
 
 
 def server_rules(site: Site, browser: Browser) -> Iterator[Outcome]:
+    for name in ("north.json", "titles/97812/97812345.json", "titles/secret.json"):
+        path = site.state / name
+        path.parent.mkdir(parents=True, exist_ok=True)
+        path.write_text("{}", encoding="utf-8")
     before = site.mark()
     for method, path, fields, wanted in policies(site):
         status, _, _ = site.fetch(path, method, fields=fields)
@@ -127,112 +132,25 @@ POLICY = {
 }
 
 
-BEHIND = "private, max-age=0, stale-while-revalidate=604800"
-FOR_GOOD = "private, max-age=31536000, immutable"
-
-
 def reply_fields(site: Site, browser: Browser) -> Iterator[Outcome]:
-    [script], [sheet] = [[path.name for path in site.page.glob(f"page-*.{ending}")] for ending in ("js", "css")]
+    """A browser asks before it takes a file that it has kept, and keeps no answer."""
     for path, cache in [
-        ("/", BEHIND),
-        ("/desk.json", BEHIND),
-        ("/words.json", BEHIND),
-        ("/rules.toml", BEHIND),
-        ("/titles.json", BEHIND),
-        (f"/{script}", FOR_GOOD),
-        (f"/{sheet}", FOR_GOOD),
-        # That of another version, which is not there.
-        ("/page-0123456789abcdef.js", "no-cache"),
+        ("/", "no-cache"),
+        ("/desk.json", "no-cache"),
         ("/main.js", "no-cache"),
+        ("/state/rules.json", "no-store"),
         (GAPS, "no-store"),
         ("/desk/messages", "no-store"),
     ]:
-        _, fields, _ = site.fetch(path)
+        _, fields, _ = site.fetch(path, fields=[("Accept-Encoding", "gzip")])
         policy = {part.strip() for part in fields["Content-Security-Policy"].split(";")}
         yield Outcome(f"the policy of {path}", policy, POLICY)
         yield Outcome(f"what {path} may use", "camera=()" in fields["Permissions-Policy"], True)
         came = {name: fields.get(name) for name in FIELDS}
         yield Outcome(f"the fields of {path}", came, FIELDS)
         yield Outcome(f"how long {path} is kept", fields["Cache-Control"], cache)
-
-
-def quick(site: Site, browser: Browser) -> Iterator[Outcome]:
-    """What a slow network is spared: connections, and half of the bytes."""
-    context = ssl._create_unverified_context()
-    context.set_alpn_protocols(["h2", "http/1.1"])
-    with socket.create_connection((HOST, site.port)) as raw, context.wrap_socket(raw, server_hostname=NAME) as peer:
-        yield Outcome("HTTP/2", peer.selected_alpn_protocol(), "h2")
-    for path in (f"/{found.name}" for found in site.page.glob("page-*")):
-        _, fields, body = site.fetch(path, fields=[("Accept-Encoding", "gzip")])
-        yield Outcome(f"{path} is packed", fields.get("Content-Encoding"), "gzip")
-        whole = (site.page / path[1:]).stat().st_size
-        yield Outcome(f"{path}: {len(body)} of {whole} bytes", 3 * len(body) < whole, True)
-
-
-def number_in(path: Path, name: str) -> int:
-    """The number that stands behind a name, and an equals sign or none, in a file."""
-    found = re.search(rf"\b{name} ?=? ?([\d_]+)", path.read_text(encoding="utf-8"))
-    return int(found[1].replace("_", "")) if found else 0
-
-
-def burst(site: Site, browser: Browser) -> Iterator[Outcome]:
-    """What a whole list asks at most, and once more where it is saved, is within what the web server lets pass at once,
-    with room for other buyers."""
-    lines = number_in(PAGE / "order/lines.js", "MOST_LINES")
-    each = number_in(PAGE / "order/asking.js", "QUESTIONS")
-    more = number_in(PAGE / "order/asking.js", "MORE_QUESTIONS")
-    most = lines * (each + 1) + more
-    name = f"{lines} lines of {each} questions, {more} more, and {lines} where they are saved"
-    passed, kept = [number_in(ROOT / "examples/page/nginx.conf", word) for word in ("burst", "keepalive_requests")]
-    yield Outcome(f"{name}: {passed} pass", 0 < most <= passed * 0.9, True)
-    yield Outcome(f"{name}: over one connection, of {kept}", most <= kept * 0.9, True)
-
-
-# What a page costs that a browser has not seen before: its files, and how many bytes of them, packed, over the network.
-MOST_FILES, MOST_BYTES = 8, 100_000
-
-# What a page was given of its files: how many bytes of each came over the network.
-TAKEN = """
-return [...performance.getEntriesByType('navigation'), ...performance.getEntriesByType('resource')]
-  .filter(({ name }) => !name.includes('/desk/')).map(({ name, transferSize }) =>
-    [new URL(name).pathname, transferSize]);
-"""
-
-
-def kept_files(site: Site, browser: Browser) -> Iterator[Outcome]:
-    """A page that is opened once more asks for its first file alone before it asks the desk, and for the shop's own
-    behind that; what has changed in them is told."""
-
-    def opened(known: Browser) -> tuple[dict[str, int], list[str]]:
-        since = len(site.requests())
-        # By the same address, so that what is kept of it is taken.
-        known.driver.get("about:blank")
-        known.driver.get(site.address(f"/{article()}"))
-        said(known, "North Books")
-        taken: list[tuple[str, int]] = known.run(TAKEN)
-        # Of what is asked for twice the first is waited for.
-        return dict(reversed(taken)), [line.split(" ")[3] for line in site.requests()[since:]]
-
-    with browsing(site, is_trusting=True) as known:
-        taken, asked = opened(known)
-        yield Outcome(f"a first opening: {len(taken)} files", len(taken) <= MOST_FILES, True)
-        size = sum(taken.values())
-        yield Outcome(f"a first opening: {size} bytes", 0 < size <= MOST_BYTES, True)
-        taken, asked = opened(known)
-        came = sorted(path for path, bytes in taken.items() if bytes > 0)
-        yield Outcome("opened once more: what is waited for", came, ["/"])
-        yield Outcome("opened once more: no file with a digest", [path for path in asked if "page-" in path], [])
-        renewed = known.wait(lambda: any(line.endswith(" /desk.json") for line in site.requests()[-20:]))
-        yield Outcome("opened once more: the settings are asked for behind", renewed, True)
-        yield Outcome("nothing is told where they are the same", known.one("#renewed").is_displayed(), False)
-        site.write_settings(shop="Another Shop")
-        opened(known)
-        told = known.wait(lambda: known.shows("#renewed"))
-        yield Outcome("other settings are told", told, True)
-        known.one("#load-anew").click()
-        came = known.wait(lambda: known.text("#shop") == "Another Shop · buying")
-        yield Outcome("and taken", came, True)
-        site.write_settings()
+        if path == "/main.js":
+            yield Outcome(f"{path} is packed", fields.get("Content-Encoding"), "gzip")
 
 
 def slow_client(site: Site, browser: Browser) -> Iterator[Outcome]:
@@ -300,50 +218,4 @@ def another_site(site: Site, browser: Browser) -> Iterator[Outcome]:
     yield Outcome("the desk is as before", site.ask_desk("/series/north/gaps"), gaps)
 
 
-def own_host_alone(site: Site, browser: Browser) -> Iterator[Outcome]:
-    """The page asks no other host, by the browser's own record and by nginx's log."""
-    browser.driver.get("about:blank")
-    with browsing(site, is_recorded=True) as recorded:
-        yield from recorded_hosts(site, recorded)
-
-
-def recorded_hosts(site: Site, browser: Browser) -> Iterator[Outcome]:
-    browser.open("")
-    browser.requested()
-    browser.complaints()
-    asked = len(site.requests())
-    ask(browser, article())
-    browser.run("location.hash = '#missing'")
-    browser.wait_for_text("#as-of", "As of")
-    # Neither an empty page nor an address that is its own data asks a host.
-    addresses = [found for found in browser.requested() if not found.startswith(("about:", "data:"))]
-    hosts = {urlsplit(address)[:2] for address in addresses}
-    yield Outcome("the hosts that the browser asked", hosts, {("https", site.own_host())})
-    lines = [line.split(" ") for line in site.requests()[asked:]]
-    # No titles are kept, which the page asks at the mark that stands there where some are.
-    kinds = {(status, method, host, target == "/titles.json") for status, method, host, target in lines}
-    yield Outcome("what nginx was asked for", kinds, {("200", "GET", NAME, False), ("204", "GET", NAME, True)})
-    desk = [target.partition("?")[0] for _, _, _, target in lines if target.startswith("/desk/")]
-    wanted = {f"/desk/articles/{ISBN}/{what}" for what in ("price", "choice", "calendar")}
-    wanted |= {f"/desk/series/{name}/gaps" for name in ("north", "south", "west")}
-    yield Outcome("what the desk was asked for", set(desk), wanted)
-    # A browser that is open has the files with a digest already, and takes them from there.
-    seen = {path for address in addresses if not (path := urlsplit(address).path).startswith("/page-")}
-    asked_for = {target.partition("?")[0] for *_, target in lines}
-    yield Outcome("nginx and the browser agree", seen, {path for path in asked_for if not path.startswith("/page-")})
-    yield Outcome("the browser has nothing to complain of", browser.complaints(), [])
-
-
-def bare_port(site: Site, browser: Browser) -> Iterator[Outcome]:
-    """What the web server is there for: the desk's own port takes what a stranger's page posts."""
-    before = site.mark()
-    text = page("posting", host=HOST, port=str(site.desk_port), message=empty_message(10))
-    with strangers_site(text) as address:
-        browser.driver.get(address)
-        browser.wait(lambda: browser.driver.title != "begun")
-    came = site.lines_since(before)
-    yield Outcome(f"a stranger's post to the bare port ({came})", came in (["200"], ["202"]), True)
-
-
-CASES = [server_rules, hosts, reply_fields, quick, burst, kept_files, slow_client, own_host_alone, another_site]
-AT_THE_END = [bare_port]
+CASES = [server_rules, hosts, reply_fields, slow_client, another_site]

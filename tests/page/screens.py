@@ -1,246 +1,99 @@
-"""Narrow screens, paper, and what a screen reader and weak eyes have of the page."""
+"""Each view on wide and narrow screens, by day and by night: nothing beyond the window, no weak text, no small target, no
+control without a name."""
 
 import contextlib
-from collections.abc import Iterator
-from datetime import date
-from typing import Any
+from collections.abc import Callable, Iterator
 
-from tests.page.articles import answered, ask, has_calendar
+from tests.page import articles, orders
 from tests.page.browser import Browser
-from tests.page.calendars import unfold
-from tests.page.site import Site
-from tests.page.week import HOSTILE_ISBN, article
+from tests.page.list_desk import PlainSite, isbn_of, state
 from tests.running import Outcome
 
-CALENDAR = {"from": "2025-03-25", "until": "2025-04-25"}
-
-VIEWS = {
-    "article": article(**CALENDAR),
-    "a year": article(),
-    "a long reference": article(HOSTILE_ISBN),
-    "a wrong article": article("12"),
-    "missing": "#missing",
-}
-
+WIDTHS = (1440, 1280, 390)
+SCHEMES = ("light", "dark")
 LEAST_CONTRAST = 4.5
-
-
-def shown(browser: Browser, address: str) -> None:
-    browser.open(address)
-    browser.wait(lambda: browser.call("isAnswered"))
-    if has_calendar(browser):
-        answered(browser)
-        unfold(browser)
-        browser.run("document.getElementById('references').open = true")
+LEAST_BORDER = 3
 
 
 @contextlib.contextmanager
-def preferring(browser: Browser, feature: str, value: str) -> Iterator[None]:
+def preferring(browser: Browser, scheme: str) -> Iterator[None]:
     """Emulates what a buyer's system prefers."""
-    media = {"features": [{"name": feature, "value": value}]}
+    media = {"features": [{"name": "prefers-color-scheme", "value": scheme}]}
     browser.driver.execute_cdp_cmd("Emulation.setEmulatedMedia", media)
     yield
     browser.driver.execute_cdp_cmd("Emulation.setEmulatedMedia", {"features": []})
 
 
-def paper(site: Site, browser: Browser) -> Iterator[Outcome]:
-    """On paper there are the answers, and no fields and buttons."""
-    browser.driver.execute_cdp_cmd("Emulation.setEmulatedMedia", {"media": "print"})
-    browser.size(700, 1000)
-    for name in ("article", "missing"):
-        shown(browser, VIEWS[name])
-        seen = browser.call("seen", "button, input, select, nav, .skip")
-        yield Outcome(f"paper: {name}: no fields", seen, [])
-        yield Outcome(f"paper: {name}: nothing beyond", browser.call("beyondWindow"), [False, []])
-    shown(browser, VIEWS["article"])
-    parts = ["header .name", "#day-shown", "#article-status", "#answer-time", "#offers", "#picture", "#spans"]
-    yield Outcome("paper: the answers", [browser.one(part).is_displayed() for part in parts], [True] * 7)
-    browser.driver.execute_cdp_cmd("Emulation.setEmulatedMedia", {"media": ""})
-    browser.size(1100, 900)
+def show_article(site: PlainSite, browser: Browser) -> None:
+    articles.fill(site)
+    site.files["/state/alpha.json"] = state(quarantined=1)
+    articles.open_article(browser, articles.article(articles.BOOK, quantity="9"), "RRP")
+    browser.wait_for_text("#notes", "special sale")
+    browser.run("document.querySelectorAll('details').forEach((part) => { part.open = true; })")
 
 
-LEAST_BORDER = 3
+def show_list(site: PlainSite, browser: Browser) -> None:
+    orders.fill_for_checks(site.begin())
+    numbers = [0, 1, 9001, 9002, 9003, 9004, 9005, 9006]
+    text = "\n".join(f"{isbn_of(number)} 9 # Mrs Lindqvist" for number in numbers)
+    orders.open_list(browser, f"{text}\nDear Sirs, {'x' * 200}\n{isbn_of(3)}\n# {isbn_of(4)}\n")
+    orders.looked_up(browser, len(numbers))
 
 
-def weak(texts: list[Any]) -> list[Any]:
-    return [text for text in texts if text[1] < LEAST_CONTRAST]
+def show_orders(site: PlainSite, browser: Browser) -> None:
+    site.begin()
+    orders.open_list(browser, f"{isbn_of(0)} 2\n{isbn_of(1)} 1\n# {isbn_of(4)} 3\n")
+    orders.looked_up(browser, 2)
+    browser.one("#get-orders").click()
+    browser.wait(lambda: browser.shows("#orders"))
 
 
-def weak_texts(browser: Browser) -> list[Any]:
-    return weak(browser.call("contrasts"))
+def show_table(site: PlainSite, browser: Browser) -> None:
+    site.begin()
+    orders.open_list(browser, f"ISBN;Title;Copies\n{isbn_of(0)};{'W' * 300};2\n")
 
 
-SCHEMES = ("light", "dark")
+def show_missing(site: PlainSite, browser: Browser) -> None:
+    site.begin().missing = {"alpha": [[2, 3]]}
+    browser.open("#missing")
+    browser.wait_for_text("#missing-status", "look")
 
 
-def contrast(browser: Browser, name: str) -> Iterator[Outcome]:
-    for scheme in SCHEMES:
-        with preferring(browser, "prefers-color-scheme", scheme):
-            texts = browser.call("contrasts")
-            yield Outcome(f"contrast, {scheme}: {name} has texts", len(texts) > 10, True)
-            yield Outcome(f"contrast, {scheme}: {name}", weak(texts), [])
-
-
-def notes(site: Site, browser: Browser) -> Iterator[Outcome]:
-    """Fields and notes by day and by night."""
-    shown(browser, VIEWS["missing"])
-    browser.call("showNotes")
-    for scheme in SCHEMES:
-        with preferring(browser, "prefers-color-scheme", scheme):
-            border = browser.call("leastBorder")
-            yield Outcome(f"contrast, {scheme}: fields, {border}", border >= LEAST_BORDER, True)
-            yield Outcome(f"contrast, {scheme}: notes", weak_texts(browser), [])
-
-
-def widths(browser: Browser, name: str) -> Iterator[Outcome]:
-    """Nothing runs out of a narrow window, and what is pressed has room for a finger."""
-    browser.size(320, 800)
-    browser.wait(lambda: browser.call("beyondWindow") == [False, []])
-    yield Outcome(f"320 pixels: {name}", browser.call("beyondWindow"), [False, []])
-    browser.run("document.getElementById('more').hidden = false")
-    for width in (360, 1100):
-        browser.size(width, 800)
-        yield Outcome(f"targets of 24 pixels, {width}: {name}", browser.call("smallTargets"), [])
-
-
-def first_sight(site: Site, browser: Browser) -> Iterator[Outcome]:
-    """The answer begins within 200 pixels: on a screen, at 200 % zoom of it, and on a phone, where the labels of the
-    fields take one line."""
-    for language in ("de", "en-GB"):
-        site.write_settings(language=language)
-        ask(browser, article(day=date.today().isoformat()))
-        for width, height in ((1280, 720), (640, 360), (360, 740)):
-            browser.size(width, height)
-            browser.wait(lambda: browser.run("return innerWidth") == width)
-            top = browser.run("return document.getElementById('verdict').getBoundingClientRect().top")
-            name = f"{width} x {height}, {language}"
-            yield Outcome(f"{name}: the answer begins at {top}", top <= 200, True)
-            heights = browser.run(
-                "return [...document.querySelectorAll('.ask-line label')].map((label) => label.clientHeight)"
-            )
-            yield Outcome(f"{name}: labels of {heights} pixels", max(heights) < 30, True)
-    browser.size(1100, 900)
-
-
-def forced_colours(site: Site, browser: Browser) -> Iterator[Outcome]:
-    """Where the system sets the colours, the view that is open is the one that is underlined."""
-    with preferring(browser, "forced-colors", "active"):
-        browser.start()
-        edges = browser.call("linkLines")
-    yield Outcome("forced colours: the line below a view", edges, [["page", False], [None, True], [None, True]])
-
-
-def hyphens(site: Site, browser: Browser) -> Iterator[Outcome]:
-    style = browser.run("return getComputedStyle(document.querySelector('main')).hyphens")
-    yield Outcome("long words have hyphens", style, "auto")
-
-
-def at_once(site: Site, browser: Browser) -> Iterator[Outcome]:
-    """Questions that do not wait for each other are asked at once."""
-    browser.open("")
-    browser.call("holdAnswers", article())
-    answered(browser)
-    yield Outcome("price, choice and calendar at once", browser.run("return window.most") >= 3, True)
-
-
-# Roles that a screen reader stops at, each of which has to have a name.
-NAMED = {
-    "textbox",
-    "combobox",
-    "button",
-    "link",
-    "table",
-    "image",
-    "heading",
-    "navigation",
-    "region",
-    "Date",
-    "form",
-    "columnheader",
+VIEWS: dict[str, Callable[[PlainSite, Browser], None]] = {
+    "an article": show_article,
+    "a list": show_list,
+    "orders": show_orders,
+    "a table": show_table,
+    "missing messages": show_missing,
 }
 
 
-def part(node: dict[str, dict[str, str]], name: str) -> str:
-    return node.get(name, {}).get("value", "")
+def screens(site: PlainSite, browser: Browser) -> Iterator[Outcome]:
+    for name, show in VIEWS.items():
+        show(site, browser)
+        for width in WIDTHS:
+            browser.size(width, 900)
+            is_wider = browser.run("return document.documentElement.scrollWidth > innerWidth")
+            yield Outcome(f"{name}, {width}: no scrolling to the side", is_wider, False)
+            yield Outcome(f"{name}, {width}: what can be pressed", browser.call("smallTargets"), [])
+        browser.size(1280, 900)
+        for scheme in SCHEMES:
+            with preferring(browser, scheme):
+                weak = [text for text in browser.call("contrasts") if text[1] < LEAST_CONTRAST]
+                yield Outcome(f"{name}, {scheme}: weak texts", weak, [])
+                border = browser.call("leastBorder")
+                yield Outcome(f"{name}, {scheme}: borders of fields, {border:.1f}", border >= LEAST_BORDER, True)
+        yield Outcome(f"{name}: controls without a name, doubled ids", browser.call("unnamed"), [])
 
 
-def nodes(browser: Browser) -> list[tuple[str, str, str]]:
-    """The role, name and description of each node that the browser tells a screen reader of."""
-    browser.driver.execute_cdp_cmd("Accessibility.enable", {})
-    tree = browser.driver.execute_cdp_cmd("Accessibility.getFullAXTree", {})
-    # A page that goes on to tell a screen reader of each change takes longer for all of them.
-    browser.driver.execute_cdp_cmd("Accessibility.disable", {})
-    told = [node for node in tree["nodes"] if not node["ignored"]]
-    return [(part(node, "role"), part(node, "name"), part(node, "description")) for node in told]
-
-
-def accessible(browser: Browser, name: str) -> Iterator[Outcome]:
-    found = nodes(browser)
-    nameless = [node for node in found if node[0] in NAMED and not node[1].strip()]
-    yield Outcome(f"accessible: {name}: all have names", nameless, [])
-    levels = browser.call("headings")
-    steps = [after - before for before, after in zip(levels, levels[1:])]
-    whole = levels.count(1) == 1 and levels[0] == 1 and all(step <= 1 for step in steps)
-    yield Outcome(f"accessible: {name}: headings {levels}", whole, True)
-    ids = browser.run("return [...document.querySelectorAll('[id]')].map(({ id }) => id)")
-    yield Outcome(f"accessible: {name}: each id once", sorted(set(ids)), sorted(ids))
-
-
-def views(site: Site, browser: Browser) -> Iterator[Outcome]:
-    """Each view for a screen reader, by day and by night, on narrow screens and for fingers."""
-    for name, address in VIEWS.items():
-        shown(browser, address)
-        yield from accessible(browser, name)
-        yield from contrast(browser, name)
-        yield from widths(browser, name)
-        browser.size(1100, 900)
-
-
-def fields(site: Site, browser: Browser) -> Iterator[Outcome]:
-    shown(browser, VIEWS["a wrong article"])
-    browser.one("#change").click()
-    found = nodes(browser)
-    labels = [(role, name) for role, name, _ in found if role in ("textbox", "combobox", "Date")]
-    wanted = [
-        ("Date", "Day"),
-        ("combobox", "Price type"),
-        ("textbox", "Copies"),
-        ("textbox", "Country"),
-        ("textbox", "Currency"),
-        ("textbox", "ISBN"),
-    ]
-    yield Outcome("accessible: the fields", sorted(labels), wanted)
-    told = next(description for role, name, description in found if (role, name) == ("textbox", "ISBN"))
-    words = (
-        "Thirteen digits, or ten; what stands around them does not matter. These are 2 digits. An ISBN is "
-        "thirteen, or ten."
-    )
-    yield Outcome("accessible: what is wrong is told with its field", told, words)
-
-
-def live(site: Site, browser: Browser) -> Iterator[Outcome]:
-    """Answers stand in live regions, which are there before them."""
-    shown(browser, VIEWS["article"])
-    status = browser.run("return document.querySelector('#article-status').getAttribute('role')")
-    yield Outcome("accessible: the live region", status, "status")
-    found = nodes(browser)
-    tables = [name for role, name, _ in found if role == "table"]
-    names = ["Offers on 10 April 2025", "References of the wholesalers", "The same as a table"]
-    yield Outcome("accessible: the tables", tables, names)
-    picture = [name for role, name, _ in found if role == "image"]
-    days = "from 25 March 2025 to 25 April 2025"
-    words = f"Prices of 3 offers {days}, drawn to scale. The table below says the same."
-    yield Outcome("accessible: the picture", picture, [words])
-    cells = [role for role, _, _ in found if role in ("row", "columnheader", "rowheader", "cell")]
-    browser.size(320, 800)
-    narrow = [role for role, _, _ in nodes(browser) if role in ("row", "columnheader", "rowheader", "cell")]
+def first_sight(site: PlainSite, browser: Browser) -> Iterator[Outcome]:
+    """On a phone, and at twice the size, the answer begins within the window's first half."""
+    for width, height in ((390, 844), (640, 450)):
+        browser.size(width, height)
+        show_article(site, browser)
+        top = browser.run("return document.querySelector('#verdict').getBoundingClientRect().top + scrollY")
+        yield Outcome(f"{width} pixels: the answer begins at {top}", top < height / 2, True)
     browser.size(1100, 900)
-    yield Outcome("accessible: a narrow table is one too", narrow, cells)
-    # Not every browser keeps what a table is where its parts are laid out as blocks.
-    bare = browser.all("table:not([role]), :is(thead, tbody, tr, th, td):not([role])")
-    yield Outcome("accessible: the roles of tables are written out", len(bare), 0)
-    language = browser.run("return document.documentElement.lang")
-    yield Outcome("accessible: the language", language, "en-GB")
 
 
-CASES = [views, notes, paper, first_sight, forced_colours, hyphens, at_once, fields, live]
+CASES = [screens, first_sight]

@@ -6,75 +6,44 @@ from collections import abc
 from collections.abc import Callable, Iterator
 from functools import partial
 from pathlib import Path
-from typing import NamedTuple
+from typing import Any, NamedTuple
 
-from tests.page import (
-    articles,
-    calendars,
-    days,
-    ended,
-    hostile,
-    isbns,
-    keyboard,
-    misleading,
-    orders,
-    origins,
-    passwords,
-    prices,
-    refusals,
-    reports,
-    screens,
-    stops,
-    titles,
-)
-from tests.page.browser import Browser, browsing
-from tests.page.site import Site, running
+from tests.page import articles, missing, orders, origins, passwords, screens, shop
+from tests.page.browser import browsing
+from tests.page.list_desk import PlainSite
+from tests.page.site import running
 from tests.page.week import fill
 from tests.program.room import Room
 from tests.running import Cases, Chosen, Counted, Outcome, count_all
 
-Check = Callable[[Site, Browser], Iterator[Outcome]]
+# A function of a site and a browser.
+Check = Callable[[Any, Any], Iterator[Outcome]]
 
 
 class Sequence(NamedTuple):
-    """Cases at one site, by their functions; `is_whole` where what stands around a page in a browser counts too, such
-    as keys, passwords and files that are kept."""
+    """Cases at one site, by their functions; `is_plain` where the site is the page before a stand-in for the desk."""
 
     name: str
     cases: abc.Sequence[Check]
-    is_whole: bool = False
+    is_plain: bool = True
 
 
 SEQUENCES = [
-    Sequence("stops", stops.CASES),
-    Sequence("no answer", stops.OF_NO_ANSWER),
-    Sequence("minutes", [*reports.OVER_TIME, *titles.CASES]),
-    Sequence("questions", [*articles.CASES, *isbns.CASES, *days.CASES, *prices.CASES]),
-    Sequence("views", [*calendars.CASES, *reports.CASES, *hostile.CASES, *refusals.CASES]),
+    Sequence("views", [*articles.CASES, *missing.CASES]),
     Sequence("orders", orders.CASES),
-    Sequence("misleading", misleading.CASES),
     Sequence("screens", screens.CASES),
-    Sequence(
-        "browsers",
-        [*keyboard.CASES, *origins.CASES, *ended.CASES, *passwords.CASES, *origins.AT_THE_END],
-        is_whole=True,
-    ),
+    Sequence("shop", [*shop.CASES, *origins.CASES, *passwords.CASES], is_plain=False),
 ]
-
-# What the groups of a module build on, and is run before one of them.
-GROUND: dict[str, Check] = {
-    "titles": titles.not_kept,
-}
 
 
 class Group(Cases):
     """Cases at the site of their sequence, which is put up before."""
 
-    def __init__(self, check: Check, is_whole: bool) -> None:
+    def __init__(self, check: Check, is_plain: bool) -> None:
         super().__init__(check.__name__, check.__module__)
         self.check = check
-        self.is_whole = is_whole
-        self.place: tuple[Site, Browser] | None = None
+        self.is_plain = is_plain
+        self.place: tuple[Any, Any] | None = None
 
     def outcomes(self) -> Iterator[Outcome]:
         if self.place is None:
@@ -82,29 +51,31 @@ class Group(Cases):
         return self.check(*self.place)
 
 
+def count_at(place: tuple[Any, Any], groups: list[Group], case: str) -> Counted:
+    for group in groups:
+        group.place = place
+    return count_all(groups, case)
+
+
 def try_at_a_site(program: Path, groups: list[Group], case: str) -> Counted:
+    if groups[0].is_plain:
+        plain = PlainSite()
+        with browsing(plain, is_whole=False) as browser:
+            return count_at((plain, browser), groups, case)
     with tempfile.TemporaryDirectory(prefix="onixdesk-page-") as folder:
         # nginx's workers read the page as another user.
         os.chmod(folder, 0o755)
         room = Room(program, Path(folder))
         fill(room)
-        is_whole = any(group.is_whole for group in groups)
-        with running(room) as site, browsing(site, is_whole=is_whole) as browser:
-            for group in groups:
-                group.place = site, browser
-            return count_all(groups, case)
+        with running(room) as site, browsing(site) as browser:
+            return count_at((site, browser), groups, case)
 
 
 def chosen_groups(sequences: list[Sequence], chosen: Chosen) -> list[list[Group]]:
-    """The groups of each sequence that are chosen, with what they build on, without sequences of none."""
-    found = [[Group(check, sequence.is_whole) for check in sequence.cases] for sequence in sequences]
-    kept = [with_ground(groups, chosen) for groups in found]
+    """The groups of each sequence that are chosen, without sequences of none."""
+    found = [[Group(check, sequence.is_plain) for check in sequence.cases] for sequence in sequences]
+    kept = [[group for group in groups if chosen.has(group)] for groups in found]
     return [groups for groups in kept if groups]
-
-
-def with_ground(groups: list[Group], chosen: Chosen) -> list[Group]:
-    grounds = [GROUND.get(group.module) for group in groups if chosen.has(group)]
-    return [group for group in groups if chosen.has(group) or group.check in grounds]
 
 
 def lanes(program: Path, sequences: list[list[Group]], case: str) -> list[Callable[[], Counted]]:

@@ -186,6 +186,7 @@ SUPPLIED = composite(
     leaf("SupplierRole", "04|01", "|4"),
     identifiers("Supplier", 2),
     leaf("SupplierName", "North|South &amp; Sons", f"|{CONTROL}|{LONG}", 15),
+    leaf("SupplierRole", "", "02", 15),
 )
 
 DETAIL = composite(
@@ -212,6 +213,7 @@ PRODUCT = composite(
     leaf("NotificationType", "03|04|05|01|02|88", "|3|three"),
     rarely(identifiers("Product", 3), ISBN, 5),
     leaf("PublishingDetail", "|<SalesRights/>|<Note><SalesRights/></Note>"),
+    leaf("RecordReference", "", "R5", 12),
     some(SUPPLY, 2),
 )
 
@@ -221,7 +223,7 @@ ADDRESSEE = composite("Addressee", identifiers("Addressee", 2))
 HEADER = composite(
     "Header",
     rarely(composite("Sender", identifiers("Sender", 2)), some_of(element("Sender", "")), 4),
-    rarely(few(ADDRESSEE, 2), some_of("", element("Addressee", "")), 4),
+    rarely(few(ADDRESSEE, 2), some_of("", element("Addressee", "")), 8),
     leaf("MessageNumber", "1|7|0012|00000000400000", "|0|x|1234567890|999999999", 15),
     leaf("MessageRepeat", "|2", "x|1234567890"),
     leaf("SentDateTime", "|20250303T0615Z", f"{CONTROL}|{LONG}"),
@@ -233,7 +235,7 @@ MESSAGE = rarely(parts(PRODUCT, HEADER), parts(HEADER, some(PRODUCT, 3)), 60)
 
 
 # What is put before or behind an end tag: what comes again, with the NAME in that tag; what changes nothing, or is a
-# stranger; and what is no XML.
+# stranger; and what makes it no message.
 AGAIN = ["<NAME/>", "<NAME>7</NAME>"]
 ASIDE = [
     " \n",
@@ -259,9 +261,9 @@ ASIDE = [
     "<PRODUCTIDENTIFIER/>",
     "<Idvalue/>",
     "<discountcoded/>",
-    "<Header/>",
 ]
-NO_XML = [
+NO_MESSAGE = [
+    "<Header/>",
     "&nobody;",
     "&",
     "<x y='1' y='1'/>",
@@ -270,7 +272,7 @@ NO_XML = [
     "]]>",
 ]
 
-PUT = rarely(some_of(*NO_XML), st.one_of(some_of(*ASIDE), some_of(*AGAIN)), 15)
+PUT = rarely(some_of(*NO_MESSAGE), st.one_of(some_of(*ASIDE), some_of(*AGAIN)), 15)
 AMONG = st.lists(st.tuples(st.integers(0, 999), st.booleans(), PUT), max_size=3)
 
 

@@ -99,7 +99,9 @@ TERRITORY = composite(
     leaf("RegionsExcluded", "", "CA-QC|GB-NIR US-NY2|ECZ|IE|GB-|WORLD", 8),
 )
 
-MARKET = composite("Market", rarely(some_of(""), TERRITORY, 20), leaf("SalesRestriction", "|x"))
+# Markets are of countries, or of the world without some, so that several of a ProductSupply become one in every way.
+WORLD_BUT = composite("Territory", leaf("RegionsIncluded", "WORLD|"), countries("CountriesExcluded", 2))
+MARKET = composite("Market", rarely(some_of(""), st.one_of(TERRITORY, WORLD_BUT), 20), leaf("SalesRestriction", "|x"))
 
 
 # Prices.

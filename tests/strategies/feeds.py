@@ -2,7 +2,7 @@
 feed that fails shrinks to one that is short and right but for what makes it fail."""
 
 import re
-from typing import Any, TypeVar
+from typing import TypeVar
 
 from hypothesis import strategies as st
 from hypothesis.strategies import SearchStrategy
@@ -331,7 +331,7 @@ LARGE: Text = st.builds(filled, SIZES)
 NUMBERS = [("", ""), ("7", ""), ("", "1000"), ("", "007")]
 
 
-def words(tables: SearchStrategy[Any], more: int) -> SearchStrategy[Words]:
+def words(tables: SearchStrategy[tuple[Term, ...] | None], more: int) -> SearchStrategy[Words]:
     """Words that let through what is wrong, or, once in so many, any."""
 
     def of(parts: int, numbers: tuple[str, str], id_type: str, wrong: str, table: tuple[Term, ...] | None) -> Words:
@@ -354,7 +354,13 @@ TERM = st.builds(
     some_of("", "", "GBP", "EUR"),
     some_of("", "", "20", "5.5", "250", "feed"),
 )
-TABLES = st.lists(TERM, max_size=4).map(lambda terms: tuple(terms))
+
+
+def table(terms: list[Term]) -> tuple[Term, ...]:
+    return tuple(terms)
+
+
+TABLES = st.lists(TERM, max_size=4).map(table)
 
 WORDS = words(st.none(), 4)
 WORDS_WITH_TERMS = words(TABLES, 20)

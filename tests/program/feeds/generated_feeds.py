@@ -159,8 +159,6 @@ def check(kind: Kind, share: int, room: Room) -> Iterator[Outcome]:
 
     from tests.strategies import feeds as strategies
 
-    # Hypothesis keeps tables of characters there.
-    os.environ["HYPOTHESIS_STORAGE_DIRECTORY"] = str(room.folder)
     seen: Counter[str] = Counter()
     wrong: list[Outcome] = []
     messages: list[str] = []

@@ -10,7 +10,7 @@ from random import Random
 import psycopg2
 
 from tests.postgres.cluster import Cluster
-from tests.postgres.follower import Tables, execute, follow, in_file, in_postgres, kind, words_of
+from tests.postgres.follower import execute, follow, in_file, in_postgres, kind, words_of
 from tests.program.databases import DATABASE
 from tests.program.messages import AGREEMENT, priced_by_number
 from tests.program.room import SECONDS, Room
@@ -32,20 +32,24 @@ def deliver(room: Room, *numbers: int, agreement: bytes = b"") -> None:
 def killed_at_some_moments(cluster: Cluster, room: Room) -> Iterator[Outcome]:
     """What is seen then is of one of two moments, and the next run brings all."""
     database = cluster.make_database("killed")
+    deliver(room, 1, agreement=AGREEMENT)
+    began = time.monotonic()
+    follow(room, database)
+    took = time.monotonic() - began
     moments = Random(61)
-    before: Tables = {}
-    for number in range(1, 9):
-        deliver(room, number, agreement=AGREEMENT if number == 1 else b"")
+    for number in range(2, 12):
+        before = in_postgres(database)
+        if number % 2:
+            execute(database, "UPDATE desk.front SET digest = 'of another desk'")
+        deliver(room, number)
         after = in_file(room)
         run = subprocess.Popen(words_of(room, database), cwd=room.folder, stdout=subprocess.PIPE)
-        time.sleep(moments.uniform(0.05, 0.5))
+        time.sleep(moments.uniform(took / 4, took))
         run.kill()
         run.communicate(timeout=SECONDS)
-        came = in_postgres(database)
-        yield Outcome(f"killed, {number}: one of two moments", came in (before, after), True)
+        yield Outcome(f"killed, {number}: one of two moments", in_postgres(database) in (before, after), True)
         follow(room, database)
         yield Outcome(f"killed, {number}: the run behind it brings all", in_postgres(database) == after, True)
-        before = after
 
 
 def two_at_once(cluster: Cluster, room: Room) -> Iterator[Outcome]:

@@ -3,7 +3,19 @@
 
 import { inWords, today } from "../text/days.js";
 import { say, sayCount } from "../text/wording.js";
-import { allOf, rangesInShort } from "./ranges.js";
+
+/** How many numbers a range has. */
+const howMany = ([from, to]) => to - from + 1;
+
+/** How many numbers ranges have. */
+export const allOf = (ranges) => ranges.reduce((sum, range) => sum + howMany(range), 0);
+
+/** Ranges in words, such as 3 to 4, 7. */
+export function rangesInShort(ranges) {
+  return ranges
+    .map(([from, until]) => (from === until ? String(from) : say("missing.short", { from, until })))
+    .join(", ");
+}
 
 /** The wholesaler's number of the message that a number of the desk is a part of; it may be below 1, where none is. */
 export function ofSender(number, { parts, offset }) {

@@ -3,7 +3,7 @@
 
 import { urlBeside } from "../text/address.js";
 import { formatter, say, sayCount } from "../text/wording.js";
-import { allOf, rangesInShort } from "./ranges.js";
+import { allOf, rangesInShort } from "./request.js";
 
 // The inbox writes its file at each run; an older one says nothing of now.
 const FRESH_SECONDS = 15 * 60;

@@ -1,6 +1,6 @@
-// What the desk answered about a row of an order list: what is ordered of it, and why a person should look.
+// What the desk answered about a row of an order list: what is ordered of it, why a person should look, and sums.
 
-import { compareAmounts, difference, isNothing, times } from "../text/amounts.js";
+import { compareAmounts, difference, isNothing, sumOf, times } from "../text/amounts.js";
 import { today } from "../text/days.js";
 import { farOf } from "../article/retail.js";
 import { keyOf } from "../desk/offers.js";
@@ -73,3 +73,21 @@ export function unpricedOf({ offers }) {
 export function priced({ offers }) {
   return offers.filter(isPriced);
 }
+
+function summed(rows) {
+  return {
+    books: rows.length,
+    copies: rows.reduce((count, { row }) => count + row.copies, 0),
+    amount: sumOf(rows.map(({ row, state }) => times(state.offer.amount, row.copies))),
+  };
+}
+
+/** The sums of ordered rows: of each series, in their order, and of all. */
+export function sumsOf(rows) {
+  const names = [...new Set(rows.map(({ state }) => state.offer.series))];
+  const ofSeries = (name) => summed(rows.filter(({ state }) => state.offer.series === name));
+  return { bySeries: names.map((series) => ({ series, ...ofSeries(series) })), all: summed(rows) };
+}
+
+/** Whether a sum is one from which on the carriage is free. */
+export const isFree = (amount, freeFrom) => compareAmounts(amount, freeFrom) >= 0;

@@ -9,7 +9,7 @@ import { element, found } from "../text/elements.js";
 import { messagesNotes } from "../missing/reports.js";
 import { wholesalerOf } from "../desk/settings.js";
 import { inDigits, say, sayCount } from "../text/wording.js";
-import { askedOf, changeOf, CONFIRMABLE, confirmKey, stateOf } from "./answers.js";
+import { askedOf, changeOf, CONFIRMABLE, confirmKey, stateOf, sumsOf } from "./answers.js";
 import { eachOf, OrderAsking } from "./asking.js";
 import { isTable } from "./csv-table.js";
 import { isFormula } from "./csv-form.js";
@@ -18,7 +18,6 @@ import { textOfFile } from "./files.js";
 import { hideOrders, showOrders, showRest, tellSaved } from "./orders.js";
 import { Rows } from "./rows.js";
 import { download, linesToPaste, printOrder } from "./saving.js";
-import { sumsOf } from "./sums.js";
 import { TableForm } from "./table-form.js";
 import { rowsOf, struckBooks, withLines, withMore, withSeries } from "./text.js";
 

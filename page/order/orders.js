@@ -5,7 +5,7 @@ import { timeInWords } from "../text/days.js";
 import { element, found, table } from "../text/elements.js";
 import { wholesalerOf } from "../desk/settings.js";
 import { inDigits, say, sayCount } from "../text/wording.js";
-import { isFree, sumsOf } from "./sums.js";
+import { isFree, sumsOf } from "./answers.js";
 
 const WAYS = ["csv", "copy", "print"];
 

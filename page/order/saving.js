@@ -7,7 +7,7 @@ import { undirected } from "../text/said.js";
 import { wholesalerOf } from "../desk/settings.js";
 import { inDigits, say, wordsOfCode } from "../text/wording.js";
 import { ABOVE, formOf, textIn, withSign } from "./csv-form.js";
-import { sumsOf } from "./sums.js";
+import { sumsOf } from "./answers.js";
 
 const ON_PAPER = "order-on-paper";
 const AMOUNTS = ["copies", "price", "sum"];

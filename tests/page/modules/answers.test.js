@@ -3,9 +3,8 @@
 import assert from "node:assert/strict";
 import { test } from "node:test";
 
-import { changeOf, confirmKey, savingOf, stateOf, unpricedOf } from "../page/order/answers.js";
+import { changeOf, confirmKey, savingOf, stateOf, sumsOf, unpricedOf } from "../page/order/answers.js";
 import { agree } from "../page/desk/offers.js";
-import { sumsOf } from "../page/order/sums.js";
 
 const offer = (series, amount, more = {}) => ({ series, reference: "R", place: 1, availability: "21", amount, ...more });
 const answer = (offers, choice = null, retail = []) => ({ offers, choice, retail });

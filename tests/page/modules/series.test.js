@@ -4,8 +4,7 @@ import assert from "node:assert/strict";
 import { test } from "node:test";
 
 import { readRules, ruleInWords } from "../page/desk/rules.js";
-import { rangesInShort } from "../page/missing/ranges.js";
-import { lastOfSender, ofSender, rangesOfSender, requestFor } from "../page/missing/request.js";
+import { lastOfSender, ofSender, rangesInShort, rangesOfSender, requestFor } from "../page/missing/request.js";
 import { readState, reasonsOf, restInWords, termsInWords, typesIn } from "../page/missing/series.js";
 
 const NOW = 1764482525;

@@ -12,11 +12,14 @@ import contextlib
 import datetime
 import http.client
 import http.server
+import json
 import shutil
 import signal
 import subprocess
 import sys
 import tempfile
+import time
+import tomllib
 from collections.abc import Iterator
 from pathlib import Path
 
@@ -30,6 +33,19 @@ PORT = 8081
 VIEW = "#article?isbn=9780140328721&quantity=10"
 
 RULES = ROOT / "examples/shop/rules.toml"
+
+# What the inbox says of a wholesaler: that its files have numbers, and none is stopped.
+WHOLE = {
+    "version": 1,
+    "numbered": True,
+    "desk": True,
+    "silent": False,
+    "waiting": 0,
+    "quarantined": 0,
+    "refused": 0,
+    "older_terms": 0,
+    "prices": [["05", "GBP"]],
+}
 
 # For how many days the first prices of demo.csv hold.
 DAYS = 20
@@ -71,8 +87,16 @@ def desk(program: Path) -> Iterator[int]:
         shutil.rmtree(folder)
 
 
+def state_of(target: str) -> dict[str, object]:
+    """What stands beside the page in a shop: the rules that the desk has read, and how a wholesaler's files stand."""
+    now = int(time.time())
+    if target == "/state/rules.json":
+        return {"version": 1, "at": now, "rules": tomllib.loads(RULES.read_text(encoding="utf-8"))["rule"]}
+    return WHOLE | {"at": now, "taken_at": now, "heard_at": now}
+
+
 class Page(http.server.SimpleHTTPRequestHandler):
-    """The files of the page, and the desk's questions below `/desk/`. It takes GET and HEAD alone."""
+    """The page's modules as they are, the desk's questions below `/desk/`, and the inbox's reports below `/state/`."""
 
     desk_port = 0
     extensions_map = {**http.server.SimpleHTTPRequestHandler.extensions_map, ".js": "text/javascript"}
@@ -84,11 +108,11 @@ class Page(http.server.SimpleHTTPRequestHandler):
         target = self.path
         if target.startswith(("/desk/articles/", "/desk/series/")):
             self.ask(target.removeprefix("/desk"))
-        elif target == "/rules.toml":
-            self.reply(200, "text/plain; charset=utf-8", RULES.read_bytes())
-        elif target == "/titles.json" or target.startswith("/titles/"):
+        elif target.startswith("/state/titles/"):
             # There are none.
             self.reply(204, "application/json", b"")
+        elif target.startswith("/state/"):
+            self.reply(200, "application/json", json.dumps(state_of(target)).encode())
         else:
             super().do_GET()
 

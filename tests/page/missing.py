@@ -28,13 +28,17 @@ def three_states(site: PlainSite, browser: Browser) -> Iterator[Outcome]:
     yield Outcome("states: stop", card(browser, "alpha"), [*reasons, stands, letter, "Copy a letter to Alpha Books"])
     [last, *rest] = card(browser, "beta")
     clock = time.strftime("%H:%M")
-    unnumbered = last.startswith("Last file today ") and last.endswith(". It has no numbers: a lost file would not show.")
+    unnumbered = last.startswith("Last file today ") and last.endswith(
+        ". It has no numbers: a lost file would not show."
+    )
     yield Outcome(f"states: without numbers, at {clock}", unnumbered, True)
     yield Outcome("states: older terms", rest, [stands, "The prices of 12 articles are by an older table of terms."])
     yield Outcome("states: complete", card(browser, "gamma"), ["Complete: nothing is missing.", stands])
     tab = " ".join(browser.text("#to-missing").split())
     yield Outcome("states: at the tab", tab, "Missing messages 1 to look at")
-    green = browser.run("return [...document.querySelectorAll('.complete')].map((part) => part.parentElement.querySelector('h2').id)")
+    green = browser.run(
+        "return [...document.querySelectorAll('.complete')].map((part) => part.parentElement.querySelector('h2').id)"
+    )
     yield Outcome("states: green alone where all is numbered and there", green, ["series-gamma"])
 
 
@@ -62,7 +66,9 @@ def unseen(site: PlainSite, browser: Browser) -> Iterator[Outcome]:
 def letter(site: PlainSite, browser: Browser) -> Iterator[Outcome]:
     """The letter has the wholesaler's own numbers; where the browser does not copy, it is shown."""
     site.begin()
-    site.files["/desk.json"] = settings().replace('"free_from"', '"number_offset": 3, "mail": "edi@alpha.example", "free_from"')
+    site.files["/desk.json"] = settings().replace(
+        '"free_from"', '"number_offset": 3, "mail": "edi@alpha.example", "free_from"'
+    )
     site.desk.missing = {"alpha": [[2, 6]]}
     browser.open("#missing")
     browser.wait_for_text("#missing-status", "look")

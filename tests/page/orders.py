@@ -76,7 +76,9 @@ def status(browser: Browser, words: str) -> str:
 
 def looked_up(browser: Browser, books: int) -> None:
     """Waits until so many books are looked up."""
-    browser.wait(lambda: browser.count("#list tbody tr") == books and not browser.shows("#list-bar-words", "looking up"), SECONDS)
+    browser.wait(
+        lambda: browser.count("#list tbody tr") == books and not browser.shows("#list-bar-words", "looking up"), SECONDS
+    )
 
 
 def note_of(browser: Browser, number: int) -> str:
@@ -239,7 +241,9 @@ def till(site: PlainSite, browser: Browser) -> Iterator[Outcome]:
         yield Outcome("till: what is in no order", browser.texts("#rest-lines li"), rest)
 
 
-def files_of(files: dict[str, list[list[str]]], numbers: list[int], copies: dict[int, int], order: str) -> Iterator[Outcome]:
+def files_of(
+    files: dict[str, list[list[str]]], numbers: list[int], copies: dict[int, int], order: str
+) -> Iterator[Outcome]:
     """What each wholesaler's file has of those books."""
     yield Outcome("till: a file for each wholesaler", sorted(files), sorted(WHOLESALERS))
     for series, (_, *rows) in files.items():
@@ -248,7 +252,14 @@ def files_of(files: dict[str, list[list[str]]], numbers: list[int], copies: dict
             offers, chosen, _ = book_of(number)
             offer = offers[chosen or 0]
             if offer.series == series and offer.amount:
-                wanted.append([isbn_of(number), str(copies[number]), f"{offer.amount:.2f}", f"{offer.amount * copies[number]:.2f}"])
+                wanted.append(
+                    [
+                        isbn_of(number),
+                        str(copies[number]),
+                        f"{offer.amount:.2f}",
+                        f"{offer.amount * copies[number]:.2f}",
+                    ]
+                )
         yield Outcome(f"till: the file of {series}", [row[:4] for row in rows], wanted)
         yield Outcome(f"till: its reference, {series}", {row[6] for row in rows}, {order})
 
@@ -326,7 +337,9 @@ def changed(site: PlainSite, browser: Browser) -> Iterator[Outcome]:
         browser.one("#get-orders").click()
         browser.wait(lambda: browser.shows("#orders"), SECONDS)
         rows = browser.rows("#orders-table")
-        yield Outcome("by hand: it is ordered from the wholesaler behind @", [row[:2] for row in rows], [["Alpha Books", "3"]])
+        yield Outcome(
+            "by hand: it is ordered from the wholesaler behind @", [row[:2] for row in rows], [["Alpha Books", "3"]]
+        )
         browser.one("#order-reference").send_keys("=7")
         browser.one("[data-way=csv]").click()
         told = "An order reference begins with a letter or a digit. Nothing is saved."

@@ -87,9 +87,9 @@ THROUGH = ["200"] * 5 + ["404"]
 
 def server_rules(site: Site, browser: Browser) -> Iterator[Outcome]:
     for name in ("north.json", "titles/97812/97812345.json", "titles/secret.json"):
-        path = site.state / name
-        path.parent.mkdir(parents=True, exist_ok=True)
-        path.write_text("{}", encoding="utf-8")
+        file = site.state / name
+        file.parent.mkdir(parents=True, exist_ok=True)
+        file.write_text("{}", encoding="utf-8")
     before = site.mark()
     for method, path, fields, wanted in policies(site):
         status, _, _ = site.fetch(path, method, fields=fields)

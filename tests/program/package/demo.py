@@ -43,9 +43,9 @@ def page_of_a_week(room: Room) -> Iterator[Outcome]:
         for name, kind in {"index.html": "text/html", "desk/titles.js": "text/javascript"}.items():
             file = (ROOT / "page" / name).read_bytes()
             yield Outcome(f"demo: {name}", asked(port, "GET", f"/{name}"), (200, kind, file))
-        rules = (ROOT / "examples/shop/rules.toml").read_bytes()
-        yield Outcome("demo: the rules", asked(port, "GET", "/rules.toml")[2], rules)
-        yield Outcome("demo: no titles", asked(port, "GET", "/titles.json")[0], 204)
+        rules = json.loads(asked(port, "GET", "/state/rules.json")[2])["rules"]
+        yield Outcome("demo: the rules", rules[0], {"series": "south", "codes": ["21"], "max": "11.00"})
+        yield Outcome("demo: no titles", asked(port, "GET", "/state/titles/97801/97801403.json")[0], 204)
         # South is first by rule 1, at its price for ten copies, which ends in twenty days.
         found = chosen(port, 0), chosen(port, 21)
         yield Outcome("demo: the choice", found, (("south", "4.140", 1), ("south", "4.580", 1)))

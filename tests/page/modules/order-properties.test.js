@@ -99,8 +99,11 @@ test("a scan is one copy more of that book, and nothing else", () => {
 test("an ISBN alone is of one copy by a button alone", () => {
   for (let count = 0; count < TEXTS; count += 1) {
     const [good, lone] = [many(5, goodLine), many(5, () => ({ isbn: isbnAt(below(12)), copies: 1 }))];
-    const text = [...good.map((line) => line.text), ...lone.map(({ isbn }) => oneOf([isbn, `${isbn} # two`]))].join("\n");
-    assert.deepEqual(orderedOf(withOneCopy(text)), sums([...good, ...lone]), text);
+    const others = many(5, otherLine).filter((line) => !/^\d{13}$/.test(line));
+    const lines = [...others, ...good.map((line) => line.text), ...lone.map(({ isbn }) => oneOf([isbn, `${isbn} # two`]))];
+    const after = withOneCopy(lines.join("\n"));
+    assert.deepEqual(orderedOf(after), sums([...good, ...lone]), after);
+    assert.deepEqual(after.split("\n").slice(0, others.length).filter((line) => line !== ""), others);
   }
 });
 

@@ -1,1 +1,1 @@
-"""The tests from outside. They may use `bench` and `tools`, neither of which uses them."""
+"""The tests from outside. They may use `tools`, which uses neither them nor `bench`."""

@@ -37,7 +37,15 @@ def nothing_may_be_left_out() -> bool:
 
 # What whole commands of tests need.
 NODE = ["node"]
-PAGE = ["nginx", "openssl", "chromium", "chromium-headless-shell", "chromedriver", f"{DEBIAN_PYTHON}/selenium"]
+PAGE = [
+    "nginx",
+    "openssl",
+    "esbuild",
+    "chromium",
+    "chromium-headless-shell",
+    "chromedriver",
+    f"{DEBIAN_PYTHON}/selenium",
+]
 POSTGRES = ["/usr/lib/postgresql/15/bin/initdb", f"{DEBIAN_PYTHON}/psycopg2"]
 
 

@@ -5,7 +5,6 @@ from collections.abc import Iterable
 from typing import NamedTuple
 
 from tests.program.feeds.feed_oracle import HELD_BACK, UNFITTED, Note
-from tests.program.feeds.feed_terms import is_country
 from tests.program.feeds.feed_trees import Place
 
 # So many lines of notes a file has at most, and besides so many of products that are left out or emptied.
@@ -137,15 +136,3 @@ def count_line(notes: int, wrong_products: int = 0) -> str:
     """The line that counts all notes, and products that are wrong."""
     wrong = f", {counted(wrong_products, 'product')} wrong" if wrong_products else ""
     return counted(notes, "note") + wrong if notes else ""
-
-
-def miscounted(notes: list[Note], reasons: dict[str, int]) -> list[str]:
-    """The reasons that are counted less often than there are notes for them alone. A country is a text of the feed, which
-    no count has."""
-    found = []
-    for reason in sorted({reason for note in notes for reason in note.reasons if not is_country(reason)}):
-        count = sum(count for line, count in reasons.items() if reason.lower() in line.lower())
-        alone = sum(note.reasons == (reason,) for note in notes)
-        if count < alone:
-            found.append(f"{reason}: {count} of {alone}")
-    return found

@@ -19,7 +19,6 @@ from tests.program.feeds.feed_notes import (
     compared,
     count_line,
     is_named,
-    miscounted,
     notes_in,
     read_errors,
     read_summary,
@@ -87,17 +86,17 @@ def said_of(wanted: Wanted, said: list[Said]) -> list[object]:
 
 
 def summed(wanted: Wanted, lines: list[str]) -> tuple[object, object]:
-    """What the last lines count: all notes, those of each reason, products, and what has no note."""
+    """What the last lines count: notes, products, and what has no note."""
     verdict = wanted.verdict
     if verdict.refusal or not wanted.message:
         return lines, []
     summary = read_summary(lines)
     of_notes = notes_in(summary)
     alone = {name: count for name, count in summary.reasons.items() if name in NO_NOTES}
-    found = alone, summary.products, summary.last, sum(of_notes.values()), miscounted(verdict.notes, of_notes)
+    found = alone, summary.products, summary.last, sum(of_notes.values())
     count = len(verdict.notes)
     last = count_line(count, verdict.wrong_products)
-    return found, (counted_alone(verdict, wanted.message), products_of(verdict), last, count, [])
+    return found, (counted_alone(verdict, wanted.message), products_of(verdict), last, count)
 
 
 def counted_alone(verdict: Verdict, message: Message) -> dict[str, int]:

@@ -7,8 +7,9 @@ import { wholesalerOf } from "./settings.js";
 
 const isText = (value) => typeof value === "string";
 
-function isRule({ series, codes, max } = {}) {
-  return isText(series) && Array.isArray(codes) && codes.every(isText) && (max === undefined || isText(max));
+/** Whether a rule has what is known of one, and nothing else, of which its words would say nothing. */
+function isRule({ series, codes, max, ...others } = {}) {
+  return Object.keys(others).length === 0 && isText(series) && Array.isArray(codes) && codes.every(isText) && (max === undefined || isText(max));
 }
 
 /** The rules of a text, in order; `undefined` where it cannot be read. */

@@ -2,6 +2,7 @@
 // lacks. What the page itself changes can be undone by Ctrl+Z, as what is typed can.
 
 import { element, found } from "../text/elements.js";
+import { shortened } from "../text/said.js";
 import { say, sayCount } from "../text/wording.js";
 import { linesOf, markedOf, struck, withOneCopy } from "./text.js";
 import { isLikeIsbn } from "./line.js";
@@ -152,6 +153,6 @@ export class Editor {
       this.#strike([line]);
       (document.querySelector("#marked-lines button.go") ?? this.#field).focus();
     });
-    return element("li", {}, go, " ", element("q", {}, line.text.trim()), " ", strike);
+    return element("li", {}, go, " ", element("q", {}, shortened(line.text.trim())), " ", strike);
   }
 }

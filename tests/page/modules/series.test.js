@@ -95,7 +95,7 @@ test("rules are read as the desk has them, and said in words", () => {
   const rules = [{ series: "north", codes: ["20", "21"], max: "15.00" }, { series: "*", codes: ["22"] }];
   assert.deepEqual(readRules(JSON.stringify({ version: 1, at: 1, rules })), rules);
   assert.deepEqual(readRules(JSON.stringify({ version: 1, at: 1, rules: [] })), []);
-  for (const text of ["", "{", "{}", '{"version":2,"rules":[]}', '{"version":1,"rules":[{"series":"a"}]}', '{"version":1,"rules":[null]}']) {
+  for (const text of ["", "{", "{}", '{"version":2,"rules":[]}', '{"version":1,"rules":[{"series":"a"}]}', '{"version":1,"rules":[null]}', '{"version":1,"rules":[{"series":"a","codes":[],"min":"1"}]}']) {
     assert.equal(readRules(text), undefined, text);
   }
   const settings = { series: [{ name: "north", words: "North Books" }], currency: "GBP" };

@@ -116,7 +116,7 @@ function row(separator) {
   const isbn = isbnAt(below(12));
   const copies = oneOf(["1", "3", "12", "0", "", "2,0", "2 Stk", "-1", "007", "12345"]);
   const book = oneOf([isbn, isbn, hyphenated(isbn), `="${isbn}"`, `'${isbn}`, `${isbn} 2`, isbn.slice(0, 12), "", "9.78E+12"]);
-  const title = oneOf(["Catch, 22", 'The "Best"', "A; B", "13 Reasons Why", `${isbnAt(1)} 3`, "# 1 hit", "mail@north.example", ""]);
+  const title = oneOf(["Catch, 22", 'The "Best"', 'A "B"; C', 'A "B", C', "A; B", "13 Reasons Why", `${isbnAt(1)} 3`, "# 1 hit", "mail@north.example", ""]);
   const cells = [book, title, copies, "40"].slice(0, oneOf([4, 4, 4, 4, 3, 2]));
   const isOrder = cells.length === 4 && /^(1|3|12)$/.test(copies) && [isbn, hyphenated(isbn), `="${isbn}"`, `'${isbn}`].includes(book);
   const isZero = cells.length === 4 && copies === "0" && book !== "" && book.replace(/\D/g, "") === isbn && !book.includes(" ");

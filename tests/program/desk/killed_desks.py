@@ -40,7 +40,9 @@ def killed(room: Room, some: list[bytes], answered: int, seconds: float) -> int:
         run.stdout.readline()
     time.sleep(seconds)
     run.kill()
-    output, _errors = run.communicate(timeout=SECONDS)
+    # What has been read ahead stands before what is in the pipe.
+    output = run.stdout.read()
+    run.wait(SECONDS)
     return answered + output.count(b"\n")
 
 

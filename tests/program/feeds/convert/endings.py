@@ -251,7 +251,11 @@ REST = b"</ONIXmessage>"
 def first_parts(folder: Path) -> dict[str, int]:
     """The hidden files of first parts that are whole, and when each was written."""
     size = len(PARTS["message.part-01.csv"])
-    states = {path.name: path.stat() for path in folder.glob(".message.onixdesk.*.1")}
+    states = {}
+    for path in folder.glob(".message.onixdesk.*.1"):
+        # The run gives it another name meanwhile.
+        with contextlib.suppress(FileNotFoundError):
+            states[path.name] = path.stat()
     return {name: state.st_mtime_ns for name, state in states.items() if state.st_size == size}
 
 

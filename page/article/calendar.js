@@ -3,9 +3,9 @@
 import { bareMoney, money } from "../text/amounts.js";
 import { dayInShort, fromDesk, inWords, lengthOf, plusDays } from "../text/days.js";
 import { element, found } from "../text/elements.js";
-import { keyOf, referenceOf } from "../desk/offers.js";
+import { availabilityOf, keyOf, referenceOf } from "../desk/offers.js";
 import { wholesalerOf } from "../desk/settings.js";
-import { say, wordsOfCode } from "../text/wording.js";
+import { say } from "../text/wording.js";
 
 /** From a month before a day on, a year. */
 export function yearAround(day) {
@@ -49,8 +49,7 @@ function dayLine({ day, from, until }) {
 
 function lane(offer, { question, choice }, settings) {
   const isChosen = choice !== null && keyOf(offer) === keyOf(choice);
-  const availability = wordsOfCode("availabilities", offer.availability) ?? offer.availability;
-  const name = [wholesalerOf(settings, offer.series), " ", referenceOf(offer), `, ${availability}`];
+  const name = [wholesalerOf(settings, offer.series), " ", referenceOf(offer), `, ${availabilityOf(offer)}`];
   const bars = offer.spans.map((span) => bar(span, question, isChosen));
   return [
     element("p", { class: isChosen ? "lane-name chosen" : "lane-name" }, ...name),

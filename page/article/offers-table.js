@@ -3,10 +3,10 @@
 import { compareAmounts, difference, money, signedMoney } from "../text/amounts.js";
 import { dayInShort } from "../text/days.js";
 import { element, table } from "../text/elements.js";
-import { keyOf, referenceOf } from "../desk/offers.js";
+import { availabilityDot, keyOf, referenceOf } from "../desk/offers.js";
 import { kindOf } from "../desk/price-types.js";
 import { wholesalerOf } from "../desk/settings.js";
-import { inDigits, say, sayCount, wordsOfCode } from "../text/wording.js";
+import { inDigits, say, sayCount } from "../text/wording.js";
 import { copiesInWords, kindOfAnswer } from "./words.js";
 
 const tag = (className, words, title) => element("span", { class: `tag ${className}`, title }, words);
@@ -72,7 +72,7 @@ function rowOf(offer, answer, place) {
     className: isChosen(offer, answer.choice) && isWorthIt ? "chosen" : undefined,
     cells: [
       nameCell(offer, answer, place),
-      [wordsOfCode("availabilities", offer.availability) ?? offer.availability],
+      [availabilityDot(offer)],
       priceCell(offer, answer.question),
       ...(answer.choice === null ? [] : [differenceCell(offer, answer)]),
       ...(place.settings.quantities.length === 0 ? [] : [copiesCell(offer, answer, place)]),

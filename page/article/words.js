@@ -2,10 +2,10 @@
 
 import { isNothing, money, times } from "../text/amounts.js";
 import { inWords, today } from "../text/days.js";
-import { areUnpriced } from "../desk/offers.js";
+import { areUnpriced, availabilityOf } from "../desk/offers.js";
 import { kindOf } from "../desk/price-types.js";
 import { wholesalerOf } from "../desk/settings.js";
-import { codeInWords, inDigits, say, sayCount, wordsOfCode } from "../text/wording.js";
+import { codeInWords, inDigits, say, sayCount } from "../text/wording.js";
 import { retailInWords } from "./retail.js";
 
 /** How many copies, in words. */
@@ -42,7 +42,8 @@ export function sentenceOf(answer, settings, doubtful) {
     return wholesalers === "" ? say("article.noOffers") : say("article.noOffersYet", { wholesalers });
   }
   if (kind === "unpriced") {
-    return say("article.unpriced", { type: codeInWords("priceTypes", type), copies: copiesInWords(quantity), currency });
+    const path = kindOf(type) === "net" ? "article.unpricedNet" : "article.unpriced";
+    return say(path, { type: codeInWords("priceTypes", type), copies: copiesInWords(quantity), currency });
   }
   if (kind === "notChosen") return say("article.notChosen");
   return say(`article.chosen.${kind}`, {
@@ -66,6 +67,6 @@ export function detailsOf(answer) {
   const parts = [say("article.answerFor", { isbn: question.isbn })];
   if (kindOfAnswer(answer) === "none") return [...parts, say("article.askPublisher")];
   if (choice === null || areUnpriced(answer.offers)) return parts;
-  parts.push(wordsOfCode("availabilities", choice.availability) ?? choice.availability);
+  parts.push(availabilityOf(choice));
   return [...parts, ...retailInWords(retail, choice, question)];
 }

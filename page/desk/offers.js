@@ -2,10 +2,19 @@
 
 import { element } from "../text/elements.js";
 import { undirected } from "../text/said.js";
+import { wordsOfCode } from "../text/wording.js";
 
 /** What tells an offer from all others. */
 export function keyOf({ series, reference, place }) {
   return JSON.stringify([series, reference, place]);
+}
+
+/** How an offer can be had, in words. */
+export const availabilityOf = ({ availability: code }) => wordsOfCode("availabilities", code) ?? code;
+
+/** The same behind a dot, by which what is there is seen from afar. */
+export function availabilityDot(offer) {
+  return element("span", { class: `dot from-${offer.availability}` }, availabilityOf(offer));
 }
 
 /** Whether no offer has a price. */

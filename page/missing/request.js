@@ -4,11 +4,8 @@
 import { inWords, today } from "../text/days.js";
 import { say, sayCount } from "../text/wording.js";
 
-/** How many numbers a range has. */
-const howMany = ([from, to]) => to - from + 1;
-
 /** How many numbers ranges have. */
-export const allOf = (ranges) => ranges.reduce((sum, range) => sum + howMany(range), 0);
+export const allOf = (ranges) => ranges.reduce((sum, [from, until]) => sum + until - from + 1, 0);
 
 /** Ranges in words, such as 3 to 4, 7. */
 export function rangesInShort(ranges) {

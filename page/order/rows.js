@@ -6,8 +6,9 @@ import { catalogueLink } from "../article/catalogue.js";
 import { element, found, table, tableRow } from "../text/elements.js";
 import { farInWords, farOf } from "../article/retail.js";
 import { titleNodes, titlesOfOffers } from "../desk/titles.js";
+import { availabilityDot, availabilityOf } from "../desk/offers.js";
 import { wholesalerOf } from "../desk/settings.js";
-import { inDigits, say, sayCount, wordsOfCode } from "../text/wording.js";
+import { inDigits, say, sayCount } from "../text/wording.js";
 import { changeOf, CONFIRMABLE, priced, savingOf, unpricedOf } from "./answers.js";
 
 const COLUMNS = ["title", "copies", "wholesaler", "availability", "price", "sum", "note"];
@@ -19,7 +20,6 @@ const columns = () => COLUMNS.map((name) => ({
   className: AMOUNTS.includes(name) ? `${name} amount` : CLASSES[name] ?? name,
 }));
 
-const inPlainWords = (availability) => wordsOfCode("availabilities", availability) ?? availability;
 
 /** The title that a feed said, or only the ISBN, with a link to the article. */
 function titleCell(row, answer, { settings, titles }) {
@@ -39,9 +39,9 @@ function copiesCell({ isbn, copies, lines }, { goTo }) {
   return [button];
 }
 
-function offerInWords({ series, amount, availability }, { settings }) {
-  const price = money(amount, settings.currency);
-  return say("order.offer", { wholesaler: wholesalerOf(settings, series), price, availability: inPlainWords(availability) });
+function offerInWords(offer, { settings }) {
+  const price = money(offer.amount, settings.currency);
+  return say("order.offer", { wholesaler: wholesalerOf(settings, offer.series), price, availability: availabilityOf(offer) });
 }
 
 /** The field by which a hand chooses a wholesaler, which then stands behind `@` in the text. */
@@ -120,7 +120,7 @@ function savingPart(row, answer, { offer }, { settings }) {
   const words = say("order.saving", {
     amount: money(saving.amount, settings.currency),
     wholesaler: wholesalerOf(settings, saving.offer.series),
-    availability: inPlainWords(saving.offer.availability),
+    availability: availabilityOf(saving.offer),
   });
   const why = row.series === undefined
     ? say("order.preferred", { rule: answer.choice.rule, wholesaler: wholesalerOf(settings, offer.series) })
@@ -151,7 +151,7 @@ function cellsOf(row, answer, state, context) {
     titleCell(row, answer, context),
     copiesCell(row, context),
     wholesalerCell(row, answer, state, context),
-    [offer === undefined ? "" : inPlainWords(offer.availability)],
+    [offer === undefined ? "" : availabilityDot(offer)],
     [offer === undefined ? "" : money(offer.amount, currency)],
     [offer === undefined ? "" : money(times(offer.amount, row.copies), currency)],
     noteCell(row, answer, state, context),

@@ -42,6 +42,7 @@ export const texts = {
     start: "ISBN scannen oder tippen: die Seite sagt, bei wem das Buch zu kaufen ist, zu welchem Preis und warum. Für mehrere Bücher gibt es die Bestellliste.",
     askPublisher: "der Verlag verkauft es vielleicht",
     inCatalogue: "im Katalog nachsehen",
+    unpricedNet: "Kein Nettopreis in {currency} für {copies}",
     unpriced: "Kein Preis in {currency} für {copies} der Art {type}",
     retail: "UVP {retail} · Spanne {margin}",
     retailsDiffer: "Die empfohlenen Preise sind verschieden: {all}.",

@@ -42,6 +42,7 @@ export const texts = {
     start: "Scan or type an ISBN: the page says from whom to buy the book, at what price, and why. For several books, use the order list.",
     askPublisher: "its publisher may sell it",
     inCatalogue: "look it up in the catalogue",
+    unpricedNet: "No net price in {currency} for {copies}",
     unpriced: "No price in {currency} for {copies} of type {type}",
     retail: "RRP {retail} · margin {margin}",
     retailsDiffer: "Recommended prices differ: {all}.",

@@ -70,7 +70,7 @@ export class Editor {
 
   /** Puts another text in place of this one, which Ctrl+Z brings back. */
   change(after) {
-    this.#steps.push({ before: this.text, after });
+    this.#steps = [...this.#steps.slice(-50), { before: this.text, after }];
     this.#put(after);
   }
 

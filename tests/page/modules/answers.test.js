@@ -4,6 +4,7 @@ import assert from "node:assert/strict";
 import { test } from "node:test";
 
 import { changeOf, confirmKey, savingOf, stateOf, sumsOf, unpricedOf } from "../page/order/answers.js";
+import { farInWords } from "../page/article/retail.js";
 import { agree } from "../page/desk/offers.js";
 
 const offer = (series, amount, more = {}) => ({ series, reference: "R", place: 1, availability: "21", amount, ...more });
@@ -73,6 +74,16 @@ test("another offer of the same answer that costs less is told, with what it sav
   const [chosen, less] = [offer("north", "14.000"), offer("south", "8.000")];
   assert.deepEqual(savingOf(answer([chosen, less]), chosen, 9), { offer: less, amount: "54.000" });
   assert.equal(savingOf(answer([chosen, offer("south", "14.000"), offer("west", null)]), chosen, 9), undefined);
+});
+
+test("a price that is far from others is told with the side on which it lies", () => {
+  for (const [far, amount, words] of [
+    [{ retail: "12.990" }, "13.500", "£13.50 is above the recommended price, £12.99: ask before you order."],
+    [{ retail: "12.990" }, "1.000", "£1.00 is far below the recommended price, £12.99: ask before you order."],
+    [{ next: "9.000" }, "1.000", "£1.00 is far below the next offer, £9.00: ask before you order."],
+  ]) {
+    assert.equal(farInWords(far, { amount }, "GBP"), words);
+  }
 });
 
 test("who has no price of the type", () => {

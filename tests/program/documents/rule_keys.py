@@ -15,7 +15,7 @@ ROW = re.compile(r"^\| `([a-z]+)` \| [^|]* \| (yes|no) \|$", re.MULTILINE)
 READERS = {
     "the desk": ("crates/price_rules/src/toml_rules.rt", r'key == "([a-z]+)"'),
     "the line of a fault": ("crates/program_rules/src/rules_faults.rt", r'(?:&str\||\|\|) key == "([a-z]+)"'),
-    "the page": ("page/desk/rules.js", r'(?:isRule\(\{ |, )([a-z]+)(?=[^\n]*, \.\.\.others)'),
+    "the page": ("page/desk/rules.js", r"(?:isRule\(\{ |, )([a-z]+)(?=[^\n]*, \.\.\.others)"),
 }
 
 

@@ -1,5 +1,5 @@
-//! Calls that no run of the program makes: requests asked as one list, and the calendar day by day. What is to
-//! come is taken from the desk's written rules.
+//! Calls that no run of the program makes: requests asked as one list, the offers of a catalogue, and the
+//! calendar day by day. What is to come is taken from the desk's written rules.
 
 use crate::cases::{expect, expect_bytes, found, made};
 use csv_records::reading::RecordReader;
@@ -12,6 +12,7 @@ use onix_terms::day::Day;
 use onix_terms::isbn13::Isbn13;
 use onix_terms::items::Items;
 use onix_terms::quantity::Quantity;
+use onix_terms::series_name::SeriesName;
 use price_rules::calendar::{CalendarFault, Span, calendar};
 use price_rules::day_by_day::calendar_day_by_day;
 use price_rules::offer::{CalendarQuery, Offer};
@@ -126,19 +127,31 @@ fn expect_calendar(alloc: Global, stop: &impl Abort, offer: &Offer) {
     );
 }
 
-// That of the offer that the desk then has.
-fn expect_offer<D: Desk>(alloc: Global, stop: &impl Abort, desk: &mut D) {
-    let article = found(stop, Isbn13::read("9781234567897"), "an article");
-    let offers = made(stop, desk.offers_of(&article));
-    match offers.as_slice() {
-        [offer] => expect_calendar(alloc, stop, offer),
+// One offer, of R1, with that calendar.
+fn expect_one(alloc: Global, stop: &impl Abort, offers: &[Offer]) {
+    match offers {
+        [offer] => {
+            expect(stop, offer.reference.as_str() == "R1", "the offer of R1");
+            expect_calendar(alloc, stop, offer);
+        }
         _ => stop.panic("one offer"),
     }
 }
 
+// The offers of an article by the desk, and by its catalogue.
+fn expect_offers<D: Desk>(alloc: Global, stop: &impl Abort, desk: &mut D) {
+    let article = found(stop, Isbn13::read("9781234567897"), "an article");
+    let offers = made(stop, desk.offers_of(&article));
+    expect_one(alloc, stop, offers.as_slice());
+    let north = found(stop, SeriesName::read("north"), "a series");
+    let catalogue = found(stop, made(stop, desk.catalogue(&north)), "a catalogue");
+    let offers = made(stop, catalogue.offers_of(&north, &article));
+    expect_one(alloc, stop, offers.as_slice());
+}
+
 fn expect_all<D: Desk>(alloc: Global, stop: &impl Abort, desk: &mut D) {
     expect_answers(alloc, stop, desk);
-    expect_offer(alloc, stop, desk);
+    expect_offers(alloc, stop, desk);
 }
 
 #[test]

@@ -56,14 +56,6 @@ put_series south 4012345000009: unusable
 unusable
 -- as before
 
-== put_price 1 2 1
-commit
-put_record north R3
-put_price 1 2 1: unusable
--- wanted
-unusable
--- as before
-
 == put_price 2 1 10
 commit
 put_record north R3

@@ -69,9 +69,11 @@ class File:
 
 def has_body(lines: list[str], indent: str) -> bool:
     """Whether the function that begins with these lines has a body: a brace behind its head and clauses, which are
-    indented further, and no semicolon."""
+    indented further, and no semicolon outside brackets."""
+    depth = 0
     for line in lines:
-        if line.endswith(";"):
+        depth += sum((sign in "([{") - (sign in ")]}") for sign in line)
+        if line.endswith(";") and depth == 0:
             return False
         if re.match(rf"{indent}\S.*[{{}}]$|{indent}{{$", line):
             return True

@@ -1,15 +1,24 @@
 #!/bin/sh
-# Corrects a desk in its text: a copy of the desk is written as text, sed edits that, a new desk is made of it, and
-# desk-restore puts that into the desk's place. For root.
-#     correct.sh EXPRESSION..
-# Each EXPRESSION is one of sed. It stops at the first fault, also where no line changes or the new desk refuses one,
-# and the desk is as it was then. The lines that change are shown, the first 20 of them.
-# Status 0; 1 where it stops; else that of the command that failed.
+# Corrects a desk in its text: a copy of the desk is written as text, sed edits that, and desk-restore puts a desk that
+# is made of it into the desk's place. For root.
+#     correct.sh [--refuse MARK SERIES] EXPRESSION..
+# A file whose message is taken out is refused before, or its inbox would post it again. Each EXPRESSION is one of sed.
+# The lines that change are shown, the first 20 of them, and desk-restore asks before anything is stopped. Then the
+# copies from before the correction are named so, and a new one is taken.
+# Status 0; 1 where no line changes; else that of the command that failed. If no line says that the desk is in place, it
+# is as it was.
 set -eu
+# A terminal that hangs up ends nothing here.
+trap '' HUP
 desk=/var/lib/onixdesk/shop.db
 
 complain() { echo "correct.sh: $*; the desk is as it was" >&2; exit 1; }
 
+if [ "${1-}" = --refuse ]; then
+    [ $# -gt 3 ] || complain "--refuse MARK SERIES and an EXPRESSION"
+    onixdesk-inbox --refuse "$2" "$3"
+    shift 3
+fi
 [ $# -gt 0 ] || complain "an EXPRESSION is missing"
 for expression; do
     shift
@@ -19,18 +28,12 @@ work=$(mktemp -d /var/tmp/onixdesk.XXXXXX)
 trap 'rm -rf "$work"' EXIT
 cd "$work"
 desk-copy "$desk" before
-mkdir parts corrected
-onixdesk --db "before/${desk##*/}" --existing export -o parts
-cp -r parts new
-sed -i "$@" new/*.csv
-diff -r parts new >changes || [ -s changes ] || exit
-grep '^[<>]' changes | head -n 20 | cut -c 1-200
+onixdesk --db "before/${desk##*/}" --existing export >before.csv
+sed "$@" before.csv >after.csv
+diff before.csv after.csv >changes || [ $? -eq 1 ]
 [ -s changes ] || complain "no line of its text changes"
+grep '^[<>]' changes | head -n 20 | cut -c 1-200
 echo "$(grep -c '^[<>]' changes) lines differ"
-# A part is a batch, and the next one goes on where it ends.
-for number in $(seq "$(find parts -type f | wc -l)"); do
-    onixdesk --db "corrected/${desk##*/}" batch <"new/$number.csv" >answers && continue
-    grep '^refused,' answers >&2
-    complain "the new desk does not accept all of it"
-done
-desk-restore corrected
+desk-restore --text after.csv before || status=$?
+systemctl start onixdesk-copy.service
+exit "${status:-0}"

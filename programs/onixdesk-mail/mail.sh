@@ -1,11 +1,12 @@
 #!/bin/sh
 # Mails what the units of onixdesk have said since the last time, where one of them has failed or has written an error.
-#     mail.sh ADDRESS FOLDER
+#     mail.sh ADDRESS FOLDER [SETTINGS INBOX]
 # FOLDER keeps how far the journal was read, and is the user's of this script alone. It needs journalctl, the right to
-# read the journal, and sendmail, as each of Debian's mail servers brings it.
+# read the journal, and sendmail, as each of Debian's mail servers brings it. Each Monday INBOX, onixdesk-inbox, reports
+# on each series of the folder SETTINGS.
 # Status 0, also where there is nothing to mail; 1 where a mail could not be sent: then the next one has its lines too.
 set -u
-address=$1 folder=$2
+address=$1 folder=$2 settings_folder=${3-/etc/onixdesk/inbox} inbox=${4-/usr/share/onixdesk/bin/onixdesk-inbox}
 PATH=$PATH:/usr/sbin
 most=100
 
@@ -21,8 +22,8 @@ journal() {
     fi
     journalctl --quiet --no-pager --output=short --unit=onixdesk.service --unit='onixdesk-inbox@*.service' \
         --unit='onixdesk-fetch@*.service' \
-        --unit=onixdesk-copy.service --unit=onixdesk-follow.service --unit=onixdesk-titles.service \
-        --unit=onixdesk-prices.service --unit=onixdesk-prices-mail.service "$@" >"$folder/journal" || return
+        --unit=onixdesk-copy.service --unit=onixdesk-follow.service \
+        --unit=onixdesk-prices.service "$@" >"$folder/journal" || return
     [ -e "$folder/read" ] && [ "$(sed -n 1p "$folder/journal")" = "$(sed -n 2p "$folder/read")" ] &&
         sed -i 1d "$folder/journal"
     cat "$folder/journal"
@@ -35,19 +36,41 @@ keep() {
     mv "$folder/read.new" "$folder/read"
 }
 
-# The first lines of a file, each cut, and how many more there are.
+# The first lines of a file, and how many more there are. The programs cut what others say: only a line of nobody's
+# making is longer.
 some_of() {
-    head -n $most "$1" | cut -c 1-500
+    head -n $most "$1" | cut -c 1-2000
     count=$(wc -l <"$1")
     [ "$count" -le $most ] || echo "and $((count - most)) more"
 }
 
 mail() {
-    printf 'To: %s\nSubject: onixdesk: %s lines to look at\n' "$address" "$(wc -l <"$folder/errors")"
+    printf 'To: %s\nSubject: onixdesk: %s\n' "$address" "$1"
     printf 'MIME-Version: 1.0\nContent-Type: text/plain; charset=UTF-8\nContent-Transfer-Encoding: 8bit\n\n'
-    some_of "$folder/errors"
-    printf '\nAll that was said:\n\n'
-    some_of "$folder/lines"
+    cat "$folder/text"
+}
+
+send() {
+    mail "$1" >"$folder/mail"
+    sendmail -i -t <"$folder/mail" || complain "sendmail ends with status $?"
+}
+
+# What each inbox says of itself.
+week() {
+    for settings in "$settings_folder"/*.conf; do
+        series=$(basename "$settings" .conf)
+        if [ "$series" = example ] || [ ! -e "$settings" ]; then continue; fi
+        echo "$series"
+        "$inbox" report "$series" 2>&1 | head -n 40 | cut -c 1-2000 | sed 's/^/    /'
+    done
+}
+
+# Each Monday a mail comes in any case, so that a mail server that is silent shows.
+mail_week() {
+    [ "$(date +%u)" = 1 ] && [ "$(cat "$folder/monday" 2>/dev/null)" != "$(date +%F)" ] || return 0
+    week >"$folder/text"
+    send "how the inboxes stand"
+    date +%F >"$folder/monday"
 }
 
 [ -n "$address" ] || complain "no ADDRESS is set in /etc/onixdesk/mail.conf"
@@ -60,8 +83,9 @@ journal --priority=err >"$folder/told" || complain "the journal cannot be read"
 grep -E ': (Failed with result|Failed to start|Start request repeated) ' "$folder/lines" >>"$folder/told"
 awk '!said[$0]++' "$folder/told" >"$folder/errors"
 if [ -s "$folder/errors" ]; then
-    mail >"$folder/mail"
-    sendmail -i -t <"$folder/mail" || complain "sendmail ends with status $?"
+    { some_of "$folder/errors"; printf '\nAll that was said:\n\n'; some_of "$folder/lines"; } >"$folder/text"
+    send "$(wc -l <"$folder/errors") lines to look at"
 fi
 keep
-rm -f "$folder/told" "$folder/errors" "$folder/lines" "$folder/mail" "$folder/journal"
+mail_week
+rm -f "$folder/told" "$folder/errors" "$folder/lines" "$folder/text" "$folder/mail" "$folder/journal"

@@ -2,16 +2,16 @@
 
 import os
 import shutil
+import stat
 from collections.abc import Iterator, Mapping, Sequence
 from pathlib import Path
 
-from desk_copy.places import UNFINISHED, is_name
+from onixdesk_shop.copies.keeping import is_name
 from tests.kills.scenarios import Scenario, run_again
 from tests.program.databases import DATABASE, batch
-from tests.program.feeds.convert.wanted_runs import message_of
-from tests.program.files import desk_copy, desk_restore
-from tests.program.inbox.inboxes import AGREEMENT, script, within
+from tests.program.messages import AGREEMENT, bare
 from tests.program.room import Room
+from tools.root import ROOT
 from tools.words import Word
 
 LOG = f"{DATABASE}-wal"
@@ -35,7 +35,7 @@ class OfCopy(Scenario):
         shutil.rmtree(self.room.path("copy"), ignore_errors=True)
 
     def words(self) -> Sequence[Word]:
-        return [desk_copy.PROGRAM, DATABASE, "copy"]
+        return [ROOT / "bin/desk-copy", DATABASE, "copy"]
 
     def environment(self) -> Mapping[str, str]:
         return os.environ
@@ -49,14 +49,10 @@ class OfCopy(Scenario):
 
     def wrong_at_end(self) -> Iterator[str]:
         # A copy that is there is whole.
-        if (
-            not self.room.path("copy").exists()
-            and (ran := run_again(self.room, self.words(), self.environment())).status
-        ):
+        is_there = self.room.path("copy").exists()
+        if not is_there and (ran := run_again(self.room, self.words(), self.environment())).status:
             yield f"{ran}"
         yield from self.wrong_then()
-        for left in self.room.folder.glob(f"{UNFINISHED}*"):
-            shutil.rmtree(left)
 
 
 OLD = ["2025-01-01T00-00-00Z", "2025-01-02T00-00-00Z"]
@@ -74,7 +70,7 @@ class OfCopies(OfCopy):
                 (copies / name / each).write_text(f"{each} of {name}")
 
     def words(self) -> Sequence[Word]:
-        return [desk_copy.PROGRAM, "--keep", "2", DATABASE, "copies"]
+        return [ROOT / "bin/desk-copy", "--keep", "2", DATABASE, "copies"]
 
     def wrong_then(self) -> Iterator[str]:
         """What has the name of a copy is a whole one."""
@@ -98,72 +94,71 @@ class OfCopies(OfCopy):
             yield f"there are {names}"
 
 
-# Has a run take place an hour later: what is moved away has the second in its name.
-AHEAD = """
-import time
-gmtime, ahead = time.gmtime, time.time() + 3600
-time.gmtime = lambda moment=ahead: gmtime(moment)
-"""
-
-
 class OfRestore(Scenario):
-    """A copy is put into the place of a desk that has other rows."""
+    """A copy is put into the place of a desk that has other rows, on a machine where no unit runs."""
+
+    # No desk ran that could be started.
+    status = 1
 
     def __init__(self, room: Room) -> None:
         super().__init__(room)
-        batch(room, AGREEMENT + message_of("R1"))
-        self.copy = f"copies/{desk_restore.taken_copy(room)}"
-        batch(room, message_of("R2", number=2))
-        self.old = {name: room.path(name).read_bytes() for name in (DATABASE, LOG)}
-        self.new = files_in(room.path(self.copy))
-        self.programs = desk_restore.make_programs(room, "", "nothing")
-        # It takes the copy, and says what it has.
-        script(room, "programs/onixdesk", "echo gaps,north,first=1,next=2,greatest=1,held=0,missing=0")
+        room.path("desk").mkdir()
+        room.path("programs").mkdir()
+        batch(room, AGREEMENT)
+        self.new = self.moved("copy")
+        batch(room, AGREEMENT + bare(1))
+        self.old = self.moved("before")
+        self.script("systemctl", "exit 0")
+        self.script("onixdesk", "echo gaps,north,first=1,next=1,greatest=,held=0,missing=0")
+
+    def moved(self, name: str) -> Files:
+        """What the files of a desk have, which are moved into a folder of that name."""
+        folder = self.room.path(name)
+        folder.mkdir()
+        for each in (DATABASE, LOG):
+            self.room.path(each).rename(folder / each)
+        return files_in(folder)
+
+    def script(self, name: str, text: str) -> None:
+        self.room.write(f"programs/{name}", f"#!/bin/sh\n{text}\n".encode())
+        self.room.path(f"programs/{name}").chmod(stat.S_IRWXU)
 
     def prepare(self) -> None:
-        for each in self.room.folder.glob(f"*{DATABASE}*"):
-            each.unlink()
-        for each in self.room.folder.glob(f"{UNFINISHED}*"):
-            shutil.rmtree(each)
+        shutil.rmtree(self.room.path("desk"))
+        self.room.path("desk").mkdir()
         for name, data in self.old.items():
-            self.room.write(name, data)
+            self.room.write(f"desk/{name}", data)
 
-    def words(self, before: str = "") -> Sequence[Word]:
-        """Those by which it runs once a text has changed something."""
-        options: list[Word] = ["--db", DATABASE, "--inboxes", "state", self.copy]
-        return within(before + desk_restore.RUNNING, self.programs, *options)
+    def words(self) -> Sequence[Word]:
+        places = [f"--{name}=none" for name in ("inboxes", "settings", "copies")]
+        # What the desk has beyond the copy was posted by hand.
+        return [ROOT / "bin/desk-restore", "--db", f"desk/{DATABASE}", *places, "--gaps", "--yes", "copy"]
 
     def environment(self) -> Mapping[str, str]:
-        return {**os.environ, "PATH": f"{self.programs}:{os.environ['PATH']}"}
+        return {**os.environ, "PATH": f"{self.room.path('programs')}:{os.environ['PATH']}"}
 
     def standing(self) -> Files:
-        return {name: self.room.path(name).read_bytes() for name in self.old if self.room.path(name).exists()}
-
-    def before(self) -> list[Files]:
-        """What stood there, by each name that it has now; a log that a killed run had put there is moved away too."""
-        names = {each.name.removesuffix("-wal") for each in self.room.folder.glob(f"{DATABASE}.*")}
-        found = [
-            {
-                name: path.read_bytes()
-                for name in self.old
-                if (path := self.room.path(name.replace(DATABASE, each))).exists()
-            }
-            for each in sorted(names)
-        ]
-        return [files for files in found if files != {LOG: self.new[LOG]}]
+        return {name: data for name, data in files_in_desk(self.room).items() if name in (DATABASE, LOG)}
 
     def wrong_then(self) -> Iterator[str]:
         """A desk that can be started is one of the two, whole."""
         if DATABASE in (found := self.standing()) and found not in (self.old, self.new):
             yield "what stands there is neither desk"
-        if files_in(self.room.path(self.copy)) != self.new:
+        if files_in(self.room.path("copy")) != self.new:
             yield "the copy is another one"
 
     def wrong_at_end(self) -> Iterator[str]:
-        if self.standing() != self.new:
-            if (ran := run_again(self.room, self.words(AHEAD), self.environment())).status:
+        """What stood there is there, of a run that was killed too."""
+        if self.standing() != self.new or ".cases.db.work" in os.listdir(self.room.path("desk")):
+            if (ran := run_again(self.room, self.words(), self.environment())).status != self.status:
                 yield f"{ran}"
         if self.standing() != self.new:
             yield "what stands there is not the copy"
-        if self.before() != [self.old]:
-            yield f"what stood there is {[sorted(each) for each in self.before()]}"
+        names = [name for name in files_in_desk(self.room) if name not in (DATABASE, LOG) and "-wal" not in name]
+        data = files_in_desk(self.room)
+        if self.old not in [{DATABASE: data[name], LOG: data.get(f"{name}-wal", b"")} for name in names]:
+            yield f"what stood there is {names}"
+
+
+def files_in_desk(room: Room) -> Files:
+    return {each.name: each.read_bytes() for each in room.path("desk").iterdir() if each.is_file()}

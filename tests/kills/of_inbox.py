@@ -3,92 +3,109 @@
 import itertools
 import json
 import os
-import re
 import shutil
+import sqlite3
+import urllib.request
 from collections.abc import Iterator, Mapping, Sequence
+from contextlib import closing
+from typing import Any
 
 from tests.kills.scenarios import Scenario, run_again
-from tests.program.databases import batch
-from tests.program.inbox.inbox_numbers import CONVERTER, digest, unwritten
-from tests.program.inbox.inboxes import CONNECTIONS, MALFORMED, WORDS, Inbox, files_in, gaps_of, script
+from tests.program.databases import DATABASE, batch
 from tests.program.room import Room
 from tests.program.serving import started
+from tests.shop.feeds import Book, feed
+from tools.root import ROOT
 from tools.words import Word
 
 # Each run has a series of its own, of which the desk agrees so many.
 SERIES = 600
 
-NUMBER = re.compile(rb'^20[02] .*"number":([0-9]+)', re.MULTILINE)
+# Files of ours are older than any clock.
+BEGINNING = 1_600_000_000
 
 
 class OfInbox(Scenario):
-    """Each run begins with new files and an empty state. Once it is killed another file comes, which was written before
-    the others."""
+    """Each run begins with new files and an empty ledger. Once it is killed another file comes, behind the others."""
 
     status = 1
 
     def __init__(self, room: Room) -> None:
         super().__init__(room)
         batch(room, "".join(f"Agree,s{place},06,S{place},,,1\n" for place in range(SERIES)).encode())
-        self.desk = started(room, WORDS, CONNECTIONS)
-        self.converter = script(room, "converter", CONVERTER)
+        socket = ["--batches", str(room.path("batches"))]
+        self.desk = started(room, ["--db", DATABASE, "--existing"], None, socket)
         self.places = itertools.count()
+        for name in ("settings", "incoming", "inboxes", "state"):
+            room.path(name).mkdir()
 
     def prepare(self) -> None:
-        for path in [*self.room.folder.glob("in-*"), *self.room.folder.glob("state-*")]:
-            shutil.rmtree(path)
-        place = next(self.places)
-        self.inbox = Inbox(self.room, self.desk.port, f"s{place}", NUMBER="next")
-        self.feeds = {f"{name}.xml": unwritten(f"S{place}", name) for name in "acd"}
-        self.late = {"z.xml": unwritten(f"S{place}", "z")}
-        self.inbox.put({"a.xml": self.feeds["a.xml"], "b.csv": MALFORMED})
-        self.inbox.put({name: self.feeds[name] for name in ("c.xml", "d.xml")})
+        for name in ("incoming", "inboxes"):
+            shutil.rmtree(self.room.path(name))
+            self.room.path(name).mkdir()
+        self.series = f"s{next(self.places)}"
+        settings = f"DESK=http://127.0.0.1:{self.desk.port}\nBATCHES={self.room.path('batches')}\nNUMBER=next\n"
+        more = f"SENDER=06,S{self.series[1:]}\nUNCHANGED_SECONDS=0\n"
+        self.room.write(f"settings/{self.series}.conf", f"{settings}{more}".encode())
+        for name in ("incoming", "inboxes"):
+            self.room.path(f"{name}/{self.series}").mkdir()
+        self.sent: dict[str, bytes] = {}
+        for name, price in {"d.xml": "1.00", "b.csv": "", "c.xml": "3.00", "a.xml": "4.00"}.items():
+            self.put(name, price)
+
+    def put(self, name: str, price: str) -> None:
+        """Puts a file there, a minute younger than the one before; one without a price is refused."""
+        text = feed(None, [Book(1, price)], sender=f"S{self.series[1:]}") if price else "Foo\n"
+        path = self.room.path(f"incoming/{self.series}/{name}")
+        path.write_text(text)
+        self.sent[name] = text.encode()
+        os.utime(path, (BEGINNING + 60 * len(self.sent),) * 2)
 
     def words(self) -> Sequence[Word]:
-        return self.inbox.words("--converter", self.converter)
+        places = [word for name in ("settings", "incoming", "inboxes", "state") for word in (f"--{name}", name)]
+        more = ["--rules", "none", "--page", "none", "--program", str(self.room.program)]
+        return [ROOT / "bin/onixdesk-inbox", *places, *more, self.series]
 
     def environment(self) -> Mapping[str, str]:
         return os.environ
 
+    def asked(self, target: str) -> dict[str, Any]:
+        with urllib.request.urlopen(f"http://127.0.0.1:{self.desk.port}{target}") as reply:
+            found: dict[str, Any] = json.load(reply)
+            return found
+
     def wrong_then(self) -> Iterator[str]:
-        """Each file lies there, or is at its end with its answer, by which the desk has it."""
-        kept = self.inbox.kept()
-        ended = {name: data for name, data in kept.items() if name.startswith(("done/", "refused/"))}
-        there = [*self.inbox.lying().values(), *ended.values()]
-        for name, data in {**self.feeds, "b.csv": MALFORMED}.items():
-            if data not in there:
-                yield f"{name} is lost"
-        for name in ended:
-            if not name.endswith(".answer") and f"{name}.answer" not in ended:
-                yield f"{name} has no answer"
-        report = json.loads(gaps_of(self.desk, self.inbox.series))
-        for name, data in ended.items():
-            if name.startswith("done/") and (found := NUMBER.search(data)) and int(found[1]) >= report["next"]:
-                yield f"{name} says of {int(found[1])} that it is applied"
+        """The bytes of each file lie in its folder, or in the store."""
+        paths = [path for name in ("incoming", "inboxes") for path in self.room.path(name).rglob("*")]
+        there = [path.read_bytes() for path in paths if path.is_file()]
+        yield from (f"{name} is lost" for name, data in self.sent.items() if data not in there)
 
     def wrong_at_end(self) -> Iterator[str]:
-        self.inbox.put(self.late)
-        os.utime(self.inbox.incoming / "z.xml", (1, 1))
+        self.put("z.xml", "5.00")
         ran = run_again(self.room, self.words(), self.environment())
         if ran.status not in (0, 1):
             yield f"{ran}"
-        kept, feeds = self.inbox.kept(), self.feeds | self.late
-        names = [*(f"done/{name}" for name in feeds), "refused/b.csv"]
-        if sorted(kept) != sorted([*names, *(f"{name}.answer" for name in names)]):
-            yield f"kept is {sorted(kept)}"
-            return
-        if wrong := [name for name, data in feeds.items() if kept[f"done/{name}"] != data]:
-            yield f"others are the bytes of {wrong}"
-        given = {name: [int(each) for each in NUMBER.findall(kept[f"done/{name}.answer"])] for name in feeds}
-        if sorted(itertools.chain.from_iterable(given.values())) != [1, 2, 3, 4]:
-            yield f"the numbers are {given}"
-        lines = dict(line.split() for line in (self.inbox.state / "numbers").read_text().splitlines())
-        if lines != {digest(data): str(given[name][0]) for name, data in feeds.items()}:
-            yield f"the numbers that are kept are not those of {given}"
-        report = json.loads(gaps_of(self.desk, self.inbox.series))
-        if (report["next"], report["greatest"], report["held"]) != (5, 4, 0):
-            yield f"the desk says {report}"
-        if left := [*files_in(self.inbox.incoming), *self.inbox.state.glob("work")]:
+        with closing(sqlite3.connect(self.room.path(f"inboxes/{self.series}/ledger.db"))) as ledger:
+            states = dict(ledger.execute("SELECT name, state FROM file"))
+            numbers = [
+                name for (name,) in ledger.execute("SELECT name FROM file WHERE state = 'applied' ORDER BY number")
+            ]
+        ordered = ["d.xml", "c.xml", "a.xml", "z.xml"]
+        # A name is ours where the inbox was killed amid its removal.
+        if len(numbers) != 4 or [name for name in numbers if not name.startswith("taken-")] != [
+            name for name in ordered if name in numbers
+        ]:
+            yield f"the files by number are {numbers}"
+        if "refused" not in states.values() or len(states) != 5:
+            yield f"the states are {states}"
+        price = "/articles/9780000000001/price?day=20261130&country=GB&currency=GBP&type=02"
+        offers = [offer["amount"] for offer in self.asked(price)["offers"] if offer["series"] == self.series]
+        if offers != ["5.000"]:
+            yield f"the price is {offers}"
+        gaps = self.asked(f"/series/{self.series}/gaps")
+        if (gaps["next"], gaps["greatest"], gaps["held"]) != (5, 4, 0):
+            yield f"the desk says {gaps}"
+        if left := os.listdir(self.room.path(f"incoming/{self.series}")):
             yield f"left is {left}"
 
     def close(self) -> None:

@@ -1,15 +1,17 @@
 """The command line of desk-follow."""
 
 import argparse
-import os
+import time
 from functools import partial
 from pathlib import Path
 from typing import TYPE_CHECKING
 
-from command_lines.ending import DONE, FAILED, Fault, end_orderly, status_of, teller
-from command_lines.parsing import parser_of
-from desk_copy.command_line import add_room, add_source, as_of, copied
 from desk_follow.rules import Rule, read_rules
+from onixdesk_shop.copies.copying import ROOM, copied
+from onixdesk_shop.ends import parser_of, run_program
+from onixdesk_shop.faults import DONE, FAILED, Fault
+from onixdesk_shop.lines import ERROR
+from onixdesk_shop.machine import Machine
 
 if TYPE_CHECKING:
     from desk_follow.following import Brought
@@ -26,8 +28,6 @@ STATUSES = """\
 Status 0; 1 if --compare finds rows that differ; 2 for a bad command line or precedence table; 3 if a file
 cannot be read, or the database does not accept it. Then the schema is as it was. It needs Debian's python3-psycopg2.
 docs/SCALE.md has the rest."""
-
-tell = teller(PROGRAM)
 
 
 def command_line() -> argparse.ArgumentParser:
@@ -48,17 +48,18 @@ def command_line() -> argparse.ArgumentParser:
     )
     add("--readers", metavar="ROLE", help="a role of the database that is let read the schema")
     add("--compare", action="store_true", help="then compare all rows with those of the copy")
-    add_room(parser)
-    add_source(parser)
+    add("--room", metavar="FOLDER", type=Path, default=ROOM, help=f"for a copy as large as the desk; {ROOM} without it")
+    add("file", metavar="FILE", type=Path, help="the database that the desk has open")
     return parser
 
 
 def told(moment: int, brought: "Brought") -> str:
     what = "everything" if brought.is_anew else "what changed"
-    return f"{as_of(moment)}: {what}: {brought.messages} messages, {brought.records} records"
+    at = time.strftime("as of %Y-%m-%d %H:%M:%S UTC", time.gmtime(moment // 1_000_000_000))
+    return f"{at}: {what}: {brought.messages} messages, {brought.records} records\n"
 
 
-def follow(options: argparse.Namespace, rules: list[Rule]) -> int:
+def follow(machine: Machine, options: argparse.Namespace, rules: list[Rule]) -> int:
     # Here, since psycopg2 is needed only now.
     from desk_follow.comparing import compare
     from desk_follow.database import connected, quoted
@@ -66,29 +67,26 @@ def follow(options: argparse.Namespace, rules: list[Rule]) -> int:
     from desk_follow.layout import let_read
     from desk_follow.source import opened
 
-    with connected(options.database) as connection, copied(options) as (copy, taken):
+    with connected(options.database) as connection, copied(machine, options.file, options.room) as (copy, taken):
         with opened(copy) as source, connection.cursor() as cursor:
             brought = bring(cursor, source, rules, taken.moment)
             if options.readers:
                 let_read(cursor, options.readers, quoted(connection, options.readers))
             connection.commit()
-            print(told(taken.moment, brought))
+            machine.write(told(taken.moment, brought))
             wrong = [each for each in compare(cursor, source) if not each.is_same] if options.compare else []
     for each in wrong:
-        tell(f"{each.table}: {each.rows} rows, which are not those in the database")
+        machine.tell(ERROR, f"{each.table}: {each.rows} rows, which are not those in the database")
     return FAILED if wrong else DONE
 
 
-def run(options: argparse.Namespace) -> int:
+def run(options: argparse.Namespace, machine: Machine) -> int:
     """Follows. What is not there to be imported is psycopg2."""
     try:
-        return follow(options, read_rules(options.rules))
+        return follow(machine, options, read_rules(options.rules))
     except ModuleNotFoundError as error:
         raise Fault(f"no {error.name}; apt-get install python3-psycopg2") from error
 
 
 def main() -> int:
-    options = command_line().parse_args()
-    os.umask(0o077)
-    end_orderly()
-    return status_of(partial(run, options), tell, options.room)
+    return run_program(PROGRAM, partial(run, command_line().parse_args()))

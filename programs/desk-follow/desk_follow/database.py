@@ -6,7 +6,7 @@ from contextlib import contextmanager
 import psycopg2
 from psycopg2.extensions import connection, quote_ident
 
-from command_lines.ending import Fault
+from onixdesk_shop.faults import Fault
 
 # Held by the one follower of a database that is at work. Its number is "desk" in ASCII.
 LOCK = 0x6465736B

@@ -6,7 +6,7 @@ from pathlib import Path
 
 from psycopg2.extensions import cursor as Cursor
 
-from command_lines.ending import Fault
+from onixdesk_shop.faults import Fault
 
 FOLDER = Path(__file__).resolve().parent
 TABLES, KEYS, FUNCTIONS = (

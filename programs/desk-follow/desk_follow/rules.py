@@ -5,7 +5,7 @@ import tomllib
 from pathlib import Path
 from typing import NamedTuple
 
-from command_lines.ending import BAD_CALL, Fault
+from onixdesk_shop.faults import BAD_CALL, Fault
 
 MOST_BYTES = 4_194_304
 MOST_RULES = 1_000

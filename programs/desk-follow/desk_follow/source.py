@@ -7,7 +7,7 @@ from contextlib import closing, contextmanager
 from pathlib import Path
 from typing import NamedTuple
 
-from command_lines.ending import Fault
+from onixdesk_shop.faults import Fault
 
 # The version of the tables that the follower knows, and the tables: those that a record has rows in come last.
 VERSION = 2

@@ -11,8 +11,8 @@ from command_lines.parsing import day, parser_of
 from command_lines.progress import Progress
 from message_records.offers import Question
 from message_records.products import products_of, read_header
-from onixdesk_inbox.series import series
-from onixdesk_inbox.settings import words
+from onixdesk_shop.inbox.command_line import series_word
+from onixdesk_shop.settings import words
 from onixdesk_look import letter, page
 from onixdesk_look.asking import Desk
 from onixdesk_look.converting import Converter, Feed
@@ -39,7 +39,12 @@ def command_line() -> argparse.ArgumentParser:
         "--like", metavar="FILE", type=Path, help=f"a desk.json; {DESK_JSON} without it, or the one beside this program"
     )
     add("--day", metavar="DAY", type=day, help="the day of the prices, as 20261127; today without it")
-    add("--series", metavar="NAME", type=series, help="the name for the agreement; after the FILE's name without it")
+    add(
+        "--series",
+        metavar="NAME",
+        type=series_word,
+        help="the name for the agreement; after the FILE's name without it",
+    )
     add("--words", metavar="WORDS", type=words, default=(), help="words for onixdesk convert, as in WORDS of an inbox")
     add("--terms", metavar="FILE", type=Path, help="the shop's terms, by which net prices are computed")
     add("--csv", action="store_true", help="write the page as a table: FILE, section, item, value")

@@ -283,7 +283,3 @@ def moved(room: Room) -> Iterator[Outcome]:
     came = shell(room, block("docs/RELIABILITY.md", "  sed -n"))
     wanted = b"Message,2,06,4012345000009,06,5012345678900,4,1,,,\nEndMessage,1\n"
     yield Outcome("what is recorded at a number", (came.status, came.output), (0, wanted))
-    room.path("new.db").rename(room.path("first.db"))
-    came = shell(room, block("docs/RELIABILITY.md", "  mkdir parts"))
-    yield Outcome("a desk is moved in parts", (came.status, came.output), (0, AGAIN))
-    yield Outcome("a desk that was moved in parts", listed(room, "export", "new.db"), Ran(0, EXPORT))

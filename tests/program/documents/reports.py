@@ -11,9 +11,9 @@ from tests.running import Outcome
 from tools.root import ROOT
 
 PAGE = "docs/REPORTS.md"
-TITLES = "/var/lib/onixdesk-titles"
+TITLES = "/var/lib/onixdesk-state"
 
-# As onixdesk-titles keeps them: series, number, moment, title, subtitle, contributors and publisher.
+# As an inbox keeps them: series, number, moment, title, subtitle, contributors and publisher.
 KEPT = {
     "9781234567897": [["north", 2, 1741100000, "A Week of Books", "", "Ann Author", "House"], ["west", 40, 1740000000]]
 }

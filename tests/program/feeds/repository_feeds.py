@@ -2,6 +2,7 @@
 inbox; what is to come is read off them by expat (`feed_reading`)."""
 
 import re
+import json
 from collections.abc import Iterator
 from functools import partial
 from pathlib import Path
@@ -83,18 +84,17 @@ def taken(path: Path, parts: int, room: Room) -> Iterator[Outcome]:
     hoped = wanted(path, Words(parts=parts, wrong="all"))
     batch(room, hoped.agreement)
     with serving(room, WORDS, None) as desk:
-        inbox = Inbox(room, desk.port, "s", WORDS=f"--parts {parts} --wrong all")
+        sender = ",".join(hoped.agreement.decode().split(",")[2:4])
+        inbox = Inbox(room, desk.port, "s", WORDS=f"--parts {parts} --wrong all", SENDER=sender)
         inbox.put({path.name: path.read_bytes()})
         came = inbox.run()
         desk.stopped()
     numbers = hoped.numbers()
-    done = f"number {numbers[0]} applied" if parts == 1 else f"numbers {numbers[0]} to {numbers[-1]} applied"
-    line = came.errors.decode().splitlines()[0]
-    found = came.status, line.startswith(f"onixdesk-inbox: {path.name}: done"), done in line, inbox.lying()
-    yield Outcome(f"{path.name} in {parts} parts, in an inbox", found, (0, True, True, {}))
-    kept = inbox.kept().get(f"done/{path.name}.answer", b"").decode().splitlines()
-    replies = [reply(number, counts) for number, counts in zip(numbers, hoped.effects, strict=True)]
-    yield Outcome(f"{path.name} in {parts} parts, the answers", kept[-parts:], replies)
+    is_applied = came.errors.startswith(b"onixdesk-inbox: applied: number") or parts > 1
+    found = came.status, is_applied, [*inbox.incoming.iterdir()]
+    yield Outcome(f"{path.name} in {parts} parts, in an inbox", found, (0, True, []))
+    replies = [json.loads(reply(number, counts)[4:]) for number, counts in zip(numbers, hoped.effects, strict=True)]
+    yield Outcome(f"{path.name} in {parts} parts, the answers", [*map(json.loads, inbox.answers())], replies)
 
 
 GROUPS = [

@@ -7,9 +7,9 @@ import sys
 from collections.abc import Iterator
 from contextlib import closing
 
-from command_lines.ending import Fault
 from desk_follow.rules import BadRules, Rule, rules_of
 from desk_follow.source import TABLES, opened, references_of
+from onixdesk_shop.faults import Fault
 from tests.program.databases import DATABASE, batch
 from tests.program.room import Ran, Room
 from tests.program.desk.rules_files import files, said_by_desk

@@ -1,339 +1,296 @@
-"""A copy that is put into the place of a desk by bin/desk-restore, with a systemctl that keeps what it is told, and the
-inboxes that take again what came since."""
+"""A copy that is put into the place of a desk: what is said before, what is made again, and what the inboxes post."""
 
-import json
 import os
-import re
-import sqlite3
 from collections.abc import Iterator
-from contextlib import closing
+from dataclasses import replace
+from functools import partial
 from pathlib import Path
+from typing import Any
 
-from tests.program.feeds.convert.wanted_runs import message_of
-from tests.program.databases import DATABASE, batch, gaps
-from tests.program.files.desk_copy import copy
-from tests.program.inbox.inbox_numbers import CONVERTER, unwritten
-from tests.program.inbox.inboxes import AGREEMENT, CONNECTIONS, WORDS, Inbox, gaps_of, script, within
-from tests.program.room import Ran, Room
-from tests.program.serving import serving
-from tests.running import Outcome, left_out
-from tools.root import ROOT
-from tools.words import Word
+from onixdesk_shop.ends import status_of
+from onixdesk_shop.inbox import decide
+from onixdesk_shop.restores.command_line import restore
+from onixdesk_shop.settings import NEXT
+from tests.program.room import Group, Room
+from tests.running import Outcome
+from tests.shop.desk_files import UNITS, Shop, ShopMachine, options_of, read
+from tests.shop.fake_desk import WAIVED, FakeDesk
+from tests.shop.fake_machine import Killed
+from tests.shop.fake_program import feed_of, isbn_of
+from tests.shop.inboxes import SERIES
 
-# As the program has it, with the programs beside it of this folder.
-RUNNING = """
-import sys
-from pathlib import Path
-from desk_restore.command_line import main
-sys.exit(main(Path(sys.argv.pop(1))))
-"""
+OPTIONS: dict[str, Any] = {"yes": False, "gaps": False, "before_correction": False, "text": None}
 
-UNITS = """\
-onixdesk-inbox@north.service loaded failed failed Takes
-onixdesk.service             loaded active running onixdesk
-onixdesk-copy.timer          loaded active waiting Copies
-onixdesk-inbox@north.path    loaded active waiting Waits
-onixdesk-inbox@north.timer   loaded active waiting Looks
-onixdesk-second.service      loaded active running another desk
-"""
-
-# All but the shop's own, which a restore is not of.
-NAMES = [line.split()[0] for line in UNITS.splitlines()[:-1]]
+# Of the calls of a restore each so many'th is tried; ONIXDESK_STRIDE=1 tries all.
+STRIDE = int(os.environ.get("ONIXDESK_STRIDE", "25"))
 
 
-def make_programs(room: Room, units: str, failing: str) -> Path:
-    """What stands beside the program, and a systemctl. A call of one of them with that text in its words fails."""
-    folder = room.path("programs")
-    folder.mkdir(exist_ok=True)
-    room.write("units", units.encode())
-    begun = f'echo "$name$*" >>"{room.path("calls")}"; case "$*" in *"{failing}"*) exit 3 ;; esac'
-    script(room, "programs/onixdesk", f'exec "{room.program}" "$@"')
-    script(room, "programs/onixdesk-inbox", f'name="onixdesk-inbox "; {begun}')
-    # The third word of a line is the state of the unit.
-    listing = f"""for word; do case $word in --state=*) states=,${{word#*=}}, ;; esac; done
-while read -r unit loaded state rest; do case $states in *,$state,*) echo "$unit $loaded $state $rest" ;; esac
-done <"{room.path("units")}\""""
-    script(room, "programs/systemctl", f'name=; {begun}; [ "$1" = list-units ] || exit 0\n{listing}')
-    return folder
+def shop_in(room: Room, name: str, **settings: object) -> Shop:
+    folder = room.path(name)
+    folder.mkdir()
+    return Shop(folder, **settings)
 
 
-def restore(room: Room, *words: Word, units: str = UNITS, failing: str = "nothing", running: str = RUNNING) -> Ran:
-    """Runs it, and forgets what systemctl was told before."""
-    programs = make_programs(room, units, failing)
-    room.path("calls").unlink(missing_ok=True)
-    environment = {**os.environ, "PATH": f"{programs}:{os.environ['PATH']}"}
-    options: list[Word] = ["--db", DATABASE, "--inboxes", "state"]
-    return room.call(within(running, programs, *options, *words), environment=environment)
+def run(shop: Shop, copy: Path, machine: ShopMachine | None = None, **more: object) -> int:
+    """The status of a restore; its lines and what it wrote are the shop's then."""
+    machine = machine or shop.machine()
+    options = options_of(shop, **{**OPTIONS, **more}, copy=copy)
+    try:
+        return status_of(machine, lambda each: restore(each, options))
+    finally:
+        shop.lines = [line for _, line in machine.lines]
+        shop.written = machine.written
+        shop.inbox.clock = max(shop.inbox.clock, int(machine.clock) + 1)
 
 
-def calls(room: Room) -> list[str]:
-    path = room.path("calls")
-    return path.read_text().splitlines() if path.exists() else []
+def price(shop: Shop, reference: str = "R1") -> str:
+    desk = shop.inbox.desk
+    return "".join(amount for *_, amount in desk.offers(isbn_of(reference))) if desk else "no desk"
 
 
-def taken_copy(room: Room) -> str:
-    """A copy that is named by its second."""
-    room.path("copies").mkdir(exist_ok=True)
-    copy(room, "--keep", "9", DATABASE, "copies")
-    return max(each.name for each in room.path("copies").iterdir())
+def four_days(shop: Shop) -> Path:
+    """A feed, a copy, and three feeds behind it."""
+    shop.send(("1.xml", feed_of(1, {"R1": "10.00"})))
+    copy = shop.take_copy("2026-11-27T02-30-12Z")
+    shop.send(*((f"{day}.xml", feed_of(day, {"R1": f"1{day}.00"})) for day in (2, 3, 4)))
+    return copy
 
 
-def rows_in(database: Path) -> list[str]:
-    """The tables of a database with its log and all their rows, as SQLite reads them."""
-    with closing(sqlite3.connect(f"{database.as_uri()}?mode=ro", uri=True)) as connection:
-        return list(connection.iterdump())
-
-
-def in_its_place(room: Room) -> Iterator[Outcome]:
-    """Both files get their place, and those that stood there another name; all is stopped before and started behind."""
-    batch(room, AGREEMENT + message_of("R1"))
-    room.path("state/north/done").mkdir(parents=True)
-    name = taken_copy(room)
-    wanted = rows_in(room.path(f"copies/{name}") / DATABASE)
-    batch(room, message_of("R2", number=2))
-    lost = {each: room.path(each).read_bytes() for each in (DATABASE, f"{DATABASE}-wal")}
-    came = restore(room, f"copies/{name}")
-    before = re.search(r"the old one is \S*/(cases\.db\.[-\dTZ]+)\n", came.errors.decode())
-    yield Outcome(
-        "restored", (came.status, came.output), (0, b"gaps,north,first=1,next=2,greatest=1,held=0,missing=0\n")
-    )
-    yield Outcome("restored: the rows", rows_in(room.path(DATABASE)), wanted)
-    kept = (
-        {each: room.path(f"{before[1]}{each.removeprefix(DATABASE)}").read_bytes() for each in lost} if before else {}
-    )
-    yield Outcome("restored: those of before", kept, lost)
-    modes = [room.path(each).stat().st_mode & 0o777 for each in lost]
-    yield Outcome("restored: for the owner alone", modes, [0o600] * 2)
-    listed, stopped, *others = calls(room)
-    yield Outcome("restored: what is stopped", sorted(stopped.split()[1:]), sorted(NAMES))
-    again = f"onixdesk-inbox --again lacking --state {room.path('state/north')} -- north"
-    started = [
-        "reset-failed onixdesk.service",
-        "start onixdesk.service",
-        again,
-        "start onixdesk-inbox@north.path onixdesk-inbox@north.timer",
-        "start onixdesk-copy.timer",
-    ]
-    yield Outcome("restored: what is started", others, started)
-    yield Outcome("restored: the desk", gaps(room), Ran(0, b"gaps,north,first=1,next=2,greatest=1,held=0,missing=0\n"))
-
-
-def copies_that_are_refused(room: Room) -> Iterator[Outcome]:
-    """Nothing is stopped for them, and the desk is as it was."""
-    batch(room, AGREEMENT)
-    good = room.path("copies") / taken_copy(room)
-    wanted = {each: room.path(each).read_bytes() for each in (DATABASE, f"{DATABASE}-wal")}
-    room.path("damaged").mkdir()
-    data = bytearray((good / DATABASE).read_bytes())
-    data[4096:4296] = b"\xa5" * 200
-    room.path("damaged").joinpath(DATABASE).write_bytes(data)
-    room.path("more").mkdir()
-    for each in (DATABASE, "other.db"):
-        room.path("more").joinpath(each).write_bytes(b"")
-    room.path("none").mkdir()
-    room.path("text").mkdir()
-    room.path("text").joinpath(DATABASE).write_bytes(b"no database" * 1000)
-    for name, status, line in [
-        ("damaged", 1, ": a copy of it is not sound: "),
-        ("text", 1, "text/cases.db: a copy of it is not sound: file is not a database"),
-        ("more", 3, "more: it has not cases.db and its log alone"),
-        ("none", 3, "none: it has not cases.db and its log alone"),
-        ("missing", 3, "missing: No such file or directory"),
-    ]:
-        came = restore(room, name)
-        found = came.status, line in came.errors.decode(), [call for call in calls(room) if not call.startswith("list")]
-        yield Outcome(f"a copy that is refused: {name}", found, (status, True, []))
-        found = {each: room.path(each).read_bytes() for each in wanted}
-        yield Outcome(f"a copy that is refused: {name}, the desk", found, wanted)
-
-
-def copies_that_lack_series(room: Room) -> Iterator[Outcome]:
-    """One that has no series, or not all of the desk that stands there, is refused unless that is said, and what was
-    stopped is started again. Where nothing stands there, no other name is told."""
-    room.path("none").mkdir()
-    room.run("--db", f"none/{DATABASE}", "batch")
-    name = taken_copy_of_one(room)
-    batch(room, b"Agree,south,06,T,,,1\nAgree,west,06,U,,,1\n")
-    told = "with --fewer-series it is put into place all the same\n"
-    rows = rows_in(room.path(DATABASE))
-    for copied, why, count in [
-        ("none", f"it has no series; {told}", 1),
-        (f"copies/{name}", f"it lacks series of the desk: south, west; {told}", 3),
-    ]:
-        came = restore(room, copied)
-        wanted = 1, f"desk-restore: {room.path(copied)}: {why}"
-        yield Outcome(f"series that lack: {why}", (came.status, came.errors.decode()), wanted)
-        begun = [call.split()[0] for call in calls(room)]
-        yield Outcome("series that lack: what is stopped is started", begun, ["list-units", "stop", "start"][:count])
-        yield Outcome("series that lack: the desk", rows_in(room.path(DATABASE)), rows)
-    came = restore(room, "--fewer-series", f"copies/{name}", units="")
-    yield Outcome("series that lack, as told", (came.status, agreed(room)), (0, ["north"]))
-    room.path(DATABASE).write_bytes(b"no database" * 1000)
-    came = restore(room, f"copies/{name}", units="")
-    line = f"the series of the present desk are not compared: {DATABASE}: file is not a database\n"
-    yield Outcome("series of a damaged desk", (came.status, line in came.errors.decode()), (0, True))
-    for path in room.folder.glob(f"{DATABASE}*"):
-        path.unlink()
-    came = restore(room, "--fewer-series", "none", units="")
-    line = f"{room.path('none')} is in place as {room.path(DATABASE)}; there was none\n"
-    yield Outcome("an empty folder", (came.status, line in came.errors.decode()), (0, True))
-
-
-def agreed(room: Room) -> list[str]:
-    lines = room.run("--db", DATABASE, "agreements").output.decode().splitlines()
-    return [line.split(",")[1] for line in lines]
-
-
-def taken_copy_of_one(room: Room) -> str:
-    """The name of a copy of a desk with one series."""
-    batch(room, AGREEMENT)
-    return taken_copy(room)
-
-
-def a_desk_that_is_open(room: Room) -> Iterator[Outcome]:
-    """One that is of no unit stays as it is, and what was stopped is started again."""
-    batch(room, AGREEMENT)
-    name = taken_copy(room)
-    with serving(room, WORDS, CONNECTIONS) as desk:
-        came = restore(room, f"copies/{name}")
-        line = f"desk-restore: {room.path(DATABASE)}: another program has it open; stop it before\n"
-        yield Outcome("an open desk", (came.status, came.errors.decode()), (3, line))
-        yield Outcome("an open desk: what is started again", calls(room)[-1].split()[0:1], ["start"])
-        report = json.loads(gaps_of(desk, "north"))
-        yield Outcome("an open desk goes on", report["next"], 1)
-
-
-def what_does_not_start(room: Room) -> Iterator[Outcome]:
-    """Whatever was stopped and does not run again is told, with the command that starts it."""
-    batch(room, AGREEMENT)
-    room.path("state/north/done").mkdir(parents=True)
-    name = taken_copy(room)
-    left = "desk-restore: what was stopped and is to be started then: systemctl start"
-    of_inbox = "onixdesk-inbox@north.path onixdesk-inbox@north.timer"
-    came = restore(room, f"copies/{name}", failing="start onixdesk.service")
-    *_, fault, last = ["", *came.errors.decode().splitlines()]
-    wanted = 3, [
-        f"{left} onixdesk.service onixdesk-copy.timer {of_inbox}",
-        "desk-restore: systemctl start onixdesk.service: ",
-    ]
-    yield Outcome("a desk that does not start", (came.status, [fault, last]), wanted)
-    came = restore(room, f"copies/{name}", failing="--again")
-    *_, fault, last = came.errors.decode().splitlines()
-    words = f"{room.path('programs/onixdesk-inbox')} --again lacking --state {room.path('state/north')} -- north"
-    user = room.path("state/north").owner()
-    told = f"desk-restore: the inbox of north has not taken all again; then: runuser -u {user} -- {words}"
-    wanted = 1, [told, f"{left} {of_inbox}"]
-    yield Outcome("an inbox that cannot take all again", (came.status, [fault, last]), wanted)
-    yield Outcome("an inbox that cannot take all again: the rest runs", calls(room)[-1], "start onixdesk-copy.timer")
-    came = restore(room, "copies", failing="list-units")
-    yield Outcome("a copy that is none", came.status, 3)
-
-
-# As the user whose folder it is could, before the first file is laid out: the new folder becomes a link to another.
-LED_ELSEWHERE = """
-import os, sys
-from pathlib import Path
-from desk_restore.command_line import main
-left = [Path("secret").absolute()]
-def before(event, arguments):
-    if left and event == "open" and "/.desk-copy-" in str(arguments[0]):
-        folder = Path(arguments[0]).parent
-        os.rename(folder, f"{folder}-before")
-        os.symlink(left.pop(), folder)
-sys.addaudithook(before)
-sys.exit(main(Path(sys.argv.pop(1))))
-"""
-
-
-def of_another_user(room: Room) -> Iterator[Outcome]:
-    """By root, of a desk of another user: its files are that user's, and root is led nowhere. Nothing is tried where
-    the tests are run by another user, or their folders cannot be reached by one."""
-    readable = all(path.stat().st_mode & 0o001 for path in [*room.program.parents, *Path(__file__).resolve().parents])
-    if os.geteuid() != 0 or not readable:
-        yield left_out("a desk of another user, since that user cannot be become, or cannot reach this checkout")
-        return
-    batch(room, AGREEMENT)
-    name = taken_copy(room)
-    room.folder.chmod(0o755)
-    os.chown(room.folder, 65534, 65534)
-    room.path("secret").mkdir(mode=0o700)
-    came = restore(room, f"copies/{name}", units="", running=LED_ELSEWHERE)
-    found = came.status, "Permission denied" in came.errors.decode(), [*room.path("secret").iterdir()]
-    yield Outcome("a folder that becomes a link", found, (3, True, []))
-    yield Outcome("the files of before are root's", room.path(DATABASE).stat().st_uid, os.geteuid())
-    came = restore(room, f"copies/{name}", units="")
-    files = [room.path(each).stat() for each in (DATABASE, f"{DATABASE}-wal")]
-    found = came.status, [(file.st_uid, file.st_gid, file.st_mode & 0o777) for file in files]
-    yield Outcome("files of another user", found, (0, [(65534, 65534, 0o600)] * 2))
-
-
-def without_systemd(room: Room) -> Iterator[Outcome]:
-    batch(room, AGREEMENT)
-    name = taken_copy(room)
-    batch(room, message_of("R1"))
-    state = room.path("state/north")
-    state.joinpath("done").mkdir(parents=True)
-    came = restore(room, f"copies/{name}", units="")
-    words = f"{room.path('programs/onixdesk-inbox')} --again lacking --state {state} -- north"
-    lines = [
-        "desk-restore: start the desk; then each inbox with --again lacking, before it takes anything else",
-        f"desk-restore: as by: runuser -u {state.owner()} -- {words}",
-    ]
-    yield Outcome(
-        "without systemd", (came.status, came.errors.decode().splitlines()[-2:], len(calls(room))), (0, lines, 1)
-    )
+def has(shop: Shop) -> list[int]:
+    return sorted(shop.inbox.series.had) if shop.inbox.desk else []
 
 
 def what_came_since(room: Room) -> Iterator[Outcome]:
-    """Files that came each day under one name, of a wholesaler without numbers: after the desk was restored they have
-    the numbers of before, in their order, and before what is new."""
-    batch(room, AGREEMENT)
-    converter = script(room, "converter", CONVERTER)
-    with serving(room, WORDS, CONNECTIONS) as desk:
-        inbox = Inbox(room, desk.port, NUMBER="next")
-        inbox.converter = converter
-        inbox.put({"day.xml": unwritten("S", "R0")})
-        inbox.run()
-    # The clock is ahead when the copy is taken, and right afterwards.
-    name = "2999-11-27T02-30-12Z"
-    room.path(f"copies/{taken_copy(room)}").rename(room.path(f"copies/{name}"))
-    feeds = [unwritten("S", f"R{day}") for day in (1, 2, 3)]
-    with serving(room, WORDS, CONNECTIONS) as desk:
-        inbox.set(NUMBER="next", DESK=f"http://127.0.0.1:{desk.port}")
-        for feed in feeds:
-            inbox.put({"day.xml": feed})
-            inbox.run()
-    kept = sorted(path.name for path in (inbox.state / "done").iterdir() if path.suffix == ".xml")
-    yield Outcome("three days of one name", kept, ["day.2.xml", "day.3.xml", "day.4.xml", "day.xml"])
-    restore(room, f"copies/{name}", units="")
-    with serving(room, WORDS, CONNECTIONS) as desk:
-        inbox.set(NUMBER="next", DESK=f"http://127.0.0.1:{desk.port}")
-        inbox.put({"day.xml": unwritten("S", "R4")})
-        lines = inbox.run("--again", "lacking").errors.decode().splitlines()
-        said = [
-            f"onixdesk-inbox: day.{place}.xml: done: number {place} applied; these bytes had that number before"
-            for place in (2, 3, 4)
-        ]
-        yield Outcome("three days: taken again", lines, said)
-        yield Outcome("three days: what is new waits", list(inbox.lying()), ["day.xml"])
-        came = inbox.run().errors.decode()
-        wanted = "onixdesk-inbox: day.xml: done: number 5 applied; kept as day.5.xml\n"
-        yield Outcome("three days: the next one", came, wanted)
-    # Also under the names that they are kept by.
-    restore(room, f"copies/{name}", units="")
-    with serving(room, WORDS, CONNECTIONS) as desk:
-        inbox.set(NUMBER="next", DESK=f"http://127.0.0.1:{desk.port}")
-        for place in (2, 3, 4, 5):
-            os.rename(inbox.state / f"done/day.{place}.xml", inbox.incoming / f"day.{place}.xml")
-        lines = inbox.run().errors.decode().splitlines()
-        numbers = [line.partition(": done: ")[2].partition(" applied")[0] for line in lines]
-        yield Outcome("three days: put back by hand", numbers, [f"number {place}" for place in (2, 3, 4, 5)])
-        came = inbox.run("--again", "all").errors.decode()
-        yield Outcome("all again changes nothing", came.count(" applied; these bytes had that number before\n"), 5)
+    for number in ("own", NEXT):
+        shop = shop_in(room, number, number=number)
+        copy = four_days(shop)
+        yield Outcome("the status", (number, run(shop, copy)), (number, 0))
+        yield Outcome("all feeds again, under their numbers", (has(shop), price(shop)), ([1, 2, 3, 4], "14.000"))
+        refusals = [line for line in shop.written.splitlines() if line.startswith("onixdesk-inbox --refuse ")]
+        yield Outcome(
+            "each with its refusal", [line.rpartition("; ")[2] for line in refusals], ["2.xml", "3.xml", "4.xml"]
+        )
+        yield Outcome("what runs again", shop.started, {*UNITS})
+        kept = [path for path in shop.database.parent.iterdir() if path.name.startswith("shop.db.")]
+        yield Outcome("those of before", [has_of(path) for path in kept if "-wal" not in path.name], [[1, 2, 3, 4]])
+        shop.send(("5.xml", feed_of(5, {"R1": "15.00"})))
+        yield Outcome("the next feed", (has(shop), price(shop)), ([1, 2, 3, 4, 5], "15.000"))
 
 
-def bad_words(room: Room) -> Iterator[Outcome]:
-    yield Outcome("no words", restore(room).status, 2)
-    for since in ("yesterday", "2026-11-27", ""):
-        yield Outcome(f"again since {since!r}", Inbox(room, 1).run("--again", since).status, 2)
-    yield Outcome("its help", room.call([ROOT / "bin/desk-restore", "--help"]).status, 0)
+def has_of(path: Path) -> list[int]:
+    return sorted(read(path).series[SERIES].had)
+
+
+def refused_before(room: Room) -> Iterator[Outcome]:
+    """A bad feed that is refused by the line that was printed does not come back."""
+    shop = shop_in(room, "refused", number=NEXT)
+    copy = four_days(shop)
+    machine = shop.machine()
+    machine.said = "no"
+    yield Outcome("without a yes", (run(shop, copy, machine), has(shop), shop.units), (1, [1, 2, 3, 4], []))
+    line = next(line for line in shop.written.splitlines() if line.endswith("; 4.xml"))
+    mark = line.split()[2]
+    shop.inbox.work(lambda inbox: decide.decide(inbox, "refuse", mark))
+    yield Outcome("the others", (run(shop, copy), price(shop), shop.inbox.states()["4.xml"]), (0, "13.000", "rejected"))
+    shop.inbox.run()
+    yield Outcome("its number is waived", shop.inbox.series.had[4], WAIVED)
+
+
+def output_that_breaks(room: Room) -> Iterator[Outcome]:
+    shop = shop_in(room, "broken")
+    copy = four_days(shop)
+    shop.is_output_broken = True
+    yield Outcome("nobody can read what comes", (run(shop, copy), has(shop), shop.units), (1, [1, 2, 3, 4], []))
+    yield Outcome("--yes", (run(shop, copy, yes=True), has(shop), price(shop)), (0, [1, 2, 3, 4], "14.000"))
+
+
+def desk_that_does_not_start(room: Room) -> Iterator[Outcome]:
+    """Nothing is lost: the line starts the desk, and the inbox mends the rest."""
+    shop = shop_in(room, "start", number=NEXT)
+    copy = four_days(shop)
+    shop.failing = UNITS[0]
+    yield Outcome("the status", run(shop, copy), 1)
+    command = "systemctl start onixdesk.service; that does not run"
+    yield Outcome("the command", [line for line in shop.lines if line.startswith("systemctl start")], [command])
+    yield Outcome("what does run", shop.started, {*UNITS[1:]})
+    shop.failing = ""
+    shop.systemctl(["start", UNITS[0]])
+    shop.send(("5.xml", feed_of(None, {"R1": "15.00"})))
+    yield Outcome("then", (has(shop), price(shop)), ([1, 2, 3, 4, 5], "15.000"))
+
+
+def what_cannot_come_again(room: Room) -> Iterator[Outcome]:
+    shop = shop_in(room, "gone")
+    copy = four_days(shop)
+    shop.inbox.work(lambda inbox: inbox.ledger.do("UPDATE message SET text = NULL WHERE number > 1"))
+    yield Outcome("texts that are gone", (run(shop, copy), has(shop), shop.units), (1, [1, 2, 3, 4], []))
+    yield Outcome("say so", "the texts of 3 numbers from 2 to 4 are not kept any more" in shop.lines[-1], True)
+    shop = shop_in(room, "posted")
+    copy = four_days(shop)
+    shop.inbox.series.had[5] = ()
+    yield Outcome(
+        "what comes while it asks", (run(shop, copy), has(shop), shop.started), (1, [1, 2, 3, 4, 5], {*UNITS})
+    )
+    shop.write()
+    yield Outcome("what no inbox has", (run(shop, copy), has(shop)), (1, [1, 2, 3, 4, 5]))
+    yield Outcome("is said", "no inbox has number 5, which the copy lacks" in shop.lines[-1], True)
+    yield Outcome("--gaps", (run(shop, copy, gaps=True), has(shop)), (0, [1, 2, 3, 4]))
+
+
+def agreements_and_waivers(room: Room) -> Iterator[Outcome]:
+    """What was made since is made again; what the copy lacks and nobody knows is told, and its files wait."""
+    shop = shop_in(room, "since")
+    assert shop.inbox.desk
+    series = shop.inbox.desk.series.pop(SERIES)
+    shop.write()
+    copy = shop.take_copy("2026-11-27T02-30-12Z")
+    shop.inbox.desk.series[SERIES] = series
+    shop.send(("1.xml", feed_of(1, {"R1": "10.00"})), ("3.xml", feed_of(3, {"R1": "13.00"})))
+    series.had[2] = WAIVED
+    yield Outcome("made again", (run(shop, copy), price(shop), shop.inbox.series.had[2]), (0, "13.000", WAIVED))
+    shop.database.unlink()
+    shop.inbox.desk = None
+    yield Outcome("nobody knows it", run(shop, copy), 1)
+    agreement = "Agree,north,06,4012345000009,,,1"
+    lines = [line for line in shop.lines if line.startswith(agreement)]
+    yield Outcome("is told", (len(lines), shop.written.startswith(agreement)), (1, True))
+    shop.inbox.run()
+    yield Outcome("its files wait", (has_series(shop.inbox.desk), set(shop.inbox.states().values())), ([], {"applied"}))
+    shop.inbox.desk = shop.inbox.desk or FakeDesk()
+    shop.inbox.desk.batch(f"{agreement}\n")
+    shop.inbox.run()
+    yield Outcome("once it is agreed", has(shop), [1, 3])
+
+
+def has_series(desk: FakeDesk | None) -> list[str]:
+    return [*desk.series] if desk else []
+
+
+def copies_that_are_refused(room: Room) -> Iterator[Outcome]:
+    shop = shop_in(room, "refused")
+    good = four_days(shop)
+    before = shop.database.read_bytes()
+    damaged, more, none = (shop.copies / name for name in ("damaged", "more", "none"))
+    for folder in (damaged, more, none):
+        folder.mkdir()
+    damaged.joinpath("shop.db").write_bytes(b"no database" * 1000)
+    for name in ("shop.db", "other.db"):
+        more.joinpath(name).write_bytes(good.joinpath("shop.db").read_bytes())
+    aside = good.rename(good.with_name(f"{good.name}.before-correction"))
+    for copy, status in ((damaged, 1), (more, 3), (none, 3), (aside, 1)):
+        yield Outcome(copy.name, (run(shop, copy), shop.units), (status, []))
+    yield Outcome("the desk", shop.database.read_bytes() == before, True)
+    yield Outcome("with its word", run(shop, aside, before_correction=True), 0)
+    again = "the correction of the desk's text has to be made again"
+    yield Outcome("says so", again in shop.lines, True)
+
+
+def ledgers(room: Room) -> Iterator[Outcome]:
+    """A ledger of the copy has its place only where there is none."""
+    shop = shop_in(room, "ledgers", number=NEXT)
+    copy = four_days(shop)
+    yield Outcome("where there is one", (run(shop, copy), has(shop)), (0, [1, 2, 3, 4]))
+    for path in shop.inbox.ledger.parent.glob("ledger.db*"):
+        path.unlink()
+    yield Outcome("where there is none", run(shop, copy, gaps=True), 0)
+    shop.inbox.run()
+    yield Outcome("what lies in the store behind it", price(shop), "14.000")
+    yield Outcome("it knows the first feed", shop.inbox.states()["1.xml"], "applied")
+
+
+def text_of(shop: Shop) -> str:
+    """The desk as a batch makes it again."""
+    assert shop.inbox.desk
+    series = shop.inbox.series
+    lines = [f"Agree,{SERIES},{','.join(series.parties)},{series.first}\n"]
+    for number, contents in sorted(series.had.items()):
+        lines.append(f"Waive,{SERIES},{number}\n" if contents == WAIVED else shop.inbox.desk.texts[number])
+    return "".join(lines)
+
+
+def corrections(room: Room) -> Iterator[Outcome]:
+    """A desk of a corrected text: what came meanwhile is there too, and the copies from before are set aside."""
+    shop = shop_in(room, "corrections")
+    four_days(shop)
+    assert shop.inbox.desk
+    copy = shop.take_copy("before")
+    text = room.path("after.csv")
+    text.write_text(text_of(shop).replace(",14.00,", ",99.00,"))
+    series = shop.inbox.series
+    series.had[6] = WAIVED
+    shop.send(("5.xml", feed_of(5, {"R2": "15.00"})))
+    yield Outcome("the status", run(shop, copy, text=text), 0)
+    yield Outcome("the prices", (price(shop), price(shop, "R2")), ("99.000", "15.000"))
+    yield Outcome("what was waived meanwhile", (has(shop), shop.inbox.series.had[6]), ([1, 2, 3, 4, 5, 6], WAIVED))
+    aside = ["2026-11-27T02-30-12Z.before-correction", "before"]
+    yield Outcome("the copies from before", sorted(path.name for path in shop.copies.iterdir()), aside)
+    text.write_text(text.read_text().partition("\n")[2])
+    before = shop.database.read_bytes()
+    yield Outcome("a text that the desk refuses", (run(shop, copy, text=text) > 0, shop.started), (True, {*UNITS}))
+    yield Outcome("the desk", shop.database.read_bytes() == before, True)
+
+
+def held_at_a_wrong_number(room: Room) -> Iterator[Outcome]:
+    """A date was taken for a number, and let in: the file is refused, taken out of the text, and taken again under the next number."""
+    shop = shop_in(room, "held")
+    shop.send(("1.xml", feed_of(1, {"R1": "10.00"})), ("date.xml", feed_of(2025, {"R1": "12.00"})))
+    mark = next(file.mark for file in shop.inbox.files() if file.name == "date.xml")
+    shop.inbox.work(lambda inbox: decide.decide(inbox, "let-in", mark))
+    shop.inbox.run()
+    yield Outcome("let in, and held", shop.inbox.states()["date.xml"], "held")
+    copy = shop.take_copy("before")
+    text = room.path("after.csv")
+    taken_out = text_of(shop).rpartition("Message,")[0]
+    text.write_text(taken_out)
+    shop.inbox.work(lambda inbox: decide.decide(inbox, "refuse", mark))
+    yield Outcome("the status", (run(shop, copy, text=text), has(shop)), (0, [1]))
+    shop.inbox.run()
+    shop.inbox.settings = replace(shop.inbox.settings, number=NEXT)
+    shop.inbox.work(lambda inbox: decide.decide(inbox, "again", mark))
+    shop.inbox.run()
+    yield Outcome("under the next number", (has(shop), price(shop)), ([1, 2], "12.000"))
+
+
+def waiver_taken_back(room: Room) -> Iterator[Outcome]:
+    """The message of a number that was waived arrived: the waiver is taken out of the text, and not made again."""
+    shop = shop_in(room, "waived")
+    shop.send(("1.xml", feed_of(1, {"R1": "10.00"})))
+    shop.inbox.work(lambda inbox: decide.waive(inbox, 2))
+    shop.send(("3.xml", feed_of(3, {"R1": "13.00"})), ("2.xml", feed_of(2, {"R2": "12.00"})))
+    yield Outcome("refused", (shop.inbox.states()["2.xml"], shop.inbox.series.had[2]), ("refused", WAIVED))
+    shop.inbox.work(lambda inbox: decide.take_back(inbox, 2))
+    copy = shop.take_copy("before")
+    text = room.path("after.csv")
+    text.write_text(text_of(shop).replace(f"Waive,{SERIES},2\n", ""))
+    yield Outcome("the status", run(shop, copy, text=text), 0)
+    shop.send(("2.xml", feed_of(2, {"R2": "12.00"})))
+    yield Outcome("it has its place", (price(shop), price(shop, "R2")), ("13.000", "12.000"))
+
+
+def killed(kind: str, room: Room) -> Iterator[Outcome]:
+    """At each call: then no desk stands there, or one of both; the next run ends it, and nothing is lost."""
+    wrong, at = [], 1
+    while True:
+        at += STRIDE
+        shop = shop_in(room, f"{kind}{at}", number=NEXT)
+        copy = four_days(shop)
+        machine = shop.machine(kind, at)
+        try:
+            status = run(shop, copy, machine)
+        except Killed:
+            status = -9
+        if machine.calls < at:
+            break
+        if shop.database.exists() and has_of(shop.database) not in ([1], [1, 2, 3, 4]):
+            wrong.append(f"{at}: {has_of(shop.database)} stands there")
+        if status == 0 and kind != "error":
+            wrong.append(f"{at}: it ended well")
+        again = run(shop, copy)
+        shop.inbox.run()
+        if (again, has(shop), price(shop)) != (0, [1, 2, 3, 4], "14.000") or shop.started != {*UNITS}:
+            wrong.append(f"{at}: {again} {has(shop)} {price(shop)} {shop.started} {shop.lines}")
+    yield Outcome(f"{kind} at each of the calls", wrong, [])
+    yield Outcome("there are some", at > 60, True)
+
+
+GROUPS = [Group(f"restore, {kind}", partial(killed, kind)) for kind in ("kill", "power", "error")]

@@ -1,15 +1,19 @@
 """What the mails say of the units, with a journal and a mail server that stand in, and the lines that `serve` is left
 in the journal."""
 
+import json
+import os
 import shutil
 import signal
 import subprocess
+import time
 from collections.abc import Iterator
 
 from tests.program.inbox.inboxes import script
 from tests.program.room import SECONDS, Ran, Room
 from tests.running import Outcome
 from tools.root import ROOT
+from tools.words import Word
 
 MAIL = ROOT / "programs/onixdesk-mail/mail.sh"
 SERVE = ROOT / "programs/onixdesk/serve.sh"
@@ -32,10 +36,13 @@ def say(room: Room, priority: int, *lines: str) -> None:
         journal.writelines(f"{priority} {line}\n" for line in lines)
 
 
-def mail(room: Room, address: str = "buying@example.org") -> Ran:
+def mail(room: Room, address: str = "buying@example.org", day: int = 2) -> Ran:
+    """A mail on that day of the week, 1 for Monday."""
     room.path("mailed").unlink(missing_ok=True)
+    script(room, "bin/date", f'[ "$*" = +%u ] && echo {day} || echo 2026-11-30')
     environment = {"PATH": f"{room.path('bin')}:/usr/bin:/bin", "ROOM": str(room.folder)}
-    return room.call([MAIL, address, room.path("state")], environment=environment)
+    words: list[Word] = [MAIL, address, room.path("state"), room.path("settings"), room.path("bin/onixdesk-inbox")]
+    return room.call(words, environment=environment)
 
 
 def mailed(room: Room) -> list[str]:
@@ -72,13 +79,12 @@ def what_is_mailed(room: Room) -> Iterator[Outcome]:
     came = mail(room)
     head = ["words: -i -t", "To: buying@example.org", "Subject: onixdesk: 152 lines to look at"]
     yield Outcome("mails: the head of one", (came, mailed(room)[:3]), (Ran(0), head))
-    cut = [line[:500] for line in refused[:100]]
-    wanted = [*cut, "and 52 more"]
+    wanted = [*refused[:100], "and 52 more"]
     yield Outcome("mails: what is in it", bodies(room), (wanted, wanted))
     called = room.path("calls").read_text().splitlines()
     names = [
-        "onixdesk", "onixdesk-inbox@*", "onixdesk-fetch@*", "onixdesk-copy", "onixdesk-follow", "onixdesk-titles",
-        "onixdesk-prices", "onixdesk-prices-mail",
+        "onixdesk", "onixdesk-inbox@*", "onixdesk-fetch@*", "onixdesk-copy", "onixdesk-follow",
+        "onixdesk-prices",
     ]  # fmt: skip
     units = [f"--unit={name}.service" for name in names]
     yield Outcome("mails: of which units", [word for word in called[-1].split() if word.startswith("--unit")], units)
@@ -123,6 +129,24 @@ def what_cannot_be_mailed(room: Room) -> Iterator[Outcome]:
     yield Outcome("mails: no journal", mail(room), wanted)
 
 
+def each_monday(room: Room) -> Iterator[Outcome]:
+    """How each inbox stands, once on that day, though nothing failed; again where it could not be sent."""
+    make_room(room)
+    room.path("settings").mkdir()
+    for name in ("example", "north", "south"):
+        room.write(f"settings/{name}.conf", b"")
+    script(room, "bin/onixdesk-inbox", 'echo "$*: 3 in quarantine"')
+    yield Outcome("mails: no Monday", (mail(room), mailed(room)), (Ran(0), []))
+    script(room, "bin/sendmail", "exit 75")
+    yield Outcome("mails: a Monday that fails", mail(room, day=1).status, 1)
+    make_server(room)
+    came = mail(room, day=1)
+    lines = mailed(room)
+    wanted = ["north", "    report north: 3 in quarantine", "south", "    report south: 3 in quarantine"]
+    yield Outcome("mails: each Monday", (came, lines[lines.index("") + 1 :]), (Ran(0), wanted))
+    yield Outcome("mails: once on a Monday", (mail(room, day=1), mailed(room)), (Ran(0), []))
+
+
 def lines_of_a_desk(room: Room) -> Iterator[Outcome]:
     """Those of requests that went well are left out, and the script is the desk by then."""
     said = ["listening 8080", "200", "202", "batch 0", "batch 2", "404", "fault", "503", "2000", "x 200"]
@@ -142,3 +166,18 @@ def lines_of_a_desk(room: Room) -> Iterator[Outcome]:
     process = subprocess.Popen([SERVE, program])
     process.send_signal(signal.SIGTERM)
     yield Outcome("a desk that is stopped", process.wait(SECONDS), -signal.SIGTERM)
+
+
+def rules_for_the_page(room: Room) -> Iterator[Outcome]:
+    """A desk that starts has written the rules that it reads; where they cannot be read, no older ones are left."""
+    program = script(room, "program", "exit 0")
+    room.write("rules.toml", b'[[rule]]\nseries = "north"\ncodes = ["20", "21"]\nmax = "15.00"\n')
+    environment = {"PATH": os.environ["PATH"], "RULES": str(room.path("rules.toml")), "STATE": str(room.folder)}
+    came = room.call([SERVE, program], environment=environment)
+    found = json.loads(room.path("rules.json").read_text("ascii"))
+    is_now = abs(found.pop("at") - time.time()) < SECONDS
+    wanted = {"version": 1, "rules": [{"series": "north", "codes": ["20", "21"], "max": "15.00"}]}
+    yield Outcome("rules for the page", (came, found, is_now), (Ran(0), wanted, True))
+    room.write("rules.toml", b"[[rule]\n")
+    came = room.call([SERVE, program], environment=environment)
+    yield Outcome("rules that are none", (came.status, room.path("rules.json").exists()), (0, False))

@@ -1,1 +1,1 @@
-"""Tests of the inboxes of wholesalers, and of the titles that they hand over."""
+"""Tests of onixdesk-inbox."""

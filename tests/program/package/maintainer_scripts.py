@@ -19,22 +19,15 @@ DATA = [
     "onixdesk/shop.db",
     "onixdesk/shop.db-wal",
     "onixdesk-copies/2026-11-27T02-30-12Z/shop.db",
-    "onixdesk-inbox/north/done/1.csv",
-    "onixdesk-inbox/north/numbers",
-    "onixdesk-inbox/north/refused/cut.xml",
+    "onixdesk-inbox/north/ledger.db",
+    "onixdesk-inbox/north/store/1.csv",
 ]
 MADE = [
-    "onixdesk-figures/started",
     "onixdesk-prices/prices.csv",
     "onixdesk-mail/read",
-    "onixdesk-metrics/onixdesk.prom",
-    "onixdesk-titles/titles/97812/97812345.json",
-    "onixdesk-title-rows/1-1-north",
-    "onixdesk-fetch/north/key",
-    *(f"onixdesk-inbox/north/{name}" for name in ("lock", "told", "waits", "stopped", "last", "work/messages/1.csv")),
+    "onixdesk-state/titles/97812/97812345.json",
+    "onixdesk-fetch/north/succeeded",
 ]
-# An inbox that has taken nothing.
-IDLE = ["lock", "told", "work/x"]
 
 
 def unit_files() -> list[Path]:
@@ -81,7 +74,7 @@ def a_removal(room: Room) -> Iterator[Outcome]:
     stopped = told(room)[0].split()[2:] if told(room) else []
     names = [path.name.replace("@", "@north") for path in unit_files()]
     left = [name for name in names if not any(fnmatch(name, pattern) for pattern in stopped)]
-    yield Outcome("prerm remove: each unit is stopped", (came, len(names) > 15, left), (Ran(0), True, []))
+    yield Outcome("prerm remove: each unit is stopped", (came, len(names) > 10, left), (Ran(0), True, []))
     yield Outcome("prerm remove: the desk is the last", stopped[-1:], ["onixdesk.service"])
     yield Outcome("prerm upgrade", (at(room, "prerm", "upgrade", "0.3.0"), told(room)), (Ran(0), []))
     room.path("run/systemd/system").rmdir()
@@ -108,13 +101,13 @@ def a_purge(room: Room) -> Iterator[Outcome]:
     make(room, "etc/onixdesk/inbox/north.conf")
     before = found(room)
     yield Outcome("postrm remove", (at(room, "postrm", "remove"), told(room), found(room)), (Ran(0), [], before))
-    yield Outcome("postrm purge: links", len(links) > 7, True)
+    yield Outcome("postrm purge: links", len(links) > 6, True)
     came = at(room, "postrm", "purge")
     kept = [f"var/lib/{name}" for name in DATA] + ["etc/onixdesk/inbox/north.conf", "var/lib/onixdesk-incoming/north"]
     left = [name for name in found(room) if not name.startswith("etc/systemd/")]
     yield Outcome("postrm purge: the data stay", (came, left), (Ran(0), sorted(kept)))
     yield Outcome("postrm purge: no link is left", [name for name in links if room.path(name).exists()], [])
-    yield Outcome("postrm purge: users", told(room), ["userdel onixdesk-titles", "userdel onixdesk-fetch"])
+    yield Outcome("postrm purge: users", told(room), ["userdel onixdesk-fetch"])
     yield Outcome(
         "postrm purge, once more", (at(room, "postrm", "purge").status, found(room)[-1:]), (0, sorted(kept)[-1:])
     )
@@ -122,11 +115,11 @@ def a_purge(room: Room) -> Iterator[Outcome]:
 
 def a_purge_without_data(room: Room) -> Iterator[Outcome]:
     """Nothing is left, and no user."""
-    shop(room, [f"onixdesk-inbox/west/{name}" for name in IDLE])
-    for folder in ("onixdesk", "onixdesk-copies", "onixdesk-incoming/north", "onixdesk-inbox/west/done"):
+    shop(room, [])
+    for folder in ("onixdesk", "onixdesk-copies", "onixdesk-incoming/north", "onixdesk-inbox"):
         room.path(f"var/lib/{folder}").mkdir(parents=True)
     came = at(room, "postrm", "purge")
     left = [name for name in found(room) if not name.startswith("etc/systemd/")]
     yield Outcome("postrm purge without data: nothing is left", (came, left), (Ran(0), ["var/lib"]))
-    users = [f"userdel onixdesk{name}" for name in ("-titles", "-fetch", "", "-inbox")]
+    users = [f"userdel onixdesk{name}" for name in ("-fetch", "", "-inbox")]
     yield Outcome("postrm purge without data: no user is left", told(room), users)

@@ -1,1 +1,0 @@
-"""Writes the prices of all articles of a desk into a file, such as a till reads each night."""

@@ -1,0 +1,135 @@
+#!/bin/bash
+# Fetches what a wholesaler's server has into the folder of its inbox, by rclone:
+#     fetch.sh SERIES FOLDER
+# FROM, NAMES, VERB, CERTIFICATE and UNVERIFIED stand in the environment, rclone's settings in $CREDENTIALS_DIRECTORY/conf
+# (INBOX.md); $STATE_DIRECTORY is of this series alone. Status 0; 1 where not all that is there came.
+set -uo pipefail
+export LC_ALL=C
+series=$1 folder=$2 state=$STATE_DIRECTORY
+# rclone writes into `new`; what lies in `whole` is whole, and the disk has it.
+new=$state/new whole=$state/whole
+# Settings of rclone come from its file alone.
+unset "${!RCLONE_@}"
+[ -z "${CERTIFICATE:-}" ] || export SSL_CERT_FILE=$CERTIFICATE SSL_CERT_DIR=/nonexistent
+
+say() { echo "<$1>journalctl -n 50 -u onixdesk-fetch@$series; $2" >&2; }
+
+# A text of others as one word, cut.
+quoted() { local text=${1//[^ -~]/?}; text=${text:0:300}; echo "${text@Q}"; }
+
+# Ends with a notice; after two hours of them with an error, which is mailed, and daily then.
+fail() {
+    local now since told
+    now=$(date +%s)
+    [ -s "$state/failing" ] || echo "$now" >"$state/failing"
+    since=$(cat "$state/failing") told=$(cat "$state/told" 2>/dev/null)
+    if [ $((now - ${since:-$now})) -ge 7200 ] && [ $((now - ${told:-0})) -ge 86400 ]; then
+        echo "$now" >"$state/told"
+        say 3 "fetching fails since $(date -d "@$since" '+%F %H:%M'); $1"
+    else
+        say 5 "fetching fails; $1"
+    fi
+    exit 1
+}
+
+call() { rclone --config "$CREDENTIALS_DIRECTORY/conf" --retries 1 --low-level-retries 3 "$@" 2>>"$state/log"; }
+
+# What rclone has said, a line for each of its errors, and the last one as the reason.
+fail_by_rclone() {
+    local line
+    while IFS= read -r line; do say 5 "$(quoted "${line:20}")"; done < <(grep ERROR "$state/log" | head -n 50)
+    fail "$1; $(quoted "$(tail -n 1 "$state/log" | cut -c 21-)")"
+}
+
+# Refuses a server that nobody has verified, where the settings do not say that it is.
+check_server() {
+    local shown remote=${FROM%%:*}
+    [[ ${FROM:-} =~ ^[A-Za-z0-9_-]+: ]] || fail "FROM is REMOTE:FOLDER, with a REMOTE of $series.conf"
+    [[ ${VERB:-} =~ ^(copy|move)$ ]] || fail "VERB is copy or move"
+    shown=$(call config show "$remote") || fail_by_rclone "rclone cannot read $series.conf"
+    has() { grep -qxE "$1" <<<"$shown"; }
+    if has 'type = sftp'; then
+        has 'known_hosts_file = .+' || fail "known_hosts_file is missing in $series.conf: any host would be trusted"
+    elif has 'type = ftp'; then
+        { has '(tls|explicit_tls) = true' && ! has 'no_check_certificate = .*'; } || unverified
+    elif has 'type = http'; then
+        has 'url = https://.*' || unverified
+    else
+        fail "the type of $remote in $series.conf is none of sftp, ftp, http"
+    fi
+}
+
+unverified() {
+    [ "${UNVERIFIED:-}" = yes ] || fail "nobody verifies that server: TLS, or UNVERIFIED=yes in $series.env"
+}
+
+# How many seconds ago it was 30 days before that time.
+age_of() { local now; now=$(date +%s); echo $((30 * 86400 + (now > $1 ? now - $1 : 0))); }
+
+# Which files are asked for: all at first, and where the server gives no times; else what is not much older than the
+# last success.
+choose() {
+    local times
+    asked=(--max-depth 1 --include "/${NAMES:-*}" --ignore-case --max-size 4G)
+    times=$(call lsf --files-only --format t "${asked[@]}" "$FROM") || fail_by_rclone "the server cannot be listed"
+    [ -n "$times" ] || [ "$VERB" = move ] || fail "it has no file of NAMES: a wrong folder, or a page that asks who is there"
+    asked+=(--min-age 1m --transfers 1 --check-first --order-by "modtime,ascending")
+    if grep -q '^19[67]' <<<"$times"; then
+        asked+=(--ignore-times --local-no-set-modtime)
+    elif [ "$VERB" = copy ]; then
+        asked+=(--compare-dest "$folder")
+        [ ! -s "$state/succeeded" ] || asked+=(--max-age "$(age_of "$(cat "$state/succeeded")")s")
+    fi
+}
+
+# Fetches into `new`, which becomes `whole`. Only what the disk has is removed from the server, and only as it came.
+fetch() {
+    local status
+    rm -rf "$new"
+    mkdir "$new"
+    call copy "${asked[@]}" "$FROM" "$new"
+    status=$?
+    # Killed, rclone leaves a half file; otherwise it removes those itself.
+    [ $status -lt 128 ] || fail "rclone was killed"
+    { sync --file-system "$new" && mv -T "$new" "$whole" && sync --file-system "$state"; } || fail "the disk takes nothing"
+    call lsf --files-only "$whole" >"$state/came" || fail "the disk takes nothing"
+    if [ "$VERB" = move ] && [ -s "$state/came" ]; then
+        call move --immutable --files-from-raw "$state/came" "$FROM" "$whole" || status=1
+    fi
+    return $status
+}
+
+# Puts whole files into the folder, in the order of their times.
+deliver() {
+    local name
+    [ -d "$whole" ] || return 0
+    exec 9<"$folder" && flock 9 || return
+    while IFS= read -r -d '' name; do
+        put "$name" || return
+    done < <(find "$whole" -type f -printf '%T@ %f\0' | sort -zn | cut -zd ' ' -f 2-)
+    exec 9<&-
+    rm -r "$whole"
+}
+
+# Nothing that waits in the folder is overwritten: it gets a name with its digest.
+put() {
+    local to=$folder/$1 part=$folder/.fetched.part
+    cp --preserve=timestamps -- "$whole/$1" "$part" && sync -- "$part" || return
+    if [ -e "$to" ] && ! cmp -s -- "$to" "$part"; then
+        mv -T -- "$to" "$folder/$(sha256sum <"$to" | cut -c 1-12)-$(tail -c 200 <<<"$1")" || return
+    fi
+    mv -T -- "$part" "$to" && rm -- "$whole/$1"
+}
+
+began=$(date +%s)
+: >"$state/log"
+deliver || fail "the folder cannot be written to"
+check_server
+choose
+fetch
+status=$?
+deliver || fail "the folder cannot be written to"
+[ $status = 0 ] || fail_by_rclone "not all that is there came"
+echo "$began" >"$state/succeeded"
+[ ! -e "$state/told" ] || say 3 "fetching is well again"
+rm -f "$state/failing" "$state/told"

@@ -1,1 +1,0 @@
-"""Fetches the files that a wholesaler offers on a server of its own into the folder of its inbox."""

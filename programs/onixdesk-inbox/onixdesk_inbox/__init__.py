@@ -1,1 +1,0 @@
-"""Takes the files that a wholesaler puts into a folder to a running desk."""

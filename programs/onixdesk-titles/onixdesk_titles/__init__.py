@@ -1,1 +1,0 @@
-"""Keeps what feeds say of titles, by ISBN, in files for the buyers' page."""

@@ -1,0 +1,44 @@
+"""Copies that are kept side by side, each in a folder named by its second."""
+
+import re
+import time
+from pathlib import Path
+
+from onixdesk_shop.machine import Machine
+
+UNFINISHED = ".desk-copy"
+
+NAME = "%Y-%m-%dT%H-%M-%SZ"
+
+# Behind the name of one from before a correction of the desk's text.
+CORRECTED = ".before-correction"
+
+is_name = re.compile(rf"\d{{4}}-\d\d-\d\dT\d\d-\d\d-\d\dZ(?:{re.escape(CORRECTED)})?").fullmatch
+
+
+def named(folder: Path, moment: int) -> Path:
+    """The place of a copy of that moment, in nanoseconds since 1970."""
+    return folder / time.strftime(NAME, time.gmtime(moment // 1_000_000_000))
+
+
+def copies_in(machine: Machine, folder: Path) -> list[Path]:
+    """The copies of a folder, the oldest first."""
+    return [folder / entry.name for entry in machine.entries(folder) if is_name(entry.name)]
+
+
+def set_aside(machine: Machine, folder: Path) -> None:
+    """Names all copies as those from before a correction."""
+    for copy in copies_in(machine, folder):
+        if not copy.name.endswith(CORRECTED):
+            machine.rename(copy, copy.with_name(f"{copy.name}{CORRECTED}"))
+    machine.sync_folder(folder)
+
+
+def keep_latest(machine: Machine, folder: Path, count: int, newest: Path) -> None:
+    """Removes all but the latest copies. The newest stays, also where a clock that was ahead has given others later
+    names. One that is being removed is no copy any longer: a run that is killed would leave a part of it."""
+    others = [copy for copy in copies_in(machine, folder) if copy != newest]
+    for old in others[: max(0, len(others) + 1 - count)]:
+        removed = folder / f"{UNFINISHED}-{old.name}"
+        machine.rename(old, removed)
+        machine.remove_tree(removed)

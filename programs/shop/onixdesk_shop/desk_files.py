@@ -1,0 +1,116 @@
+"""The two files of a desk that nobody has open: what SQLite and the desk's own program say of them."""
+
+import sqlite3
+from dataclasses import dataclass, field
+from pathlib import Path
+
+from onixdesk_shop.desk import Gaps, records_of
+from onixdesk_shop.faults import BadEnd, Failed
+from onixdesk_shop.lines import cut
+from onixdesk_shop.machine import Machine
+
+SERIES = "SELECT name, sender_type, sender_value, addressee_type, addressee_value, first_number FROM series"
+NUMBERS = "SELECT series, number, contents = 'waived' FROM {} ORDER BY series, number"
+
+
+def log_of(database: Path) -> Path:
+    return database.with_name(f"{database.name}-wal")
+
+
+def wrong_with(connection: sqlite3.Connection) -> str:
+    """What SQLite finds wrong with a database and its foreign keys, or why it is no desk's; nothing where it is one."""
+    found = str(connection.execute("PRAGMA integrity_check").fetchone()[0])
+    if found != "ok":
+        return found
+    if broken := connection.execute("PRAGMA foreign_key_check").fetchone():
+        return f"a row of {broken[0]} has no parent"
+    if not connection.execute("SELECT amount FROM meta WHERE item = 'version'").fetchone():
+        return "its tables have no version"
+    return ""
+
+
+def check(machine: Machine, database: Path, source: Path) -> None:
+    """Failed where SQLite finds the copy of that source not to be a sound database of a desk."""
+    try:
+        with machine.reading(database) as connection:
+            wrong = wrong_with(connection)
+    except sqlite3.Error as error:
+        wrong = str(error)
+    if wrong:
+        raise Failed(f"{source}: a copy of it is not sound: {cut(wrong)}")
+
+
+@dataclass
+class Contents:
+    """What a desk was told: the agreements by their series, and which numbers it has, those waived apart."""
+
+    agreements: dict[str, str] = field(default_factory=dict)
+    messages: set[tuple[str, int]] = field(default_factory=set)
+    waivers: set[tuple[str, int]] = field(default_factory=set)
+
+    def beyond(self, other: "Contents") -> "Contents":
+        """What this desk has and the other one lacks."""
+        agreements = {name: line for name, line in self.agreements.items() if name not in other.agreements}
+        known = other.messages | other.waivers
+        return Contents(agreements, self.messages - known, self.waivers - known)
+
+    def requests(self) -> str:
+        """The agreements and waivers as a batch makes them again."""
+        waivers = [f"Waive,{series},{number}" for series, number in sorted(self.waivers)]
+        return "".join(f"{line}\n" for line in [*self.agreements.values(), *waivers])
+
+
+def contents_of(machine: Machine, database: Path) -> Contents:
+    """Failed where the tables cannot be read."""
+    found = Contents()
+    try:
+        with machine.reading(database) as connection:
+            for name, *parties in connection.execute(SERIES):
+                found.agreements[name] = ",".join(["Agree", name, *map(str, parties)])
+            for table in ("applied", "held"):
+                for name, number, is_waived in connection.execute(NUMBERS.format(table)):
+                    (found.waivers if is_waived else found.messages).add((name, number))
+    except sqlite3.Error as error:
+        raise Failed(f"{database}: {error}") from None
+    return found
+
+
+class DeskFile:
+    """A desk over files, asked by runs of its own program."""
+
+    def __init__(self, machine: Machine, program: Path, database: Path, rules: Path | None = None) -> None:
+        self.machine = machine
+        self.database = database
+        table: list[str | Path] = ["--rules", rules] if rules else []
+        self.words: list[str | Path] = [program, *table, "--db", database]
+
+    def batch(self, text: str) -> list[list[str]]:
+        """The records that it answers a batch with. It is made where it is not there."""
+        return records_of(self.machine.run([*self.words, "batch"], (0, 1), text.encode()).output)
+
+    def gaps(self) -> dict[str, Gaps]:
+        """Its reports on all series. Failed where the program does not take the files."""
+        try:
+            answers = self.machine.run([*self.words, "--existing", "gaps"], (0, 1)).output
+        except BadEnd as error:
+            raise Failed(f"the desk does not take the files: {error}") from None
+        return reports_in(records_of(answers))
+
+
+def reports_in(records: list[list[str]]) -> dict[str, Gaps]:
+    """The reports of records `gaps` with those `missing` behind them."""
+    heads: dict[str, dict[str, str]] = {}
+    missing: dict[str, list[tuple[int, int]]] = {}
+    name = ""
+    for kind, *words in records:
+        if kind == "gaps":
+            name = words[0]
+            heads[name] = dict(word.split("=", 1) for word in words[1:])
+            missing[name] = []
+        elif kind == "missing":
+            missing[name].append((int(words[0]), int(words[1])))
+    found = {}
+    for name, head in heads.items():
+        greatest = int(head["greatest"]) if head["greatest"].isdigit() else None
+        found[name] = Gaps(int(head["first"]), int(head["next"]), greatest, tuple(missing[name]))
+    return found

@@ -1,0 +1,57 @@
+"""How a program ends: its status, and why where it could not do its work."""
+
+import argparse
+import os
+import signal
+import sys
+import traceback
+from collections.abc import Callable
+from types import FrameType
+
+from onixdesk_shop.faults import DONE, FAULT, Fault
+from onixdesk_shop.lines import ERROR
+from onixdesk_shop.machine import Machine
+
+
+def parser_of(program: str, description: str, statuses: str) -> argparse.ArgumentParser:
+    """A parser whose help keeps the lines of both texts, and which takes no abbreviations."""
+    return argparse.ArgumentParser(
+        program,
+        description=description,
+        epilog=statuses,
+        formatter_class=argparse.RawDescriptionHelpFormatter,
+        allow_abbrev=False,
+    )
+
+
+def end(number: int, _frame: FrameType | None) -> None:
+    sys.exit(128 + number)
+
+
+def run_program(name: str, work: Callable[[Machine], int], goes_on: bool = False) -> int:
+    """The status of a program's work on this machine. A program that `goes_on` is not ended by a terminal that hangs
+    up."""
+    os.umask(0o077)
+    signal.signal(signal.SIGTERM, end)
+    signal.signal(signal.SIGHUP, signal.SIG_IGN if goes_on else end)
+    machine = Machine(name)
+    status = status_of(machine, work)
+    return status or (FAULT if machine.is_output_broken else DONE)
+
+
+def status_of(machine: Machine, work: Callable[[Machine], int]) -> int:
+    """What ends the work is told, a fault in a line, a mistake of the program itself with its traceback."""
+    try:
+        return work(machine)
+    except Fault as fault:
+        machine.tell(ERROR, str(fault))
+        return fault.status
+    except OSError as error:
+        machine.tell(ERROR, f"{error.filename or 'the system'}: {error.strerror or error}")
+        return FAULT
+    except KeyboardInterrupt:
+        return 128 + signal.SIGINT
+    except Exception:
+        for line in traceback.format_exc().splitlines():
+            machine.tell(ERROR, line)
+        return FAULT

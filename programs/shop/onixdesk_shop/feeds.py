@@ -1,0 +1,134 @@
+"""Feeds through the converter, and messages through `onixdesk check`."""
+
+import re
+import sys
+from dataclasses import dataclass, field
+from pathlib import Path
+
+from onixdesk_shop.faults import BAD_CALL, DONE, FAILED, BadCall, BadEnd, Fault
+from onixdesk_shop.lines import cut, shown
+from onixdesk_shop.machine import Machine
+
+# How long a conversion, and a check, may take.
+CONVERSION_SECONDS, CHECK_SECONDS = 1800, 60
+
+PROGRAM_SAYS = "onixdesk: "
+ON_INPUT = re.compile(r"onixdesk: -(?::([0-9]+):([0-9]+))?: ")
+TOTAL = re.compile(r"([0-9]+) notes?(?:, ([0-9]+) products? wrong)?")
+COUNTED = re.compile(r"(.*): ([0-9]+)")
+
+# What the converter proposes on a command line, and how an inbox has it in its settings.
+REMEDIES = {
+    "--number N gives one": "NUMBER=next gives one",
+    "--sender TYPE,VALUE gives one": "--sender TYPE,VALUE in WORDS gives one",
+    "--addressee TYPE,VALUE picks one": "--addressee TYPE,VALUE in WORDS picks one",
+    "--wrong all lets them through": "--wrong all in WORDS lets them through",
+}
+
+
+class Refusal(Exception):
+    """Why a file is refused."""
+
+
+@dataclass
+class Said:
+    """What the converter said of a feed: how often each reason, and how many products are wrong."""
+
+    lines: list[str] = field(default_factory=list)
+    reasons: dict[str, int] = field(default_factory=dict)
+    wrong: int = 0
+
+    def count(self, *beginnings: str) -> int:
+        return sum(number for reason, number in self.reasons.items() if reason.startswith(beginnings))
+
+    @property
+    def summary(self) -> str:
+        return "; ".join(f"{cut(reason)}: {number}" for reason, number in list(self.reasons.items())[:20])
+
+
+@dataclass
+class Converted:
+    """The messages of a feed, in the order of their numbers."""
+
+    messages: list[bytes]
+    said: Said
+
+
+def said_in(errors: bytes) -> Said:
+    said = Said()
+    for line in errors.decode("utf-8", "backslashreplace").splitlines():
+        said.lines.append(shown(line))
+        if ON_INPUT.match(line):
+            continue
+        text = line.removeprefix(PROGRAM_SAYS)
+        if total := TOTAL.fullmatch(text):
+            said.wrong = int(total[2] or 0)
+        elif counted := COUNTED.fullmatch(text):
+            said.reasons[counted[1]] = said.reasons.get(counted[1], 0) + int(counted[2])
+    return said
+
+
+def refusal_of(said: Said) -> str:
+    """Why the converter refused a feed, and where, with the remedies that an inbox has."""
+    last = said.lines[-1] if said.lines else ""
+    place = ON_INPUT.match(last)
+    why = cut(ON_INPUT.sub("", last).removeprefix(PROGRAM_SAYS).removeprefix("refused: "))
+    why = f"line {place[1]}, column {place[2]}: {why}" if place and place[1] else why
+    for on_command_line, in_inbox in REMEDIES.items():
+        why = why.replace(on_command_line, in_inbox)
+    return why
+
+
+def stream_of(source: Path) -> list[str | Path]:
+    """The words of the child that writes a feed, unpacked and recoded."""
+    return [sys.executable, "-E", "-s", "-S", "-B", Path(__file__).with_name("feed_stream.py"), source]
+
+
+def convert(
+    machine: Machine, program: Path, source: Path, words: list[str], terms: bytes | None, work: Path
+) -> Converted:
+    """The messages of a feed. Refusal where it has none that the desk would take; BadCall where the words or the table of
+    terms are wrong. The folder `work` is emptied for it."""
+    machine.remove_tree(work)
+    machine.make_folder(work)
+    call: list[str | Path] = [program, "convert", *words, "-o", work, "-"]
+    if terms is not None:
+        machine.write_whole(work / "terms.toml", terms)
+        call[2:2] = ["--terms", work / "terms.toml"]
+    try:
+        before, ended = machine.run_pipe(stream_of(source), call, (DONE, FAILED, BAD_CALL), CONVERSION_SECONDS)
+    except BadEnd as end:
+        raise Refusal(f"its conversion failed: {end}") from None
+    said = said_in(ended.errors)
+    if ended.status == BAD_CALL:
+        raise BadCall(f"WORDS or TERMS: {cut(said.lines[0].removeprefix(PROGRAM_SAYS)) if said.lines else ''}")
+    if before:
+        raise Refusal("it cannot be unpacked, or is no text in UTF-16")
+    messages = [machine.read(work / entry.name) for entry in machine.entries(work) if entry.name.endswith(".csv")]
+    machine.remove_tree(work)
+    if not messages:
+        raise Refusal(refusal_of(said))
+    return Converted(messages, said)
+
+
+def check_words(machine: Machine, program: Path, words: list[str], terms: bytes | None) -> None:
+    """BadCall where the converter does not take the words, or the table of terms."""
+    with machine.scratch() as folder:
+        call: list[str | Path] = [program, "convert", *words, "-o", folder]
+        if terms is not None:
+            machine.write_whole(folder / "terms.toml", terms)
+            call += ["--terms", folder / "terms.toml"]
+        ended = machine.run([*call, "-"], (DONE, FAILED, BAD_CALL), seconds=CHECK_SECONDS)
+    if ended.status == BAD_CALL:
+        raise BadCall(f"WORDS or TERMS: {cut(ended.errors.decode('utf-8', 'replace').partition(chr(10))[0])}")
+
+
+def check(machine: Machine, program: Path, message: bytes) -> str:
+    """Why the desk would not take a message, or an empty text."""
+    ended = machine.run([program, "check", "-"], (DONE, FAILED), message, seconds=CHECK_SECONDS)
+    if ended.status == DONE:
+        return ""
+    lines = ended.errors.decode("utf-8", "backslashreplace").splitlines()
+    if not lines:
+        raise Fault(f"{program} check ended with status {ended.status}, and said nothing")
+    return cut(ON_INPUT.sub("", lines[0]).removeprefix(PROGRAM_SAYS))

@@ -1,0 +1,174 @@
+"""The command line of onixdesk-inbox."""
+
+import argparse
+import contextlib
+import os
+import pwd
+import shutil
+import sys
+from collections.abc import Iterator
+from pathlib import Path
+
+from onixdesk_shop.desk import Desk
+from onixdesk_shop.ends import parser_of, run_program
+from onixdesk_shop.faults import DONE, BadCall, Fault
+from onixdesk_shop.feeds import check_words
+from onixdesk_shop.inbox import decide, report, run, show
+from onixdesk_shop.inbox.context import Inbox, Places
+from onixdesk_shop.inbox.ledger import Ledger
+from onixdesk_shop.lines import token
+from onixdesk_shop.machine import Machine
+from onixdesk_shop.places import DESK_JSON, INBOX_SETTINGS, LEDGER, STORE
+from onixdesk_shop.settings import Settings, is_series, read_settings, terms_of
+from onixdesk_shop.shop_json import Shop, read_shop
+
+PROGRAM = "onixdesk-inbox"
+
+DESCRIPTION = """\
+Takes the files of a wholesaler's folder to a running desk, once each, in order:
+    onixdesk-inbox SERIES
+    onixdesk-inbox --let-in MARK | --refuse MARK | --dismiss MARK | --again MARK | --check SERIES
+    onixdesk-inbox waive SERIES NUMBER
+    onixdesk-inbox show SERIES --number N | --isbn ISBN | --file NAME
+    onixdesk-inbox report SERIES
+A MARK is the first letters of the digest of a file, as the lines have it."""
+
+STATUSES = """\
+Status 0; 1 if a line of priority error was written, or what was asked for is not so; 2 if the command line or the
+settings are wrong; 3 if a folder cannot be used. Files may wait then, too. docs/INBOX.md says what becomes of a file."""
+
+
+def add_places(parser: argparse.ArgumentParser) -> None:
+    default = Places(Path("onixdesk"))
+    for name, place in (
+        ("settings", INBOX_SETTINGS),
+        ("incoming", default.incoming),
+        ("inboxes", default.inboxes),
+        ("state", default.state),
+        ("rules", default.rules),
+        ("page", DESK_JSON),
+        ("program", Path("onixdesk")),
+    ):
+        parser.add_argument(f"--{name}", metavar="PATH", type=Path, default=place, help=f"{place} without it")
+
+
+def series_word(word: str) -> str:
+    if not is_series(word):
+        raise argparse.ArgumentTypeError(f"{token(word)} is no name of a series")
+    return word
+
+
+def number_word(word: str) -> int:
+    if not (word.isascii() and word.isdigit() and len(word) <= 9 and int(word)):
+        raise argparse.ArgumentTypeError(f"{token(word)} is no number of a message")
+    return int(word)
+
+
+def parser_for(name: str) -> argparse.ArgumentParser:
+    """The words behind the name of a command, or of a run, which has none."""
+    parser = parser_of(f"{PROGRAM} {name}".strip(), DESCRIPTION, STATUSES)
+    add_places(parser)
+    if not name:
+        what = parser.add_mutually_exclusive_group()
+        for decision in decide.DECISIONS:
+            what.add_argument(f"--{decision}", metavar="MARK")
+        what.add_argument("--check", action="store_true", help="only tries the settings, WORDS and TERMS")
+    parser.add_argument("series", metavar="SERIES", type=series_word)
+    if name == "waive":
+        parser.add_argument("--back", action="store_true", help="does not waive it again")
+        parser.add_argument("number", metavar="NUMBER", type=number_word)
+    if name == "show":
+        what = parser.add_mutually_exclusive_group(required=True)
+        what.add_argument("--number", metavar="N", type=number_word)
+        what.add_argument("--isbn", metavar="ISBN")
+        what.add_argument("--file", metavar="NAME")
+    return parser
+
+
+def become_owner(folder: Path) -> None:
+    """A program that root started goes on as the user whose inboxes these are."""
+    owner = os.stat(folder).st_uid
+    if os.geteuid() or not owner:
+        return
+    user = pwd.getpwuid(owner)
+    os.initgroups(user.pw_name, user.pw_gid)
+    os.setgid(user.pw_gid)
+    os.setuid(owner)
+
+
+def read_all(machine: Machine, options: argparse.Namespace) -> tuple[Settings, bytes | None, Shop | None]:
+    """The settings, the terms of today, and the shop that desk.json has, if it is there."""
+    settings = read_settings(machine, options.settings / f"{options.series}.conf")
+    shop = read_shop(machine, options.page) if machine.exists(options.page) else None
+    try:
+        terms = terms_of(machine, settings.terms, machine.today()) if settings.terms else None
+    except OSError as error:
+        raise BadCall(f"{error.filename}: TERMS: {error.strerror}") from None
+    return settings, terms, shop
+
+
+def places_of(options: argparse.Namespace) -> Places:
+    program = shutil.which(options.program)
+    if not program:
+        raise Fault(f"{options.program}: there is no such program")
+    return Places(Path(program), options.incoming, options.inboxes, options.state, options.rules)
+
+
+@contextlib.contextmanager
+def opened(machine: Machine, options: argparse.Namespace) -> Iterator[Inbox]:
+    """The inbox of the series; nobody else is at work on it meanwhile."""
+    places = places_of(options)
+    settings, terms, shop = read_all(machine, options)
+    folder = places.inboxes / options.series
+    if machine.exists(folder):
+        become_owner(folder)
+    machine.make_folder(folder)
+    machine.make_folder(folder / STORE)
+    with machine.lock(folder):
+        ledger = Ledger(machine, folder / LEDGER)
+        try:
+            desk = Desk(machine, settings.address)
+            yield Inbox(machine, options.series, settings, places, ledger, desk, shop, terms)
+        finally:
+            ledger.close()
+
+
+def do_run(inbox: Inbox, options: argparse.Namespace) -> int:
+    for name in decide.DECISIONS:
+        if mark := getattr(options, name.replace("-", "_")):
+            decide.decide(inbox, name, mark)
+            return DONE
+    return run.run(inbox)
+
+
+def do_waive(inbox: Inbox, options: argparse.Namespace) -> int:
+    (decide.take_back if options.back else decide.waive)(inbox, options.number)
+    return DONE
+
+
+def do_show(inbox: Inbox, options: argparse.Namespace) -> int:
+    return show.show(inbox, options.number, options.isbn, options.file)
+
+
+def do_report(inbox: Inbox, _: argparse.Namespace) -> int:
+    return report.report(inbox)
+
+
+COMMANDS = {"": do_run, "waive": do_waive, "show": do_show, "report": do_report}
+
+
+def work(machine: Machine, name: str, options: argparse.Namespace) -> int:
+    if not name and options.check:
+        settings, terms, _ = read_all(machine, options)
+        check_words(machine, places_of(options).program, list(settings.words), terms)
+        return DONE
+    with opened(machine, options) as inbox:
+        return COMMANDS[name](inbox, options)
+
+
+def main() -> int:
+    words = sys.argv[1:]
+    # A series may have the name of a command; alone it is a series.
+    name = words.pop(0) if len(words) > 1 and words[0] in COMMANDS else ""
+    options = parser_for(name).parse_args(words)
+    return run_program(PROGRAM, lambda machine: work(machine, name, options))

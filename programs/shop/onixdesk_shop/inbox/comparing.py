@@ -1,0 +1,281 @@
+"""What a file would change of what the desk says, by the answers of both: the desk that is open, and one that has nothing
+but the file's records. Nothing here reckons a price."""
+
+from __future__ import annotations
+
+import hashlib
+from collections import Counter
+from collections.abc import Iterator
+from dataclasses import dataclass, field
+from datetime import date, timedelta
+from pathlib import Path
+from typing import TYPE_CHECKING, NamedTuple
+
+from onixdesk_shop.desk import answers_in, records_of
+from onixdesk_shop.faults import DONE, FAILED
+from onixdesk_shop.inbox.context import Inbox
+from onixdesk_shop.messages import Product, Records, products_of, text_of
+
+if TYPE_CHECKING:
+    from onixdesk_shop.inbox.judging import Feed
+
+# How many references are asked for, and how many of those that the desk has are looked at; how many questions are asked of
+# all of them together, and how many at once, since others wait meanwhile.
+MOST_ASKED, MOST_LOOKED_AT, MOST_QUESTIONS, AT_ONCE = 4_000, 1_000, 12_000, 200
+
+DAYS = 90
+
+# How long the other desk may take, and what its batch may have beside the questions.
+SECONDS = 60
+MOST_BYTES, MOST_RECORDS = 3 << 20, 19_998
+
+
+class Kind(NamedTuple):
+    """For whom, and of what, a price is."""
+
+    country: str
+    currency: str
+    price_type: str
+    quantity: int
+
+
+class Span(NamedTuple):
+    """An amount in thousandths, none without a price, of some days."""
+
+    first: str
+    last: str
+    amount: int | None
+
+
+class Offer(NamedTuple):
+    series: str
+    reference: str
+    spans: list[Span]
+
+
+@dataclass
+class Findings:
+    """Of how many references it is so."""
+
+    looked_at: int = 0
+    jumped: list[str] = field(default_factory=list)
+    moved: list[str] = field(default_factory=list)
+    lost: list[str] = field(default_factory=list)
+
+
+@dataclass
+class Answers:
+    """By ISBN and kind the offers, and by ISBN the record of the choice."""
+
+    offers: dict[tuple[str, Kind], list[Offer]] = field(default_factory=dict)
+    choices: dict[str, list[str]] = field(default_factory=dict)
+
+
+def look_at(inbox: Inbox, feed: Feed) -> tuple[Findings, int] | None:
+    """What the file would change, and of how many articles the desk has something; nothing where it has nothing."""
+    products, total = drawn(feed)
+    kinds = kinds_of(inbox, products)
+    known = known_of(inbox, products, kinds[0])
+    if not known:
+        return None
+    most = min(MOST_LOOKED_AT, max(1, MOST_QUESTIONS // len(kinds)))
+    chosen = fitting({reference: products[reference] for reference in list(known)[:most]})
+    isbns = {reference: known[reference] for reference in chosen}
+    old, new = both_answers(inbox, chosen, list(dict.fromkeys(isbns.values())), kinds)
+    findings = Findings(len(chosen))
+    for reference, isbn in isbns.items():
+        makes_record = any(product.is_block for product in chosen[reference])
+        compare(findings, Place(inbox.series, reference, isbn, makes_record), old, new, kinds)
+    return findings, len(known) * total // len(products)
+
+
+# What is looked at
+
+
+def products_in(feed: Feed) -> Iterator[Product]:
+    """The products that change something that the desk finds by an ISBN: an update without supplies does not."""
+    for message in feed.messages:
+        for product in products_of(message.text):
+            if product.isbns and (product.has_supply or product.is_block or product.is_deletion):
+                yield product
+
+
+def drawn(feed: Feed) -> tuple[dict[str, list[Product]], int]:
+    """The products of some references, drawn by digest, and of how many references they are."""
+    lots = {}
+    for product in products_in(feed):
+        lots[product.reference] = hashlib.sha256(f"{feed.file.digest} {product.reference}".encode()).hexdigest()
+    found: dict[str, list[Product]] = {reference: [] for reference in sorted(lots, key=lots.__getitem__)[:MOST_ASKED]}
+    for product in products_in(feed):
+        if product.reference in found:
+            found[product.reference].append(product)
+    return found, len(lots)
+
+
+def fitting(products: dict[str, list[Product]]) -> dict[str, list[Product]]:
+    """As many of them as fit into a batch."""
+    found: dict[str, list[Product]] = {}
+    size = 0
+    for reference, many in products.items():
+        size += sum(len(text_of(product.records).encode()) for product in many)
+        size += len(text_of([many[0].records[0]]).encode())
+        if size > MOST_BYTES and found:
+            break
+        found[reference] = many
+    return found
+
+
+def kinds_of(inbox: Inbox, products: dict[str, list[Product]]) -> list[Kind]:
+    """For whom prices are compared: the shop, and whom most prices of the file are for."""
+    prices: Counter[tuple[str, str]] = Counter()
+    countries: Counter[str] = Counter()
+    quantities: Counter[int] = Counter()
+    for product in (product for many in products.values() for product in many):
+        prices.update(product.kinds)
+        for record in product.records:
+            if record[0] == "ProductSupply" and record[1].strip():
+                countries[record[1].split()[0]] += 1
+            if record[0] == "Price" and len(record) > 9 and record[9]:
+                quantities[int(record[9])] += 1
+    shop = inbox.shop
+    of_file = [(currency, price_type) for (price_type, currency), _ in prices.most_common(2)]
+    pairs = [*([(shop.currency, shop.price_type)] if shop else []), *of_file]
+    places = [*([shop.country] if shop else []), *(name for name, _ in countries.most_common(1))] or ["GB"]
+    copies = [*(shop.quantities[:3] if shop else [1]), *(number for number, _ in quantities.most_common(1))]
+    kinds = [Kind(place, *pair, number) for pair in pairs for place in places for number in copies]
+    return list(dict.fromkeys(kinds)) or [Kind("GB", "GBP", "02", 1)]
+
+
+# What both desks answer
+
+
+def ask(inbox: Inbox, questions: list[str]) -> Iterator[Records]:
+    """The answers of the desk that is open."""
+    for start in range(0, len(questions), AT_ONCE):
+        some = questions[start : start + AT_ONCE]
+        yield from answers_in(inbox.desk.batch("\n".join(some) + "\n"))
+
+
+def known_of(inbox: Inbox, products: dict[str, list[Product]], kind: Kind) -> dict[str, str]:
+    """The references whose ISBN the desk has from this series, with that."""
+    day, where = inbox.machine.today(), f"{kind.country},{kind.currency},{kind.price_type}"
+    isbns = {reference: many[0].isbns[0] for reference, many in products.items()}
+    answers = ask(inbox, [f"AskPrice,{isbn},{day},{where}" for isbn in isbns.values()])
+    return {
+        reference: isbn
+        for (reference, isbn), answer in zip(isbns.items(), answers, strict=True)
+        if any(record[1] == inbox.series for record in answer[1:])
+    }
+
+
+def questions_of(isbns: list[str], kinds: list[Kind], today: str) -> list[str]:
+    """Calendars from today on, and the choice today."""
+    last = date(int(today[:4]), int(today[4:6]), int(today[6:])) + timedelta(DAYS)
+    found = []
+    for isbn in isbns:
+        for kind in kinds:
+            found.append(f"AskCalendar,{isbn},{today},{last:%Y%m%d},{','.join(map(str, kind))}")
+        found.append(f"AskChoice,{isbn},{today},{','.join(map(str, kinds[0]))}")
+    return found
+
+
+def both_answers(
+    inbox: Inbox, products: dict[str, list[Product]], isbns: list[str], kinds: list[Kind]
+) -> tuple[Answers, Answers]:
+    """What the desk says, and what one says that has the file's records alone."""
+    questions = questions_of(isbns, kinds, inbox.machine.today())
+    requests = requests_of(inbox, products)
+    batch = "".join([*requests, "\n".join(questions), "\n"]).encode()
+    rules: list[str | Path] = ["--rules", inbox.places.rules] if inbox.has_rules() else []
+    ended = inbox.machine.run([inbox.places.program, *rules, "batch"], (DONE, FAILED), batch, seconds=SECONDS)
+    made = list(answers_in(records_of(ended.output)))[len(requests) :]
+    return answers_of(ask(inbox, questions), isbns, kinds), answers_of(iter(made), isbns, kinds)
+
+
+def requests_of(inbox: Inbox, products: dict[str, list[Product]]) -> list[str]:
+    """What makes a desk that has the file's products, each over a record without supplies, as if that had been there."""
+    empty = [[["Product", reference, "03", *many[0].records[0][3:]]] for reference, many in products.items()]
+    agreement = text_of([["Agree", inbox.series, *inbox.settings.sender, "", "", "1"]])
+    groups = [*empty, *(product.records for many in products.values() for product in many)]
+    messages: list[Records] = [[]]
+    for records in groups:
+        if len(messages[-1]) + len(records) > MOST_RECORDS:
+            messages.append([])
+        messages[-1] += records
+    return [agreement, *(message_of(inbox, number, records) for number, records in enumerate(messages, 1))]
+
+
+def message_of(inbox: Inbox, number: int, records: Records) -> str:
+    header = ["Message", "2", *inbox.settings.sender, "", "", str(number), "", "", "", ""]
+    return text_of([header, *records, ["EndMessage", str(len(records) + 1)]])
+
+
+def answers_of(given: Iterator[Records], isbns: list[str], kinds: list[Kind]) -> Answers:
+    found = Answers()
+    for isbn in isbns:
+        for kind in kinds:
+            found.offers[isbn, kind] = offers_in(next(given))
+        found.choices[isbn] = next(given)[0]
+    return found
+
+
+def offers_in(answer: Records) -> list[Offer]:
+    """The offers of an answer to AskCalendar."""
+    found: list[Offer] = []
+    for record in answer[1:]:
+        if record[0] == "offer":
+            found.append(Offer(record[1], record[2], []))
+        else:
+            amount = int(record[3].replace(".", "")) if record[3] else None
+            found[-1].spans.append(Span(record[1], record[2], amount))
+    return found
+
+
+# What differs
+
+
+class Place(NamedTuple):
+    """What is compared: a reference of the series, and the ISBN by which it is asked for."""
+
+    series: str
+    reference: str
+    isbn: str
+    makes_record: bool
+
+
+def compare(findings: Findings, place: Place, old: Answers, new: Answers, kinds: list[Kind]) -> None:
+    """Adds to the findings what differs of one reference."""
+    before = [old.offers[place.isbn, kind] for kind in kinds]
+    own = [[offer for offer in offers if offer[:2] == place[:2]] for offers in before]
+    if not any(own):
+        if place.makes_record:
+            findings.jumped.append(place.isbn)
+        return
+    after = [new.offers[place.isbn, kind] for kind in kinds]
+    after = [[offer for offer in offers if offer.reference == place.reference] for offers in after]
+    pairs = [pair for one, other in zip(own, after) for pair in amounts(one, other)]
+    both = [(one, other) for one, other in pairs if one is not None and other is not None]
+    if any(other > 2 * one or 2 * other < one for one, other in both):
+        findings.jumped.append(place.isbn)
+    if any(5 * abs(one - other) > 2 * one for one, other in both):
+        findings.moved.append(place.isbn)
+    is_unchosen = old.choices[place.isbn][3:5] == [*place[:2]] and new.choices[place.isbn][2:] == ["none"]
+    if is_unchosen or any(one is not None and other is None for one, other in pairs):
+        findings.lost.append(place.isbn)
+
+
+def amounts(old: list[Offer], new: list[Offer]) -> Iterator[tuple[int | None, int | None]]:
+    """The least amounts of both on each day on which one of them changes."""
+    days = {span.first for offer in [*old, *new] for span in offer.spans}
+    for day in sorted(days):
+        yield least(old, day), least(new, day)
+
+
+def least(offers: list[Offer], day: str) -> int | None:
+    found = [
+        span.amount
+        for offer in offers
+        for span in offer.spans
+        if span.first <= day <= span.last and span.amount is not None
+    ]
+    return min(found, default=None)

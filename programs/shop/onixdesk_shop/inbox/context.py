@@ -1,0 +1,148 @@
+"""One inbox at work: its series, settings, places, ledger and desk, and the lines that it tells."""
+
+import hashlib
+from dataclasses import dataclass, field
+from pathlib import Path
+
+from onixdesk_shop.desk import Desk, Gaps
+from onixdesk_shop.faults import Fault
+from onixdesk_shop.inbox.ledger import Decision, File, Ledger, State
+from onixdesk_shop.lines import ERROR, NOTICE, WARNING, ranges, token
+from onixdesk_shop.machine import Entry, Machine
+from onixdesk_shop.places import INCOMING, INBOXES, LEDGER, RULES, STATE, STORE, WORK
+from onixdesk_shop.settings import OWN, Settings
+from onixdesk_shop.shop_json import Shop
+
+HOUR = 3600
+
+
+class NotAgreed(Fault):
+    """The desk has not agreed on the series."""
+
+
+@dataclass(frozen=True)
+class Places:
+    """Where the files of all inboxes are, and the program."""
+
+    program: Path
+    incoming: Path = INCOMING
+    inboxes: Path = INBOXES
+    state: Path = STATE
+    rules: Path = RULES
+
+
+@dataclass
+class Inbox:
+    machine: Machine
+    series: str
+    settings: Settings
+    places: Places
+    ledger: Ledger
+    desk: Desk
+    shop: Shop | None = None
+    terms: bytes | None = None
+    has_error: bool = False
+    told: list[str] = field(default_factory=list)
+
+    @property
+    def incoming(self) -> Path:
+        return self.places.incoming / self.series
+
+    @property
+    def folder(self) -> Path:
+        return self.places.inboxes / self.series
+
+    @property
+    def store(self) -> Path:
+        return self.folder / STORE
+
+    @property
+    def work(self) -> Path:
+        return self.folder / WORK
+
+    @property
+    def ledger_file(self) -> Path:
+        return self.folder / LEDGER
+
+    def stored(self, file: File) -> Path:
+        return self.store / f"{file.digest}{file.ending}"
+
+    def is_settled(self, changed: int) -> bool:
+        """Whether a file that changed then has not changed for long enough."""
+        return self.machine.now() - changed / 1e9 >= self.settings.unchanged_seconds
+
+    def basis(self, first: int) -> str:
+        """By what files are judged: what was refused by another one is tried again."""
+        program = self.machine.entry(self.places.program)
+        parts = repr((self.settings, self.terms, first, program.size, program.modified))
+        return hashlib.sha256(parts.encode()).hexdigest()
+
+    def gaps(self) -> Gaps:
+        """The desk's report on the series. NotAgreed where it has no such series."""
+        found = self.desk.gaps(self.series)
+        if found is None:
+            raise NotAgreed(f"the desk has agreed no series {self.series}")
+        return found
+
+    def has_rules(self) -> bool:
+        return self.machine.exists(self.places.rules)
+
+    def is_let_in(self, file: File) -> bool:
+        return self.ledger.has_decision(file, Decision.LET_IN)
+
+    # Lines
+
+    def tell(self, priority: int, line: str) -> None:
+        self.has_error |= priority == ERROR
+        self.machine.tell(priority, line)
+
+    def command(self, what: str, file: File) -> str:
+        return f"onixdesk-inbox --{what} {file.mark} {self.series}"
+
+    def tell_file(self, priority: int, file: File, text: str, *commands: str) -> None:
+        """A line on a file: its commands first, its name last."""
+        self.tell(priority, "; ".join([*commands, text, token(file.name)]))
+
+    def tell_state(self, file: File, state: str) -> None:
+        """That a file is held, or applied."""
+        numbers = [row.number for row in self.ledger.messages_of(file) if row.state in (State.HELD, State.APPLIED)]
+        said = f"; {file.why}" if file.why else ""
+        if state in (State.HELD, State.APPLIED):
+            self.tell_file(NOTICE, file, f"{state}: {ranges(numbers)}{said}")
+
+    def tell_refused(self, file: File, why: str, number: int | None = None) -> None:
+        """That a file is refused, and what to do."""
+        commands = [self.command("dismiss", file)]
+        if number is not None and self.settings.number == OWN:
+            commands.append(f"onixdesk-inbox waive {self.series} {number} (or have it sent again under its number)")
+        self.tell_file(ERROR, file, f"refused: {why}", *commands)
+
+    def tell_quarantined(self, file: File, why: str) -> None:
+        commands = [self.command("let-in", file), self.command("refuse", file)]
+        self.tell_file(ERROR, file, f"quarantined: {why}; later files wait", *commands)
+
+    def tell_had(self, file: File, first: File) -> None:
+        self.tell_file(NOTICE, file, f"had it already, by {first.mark}: {ranges([first.number or 0])}")
+
+    def tell_once(self, subject: str, priority: int, line: str) -> None:
+        """Tells what goes on until somebody does something, once."""
+        if not self.ledger.is_told(subject):
+            self.ledger.decide(Decision.TOLD, subject=subject)
+            self.tell(priority, line)
+
+    def is_well(self, subject: str) -> None:
+        if self.ledger.is_told(subject):
+            self.ledger.decide(Decision.WELL, subject=subject)
+
+    def tell_waiting(self, entry: Entry, why: str) -> None:
+        """What is not taken is told once it lies there for an hour."""
+        if self.machine.now() - entry.changed / 1e9 > HOUR:
+            self.tell_once(f"not taken {entry.inode} {entry.changed}", ERROR, f"not taken: {why}; {token(entry.name)}")
+
+    def tell_known(self, file: File, before: File) -> None:
+        if before.state == State.REJECTED:
+            self.tell_file(WARNING, file, "these bytes were refused by a person, and stay so")
+        elif before.state == State.REFUSED:
+            self.tell_file(NOTICE, file, "refused before, and tried again")
+        elif before.number is not None:
+            self.tell_file(NOTICE, file, f"had it already: {before.state} from number {before.number} on")

@@ -1,0 +1,103 @@
+"""What a person decides on a file or a number. It is written down; the next run does it."""
+
+from collections.abc import Callable
+
+from onixdesk_shop.faults import BadCall, Failed
+from onixdesk_shop.inbox.context import Inbox
+from onixdesk_shop.inbox.ledger import Decision, File, State
+from onixdesk_shop.lines import token
+from onixdesk_shop.settings import NEXT, OWN
+
+
+def file_of(inbox: Inbox, mark: str) -> File:
+    """The file that a mark names: the first letters of a digest, and which taking of it."""
+    digest, _, taking = mark.partition(".")
+    if len(digest) < 8 or not digest.isalnum() or taking and not taking.isdigit():
+        raise BadCall(f"{token(mark)} is no mark of a file: at least 8 letters of its digest")
+    found = inbox.ledger.files("substr(digest, 1, ?) = ?", len(digest), digest)
+    if len({file.digest for file in found}) != 1:
+        raise Failed(f"{len(found)} files have the mark {token(mark)}")
+    of_taking = [file for file in found if not taking or file.taking == int(taking)]
+    if not of_taking:
+        raise Failed(f"no file has the mark {token(mark)}")
+    return max(of_taking, key=lambda file: file.taking)
+
+
+def let_in(inbox: Inbox, file: File) -> str:
+    if file.state != State.QUARANTINED:
+        raise Failed(f"{file.mark} is {file.state}: only a file in quarantine is let in")
+    inbox.ledger.decide(Decision.LET_IN, file)
+    inbox.ledger.set_state(file, State.NEW, "a person let it in")
+    return "is let in by the next run"
+
+
+def refuse(inbox: Inbox, file: File) -> str:
+    if file.state == State.REJECTED:
+        return "is refused already"
+    if file.state == State.REPLACED:
+        raise Failed(f"{file.mark} is {file.state} already")
+    stands = inbox.ledger.has_stood(file)
+    inbox.ledger.decide(Decision.REFUSE, file)
+    inbox.ledger.set_state(file, State.REJECTED, "a person refused it")
+    if stands:
+        return "is not posted again; what the desk has of it stays until it is corrected"
+    if file.number and inbox.settings.number == OWN:
+        command = f"onixdesk-inbox waive {inbox.series} {file.number}"
+        return f"is refused; unless it is sent again, its number has to be waived: {command}"
+    return "is refused"
+
+
+def dismiss(inbox: Inbox, file: File) -> str:
+    if file.state != State.REFUSED:
+        raise Failed(f"{file.mark} is {file.state}: only a refused file is dismissed")
+    inbox.ledger.decide(Decision.DISMISS, file)
+    return "is not counted any more"
+
+
+def again(inbox: Inbox, file: File) -> str:
+    """Takes the bytes of a file again, as if they came in now."""
+    if inbox.settings.number != NEXT or file.ending == ".csv":
+        raise Failed("a file with a number of its own has to be sent again under a new one")
+    if file.state not in (State.APPLIED, State.HAD, State.REFUSED, State.REJECTED):
+        raise Failed(f"{file.mark} is {file.state}")
+    if not inbox.machine.exists(inbox.stored(file)):
+        raise Failed(f"the bytes of {file.mark} are not kept any more")
+    inbox.ledger.take_again(file)
+    inbox.ledger.decide(Decision.AGAIN, file)
+    return "is taken again by the next run, under a new number"
+
+
+DECISIONS: dict[str, Callable[[Inbox, File], str]] = {
+    "let-in": let_in,
+    "refuse": refuse,
+    "dismiss": dismiss,
+    "again": again,
+}
+
+
+def decide(inbox: Inbox, what: str, mark: str) -> None:
+    """One transaction: the decision, and the state that follows."""
+    with inbox.ledger.step():
+        file = file_of(inbox, mark)
+        said = DECISIONS[what](inbox, file)
+    inbox.machine.write(f"{file.mark} {said}; {token(file.name)}\n")
+
+
+def waive(inbox: Inbox, number: int) -> None:
+    """Has a number waived that will never come."""
+    row = inbox.ledger.row(number)
+    if row and inbox.ledger.stands(number):
+        mark = inbox.ledger.file(row.file).mark
+        raise Failed(
+            f"number {number} has the file {mark}: onixdesk-inbox --refuse {mark} {inbox.series} refuses it first"
+        )
+    inbox.ledger.decide(Decision.WAIVE, number=number)
+    inbox.machine.write(f"number {number} is waived by the next run\n")
+
+
+def take_back(inbox: Inbox, number: int) -> None:
+    """The waiver of a number is not made again. The desk has it until its text is corrected."""
+    if number not in inbox.ledger.waived():
+        raise Failed(f"number {number} is not waived here")
+    inbox.ledger.decide(Decision.UNWAIVE, number=number)
+    inbox.machine.write(f"number {number} is not waived again\n")

@@ -1,0 +1,140 @@
+"""What the folder of a wholesaler has, taken into the store: copied, synced, written down, and only then removed."""
+
+import re
+from pathlib import Path
+
+from onixdesk_shop.inbox.context import Inbox
+from onixdesk_shop.inbox.keeping import AT_END
+from onixdesk_shop.inbox.ledger import File, State
+from onixdesk_shop.lines import shown
+from onixdesk_shop.machine import Entry
+
+ENDINGS = {".csv": ".csv", ".xml": ".xml", ".onix": ".xml", ".onx": ".xml", ".gz": ".gz", ".zip": ".zip"}
+
+# How files are named that are still being written.
+UNFINISHED = (".part", ".partial", ".filepart", ".tmp", ".uploading")
+
+MOST_BYTES = 4 << 30
+
+SECOND = 1_000_000_000
+
+# A server that gives no time gives that of 1970.
+FIRST_TIME = 315_532_800 * SECOND
+
+# How long files are left in a folder that is a mirror of the server's.
+LEFT_SECONDS = 60 * 86_400
+
+COPY = ".new"
+
+is_stored = re.compile(r"([0-9a-f]{64})(\.csv|\.xml|\.gz|\.zip)").fullmatch
+
+
+def take_in(inbox: Inbox) -> None:
+    """Takes each whole file of the folder. Who fills it meanwhile has its lock; then it is passed over."""
+    with inbox.machine.lock(inbox.incoming, waits=False) as is_free:
+        if is_free:
+            for entry in inbox.machine.entries(inbox.incoming):
+                take_entry(inbox, entry)
+    adopt(inbox)
+
+
+def take_entry(inbox: Inbox, entry: Entry) -> None:
+    name = entry.name.lower()
+    if name.startswith(".") or name.endswith(UNFINISHED):
+        why = "it seems to be still being written"
+    elif not entry.is_regular:
+        why = "it is no regular file"
+    elif entry.links > 1:
+        why = "it has a second name"
+    elif Path(name).suffix not in ENDINGS:
+        why = f"it does not end in {', '.join(ENDINGS)}"
+    elif entry.size > MOST_BYTES:
+        why = f"it has more than {MOST_BYTES} bytes"
+    elif not inbox.is_settled(entry.changed):
+        return
+    else:
+        why = take_file(inbox, entry)
+    if why:
+        inbox.tell_waiting(entry, why)
+
+
+def take_file(inbox: Inbox, entry: Entry) -> str:
+    """Takes a whole file; why it could not, or an empty text."""
+    if inbox.settings.leave and (known := left(inbox, entry)):
+        remove_left(inbox, entry, known)
+        return ""
+    machine, source = inbox.machine, inbox.incoming / entry.name
+    copy = inbox.store / COPY
+    try:
+        digest = machine.copy(source, copy)
+    except (FileNotFoundError, PermissionError) as error:
+        return error.strerror
+    if not is_as_it_was(inbox, entry):
+        machine.remove(copy)
+        return ""
+    ending = ENDINGS[Path(entry.name.lower()).suffix]
+    stored = inbox.store / f"{digest}{ending}"
+    if machine.exists(stored):
+        # With the time by which it was judged.
+        machine.remove(copy)
+    else:
+        machine.rename(copy, stored)
+    machine.sync_folder(inbox.store)
+    before = inbox.ledger.latest(digest)
+    file = inbox.ledger.take(
+        digest, shown(entry.name), ending, entry.size, entry.modified, time_of(entry), int(machine.now())
+    )
+    if before:
+        inbox.tell_known(file, before)
+    if not inbox.settings.leave:
+        remove(inbox, entry, digest[:12])
+    return ""
+
+
+def time_of(entry: Entry) -> int:
+    """When its server says that it was written: never behind its arrival, which counts where the server says nothing."""
+    return min(entry.modified, entry.changed) if entry.modified >= FIRST_TIME else entry.changed
+
+
+def is_as_it_was(inbox: Inbox, entry: Entry) -> bool:
+    try:
+        return inbox.machine.entry(inbox.incoming / entry.name) == entry
+    except FileNotFoundError:
+        return False
+
+
+def remove(inbox: Inbox, entry: Entry, mark: str) -> None:
+    """Removes a file that is in the store. It gets a name of ours first: what took its place meanwhile is taken by the
+    next run."""
+    taken = inbox.incoming / f"taken-{mark}{Path(entry.name).suffix.lower()}"
+    try:
+        inbox.machine.rename(inbox.incoming / entry.name, taken)
+    except FileNotFoundError:
+        return
+    found = inbox.machine.entry(taken)
+    if (found.inode, found.size, found.modified) == (entry.inode, entry.size, entry.modified):
+        inbox.machine.remove(taken)
+
+
+def left(inbox: Inbox, entry: Entry) -> File | None:
+    """The file that lay there under that name before, with that size and time."""
+    found = inbox.ledger.files("name = ? AND size = ? AND modified = ?", shown(entry.name), entry.size, entry.modified)
+    return found[-1] if found else None
+
+
+def remove_left(inbox: Inbox, entry: Entry, file: File) -> None:
+    """Removes a file that is left in the folder, once nothing is to be done with it for a good while."""
+    if file.state in (*AT_END, State.REFUSED) and inbox.machine.now() - max(file.seen, file.at) > LEFT_SECONDS:
+        inbox.machine.remove(inbox.incoming / entry.name)
+
+
+def adopt(inbox: Inbox) -> None:
+    """Takes in what lies in the store without a row: a ledger was put back from a copy, or its writer was killed."""
+    machine = inbox.machine
+    for entry in machine.entries(inbox.store):
+        found = is_stored(entry.name)
+        if not found:
+            machine.remove(inbox.store / entry.name)
+        elif not inbox.ledger.latest(found[1]):
+            time = time_of(entry)
+            inbox.ledger.take(found[1], entry.name, found[2], entry.size, entry.modified, time, int(machine.now()))

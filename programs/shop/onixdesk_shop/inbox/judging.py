@@ -1,0 +1,200 @@
+"""One file, judged: converted, checked, compared, and put into the ledger in one transaction."""
+
+import json
+import sqlite3
+import traceback
+from collections import Counter
+from dataclasses import dataclass, field
+from pathlib import Path
+
+from onixdesk_shop.desk import Gaps, Refused, Taken
+from onixdesk_shop.faults import Fault
+from onixdesk_shop.feeds import Refusal, Said, check, convert
+from onixdesk_shop.inbox import full, quarantine
+from onixdesk_shop.inbox.context import Inbox
+from onixdesk_shop.inbox.ledger import File, Message, Row, State
+from onixdesk_shop.inbox.posting import why_refused
+from onixdesk_shop.inbox.quarantine import Quarantine
+from onixdesk_shop.lines import cut
+from onixdesk_shop.messages import header_of, is_message, products_of
+from onixdesk_shop.settings import NEXT
+
+MOST_BYTES = 4_194_304
+
+# With more records of one ISBN a question about it keeps all others waiting.
+MOST_RECORDS_OF_ONE_ISBN = 1000
+
+
+@dataclass
+class Feed:
+    """A file as messages, the words and the table of terms by which it was converted, and what there was to say."""
+
+    file: File
+    messages: list[Message]
+    words: list[str]
+    terms: bytes | None
+    said: Said = field(default_factory=Said)
+    products: int = 0
+    bare: int = 0
+
+
+def judge(inbox: Inbox, file: File, gaps: Gaps) -> None:
+    """Brings a new file to its next state."""
+    inbox.ledger.set_of_file(file, basis=inbox.basis(gaps.first))
+    try:
+        feed = feed_of(inbox, file, gaps, list(inbox.settings.words), inbox.terms)
+        look_at(inbox, feed, gaps)
+        others = {message.number: row for message in feed.messages if (row := final_row(inbox, file, message.number))}
+        if len(others) == len(feed.messages):
+            post_again(inbox, feed, others, gaps)
+            return
+        quarantine.look(inbox, feed, gaps)
+        take(inbox, feed, others, full.with_deletions(inbox, feed, gaps))
+    except Refusal as refusal:
+        inbox.ledger.set_state(file, State.REFUSED, str(refusal))
+        inbox.tell_refused(file, str(refusal))
+    except Quarantine as why:
+        quarantine_file(inbox, file, str(why))
+    except (Fault, OSError, sqlite3.Error):
+        raise
+    except Exception as error:
+        # A mistake of this program: no file of others stops the series without a word, and none passes by it.
+        last = traceback.extract_tb(error.__traceback__)[-1]
+        where = f"{Path(last.filename).name}:{last.lineno}"
+        quarantine_file(inbox, file, f"it cannot be judged: {type(error).__name__} at {where}: {cut(str(error))}")
+
+
+def quarantine_file(inbox: Inbox, file: File, why: str) -> None:
+    inbox.ledger.set_state(file, State.QUARANTINED, why)
+    inbox.tell_quarantined(file, why)
+
+
+def is_given_number(inbox: Inbox, file: File) -> bool:
+    """Whether the inbox gives the file its number. A file of records has its own, always."""
+    return inbox.settings.number == NEXT and file.ending != ".csv"
+
+
+def feed_of(inbox: Inbox, file: File, gaps: Gaps, words: list[str], terms: bytes | None) -> Feed:
+    """A file as messages, under the number that it has or would be given."""
+    source = inbox.stored(file)
+    if file.ending == ".csv":
+        if inbox.machine.entry(source).size > MOST_BYTES:
+            raise Refusal(f"it has more than {MOST_BYTES} bytes of records")
+        texts, said = [inbox.machine.read(source)], Said()
+    else:
+        number = []
+        if is_given_number(inbox, file):
+            first = inbox.ledger.next_number(gaps, inbox.settings.parts)
+            number = ["--number", str((first - 1) // inbox.settings.parts + 1)]
+        made = convert(inbox.machine, inbox.places.program, source, [*words, *number], terms, inbox.work)
+        texts, said = made.messages, made.said
+    return Feed(file, [message_of(inbox, text) for text in texts], words, terms, said)
+
+
+def message_of(inbox: Inbox, text: bytes) -> Message:
+    """A text that the desk takes, of this wholesaler, with a number. Refusal where it is none."""
+    why = check(inbox.machine, inbox.places.program, text)
+    if why or not is_message(text):
+        raise Refusal(why or "its records are not one message")
+    header = header_of(text)
+    if header.sender != inbox.settings.sender:
+        raise Refusal(f"its sender is not {','.join(inbox.settings.sender)}")
+    if header.number is None:
+        raise Refusal("it has no number")
+    kinds = sorted({kind for product in products_of(text) for kind in product.kinds})
+    return Message(header.number, text, kinds=tuple(kinds))
+
+
+def look_at(inbox: Inbox, feed: Feed, gaps: Gaps) -> None:
+    """Counts its products. Refusal where one ISBN has too many records, or a number is not taken any more."""
+    records: Counter[str] = Counter()
+    for message in feed.messages:
+        for product in products_of(message.text):
+            feed.products += 1
+            feed.bare += product.is_block and not product.has_supply
+            if not product.is_deletion:
+                records.update(product.isbns)
+    for isbn, count in records.most_common(1):
+        if count > MOST_RECORDS_OF_ONE_ISBN:
+            raise Refusal(f"{count} of its records have the ISBN {isbn}, and {MOST_RECORDS_OF_ONE_ISBN} may")
+    inbox.ledger.set_of_file(feed.file, products=feed.products)
+    if not is_given_number(inbox, feed.file):
+        inbox.ledger.set_of_file(feed.file, number=feed.messages[0].number)
+    for message in feed.messages:
+        if message.number < gaps.first and not final_row(inbox, feed.file, message.number):
+            raise Refusal(f"number {message.number} is below the first number of the series, {gaps.first}")
+
+
+def final_row(inbox: Inbox, file: File, number: int) -> Row | None:
+    """What stands at a number of another file, whose text is final."""
+    row = inbox.ledger.row(number)
+    if not row or row.file == file.id or row.state not in (State.READY, State.POSTED, State.HELD, State.APPLIED):
+        return None
+    return row
+
+
+def take(inbox: Inbox, feed: Feed, others: dict[int, Row], messages: list[Message]) -> None:
+    """Gives the file its numbers and texts. What stands at one of them already is another file's, and stays."""
+    ledger, file = inbox.ledger, feed.file
+    own = {row.number for row in ledger.messages_of(file) if row.state in (State.POSTED, State.HELD, State.APPLIED)}
+    with ledger.step():
+        ledger.put(file, [message for message in messages if message.number not in own | others.keys()])
+        ledger.set_of_file(
+            file,
+            number=messages[0].number,
+            words=json.dumps(feed.words),
+            terms=feed.terms,
+            is_full=inbox.settings.is_full(file.name),
+        )
+        full.replace_older(inbox, file)
+        ledger.set_state(file, State.POSTING, feed.said.summary)
+
+
+def post_again(inbox: Inbox, feed: Feed, others: dict[int, Row], gaps: Gaps) -> None:
+    """A number that comes again in other bytes: converted as it was first, and posted once behind the ledger's own,
+    unkept. The desk says whether it is the same."""
+    ledger, file = inbox.ledger, feed.file
+    first = ledger.file(others[feed.messages[0].number].file)
+    words, terms = json.loads(first.words), first.terms
+    if file.ending != ".csv" and (words, terms) != (feed.words, feed.terms):
+        feed = feed_of(inbox, file, gaps, words, terms)
+    for message in feed.messages:
+        row = others.get(message.number)
+        if not row:
+            raise Refusal(f"it has number {message.number} by the words and terms of its number's first file")
+        text = full.with_deletions_of(inbox, row, message)
+        if text.digest == row.digest or is_below_and_same(inbox, row, text, gaps):
+            continue
+        answer = inbox.desk.post(text.text)
+        if isinstance(answer, Refused):
+            raise Refusal(why_refused(answer))
+        assert isinstance(answer, Taken)
+    ledger.set_state(file, State.HAD, f"{first.mark} has its number")
+    inbox.tell_had(file, first)
+
+
+def is_below_and_same(inbox: Inbox, row: Row, message: Message, gaps: Gaps) -> bool:
+    """Whether a message has a number that the desk takes no more, and the products that it took there. Refusal where it
+    has others."""
+    if message.number >= gaps.first:
+        return False
+    known = inbox.ledger.text(row.number) if row.has_text else b""
+    if [each.records for each in products_of(known)] == [each.records for each in products_of(message.text)]:
+        return True
+    raise Refusal(
+        f"another message of number {message.number} was taken before; a correction needs a number of its own"
+    )
+
+
+def retry_refused(inbox: Inbox, gaps: Gaps) -> None:
+    """What was refused by other settings, terms, agreement or program is judged anew, and what the desk had another message
+    of, and lacks now."""
+    ledger = inbox.ledger
+    ledger.retry_refused(inbox.basis(gaps.first))
+    query = "SELECT number FROM message WHERE state = 'refused' AND answer LIKE '%\"other-contents\"%'"
+    lacking = [number for (number,) in ledger.rows(query) if gaps.lacks(number)]
+    if lacking:
+        with ledger.step():
+            for number in lacking:
+                ledger.do("UPDATE message SET answer = '' WHERE number = ?", number)
+            ledger.retry_refused()

@@ -1,0 +1,390 @@
+"""The ledger: all that an inbox knows. Each call that writes is one transaction, or stands in the caller's."""
+
+import contextlib
+import hashlib
+import json
+import zlib
+from collections.abc import Iterable, Iterator
+from dataclasses import dataclass
+from enum import StrEnum
+from pathlib import Path
+from typing import Any, NamedTuple
+
+from onixdesk_shop.desk import Gaps
+from onixdesk_shop.machine import Machine
+from onixdesk_shop.messages import Product, header_of, products_of
+
+SCHEMA = Path(__file__).with_name("ledger.sql")
+
+
+class State(StrEnum):
+    """The states of files, and of messages; of the first two of these a file has one once the desk has it whole."""
+
+    HELD, APPLIED, REFUSED = "held", "applied", "refused"
+    NEW, QUARANTINED, POSTING, HAD, REJECTED, REPLACED = "new", "quarantined", "posting", "had", "rejected", "replaced"
+    READY, POSTED, RETURNED = "ready", "posted", "returned"
+
+
+class Decision(StrEnum):
+    LET_IN, REFUSE, DISMISS, AGAIN = "let-in", "refuse", "dismiss", "again"
+    WAIVE, UNWAIVE, TOLD, WELL = "waive", "unwaive", "told", "well"
+
+
+@dataclass(frozen=True)
+class File:
+    """A row of the table `file`."""
+
+    id: int
+    digest: str
+    taking: int
+    name: str
+    ending: str
+    size: int
+    modified: int
+    time: int
+    seen: int
+    state: str
+    why: str
+    at: int
+    words: str
+    terms: bytes | None
+    basis: str
+    number: int | None
+    products: int | None
+    is_full: int
+    not_deleted: str
+    titled: int
+
+    @property
+    def mark(self) -> str:
+        """By what commands name it."""
+        return self.digest[:12] if self.taking == 1 else f"{self.digest[:12]}.{self.taking}"
+
+
+class Row(NamedTuple):
+    """A row of the table `message`, without its text."""
+
+    number: int
+    file: int
+    digest: str
+    deletions: int
+    state: str
+    answer: str
+    has_text: int
+
+
+@dataclass(frozen=True)
+class Message:
+    """A text that is to stand at a number."""
+
+    number: int
+    text: bytes
+    deletions: int = 0
+    kinds: tuple[tuple[str, str], ...] = ()
+
+    @property
+    def digest(self) -> str:
+        return hashlib.sha256(self.text).hexdigest()
+
+
+ROW = "SELECT number, file, digest, deletions, state, answer, text IS NOT NULL FROM message"
+
+
+class Ledger:
+    def __init__(self, machine: Machine, path: Path) -> None:
+        self.machine = machine
+        self.connection = machine.connect(path, SCHEMA.read_text(encoding="utf-8"))
+
+    def close(self) -> None:
+        self.connection.close()
+
+    @contextlib.contextmanager
+    def step(self) -> Iterator[None]:
+        """One transaction; within another one it is a part of that."""
+        if self.connection.in_transaction:
+            yield
+            return
+        with self.machine.transaction(self.connection):
+            yield
+
+    def do(self, statement: str, *values: Any) -> int:
+        with self.step():
+            return self.connection.execute(statement, values).rowcount
+
+    def rows(self, query: str, *values: Any) -> list[tuple[Any, ...]]:
+        return self.connection.execute(query, values).fetchall()
+
+    def value(self, query: str, *values: Any) -> Any:
+        found = self.connection.execute(query, values).fetchone()
+        return found[0] if found else None
+
+    def number(self, query: str, *values: Any) -> int | None:
+        found = self.value(query, *values)
+        return None if found is None else int(found)
+
+    # Files
+
+    def files(self, where: str, *values: Any) -> list[File]:
+        return [File(*row) for row in self.rows(f"SELECT * FROM file WHERE {where} ORDER BY time, name, id", *values)]
+
+    def file(self, number: int) -> File:
+        return self.files("id = ?", number)[0]
+
+    def take(self, digest: str, name: str, ending: str, size: int, modified: int, time: int, now: int) -> File:
+        """Writes the row of bytes that came in. What came before keeps its state, but for what was refused, which is
+        tried again."""
+        with self.step():
+            known = self.latest(digest)
+            if not known:
+                self.do(
+                    "INSERT INTO file (digest, name, ending, size, modified, time, seen, state, at)"
+                    " VALUES (?, ?, ?, ?, ?, ?, ?, ?, ?)",
+                    *(digest, name, ending, size, modified, time, now, State.NEW, now),
+                )
+                return self.files("digest = ?", digest)[0]
+            self.set_of_file(known, name=name, modified=modified, seen=now)
+            if known.state == State.NEW:
+                self.set_of_file(known, time=min(time, known.time))
+            if known.state == State.REFUSED and not self.has_stood(known):
+                self.set_of_file(known, time=time)
+                self.set_state(known, State.NEW, "its bytes were put there again")
+            return self.file(known.id)
+
+    def take_again(self, file: File) -> None:
+        """Another row of the same bytes, as if they came in now."""
+        now = self.machine.now()
+        self.do(
+            "INSERT INTO file (digest, taking, name, ending, size, modified, time, seen, state, at)"
+            " SELECT digest, (SELECT max(taking) + 1 FROM file WHERE digest = one.digest), name, ending, size,"
+            " modified, ?, ?, 'new', ? FROM file AS one WHERE id = ?",
+            *(int(now * 1e9), int(now), int(now), file.id),
+        )
+
+    def latest(self, digest: str) -> File | None:
+        """The last taking of these bytes."""
+        found = self.files("digest = ?", digest)
+        return max(found, key=lambda file: file.taking) if found else None
+
+    def retry_refused(self, basis: str = "") -> None:
+        """Has what was refused by another basis judged anew."""
+        with self.step():
+            for file in self.files("state = 'refused' AND basis <> ?", basis):
+                if not self.has_stood(file):
+                    self.set_state(file, State.NEW)
+
+    def has_stood(self, file: File) -> bool:
+        """Whether the desk has, or may have, a message of a file."""
+        states = "('posted', 'held', 'applied')"
+        return bool(self.value(f"SELECT count(*) FROM message WHERE file = ? AND state IN {states}", file.id))
+
+    def set_state(self, file: File, state: str, why: str = "") -> None:
+        now = int(self.machine.now())
+        self.do("UPDATE file SET state = ?, why = ?, at = ? WHERE id = ?", state, why, now, file.id)
+
+    def set_of_file(self, file: File, **columns: Any) -> None:
+        names = ", ".join(f"{name} = ?" for name in columns)
+        self.do(f"UPDATE file SET {names} WHERE id = ?", *columns.values(), file.id)
+
+    def has_decision(self, file: File, what: str) -> bool:
+        return bool(self.value("SELECT count(*) FROM decision WHERE file = ? AND what = ?", file.id, what))
+
+    def has_taken(self, file: File) -> bool:
+        """Whether the desk took a message of a file."""
+        return bool(self.value("SELECT count(*) FROM message WHERE file = ? AND state IN ('held', 'applied')", file.id))
+
+    def full_files(self) -> list[File]:
+        """The full files that have numbers, the last one first."""
+        found = self.files("is_full AND state IN ('posting', 'held', 'applied')")
+        return sorted(found, key=lambda file: file.number or 0, reverse=True)
+
+    def last_taken(self) -> int | None:
+        """The time of the latest file that the desk has, or may have, something of, at a number of ours."""
+        query = "SELECT max(time) FROM file JOIN message ON message.file = file.id WHERE ending <> '.csv'"
+        return self.number(f"{query} AND message.state IN ('ready', 'posted', 'held', 'applied')")
+
+    # What is told of them
+
+    def count_files(self, *states: str) -> int:
+        marks = ", ".join("?" for _ in states)
+        return int(self.value(f"SELECT count(*) FROM file WHERE state IN ({marks})", *states))
+
+    def count_undecided(self) -> int:
+        """The refused files that nobody has decided on since."""
+        decided = "SELECT 1 FROM decision WHERE what = 'dismiss' AND decision.file = file.id AND decision.at >= file.at"
+        return int(self.value(f"SELECT count(*) FROM file WHERE state = 'refused' AND NOT EXISTS ({decided})"))
+
+    def heard_at(self) -> int | None:
+        """When a file came last that was no empty one."""
+        return self.number("SELECT max(seen) FROM file WHERE products > 0")
+
+    def kinds_since(self, second: int) -> list[list[str]]:
+        """The types and currencies of the prices of messages since then, in order."""
+        found = {
+            tuple(kind)
+            for (kinds,) in self.rows("SELECT DISTINCT kinds FROM message WHERE at >= ?", second)
+            for kind in json.loads(kinds)
+        }
+        return [list(kind) for kind in sorted(found)]
+
+    def count_older_terms(self, terms: bytes | None) -> int:
+        """The articles that were converted last with another table of terms than this."""
+        return int(
+            self.value(
+                "SELECT count(*) FROM reference JOIN message USING (number) JOIN file ON file.id = message.file"
+                " WHERE NOT deleted AND ending <> '.csv' AND file.terms IS NOT ?",
+                terms,
+            )
+        )
+
+    def known_agreement(self) -> tuple[tuple[str, str], int]:
+        """The addressee and the first number, as far as messages tell them."""
+        number = self.value("SELECT min(number) FROM message WHERE text IS NOT NULL")
+        if number is None:
+            return ("", ""), 1
+        first = self.value("SELECT min(number) FROM message")
+        return header_of(self.text(number)).addressee, int(first)
+
+    def is_needed(self, file: File) -> bool:
+        """Whether bytes are still to be read: of another taking, or for their titles."""
+        others = "SELECT count(*) FROM file WHERE digest = ? AND state IN ('new', 'quarantined', 'refused', 'posting')"
+        return bool(self.value(others, file.digest))
+
+    # Messages
+
+    def row(self, number: int) -> Row | None:
+        found = self.rows(f"{ROW} WHERE number = ?", number)
+        return Row(*found[0]) if found else None
+
+    def messages_of(self, file: File) -> list[Row]:
+        return [Row(*row) for row in self.rows(f"{ROW} WHERE file = ? ORDER BY number", file.id)]
+
+    def text(self, number: int) -> bytes:
+        return zlib.decompress(self.value("SELECT text FROM message WHERE number = ?", number))
+
+    def put(self, file: File, messages: Iterable[Message]) -> None:
+        """Puts texts at their numbers. SQLite refuses another text where one is final."""
+        now = int(self.machine.now())
+        with self.step():
+            for message in messages:
+                self.do(
+                    "INSERT INTO message (number, file, text, digest, deletions, state, at, kinds)"
+                    " VALUES (?, ?, ?, ?, ?, 'ready', ?, ?) ON CONFLICT (number) DO UPDATE SET file = excluded.file,"
+                    " text = excluded.text, digest = excluded.digest, deletions = excluded.deletions,"
+                    " state = excluded.state, answer = '', at = excluded.at, kinds = excluded.kinds",
+                    *(message.number, file.id, zlib.compress(message.text), message.digest, message.deletions),
+                    *(now, json.dumps(sorted(message.kinds))),
+                )
+
+    def set_message(self, number: int, state: str, answer: str = "") -> None:
+        now = int(self.machine.now())
+        with self.step():
+            self.do("UPDATE message SET state = ?, at = ? WHERE number = ?", state, now, number)
+            if answer:
+                self.do("UPDATE message SET answer = ? WHERE number = ?", answer, number)
+
+    def to_post(self, gaps: Gaps) -> list[Row]:
+        """What is to be posted, in order of numbers: what has no answer yet; what was held, and is no more; and what the
+        desk had, and lacks. Nothing of a file that a person refused."""
+        query = (
+            f"{ROW} WHERE number >= ? AND (state IN ('ready', 'posted', 'held') OR state = 'applied' AND number >= ?)"
+            " AND file NOT IN (SELECT id FROM file WHERE state = 'rejected') ORDER BY number"
+        )
+        found = (Row(*row) for row in self.rows(query, gaps.first, gaps.next))
+        return [row for row in found if self.is_to_post(row, gaps)]
+
+    def is_to_post(self, row: Row, gaps: Gaps) -> bool:
+        if row.state in (State.READY, State.POSTED):
+            return True
+        return gaps.lacks(row.number) or row.state == State.HELD and row.number < gaps.next
+
+    def next_number(self, gaps: Gaps, parts: int) -> int:
+        """The number that a new file gets: above all that are given, and all that the desk has, the first of a whole
+        group of parts."""
+        given = self.value("SELECT max(number) FROM message WHERE state <> 'returned'") or 0
+        before = max(given, gaps.greatest or 0, gaps.first - 1)
+        return (before + parts - 1) // parts * parts + 1
+
+    def oldest_text(self) -> int | None:
+        """The least number from which on the text of each message is kept that the desk had."""
+        gone = self.value("SELECT max(number) FROM message WHERE state IN ('held', 'applied') AND text IS NULL")
+        return self.number("SELECT min(number) FROM message WHERE text IS NOT NULL AND number > ?", gone or 0)
+
+    def lacking(self, gaps: Gaps) -> list[tuple[Row, File]]:
+        """What is posted again once a desk with these gaps stands there."""
+        return [(row, self.file(row.file)) for row in self.to_post(gaps)]
+
+    # References
+
+    def name_references(self, number: int, products: Iterable[Product]) -> None:
+        """What an applied message names, unless a later one named it: a block makes a record, an update or a deletion
+        changes one that is there."""
+        with self.step():
+            for product in products:
+                if product.is_block:
+                    self.do(
+                        "INSERT INTO reference VALUES (?, ?, ?, 0) ON CONFLICT (reference) DO UPDATE SET"
+                        " isbns = excluded.isbns, number = excluded.number, deleted = 0"
+                        " WHERE excluded.number >= number",
+                        *(product.reference, " ".join(product.isbns), number),
+                    )
+                else:
+                    self.do(
+                        "UPDATE reference SET number = ?, deleted = deleted OR ? WHERE reference = ? AND number <= ?",
+                        *(number, product.is_deletion, product.reference, number),
+                    )
+
+    def forget_references(self, number: int) -> None:
+        """What a message named that stands no more is as the ones before it named it, as far as their texts are kept."""
+        with self.step():
+            self.do("UPDATE reference SET number = 0, deleted = 1 WHERE number = ?", number)
+            query = "SELECT number FROM message WHERE state = 'applied' AND text IS NOT NULL ORDER BY number"
+            for (before,) in self.rows(query):
+                self.name_references(before, products_of(self.text(before)))
+
+    def articles(self) -> int:
+        """How many records the series has, as far as the ledger knows."""
+        return int(self.value("SELECT count(*) FROM reference WHERE NOT deleted"))
+
+    def references_before(self, number: int) -> list[str]:
+        """Those that no message from that number on named."""
+        query = "SELECT reference FROM reference WHERE NOT deleted AND number < ? ORDER BY reference"
+        return [reference for (reference,) in self.rows(query, number)]
+
+    # Titles
+
+    def title_number(self, isbn: str) -> int:
+        """By which number its title was said last, 0 if by none."""
+        return self.number("SELECT number FROM title WHERE isbn = ?", isbn) or 0
+
+    def name_titles(self, entries: dict[str, list[Any]]) -> None:
+        """What a message says of ISBNs: series, number, moment, and its words."""
+        for isbn, (_, number, moment, *words) in entries.items():
+            self.do(
+                "INSERT INTO title VALUES (?, ?, ?, ?) ON CONFLICT (isbn) DO UPDATE SET"
+                " number = excluded.number, moment = excluded.moment, words = excluded.words",
+                *(isbn, number, moment, json.dumps(words)),
+            )
+
+    # Decisions
+
+    def decide(self, what: str, file: File | None = None, number: int | None = None, subject: str = "") -> None:
+        self.do(
+            "INSERT INTO decision (at, what, file, number, subject) VALUES (?, ?, ?, ?, ?)",
+            *(int(self.machine.now()), what, file.id if file else None, number, subject),
+        )
+
+    def stands(self, number: int) -> bool:
+        """Whether a file that nobody refused has that number."""
+        row = self.row(number)
+        if row is None or row.state not in (State.READY, State.POSTED, State.HELD, State.APPLIED):
+            return False
+        return self.file(row.file).state != State.REJECTED
+
+    def waived(self) -> list[int]:
+        """The numbers of which it was decided last that they are waived."""
+        last = "SELECT number, what, max(id) FROM decision WHERE what IN ('waive', 'unwaive') GROUP BY number"
+        return [number for number, what, _ in self.rows(last) if what == Decision.WAIVE]
+
+    def is_told(self, subject: str) -> bool:
+        last = "SELECT what FROM decision WHERE what IN ('told', 'well') AND subject = ? ORDER BY id DESC LIMIT 1"
+        return bool(self.value(last, subject) == Decision.TOLD)

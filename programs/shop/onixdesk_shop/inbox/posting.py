@@ -1,0 +1,156 @@
+"""What the ledger has, posted to the desk: only the ledger's text, in order of numbers."""
+
+from onixdesk_shop.desk import Gaps, Refused, Taken
+from onixdesk_shop.faults import Fault
+from onixdesk_shop.inbox.context import Inbox
+from onixdesk_shop.inbox.ledger import Decision, File, Row, State
+from onixdesk_shop.lines import ERROR, NOTICE, cut, ranges
+from onixdesk_shop.messages import products_of
+from onixdesk_shop.settings import NEXT
+
+# How often the desk is asked anew: what closes a gap lets it apply what waited.
+ROUNDS = 3
+
+# Why a number that was free a moment ago is another message's.
+QUICKER = "other-contents", "waived", "before-first"
+
+REASONS = {
+    "malformed": "row {row} of its records is malformed",
+    "not-utf8": "its records are no UTF-8",
+    "too-large": "it has too many bytes of records",
+    "unnumbered": "it has no MessageNumber",
+    "unknown-series": "no series of its sender and addressee is agreed",
+    "before-first": "number {number} is below the first number of the series, {first}",
+    "waived": "number {number} was waived",
+    "other-contents": "the desk has another message of number {number}; a correction needs a number of its own",
+}
+
+
+class TextsGone(Fault):
+    """The desk lacks messages whose texts are not kept any more."""
+
+
+def why_refused(refused: Refused) -> str:
+    try:
+        return REASONS[refused.reason].format_map(refused.members)
+    except KeyError:
+        return f"the desk answers {cut(refused.said)}"
+
+
+def post_all(inbox: Inbox, gaps: Gaps) -> Gaps:
+    """Posts what is to be posted, and gives the desk's report behind it."""
+    for _ in range(ROUNDS):
+        rows = inbox.ledger.to_post(gaps)
+        if gone := [row.number for row in rows if not row.has_text]:
+            raise TextsGone(f"the desk lacks {ranges(gone)}, whose texts are not kept any more: restore a later copy")
+        if not rows:
+            break
+        if again := [row.number for row in rows if row.state in (State.HELD, State.APPLIED) and gaps.lacks(row.number)]:
+            inbox.tell(NOTICE, f"posted again, since the desk lacks it: {ranges(again)}")
+        for row in rows:
+            post_row(inbox, row)
+        gaps = inbox.gaps()
+    return gaps
+
+
+def post_row(inbox: Inbox, row: Row) -> None:
+    """Posts one message. That it is being posted is written down first: its text is final then."""
+    current = inbox.ledger.row(row.number)
+    if not current or current.state not in (State.READY, State.POSTED, State.HELD, State.APPLIED):
+        # What came before in this round gave its number back.
+        return
+    if current.state == State.READY:
+        inbox.ledger.set_message(row.number, State.POSTED)
+    answer = inbox.desk.post(inbox.ledger.text(row.number))
+    with inbox.ledger.step():
+        if isinstance(answer, Taken):
+            settle_taken(inbox, current, answer)
+        else:
+            settle_refused(inbox, current, answer)
+
+
+def settle_taken(inbox: Inbox, row: Row, answer: Taken) -> None:
+    ledger = inbox.ledger
+    state = State.APPLIED if answer.waiting_for is None else State.HELD
+    ledger.set_message(row.number, state, answer.said)
+    if state == State.APPLIED and row.state != State.APPLIED:
+        ledger.name_references(row.number, products_of(ledger.text(row.number)))
+    file = ledger.file(row.file)
+    if answer.series != inbox.series:
+        inbox.tell_file(
+            ERROR, file, f"number {answer.number} went into the series {answer.series}: whose agreement is it?"
+        )
+    settle_file(inbox, file)
+
+
+def settle_file(inbox: Inbox, file: File) -> None:
+    """The state of a file by those of its messages."""
+    states = [row.state for row in inbox.ledger.messages_of(file)]
+    if file.state in (State.REFUSED, State.REJECTED):
+        return
+    state = next((each for each in (State.POSTED, State.READY, State.HELD) if each in states), State.APPLIED)
+    state = State.POSTING if state in (State.POSTED, State.READY) else state
+    if state != file.state:
+        inbox.ledger.set_state(file, state, file.why if state == State.HELD else "")
+        inbox.tell_state(file, state)
+
+
+def settle_refused(inbox: Inbox, row: Row, answer: Refused) -> None:
+    ledger, why = inbox.ledger, why_refused(answer)
+    file = ledger.file(row.file)
+    ledger.set_message(row.number, State.REFUSED, answer.said)
+    is_next = inbox.settings.number == NEXT and file.ending != ".csv"
+    if is_next and not ledger.has_taken(file):
+        for each in ledger.messages_of(file):
+            ledger.set_message(each.number, State.RETURNED)
+        if answer.reason in QUICKER and row.state in (State.READY, State.POSTED):
+            ledger.set_state(file, State.NEW, f"number {row.number} went to another message first")
+            return
+    ledger.set_state(file, State.REFUSED, why)
+    inbox.tell_refused(file, why, row.number)
+
+
+def below_first(inbox: Inbox, gaps: Gaps) -> None:
+    """Refuses what has no answer and a number that the desk does not take any more."""
+    query = "state IN ('ready', 'posted') AND number < ?"
+    for number, file in inbox.ledger.rows(f"SELECT number, file FROM message WHERE {query}", gaps.first):
+        members = {"number": number, "first": gaps.first}
+        refused = Refused("before-first", members, "")
+        row = inbox.ledger.row(number)
+        if row and inbox.ledger.file(file).state != State.REJECTED:
+            with inbox.ledger.step():
+                settle_refused(inbox, row, refused)
+
+
+def settle_rejected(inbox: Inbox, gaps: Gaps) -> None:
+    """What a person refused and the desk lacks stands nowhere any more; where the inbox gives the numbers, these are
+    waived, so that nothing waits for them."""
+    ledger = inbox.ledger
+    query = (
+        "SELECT number FROM message WHERE state IN ('ready', 'posted', 'held', 'applied')"
+        " AND file IN (SELECT id FROM file WHERE state = 'rejected')"
+    )
+    for (number,) in ledger.rows(query):
+        row = ledger.row(number)
+        assert row
+        if not gaps.lacks(number):
+            continue
+        with ledger.step():
+            is_given = inbox.settings.number == NEXT and ledger.file(row.file).ending != ".csv"
+            ledger.set_message(number, State.REFUSED if is_given else State.RETURNED)
+            ledger.forget_references(number)
+            ledger.retry_refused()
+            if is_given:
+                ledger.decide(Decision.WAIVE, ledger.file(row.file), number)
+
+
+def waive(inbox: Inbox, gaps: Gaps) -> Gaps:
+    """Waives at the desk what was decided and it lacks."""
+    lacking = [number for number in inbox.ledger.waived() if gaps.lacks(number) and not inbox.ledger.stands(number)]
+    if not lacking:
+        return gaps
+    for record in inbox.desk.batch("".join(f"Waive,{inbox.series},{number}\n" for number in lacking)):
+        if record[0] != "waived":
+            inbox.tell(ERROR, f"a number is not waived: {cut(','.join(record))}")
+    inbox.tell(NOTICE, f"waived: {ranges(lacking)}")
+    return inbox.gaps()

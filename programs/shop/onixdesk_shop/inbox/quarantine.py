@@ -1,0 +1,80 @@
+"""Whether a file looks wrong. Nothing here reckons a price: the desk's answers are compared with those of a desk that has
+nothing but the file's records."""
+
+from __future__ import annotations
+
+from typing import TYPE_CHECKING
+
+from onixdesk_shop.desk import Gaps
+from onixdesk_shop.faults import BadEnd
+from onixdesk_shop.inbox.comparing import Findings, look_at
+from onixdesk_shop.inbox.context import Inbox
+from onixdesk_shop.settings import NEXT
+
+if TYPE_CHECKING:
+    from onixdesk_shop.inbox.judging import Feed
+
+# Of fewer nothing is said.
+LEAST = 10
+
+# How far a number may be ahead of what the series waits for, in the sender's numbers.
+MOST_AHEAD = 100
+
+
+class Quarantine(Exception):
+    """Why a person has to decide on a file."""
+
+
+def look(inbox: Inbox, feed: Feed, gaps: Gaps) -> None:
+    """Quarantine where a person has to decide on a file that nobody let in yet."""
+    if inbox.is_let_in(feed.file):
+        return
+    judge_numbers(inbox, feed, gaps)
+    judge_products(feed)
+    if not inbox.settings.stop or gaps.greatest is None:
+        return
+    try:
+        found = look_at(inbox, feed)
+    except BadEnd as end:
+        raise Quarantine(f"it cannot be judged: {end}") from None
+    if found:
+        judge_findings(inbox, *found)
+
+
+def judge_numbers(inbox: Inbox, feed: Feed, gaps: Gaps) -> None:
+    if inbox.settings.number == NEXT and feed.file.ending != ".csv":
+        last = inbox.ledger.last_taken()
+        if last is not None and feed.file.time < last:
+            raise Quarantine("it is older than the last one that was taken")
+        return
+    ahead = (feed.messages[0].number - gaps.next) // inbox.settings.parts
+    if ahead > MOST_AHEAD:
+        raise Quarantine(f"its number is {ahead} ahead of the one that the series waits for")
+
+
+def judge_products(feed: Feed) -> None:
+    if feed.said.count("a FILE without a Product"):
+        raise Quarantine("it has neither a Product nor a NoProduct")
+    emptied = feed.said.count("Product emptied", "Product left out")
+    wrong = max(emptied, feed.said.wrong) if feed.file.ending != ".csv" else feed.bare
+    total = feed.products + feed.said.count("Product left out")
+    if wrong >= LEAST and wrong * 2 > total:
+        raise Quarantine(f"{wrong} of {total} products are emptied or wrong")
+
+
+def judge_findings(inbox: Inbox, found: Findings, known: int) -> None:
+    """Quarantine where too many are wrong, or lose what they have; what was looked at stands for the file."""
+    total = found.looked_at
+    for names, least, what in (
+        (found.jumped, 0.2, "have a price more than twice or less than half of the desk's, or a new reference"),
+        (found.moved, 0.5, "have a price that moved by more than two fifths"),
+    ):
+        if len(names) >= LEAST and len(names) > least * total:
+            raise Quarantine(f"{len(names)} of {total} articles {what}: {', '.join(names[:3])}")
+    lost = len(found.lost) * known // total if total else 0
+    articles = max(inbox.ledger.articles(), known)
+    if lost >= LEAST and lost * 5 > articles:
+        raise Quarantine(
+            f"{lost} of {articles} articles would lose their price, be deleted or be chosen no more:"
+            f" {', '.join(found.lost[:3])}"
+        )

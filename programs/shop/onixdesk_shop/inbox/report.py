@@ -1,0 +1,75 @@
+"""How an inbox stands, for whoever asks."""
+
+from collections.abc import Iterator
+
+from onixdesk_shop.desk import NoDesk
+from onixdesk_shop.faults import DONE
+from onixdesk_shop.inbox import series_json
+from onixdesk_shop.inbox.context import Inbox
+from onixdesk_shop.inbox.ledger import State
+from onixdesk_shop.inbox.show import moment
+from onixdesk_shop.lines import count, cut, token
+from onixdesk_shop.places import FETCH_SETTINGS
+from onixdesk_shop.settings import read_lines
+
+WAITING = (State.NEW, State.QUARANTINED, State.REFUSED, State.POSTING, State.HELD)
+
+LAST_FILES, WEEK = 3, 7 * 86_400
+
+DELETED = """\
+SELECT count(*) FROM reference WHERE deleted AND number IN (SELECT number FROM message WHERE state = 'applied' AND at >= ?)"""
+
+# How many references are listed.
+MOST = 1000
+
+
+def report(inbox: Inbox) -> int:
+    for line in lines(inbox):
+        inbox.machine.write(f"{line}\n")
+    return DONE
+
+
+def lines(inbox: Inbox) -> Iterator[str]:
+    try:
+        gaps = inbox.desk.gaps(inbox.series)
+    except NoDesk as fault:
+        yield str(fault)
+        gaps = None
+    for name, value in series_json.members(inbox, gaps).items():
+        yield f"{name}: {value}"
+    if gaps and gaps.missing:
+        yield "missing: " + ", ".join(f"{low} to {high}" for low, high in gaps.missing)
+    marks = ", ".join("?" for _ in WAITING)
+    for file in inbox.ledger.files(f"state IN ({marks})", *WAITING):
+        yield f"{file.mark}: {file.state} since {moment(file.at)}: {cut(file.why) or '-'}; {token(file.name)}"
+    yield from of_the_week(inbox)
+    yield from not_verified(inbox)
+    yield from not_named(inbox)
+
+
+def of_the_week(inbox: Inbox) -> Iterator[str]:
+    """The last files that were taken, and how much of what the series had was deleted in seven days."""
+    for file in inbox.ledger.files("state = 'applied'")[-LAST_FILES:]:
+        yield f"{file.mark}: applied {moment(file.at)}; {token(file.name)}"
+    since = int(inbox.machine.now()) - WEEK
+    deleted = inbox.ledger.number(DELETED, since) or 0
+    yield f"{count(deleted, 'article')} deleted in seven days"
+
+
+def not_named(inbox: Inbox) -> Iterator[str]:
+    """What the last full files did not name: all that a file has named where none is full."""
+    last = inbox.ledger.full_files()[: max(1, inbox.settings.full)]
+    if not last:
+        return
+    number = last[-1].number or 0
+    gone = inbox.ledger.references_before(number)
+    yield f"{count(len(gone), 'article')} not named since number {number}"
+    for reference in gone[:MOST]:
+        yield f"  {token(reference)}"
+
+
+def not_verified(inbox: Inbox) -> Iterator[str]:
+    """Whether its files are fetched from a server that nobody verifies."""
+    path = FETCH_SETTINGS / f"{inbox.series}.env"
+    if inbox.machine.exists(path) and read_lines(inbox.machine, path).get("UNVERIFIED", (0, ""))[1] == "yes":
+        yield f"UNVERIFIED=yes in {path}: anybody on the way to that server can change a feed"

@@ -1,0 +1,92 @@
+"""One run of an inbox: takes in, posts what is to be posted, judges what is new, and says how it stands."""
+
+from onixdesk_shop.desk import Gaps, NoDesk
+from onixdesk_shop.faults import FAILED
+from onixdesk_shop.inbox import intake, keeping, posting, series_json, titles
+from onixdesk_shop.inbox.context import Inbox, NotAgreed
+from onixdesk_shop.inbox.full import tell_in_a_row
+from onixdesk_shop.inbox.judging import judge, retry_refused
+from onixdesk_shop.inbox.ledger import File, State
+from onixdesk_shop.lines import ERROR, WARNING
+from onixdesk_shop.settings import NEXT
+
+# How long a series may wait for a number.
+DAY = 86_400
+
+
+def run(inbox: Inbox) -> int:
+    """The status of a run. SERIES.json is written by each, also by one that a fault ends."""
+    gaps: Gaps | None = None
+    try:
+        intake.take_in(inbox)
+        gaps = inbox.gaps()
+        inbox.is_well("not agreed")
+        gaps = work(inbox, gaps)
+        inbox.is_well("no desk")
+    except NotAgreed as fault:
+        inbox.tell_once("not agreed", ERROR, f"{agreement(inbox)}; {fault}, and its files wait")
+    except NoDesk as fault:
+        # That a desk does not run is its own unit's error; one that answers at one place alone is this program's.
+        inbox.tell_once("no desk", ERROR if gaps else WARNING, f"files wait: {fault}")
+    finally:
+        series_json.write(inbox, gaps)
+    tell_waiting(inbox, gaps)
+    titles.keep(inbox)
+    keeping.clear(inbox)
+    return FAILED if inbox.has_error else 0
+
+
+def agreement(inbox: Inbox) -> str:
+    """The record by which the series is agreed, as far as the inbox knows it."""
+    addressee, first = inbox.ledger.known_agreement()
+    return f"Agree,{inbox.series},{','.join(inbox.settings.sender)},{','.join(addressee)},{first}"
+
+
+def work(inbox: Inbox, gaps: Gaps) -> Gaps:
+    posting.settle_rejected(inbox, gaps)
+    gaps = posting.waive(inbox, gaps)
+    posting.below_first(inbox, gaps)
+    retry_refused(inbox, gaps)
+    try:
+        gaps = posting.post_all(inbox, gaps)
+    except posting.TextsGone as fault:
+        inbox.tell_once("texts gone", ERROR, str(fault))
+        return gaps
+    inbox.is_well("texts gone")
+    seen: set[int] = set()
+    while file := next_file(inbox, seen):
+        seen.add(file.id)
+        judge(inbox, file, gaps)
+        gaps = posting.post_all(inbox, inbox.gaps())
+    tell_in_a_row(inbox)
+    return gaps
+
+
+def next_file(inbox: Inbox, seen: set[int]) -> File | None:
+    """The first new file that this run has not judged. Behind one that is quarantined files wait; but of a wholesaler whose
+    numbers are the inbox's own a newer full file may take its place."""
+    ledger = inbox.ledger
+    stopped = ledger.files("state = ?", State.QUARANTINED)
+    first = min(((file.time, file.name, file.id) for file in stopped), default=None)
+    for file in ledger.files("state = ?", State.NEW):
+        if file.id in seen:
+            continue
+        if first is None or (file.time, file.name, file.id) < first:
+            return file
+        if inbox.settings.number == NEXT and file.ending != ".csv" and inbox.settings.is_full(file.name):
+            return file
+    return None
+
+
+def tell_waiting(inbox: Inbox, gaps: Gaps | None) -> None:
+    """Tells once that a series waits for a number for a day, and that nothing was heard for days."""
+    waits = "SELECT min(at) FROM message WHERE state = 'held'"
+    since = inbox.ledger.value(waits)
+    if gaps and since is not None and inbox.machine.now() - since > DAY:
+        command = f"onixdesk-inbox waive {inbox.series} {gaps.next} (or have it sent again)"
+        inbox.tell_once(f"waits {gaps.next}", ERROR, f"{command}; the series waits for number {gaps.next} for a day")
+    heard = inbox.ledger.heard_at()
+    if heard is not None and inbox.machine.now() - heard > inbox.settings.silent_days * DAY:
+        inbox.tell_once("silent", ERROR, f"nothing came for {inbox.settings.silent_days} days but empty files")
+    else:
+        inbox.is_well("silent")

@@ -1,0 +1,64 @@
+"""What the ledger knows of a number, an ISBN or a file, and by which message a price came."""
+
+import json
+import shlex
+import time
+
+from onixdesk_shop.faults import DONE, FAILED
+from onixdesk_shop.inbox.context import Inbox
+from onixdesk_shop.inbox.ledger import File
+from onixdesk_shop.lines import cut, token
+from onixdesk_shop.messages import products_of, text_of
+
+
+def show(inbox: Inbox, number: int | None, isbn: str | None, name: str | None) -> int:
+    if number is not None:
+        lines = of_number(inbox, number)
+    elif isbn is not None:
+        lines = of_isbn(inbox, isbn)
+    else:
+        files = inbox.ledger.files("name = ? OR substr(digest, 1, ?) = ?", name, max(8, len(name or "")), name)
+        lines = [line for file in files for line in of_file(inbox, file)]
+    for line in lines or ["the ledger knows nothing of it"]:
+        inbox.machine.write(f"{line}\n")
+    return DONE if lines else FAILED
+
+
+def moment(second: int) -> str:
+    return time.strftime("%Y-%m-%d %H:%M:%S", time.localtime(second))
+
+
+def of_file(inbox: Inbox, file: File) -> list[str]:
+    words = shlex.join(json.loads(file.words))
+    terms = f", terms of {len(file.terms)} bytes" if file.terms is not None else ""
+    lines = [
+        f"{file.mark}: {file.state} since {moment(file.at)}{': ' if file.why else ''}{cut(file.why)}; {token(file.name)}",
+        f"  written {moment(file.time // 1_000_000_000)}, came last {moment(file.seen)}, {file.size} bytes,"
+        f" {file.products if file.products is not None else 'unknown'} products, words: {words or 'none'}{terms}",
+    ]
+    for row in inbox.ledger.messages_of(file):
+        lines.append(f"  number {row.number}: {row.state} {cut(row.answer)}")
+    for at, what in inbox.ledger.rows("SELECT at, what FROM decision WHERE file = ? ORDER BY id", file.id):
+        lines.append(f"  {moment(at)}: {what}")
+    return lines
+
+
+def of_number(inbox: Inbox, number: int) -> list[str]:
+    row = inbox.ledger.row(number)
+    if row:
+        return of_file(inbox, inbox.ledger.file(row.file))
+    return [f"number {number} is waived"] if number in inbox.ledger.waived() else []
+
+
+def of_isbn(inbox: Inbox, isbn: str) -> list[str]:
+    """The records with that ISBN, by which message each was named last, and what that says."""
+    query = "SELECT reference, number, deleted FROM reference WHERE ' ' || isbns || ' ' LIKE '% ' || ? || ' %'"
+    lines = []
+    for reference, number, deleted in inbox.ledger.rows(f"{query} ORDER BY number", isbn):
+        lines.append(f"{token(reference)}: {'deleted' if deleted else 'named last'} by number {number}")
+        row = inbox.ledger.row(number)
+        if row and row.has_text:
+            products = [each for each in products_of(inbox.ledger.text(number)) if each.reference == reference]
+            lines += [f"  {cut(line)}" for each in products for line in text_of(each.records).splitlines()]
+        lines += of_number(inbox, number)
+    return lines

@@ -1,0 +1,83 @@
+"""Titles of books, for the buyers' page alone: what a feed said last, in a file for all ISBNs that begin with the same
+digits. An object has a list for each ISBN, and that an entry for each series, the last one taken first."""
+
+import json
+import sys
+from collections import defaultdict
+from pathlib import Path
+from typing import Any
+
+from onixdesk_shop import feed_titles
+from onixdesk_shop.faults import BadEnd
+from onixdesk_shop.feeds import stream_of
+from onixdesk_shop.inbox.context import Inbox
+from onixdesk_shop.inbox.ledger import File
+from onixdesk_shop.lines import WARNING
+
+# The page fetches a file for all ISBNs with so many digits alike; the folders have five.
+DIGITS, FOLDER_DIGITS = 8, 5
+
+# By this file the page knows that titles are kept.
+MARK, FOLDER = "titles.json", "titles"
+
+SECONDS = 600
+
+# Series, number and second of the message, and, unless that deletes it, title, subtitle, contributors, publisher.
+Entry = list[Any]
+
+
+def keep(inbox: Inbox) -> None:
+    """Reads the titles of files that were applied since."""
+    for file in inbox.ledger.files("NOT titled AND state = 'applied' AND ending <> '.csv'"):
+        try:
+            entries = entries_of(inbox, file)
+        except BadEnd as end:
+            inbox.tell_file(WARNING, file, f"no titles: {end}")
+            entries = {}
+        write(inbox, entries)
+        with inbox.ledger.step():
+            inbox.ledger.name_titles(entries)
+            inbox.ledger.set_of_file(file, titled=1)
+
+
+def entries_of(inbox: Inbox, file: File) -> dict[str, Entry]:
+    """What a file says of each ISBN that no later message of the series spoke of."""
+    words: list[str | Path] = [sys.executable, "-E", "-s", "-S", "-B", feed_titles.__file__]
+    before, ended = inbox.machine.run_pipe(stream_of(inbox.stored(file)), words, (0,), SECONDS)
+    if before:
+        raise BadEnd("it cannot be unpacked any more")
+    found: dict[str, Entry] = {}
+    for line in ended.output.splitlines():
+        isbn, is_deletion, *texts = json.loads(line)
+        if not is_deletion or isbn not in found:
+            found[isbn] = [inbox.series, file.number, file.at, *([] if is_deletion else texts)]
+    number = file.number or 0
+    return {isbn: entry for isbn, entry in found.items() if inbox.ledger.title_number(isbn) <= number}
+
+
+def write(inbox: Inbox, entries: dict[str, Entry]) -> None:
+    """Replaces the files of these ISBNs, in which other inboxes write too."""
+    machine, folder = inbox.machine, inbox.places.state / FOLDER
+    machine.make_folder(folder, 0o755)
+    by_digits: dict[str, dict[str, Entry]] = defaultdict(dict)
+    for isbn, entry in entries.items():
+        by_digits[isbn[:DIGITS]][isbn] = entry
+    with machine.lock(folder):
+        if not machine.exists(folder.with_name(MARK)):
+            machine.write_whole(folder.with_name(MARK), b"{}")
+        for digits, some in by_digits.items():
+            machine.make_folder(folder / digits[:FOLDER_DIGITS], 0o755)
+            path = folder / digits[:FOLDER_DIGITS] / f"{digits}.json"
+            kept = kept_in(inbox, path)
+            for isbn, entry in some.items():
+                others = [each for each in kept.get(isbn, []) if each[0] != inbox.series]
+                kept[isbn] = sorted([entry, *others], key=lambda each: int(each[2]), reverse=True)
+            machine.write_whole(path, json.dumps(kept, separators=(",", ":"), ensure_ascii=False).encode())
+
+
+def kept_in(inbox: Inbox, path: Path) -> dict[str, list[Entry]]:
+    try:
+        kept: dict[str, list[Entry]] = json.loads(inbox.machine.read(path))
+        return kept
+    except (FileNotFoundError, ValueError):
+        return {}

@@ -1,0 +1,302 @@
+"""The one place where the package touches the machine: files, SQLite, the desk's port and socket, children, the clock,
+output. The tests put their faults here, and nowhere else."""
+
+import contextlib
+import fcntl
+import hashlib
+import http.client
+import os
+import shutil
+import socket
+import sqlite3
+import stat
+import sys
+import tempfile
+import time
+from collections.abc import Iterator
+from pathlib import Path
+from typing import NamedTuple
+
+from onixdesk_shop import children
+from onixdesk_shop.children import Ended, Words
+from onixdesk_shop.faults import DONE
+
+PIECE = 1 << 20
+MOST_OUTPUT = 64 << 20
+
+# Where SQLite locks a database: an open desk has all of it.
+LOCKED_FROM, LOCKED_LENGTH = 1 << 30, 512
+
+# The desk answers one client at a time, so a message waits for those before it.
+SECONDS = 3600
+
+
+class Entry(NamedTuple):
+    """What a folder has under a name; times in nanoseconds."""
+
+    name: str
+    size: int
+    modified: int
+    changed: int
+    is_regular: bool
+    links: int
+    inode: int
+
+
+class Machine:
+    def __init__(self, program: str) -> None:
+        self.program = program
+        self.is_output_broken = False
+
+    def now(self) -> float:
+        return time.time()
+
+    def today(self) -> str:
+        return time.strftime("%Y%m%d", time.localtime(self.now()))
+
+    def sleep(self, seconds: float) -> None:
+        time.sleep(seconds)
+
+    # Files
+
+    def entries(self, folder: Path) -> list[Entry]:
+        """What a folder has, by name. A name that is gone by then is left out."""
+        found = []
+        for name in sorted(os.listdir(folder)):
+            with contextlib.suppress(FileNotFoundError):
+                found.append(self.entry(folder / name))
+        return found
+
+    def entry(self, path: Path) -> Entry:
+        found = os.lstat(path)
+        is_regular = stat.S_ISREG(found.st_mode)
+        times = found.st_mtime_ns, found.st_ctime_ns
+        return Entry(path.name, found.st_size, *times, is_regular, found.st_nlink, found.st_ino)
+
+    def copy(self, source: Path, target: Path) -> str:
+        """Copies a regular file, of which the disk has the target then, with its time; the SHA-256 of its bytes."""
+        digest = hashlib.sha256()
+        opened = os.open(source, os.O_RDONLY | os.O_NOFOLLOW | os.O_NONBLOCK | os.O_CLOEXEC)
+        with open(opened, "rb") as old, open(target, "wb") as new:
+            found = os.fstat(opened)
+            if not stat.S_ISREG(found.st_mode):
+                raise OSError(None, "it is no regular file", str(source))
+            while piece := old.read(PIECE):
+                digest.update(piece)
+                new.write(piece)
+            new.flush()
+            os.utime(new.fileno(), ns=(found.st_mtime_ns, found.st_mtime_ns))
+            os.fsync(new.fileno())
+        return digest.hexdigest()
+
+    def exists(self, path: Path) -> bool:
+        return path.exists()
+
+    def read(self, path: Path, most: int = -1) -> bytes:
+        """What a file has, or so many bytes of its beginning."""
+        with open(path, "rb") as file:
+            return file.read(most)
+
+    def lines_of(self, path: Path) -> Iterator[bytes]:
+        """The lines of a file, each with its end."""
+        with open(path, "rb") as file:
+            yield from file
+
+    def write_whole(self, path: Path, data: bytes, mode: int = 0o644) -> None:
+        """Writes a file that others read meanwhile: they have the old one, or the new one, whatever happens."""
+        descriptor, name = tempfile.mkstemp(prefix=f".{path.name}.", dir=path.parent)
+        try:
+            with open(descriptor, "wb") as new:
+                new.write(data)
+                new.flush()
+                os.fchmod(new.fileno(), mode)
+                os.fsync(new.fileno())
+            os.replace(name, path)
+        except BaseException:
+            with contextlib.suppress(OSError):
+                os.unlink(name)
+            raise
+        self.sync_folder(path.parent)
+
+    def rename(self, old: Path, new: Path) -> None:
+        os.rename(old, new)
+
+    def remove(self, path: Path) -> None:
+        path.unlink(missing_ok=True)
+
+    def make_folder(self, path: Path, mode: int = 0o700) -> None:
+        if not path.exists():
+            path.mkdir(exist_ok=True)
+            path.chmod(mode)
+
+    def own(self, path: Path, like: Path) -> None:
+        """Gives what root made to the owner of another file or folder."""
+        if os.geteuid() == 0:
+            owner = os.stat(like)
+            os.chown(path, owner.st_uid, owner.st_gid, follow_symlinks=False)
+
+    def remove_tree(self, folder: Path) -> None:
+        shutil.rmtree(folder, ignore_errors=True)
+
+    @contextlib.contextmanager
+    def scratch(self, parent: Path | None = None) -> Iterator[Path]:
+        """A folder of its own, which is removed at the end."""
+        with tempfile.TemporaryDirectory(dir=parent, ignore_cleanup_errors=True) as folder:
+            yield Path(folder)
+
+    def sync_folder(self, folder: Path) -> None:
+        """Has the disk keep the names that a folder has."""
+        opened = os.open(folder, os.O_RDONLY | os.O_DIRECTORY)
+        try:
+            os.fsync(opened)
+        finally:
+            os.close(opened)
+
+    def sync_tree(self, folder: Path) -> None:
+        """Has the disk keep all that is below a folder."""
+        for place, _, names in os.walk(folder):
+            for name in names:
+                with open(Path(place) / name, "rb") as file:
+                    os.fsync(file.fileno())
+            self.sync_folder(Path(place))
+
+    @contextlib.contextmanager
+    def lock(self, folder: Path, waits: bool = True) -> Iterator[bool]:
+        """Whether nobody else has the lock of the folder; where it `waits`, once that is so."""
+        opened = os.open(folder, os.O_RDONLY | os.O_DIRECTORY | os.O_CLOEXEC)
+        try:
+            try:
+                fcntl.flock(opened, fcntl.LOCK_EX | (0 if waits else fcntl.LOCK_NB))
+            except BlockingIOError:
+                yield False
+            else:
+                yield True
+        finally:
+            os.close(opened)
+
+    # SQLite
+
+    def connect(self, path: Path, schema: str = "") -> sqlite3.Connection:
+        """A database of which the disk has each transaction once it is committed; made by the schema where it is not
+        there."""
+        connection = sqlite3.connect(path, isolation_level=None)
+        connection.execute("PRAGMA journal_mode=WAL")
+        connection.execute("PRAGMA synchronous=FULL")
+        connection.execute("PRAGMA foreign_keys=ON")
+        if schema and not connection.execute("SELECT count(*) FROM sqlite_schema").fetchone()[0]:
+            connection.executescript(f"BEGIN IMMEDIATE; {schema} COMMIT;")
+            self.sync_folder(path.parent)
+        return connection
+
+    @contextlib.contextmanager
+    def transaction(self, connection: sqlite3.Connection) -> Iterator[None]:
+        """All that is done in it, or nothing."""
+        connection.execute("BEGIN IMMEDIATE")
+        try:
+            yield
+            connection.execute("COMMIT")
+        except BaseException:
+            if connection.in_transaction:
+                connection.execute("ROLLBACK")
+            raise
+
+    @contextlib.contextmanager
+    def reading(self, database: Path) -> Iterator[sqlite3.Connection]:
+        """A database that nobody has open, to be read. What SQLite makes beside it is removed at the end."""
+        log = database.with_name(f"{database.name}-wal")
+        has_log = log.exists()
+        try:
+            address = f"{database.resolve().as_uri()}?mode=ro"
+            with contextlib.closing(sqlite3.connect(address, uri=True, isolation_level=None)) as connection:
+                connection.execute("PRAGMA query_only=ON")
+                yield connection
+        finally:
+            database.with_name(f"{database.name}-shm").unlink(missing_ok=True)
+            if not has_log:
+                log.unlink(missing_ok=True)
+
+    def is_open(self, database: Path) -> bool:
+        """Whether another program has a database open: it has the lock of SQLite's range then."""
+        try:
+            with open(os.open(database, os.O_RDWR | os.O_NOFOLLOW | os.O_CLOEXEC), "r+b", buffering=0) as file:
+                fcntl.lockf(file, fcntl.LOCK_EX | fcntl.LOCK_NB, LOCKED_LENGTH, LOCKED_FROM)
+        except FileNotFoundError:
+            return False
+        except BlockingIOError:
+            return True
+        return False
+
+    def backup(self, database: Path, target: Path) -> None:
+        """Copies a database that others may write to meanwhile."""
+        with contextlib.closing(sqlite3.connect(database)) as old, contextlib.closing(sqlite3.connect(target)) as new:
+            old.backup(new)
+
+    # The desk
+
+    def http(self, host: str, port: int, method: str, target: str, body: bytes | None = None) -> tuple[int, bytes]:
+        """The status and the body of a reply; OSError where there is none."""
+        connection = http.client.HTTPConnection(host, port, timeout=SECONDS)
+        try:
+            connection.request(method, target, body)
+            reply = connection.getresponse()
+            return reply.status, reply.read(MOST_OUTPUT)
+        except http.client.HTTPException as error:
+            raise OSError(None, f"it gives no whole reply ({type(error).__name__})") from None
+        finally:
+            connection.close()
+
+    def batch(self, address: Path, text: bytes) -> bytes:
+        """The answers of a desk to a batch at its socket; OSError where there is none."""
+        with socket.socket(socket.AF_UNIX) as client:
+            client.settimeout(SECONDS)
+            client.connect(str(address))
+            client.sendall(text)
+            client.shutdown(socket.SHUT_WR)
+            pieces = []
+            while piece := client.recv(PIECE):
+                pieces.append(piece)
+        return b"".join(pieces)
+
+    # Children
+
+    def run(
+        self,
+        words: Words,
+        known: tuple[int, ...] = (DONE,),
+        text: bytes = b"",
+        output: Path | None = None,
+        seconds: float | None = None,
+    ) -> Ended:
+        """Runs a child that reads the text, and writes to the file if there is one. BadEnd where it does not end in a
+        way that is known."""
+        return children.run(words, known, text, output, seconds)
+
+    def run_pipe(self, first: Words, second: Words, known: tuple[int, ...], seconds: float) -> tuple[int, Ended]:
+        """Runs a child that reads what another one writes, whose status is the first of the two."""
+        return children.run_pipe(first, second, known, seconds)
+
+    # Output
+
+    def tell(self, priority: int, line: str) -> None:
+        """Writes a line to standard error, for the journal with its priority."""
+        before = f"<{priority}>" if "JOURNAL_STREAM" in os.environ else f"{self.program}: "
+        with contextlib.suppress(OSError):
+            sys.stderr.write(f"{before}{line}\n")
+            sys.stderr.flush()
+
+    def write(self, text: str) -> None:
+        """Writes to standard output, as long as somebody takes it."""
+        if self.is_output_broken:
+            return
+        try:
+            sys.stdout.write(text)
+            sys.stdout.flush()
+        except OSError:
+            self.is_output_broken = True
+            # What is left of it would be written at the end.
+            os.dup2(os.open(os.devnull, os.O_WRONLY), sys.stdout.fileno())
+
+    def ask(self, question: str) -> str:
+        """The line with which a person answers. Nothing where nobody can read the question."""
+        self.write(question)
+        return "" if self.is_output_broken else sys.stdin.readline().strip()

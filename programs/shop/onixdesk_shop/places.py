@@ -1,0 +1,25 @@
+"""Where the package keeps what."""
+
+from pathlib import Path
+
+ETC = Path("/etc/onixdesk")
+INBOX_SETTINGS = ETC / "inbox"
+FETCH_SETTINGS = ETC / "fetch"
+RULES = ETC / "rules.toml"
+DESK_JSON = ETC / "page" / "desk.json"
+
+LIB = Path("/var/lib")
+DESK_FILE = LIB / "onixdesk" / "shop.db"
+INCOMING = LIB / "onixdesk-incoming"
+INBOXES = LIB / "onixdesk-inbox"
+STATE = LIB / "onixdesk-state"
+COPIES = LIB / "onixdesk-copies"
+
+BATCHES = Path("/run/onixdesk/batches")
+
+# In a copy of a desk: the ledgers of its inboxes, each as SERIES.db.
+LEDGERS = "ledgers"
+
+LEDGER, STORE, WORK = "ledger.db", "store", "work"
+
+PROGRAM = Path("onixdesk")

@@ -1,0 +1,1 @@
+"""The till's file of prices."""

@@ -1,0 +1,124 @@
+"""The command line of desk-restore."""
+
+import argparse
+import shutil
+import sys
+from collections.abc import Callable
+from pathlib import Path
+
+from onixdesk_shop.ends import parser_of, run_program
+from onixdesk_shop.faults import DONE, FAILED, Failed, Fault
+from onixdesk_shop.lines import ERROR, WARNING
+from onixdesk_shop.machine import Machine
+from onixdesk_shop.places import COPIES, DESK_FILE, INBOX_SETTINGS, INBOXES, PROGRAM
+from onixdesk_shop.restores.inboxes import Inbox, inboxes_in, wait_for_all
+from onixdesk_shop.restores.placing import Work
+from onixdesk_shop.restores.restoring import CORRECTED_BEFORE, Places, Restore, is_from_before
+from onixdesk_shop.units import DESK, Units
+
+NAME = "desk-restore"
+
+DESCRIPTION = """\
+Puts COPY, a folder that desk-copy made, into the place of the desk, whose own files get another name. The copy is
+checked by SQLite and by the desk's program. What the inboxes post again is said, with the command by which each file is
+refused, and asked for; agreements and waivers that the desk has and the copy lacks are made again. Then what runs of
+onixdesk is stopped, two files get their places, and it is started again."""
+
+STATUSES = """\
+Status 0 once the desk answers and has again what its inboxes post; 1 if nobody said yes, the copy is not sound, or the
+desk lacks something at the end; 2 for a bad command line; 3 if a file cannot be read or written, another program
+has the desk open, or a unit does not stop. After a kill the same command ends what was begun. docs/RELIABILITY.md says
+what comes after."""
+
+
+def add_places(parser: argparse.ArgumentParser) -> None:
+    for name, place in (
+        ("db", DESK_FILE),
+        ("inboxes", INBOXES),
+        ("settings", INBOX_SETTINGS),
+        ("copies", COPIES),
+        ("program", PROGRAM),
+    ):
+        parser.add_argument(f"--{name}", metavar="PATH", type=Path, default=place, help=f"{place} without it")
+
+
+def command_line() -> argparse.ArgumentParser:
+    parser = parser_of(NAME, DESCRIPTION, STATUSES)
+    add_places(parser)
+    add = parser.add_argument
+    add("--yes", action="store_true", help="asks nothing")
+    add("--gaps", action="store_true", help="accepts a copy that lacks messages which no inbox can post again")
+    add("--before-correction", action="store_true", help="accepts a copy from before a correction of the desk's text")
+    add(
+        "--text",
+        metavar="FILE",
+        type=Path,
+        help="puts a desk into place that is made of FILE, the corrected text of COPY",
+    )
+    add("copy", metavar="COPY", type=Path, help="a folder with the two files of a desk, of the name of the desk's")
+    return parser
+
+
+def program_of(word: Path) -> Path:
+    found = shutil.which(word)
+    if not found:
+        raise Fault(f"{word}: there is no such program")
+    return Path(found).absolute()
+
+
+def places_of(options: argparse.Namespace) -> Places:
+    return Places(
+        program_of(options.program),
+        options.db.absolute(),
+        options.inboxes.absolute(),
+        options.settings.absolute(),
+        options.copies.absolute(),
+        options.copy.resolve(),
+        options.text.absolute() if options.text else None,
+        options.gaps,
+    )
+
+
+def restore(machine: Machine, options: argparse.Namespace) -> int:
+    places = places_of(options)
+    with machine.lock(places.database.parent, waits=False) as is_alone:
+        if not is_alone:
+            raise Fault(f"{places.database.parent}: a desk is put into place there already")
+        work = Work(machine, places.database)
+        if work.end_killed(Units(machine)):
+            machine.tell(WARNING, "the desk of that run is in place; for another copy run the command again")
+            return status_of(machine, work, inboxes_of(machine, places), {})
+        if is_from_before(places.copy):
+            if not options.before_correction:
+                raise Failed(f"{places.copy}: {' '.join(CORRECTED_BEFORE.split())}")
+            machine.tell(WARNING, "the correction of the desk's text has to be made again")
+        return restore_alone(machine, options, Restore(machine, places, work, Units(machine)))
+
+
+def restore_alone(machine: Machine, options: argparse.Namespace, run: Restore) -> int:
+    with run.work.at_work(run.units):
+        run.lay_out()
+        if not run.is_wanted(options.yes):
+            raise Failed("nobody said yes, so the desk is as it was")
+        run.replace()
+    return status_of(machine, run.work, inboxes_of(machine, run.places), run.planned, run.has_all)
+
+
+def inboxes_of(machine: Machine, places: Places) -> list[Inbox]:
+    return inboxes_in(machine, places.inboxes, places.settings)
+
+
+def status_of(
+    machine: Machine, work: Work, inboxes: list[Inbox], planned: dict[str, list[int]], has_all: bool = True
+) -> int:
+    """DONE once the desk answers, and has again what its inboxes post."""
+    if DESK not in work.started:
+        machine.tell(ERROR, f"systemctl start {DESK}; the desk did not run, and is not started")
+        return FAILED
+    return DONE if work.is_started and wait_for_all(machine, inboxes, planned) and has_all else FAILED
+
+
+def main() -> int:
+    options = command_line().parse_args(sys.argv[1:])
+    work: Callable[[Machine], int] = lambda machine: restore(machine, options)
+    return run_program(NAME, work, goes_on=True)

@@ -1,0 +1,143 @@
+"""The inboxes at a restore: what each posts again to the desk that is put into place, and when that is done."""
+
+from collections.abc import Iterator
+from contextlib import contextmanager
+from dataclasses import dataclass, field
+from pathlib import Path
+
+from onixdesk_shop.desk import Address, Desk, Gaps
+from onixdesk_shop.faults import BadCall, Fault
+from onixdesk_shop.inbox.ledger import File, Ledger, State
+from onixdesk_shop.lines import ERROR, ranges, token
+from onixdesk_shop.machine import Machine
+from onixdesk_shop.places import BATCHES, LEDGER
+from onixdesk_shop.settings import Settings, read_settings
+
+# How long a desk that starts is waited for, and an inbox that posts nothing, in seconds.
+PATIENCE = 600
+PAUSE = 2.0
+
+ADDRESS = Address("127.0.0.1", 8080, BATCHES)
+
+
+@dataclass
+class Again:
+    """What an inbox posts again: the numbers, those of them whose texts are gone, and a line for each file."""
+
+    numbers: list[int] = field(default_factory=list)
+    gone: list[int] = field(default_factory=list)
+    lines: list[str] = field(default_factory=list)
+    refused: set[int] = field(default_factory=set)
+
+
+class Inbox:
+    """The inbox of a series, with its ledger or one of a copy."""
+
+    def __init__(self, machine: Machine, series: str, ledger: Path, settings: Path) -> None:
+        self.machine = machine
+        self.series = series
+        self.file = ledger
+        self.conf = settings / f"{series}.conf"
+
+    @contextmanager
+    def ledger(self) -> Iterator[Ledger]:
+        opened = Ledger(self.machine, self.file)
+        try:
+            yield opened
+        finally:
+            opened.close()
+
+    def settings(self) -> Settings | None:
+        """Nothing where they are missing or wrong, which is told."""
+        try:
+            return read_settings(self.machine, self.conf)
+        except BadCall as fault:
+            self.machine.tell(ERROR, str(fault))
+            return None
+
+    def again(self, gaps: Gaps) -> Again:
+        """What it posts again to a desk with these gaps."""
+        found = Again()
+        files: dict[int, tuple[File, list[int]]] = {}
+        with self.ledger() as ledger:
+            for row, file in ledger.lacking(gaps):
+                found.numbers.append(row.number)
+                files.setdefault(file.id, (file, []))[1].append(row.number)
+                if not row.has_text:
+                    found.gone.append(row.number)
+            query = "SELECT message.number FROM message JOIN file ON file.id = message.file WHERE file.state = ?"
+            found.refused = {number for (number,) in ledger.rows(query, State.REJECTED)}
+        for file, numbers in files.values():
+            command = f"onixdesk-inbox --refuse {file.mark} {self.series}"
+            found.lines.append(f"{command}; is posted again: {ranges(numbers)}; {token(file.name)}")
+        return found
+
+    def agreement(self) -> str:
+        """The record by which the series is agreed, as far as it is known here."""
+        settings = self.settings()
+        with self.ledger() as ledger:
+            addressee, first = ledger.known_agreement()
+        sender = settings.sender if settings else ("", "")
+        return f"Agree,{self.series},{','.join(sender)},{','.join(addressee)},{first}"
+
+    def has_refused(self, number: int) -> bool:
+        """Whether the desk has refused that number since, or a person its file."""
+        with self.ledger() as ledger:
+            row = ledger.row(number)
+            return not row or row.state == State.REFUSED or ledger.file(row.file).state == State.REJECTED
+
+
+def inboxes_in(machine: Machine, folder: Path, settings: Path) -> list[Inbox]:
+    """Those that have a ledger."""
+    if not machine.exists(folder):
+        return []
+    names = [entry.name for entry in machine.entries(folder)]
+    return [
+        Inbox(machine, name, folder / name / LEDGER, settings)
+        for name in names
+        if machine.exists(folder / name / LEDGER)
+    ]
+
+
+def wait_for_desk(machine: Machine, address: Address = ADDRESS) -> None:
+    """Until it answers. Fault where it does not."""
+    Desk(machine, address, PATIENCE).request("GET", "/series/north/gaps")
+
+
+def wait_for_inbox(inbox: Inbox, numbers: list[int]) -> bool:
+    """Until the desk has these numbers again, or the inbox does not go on. Whether it has them."""
+    machine, settings = inbox.machine, inbox.settings()
+    if settings is None:
+        return False
+    desk, left = Desk(machine, settings.address, PATIENCE), set(numbers)
+    end = machine.now() + PATIENCE
+    while True:
+        gaps = desk.gaps(inbox.series)
+        if gaps is None:
+            machine.tell(
+                ERROR, f"{inbox.agreement()}; the desk has agreed no series {inbox.series}, and its files wait"
+            )
+            return False
+        before, left = left, {number for number in left if gaps.lacks(number)} | set(inbox.again(gaps).numbers)
+        if not left:
+            return True
+        if left != before:
+            end = machine.now() + PATIENCE
+        if all(map(inbox.has_refused, left)) or machine.now() > end:
+            machine.tell(ERROR, f"{inbox.series}: the desk still lacks {ranges(sorted(left))}")
+            return False
+        machine.sleep(PAUSE)
+
+
+def wait_for_all(machine: Machine, inboxes: list[Inbox], planned: dict[str, list[int]]) -> bool:
+    """Until the desk answers, and has again what the inboxes post. Whether it has all."""
+    has_all = True
+    try:
+        if not inboxes:
+            wait_for_desk(machine)
+        for inbox in inboxes:
+            has_all &= wait_for_inbox(inbox, planned.get(inbox.series, []))
+    except Fault as fault:
+        machine.tell(ERROR, str(fault))
+        return False
+    return has_all

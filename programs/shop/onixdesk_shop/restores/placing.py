@@ -1,0 +1,134 @@
+"""The folder beside a desk in which another one is made ready, and how that gets the desk's place.
+
+It has `units`, what is to be started again; `new`, which is being made, and in place of that `ready.SECOND` once it is
+whole and on the disk. What a run that was killed has left there tells the next one how far it was.
+"""
+
+import contextlib
+import time
+from collections.abc import Iterator
+from pathlib import Path
+
+from onixdesk_shop.desk_files import log_of
+from onixdesk_shop.lines import WARNING
+from onixdesk_shop.machine import Machine
+from onixdesk_shop.units import Units, is_begun
+
+READY = "ready."
+
+# What stood there before is named by the second at which the other was ready, of the world's time.
+NAME = "%Y-%m-%dT%H-%M-%SZ"
+
+
+class Work:
+    def __init__(self, machine: Machine, database: Path) -> None:
+        self.machine = machine
+        self.database = database
+        self.folder = database.with_name(f".{database.name}.work")
+        self.new = self.folder / "new" / database.name
+        self.started: list[str] = []
+        self.is_started = False
+
+    def begin(self) -> None:
+        """An empty folder for a new desk."""
+        self.machine.make_folder(self.folder)
+        self.machine.remove_tree(self.new.parent)
+        self.machine.make_folder(self.new.parent)
+
+    def end(self) -> None:
+        self.machine.remove_tree(self.folder)
+
+    def keep_units(self, units: list[str]) -> None:
+        """Has the disk keep what is to be started again, before it is stopped."""
+        self.machine.write_whole(self.folder / "units", "\n".join(units).encode(), 0o600)
+
+    def units(self) -> list[str]:
+        file = self.folder / "units"
+        return self.machine.read(file).decode().split() if self.machine.exists(file) else []
+
+    def ready(self) -> Path | None:
+        """The folder of a new desk that is to get its place, or has got it."""
+        if not self.machine.exists(self.folder):
+            return None
+        names = [entry.name for entry in self.machine.entries(self.folder) if entry.name.startswith(READY)]
+        return self.folder / names[0] if names else None
+
+    def before(self, second: str) -> Path:
+        """The name of what stood there before that second."""
+        return self.database.with_name(f"{self.database.name}.{second}")
+
+    def make_ready(self) -> None:
+        """The new files are on the disk, for the owner of the folder. There is a log too, so that a run that goes on
+        knows whether it was moved."""
+        machine = self.machine
+        if not machine.exists(log_of(self.new)):
+            machine.write_whole(log_of(self.new), b"", 0o600)
+        for file in (self.new, log_of(self.new)):
+            machine.own(file, self.database.parent)
+        machine.sync_folder(self.new.parent)
+        second = time.strftime(NAME, time.gmtime(machine.now()))
+        while machine.exists(self.before(second)):
+            machine.sleep(0.2)
+            second = time.strftime(NAME, time.gmtime(machine.now()))
+        machine.rename(self.new.parent, self.folder / f"{READY}{second}")
+        machine.sync_folder(self.folder)
+
+    def is_begun(self) -> bool:
+        """Whether the desk that stood there is moved away, and the new one not in its place: no desk starts."""
+        ready = self.ready()
+        return bool(ready and self.machine.exists(ready / self.database.name) and not self.stands())
+
+    def is_in_place(self) -> bool:
+        ready = self.ready()
+        return bool(ready and not self.machine.exists(ready / self.database.name))
+
+    def stands(self) -> bool:
+        return self.machine.exists(self.database)
+
+    def put_in_place(self) -> Path:
+        """Gives the files that stand there another name, and the new ones their place, or goes on with that. The
+        database goes first and comes last: without it no desk starts. As long as the new log is where it was made, the
+        log that stands there is the old one."""
+        ready = self.ready()
+        assert ready
+        new, before = ready / self.database.name, self.before(ready.name.removeprefix(READY))
+        if self.machine.exists(log_of(new)):
+            self.move(self.database, before)
+            self.move(log_of(self.database), log_of(before))
+            self.move(log_of(new), log_of(self.database))
+        self.move(new, self.database)
+        return before
+
+    def move(self, old: Path, new: Path) -> None:
+        if self.machine.exists(old):
+            self.machine.rename(old, new)
+            self.machine.sync_folder(new.parent)
+            self.machine.sync_folder(old.parent)
+
+    @contextlib.contextmanager
+    def at_work(self, units: Units) -> Iterator[None]:
+        """At the end what ran runs again, whatever ends this."""
+        try:
+            yield
+        finally:
+            if self.is_begun():
+                # A signal ended it amid that.
+                self.put_in_place()
+            self.started = self.units()
+            self.is_started = units.start(self.started)
+            self.end()
+
+    def end_killed(self, units: Units) -> bool:
+        """Ends what a run began that was killed: puts the new desk into its place where the old one is moved away, and
+        starts what was stopped. Whether that desk is in place then."""
+        if not self.machine.exists(self.folder):
+            return False
+        if self.is_begun():
+            self.put_in_place()
+        is_done = self.is_in_place()
+        stood = "has put its desk into place" if is_done else "has changed nothing"
+        self.machine.tell(WARNING, f"a run that was killed {stood}, and is ended now")
+        self.started = [unit for unit in self.units() if is_begun(unit)]
+        self.is_started = units.start(self.started)
+        self.end()
+        return is_done

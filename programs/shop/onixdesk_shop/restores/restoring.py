@@ -1,0 +1,189 @@
+"""One restore: what it is to put into place, what is said before, and the exchange."""
+
+from dataclasses import dataclass
+from pathlib import Path
+
+from onixdesk_shop.batches import send
+from onixdesk_shop.copies.copying import copy_desk
+from onixdesk_shop.copies.keeping import CORRECTED, set_aside
+from onixdesk_shop.desk_files import Contents, DeskFile, check, contents_of
+from onixdesk_shop.faults import Failed, Fault
+from onixdesk_shop.lines import ERROR, NOTICE, WARNING, cut, ranges
+from onixdesk_shop.machine import Machine
+from onixdesk_shop.places import LEDGER, LEDGERS
+from onixdesk_shop.restores.inboxes import Inbox, inboxes_in
+from onixdesk_shop.restores.placing import Work
+from onixdesk_shop.units import Units
+
+CORRECTED_BEFORE = """\
+it is from before a correction of the desk's text; with --before-correction it is put into place, and the correction
+has to be made again"""
+
+
+@dataclass(frozen=True)
+class Places:
+    """Where everything is; `text` is the corrected text of the copy, if a desk is made of one."""
+
+    program: Path
+    database: Path
+    inboxes: Path
+    settings: Path
+    copies: Path
+    copy: Path
+    text: Path | None
+    has_gaps: bool
+
+
+class Restore:
+    def __init__(self, machine: Machine, places: Places, work: Work, units: Units) -> None:
+        self.machine = machine
+        self.places = places
+        self.work = work
+        self.units = units
+        self.desk = DeskFile(machine, places.program, work.new)
+        self.base = Contents()
+        self.planned: dict[str, list[int]] = {}
+        self.has_all = True
+
+    # The new files
+
+    def lay_out(self) -> None:
+        """Failed where the copy, or the desk that its corrected text makes, is not sound."""
+        machine, places, name = self.machine, self.places, self.places.database.name
+        # SQLite leaves the third where somebody has looked at a copy.
+        found = {entry.name for entry in machine.entries(places.copy)} - {f"{name}-shm", LEDGERS}
+        if name not in found or found - {name, f"{name}-wal"}:
+            raise Fault(f"{places.copy}: it has not {name} and its log alone")
+        self.work.begin()
+        for each in found:
+            machine.copy(places.copy / each, self.work.new.parent / each)
+        check(machine, self.work.new, places.copy / name)
+        self.base = contents_of(machine, self.work.new)
+        if places.text:
+            self.work.begin()
+            send(self.desk, machine.lines_of(places.text))
+
+    def send_since(self, present: Contents) -> None:
+        """Tells the new desk the agreements and waivers that the present one has and the copy lacked."""
+        since = present.beyond(self.base)
+        if not since.requests():
+            return
+        for record in self.desk.batch(since.requests()):
+            if record[0] not in ("agreed", "waived"):
+                self.has_all = False
+                self.machine.tell(ERROR, f"an agreement or waiver is not made again: {cut(','.join(record))}")
+        agreements, waivers = [*since.agreements.values()], sorted(since.waivers)
+        for line in [*agreements, *(f"Waive,{name},{number}" for name, number in waivers)]:
+            self.machine.tell(NOTICE, f"is made again: {cut(line)}")
+        self.base.agreements |= since.agreements
+        self.base.waivers |= since.waivers
+
+    def present(self) -> Contents:
+        """What the present desk was told, by a copy; nothing where that cannot be read, which is told."""
+        machine, database = self.machine, self.places.database
+        if not machine.exists(database):
+            return Contents()
+        folder = self.work.folder / "present"
+        machine.make_folder(folder)
+        try:
+            copy_desk(machine, database, folder)
+            return contents_of(machine, folder / database.name)
+        except Fault as fault:
+            machine.tell(WARNING, f"what the present desk was told since is not known: {fault}")
+            return Contents()
+        finally:
+            machine.remove_tree(folder)
+
+    # What is said before
+
+    def plan(self, present: Contents) -> tuple[list[str], list[str]]:
+        """What is posted again, and what is lost, in lines."""
+        reports, said, lost = self.desk.gaps(), [], []
+        had = present.beyond(self.base).messages
+        for inbox in self.inboxes():
+            gaps = reports.get(inbox.series)
+            if gaps is None:
+                said.append(f"{inbox.agreement()}; is missing in the copy, and the files of {inbox.series} wait")
+                continue
+            again = inbox.again(gaps)
+            self.planned[inbox.series] = again.numbers
+            said += [f"{inbox.series}: the copy waits for number {gaps.next}", *again.lines]
+            if again.gone:
+                lost.append(f"{inbox.series}: the texts of {ranges(again.gone)} are not kept any more")
+            had -= {(inbox.series, number) for number in {*again.numbers, *again.refused}}
+        for name in sorted({name for name, _ in had}):
+            numbers = sorted(number for series, number in had if series == name)
+            lost.append(f"{name}: no inbox has {ranges(numbers)}, which the copy lacks")
+        return said, lost
+
+    def inboxes(self) -> list[Inbox]:
+        """Those that are there, and those whose ledgers the copy alone has."""
+        machine, places = self.machine, self.places
+        found = inboxes_in(machine, places.inboxes, places.settings)
+        known = {inbox.series for inbox in found}
+        for name in self.ledgers_of_copy():
+            if name not in known:
+                file = self.work.folder / f"{name}.db"
+                if not machine.exists(file):
+                    machine.copy(places.copy / LEDGERS / f"{name}.db", file)
+                found.append(Inbox(machine, name, file, places.settings))
+        return found
+
+    def ledgers_of_copy(self) -> list[str]:
+        folder = self.places.copy / LEDGERS
+        if not self.machine.exists(folder):
+            return []
+        return [entry.name[:-3] for entry in self.machine.entries(folder) if entry.name.endswith(".db")]
+
+    def is_wanted(self, is_told: bool) -> bool:
+        """Says what comes, and asks. Failed where something is lost and nobody said that it may."""
+        for line in self.prepare(self.present()):
+            self.machine.write(f"{line}\n")
+        return is_told or self.machine.ask("put it into the desk's place? (yes) ") == "yes"
+
+    def prepare(self, present: Contents) -> list[str]:
+        """Makes again what the present desk was told since; what is posted again, in lines."""
+        self.send_since(present)
+        said, lost = self.plan(present)
+        if lost and not self.places.has_gaps:
+            raise Failed(f"{self.places.copy}: {'; '.join(lost)}; with --gaps it is put into place all the same")
+        return [*said, *lost]
+
+    # The exchange
+
+    def replace(self) -> None:
+        """Stops what runs, and puts the new files into place. Nothing is lost whatever ends this: each inbox posts what
+        the desk lacks."""
+        machine, places, work = self.machine, self.places, self.work
+        work.keep_units(self.units.begun)
+        self.units.stop(self.units.all)
+        if machine.is_open(places.database):
+            raise Fault(f"{places.database}: another program has it open; stop it before")
+        self.prepare(self.present())
+        work.make_ready()
+        self.put_ledgers_back()
+        if places.text and machine.exists(places.copies):
+            set_aside(machine, places.copies)
+        before = work.put_in_place()
+        stood = f"the one before is {before}" if machine.exists(before) else "there was none before"
+        machine.tell(NOTICE, f"the desk is in place as {places.database}; {stood}")
+
+    def put_ledgers_back(self) -> None:
+        """A ledger of the copy has its place where there is none."""
+        machine, places = self.machine, self.places
+        for name in self.ledgers_of_copy():
+            folder = places.inboxes / name
+            if machine.exists(folder / LEDGER) or not machine.exists(places.inboxes):
+                continue
+            machine.make_folder(folder)
+            machine.own(folder, places.inboxes)
+            new = folder / f".{LEDGER}"
+            machine.copy(places.copy / LEDGERS / f"{name}.db", new)
+            machine.own(new, places.inboxes)
+            machine.rename(new, folder / LEDGER)
+            machine.sync_folder(folder)
+            machine.tell(NOTICE, f"the ledger of {name} is the copy's, since there was none")
+
+
+def is_from_before(copy: Path) -> bool:
+    return copy.name.endswith(CORRECTED)

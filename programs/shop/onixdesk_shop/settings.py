@@ -1,0 +1,165 @@
+"""Files of lines NAME=VALUE, and the settings of an inbox that one of them has."""
+
+import argparse
+import fnmatch
+import re
+import shlex
+from collections.abc import Callable
+from dataclasses import dataclass
+from pathlib import Path
+from typing import Any
+from urllib.parse import urlsplit
+
+from onixdesk_shop.desk import Address
+from onixdesk_shop.faults import BadCall
+from onixdesk_shop.machine import Machine
+from onixdesk_shop.places import BATCHES
+
+# Where the number of a feed comes from: its MessageNumber, or the next one of the series.
+OWN, NEXT = "own", "next"
+
+# Words of the converter that the inbox gives itself.
+RESERVED = re.compile(r"-o.*|--(number|terms)(=.*)?|-h|--help|--?")
+OFFSET = re.compile(r"--number-offset(=.*)?")
+
+is_series = re.compile("[a-z0-9-]{1,32}").fullmatch
+
+
+@dataclass(frozen=True)
+class Settings:
+    sender: tuple[str, str]
+    host: str = "127.0.0.1"
+    port: int = 8080
+    batches: Path = BATCHES
+    words: tuple[str, ...] = ()
+    number: str = OWN
+    unchanged_seconds: int = 60
+    leave: bool = False
+    terms: Path | None = None
+    stop: bool = True
+    silent_days: int = 4
+    full: int = 0
+    full_names: tuple[str, ...] = ()
+
+    @property
+    def address(self) -> Address:
+        return Address(self.host, self.port, self.batches)
+
+    @property
+    def parts(self) -> int:
+        """How many messages the converter makes of a feed by its words."""
+        parser = argparse.ArgumentParser(allow_abbrev=False, add_help=False, exit_on_error=False)
+        parser.add_argument("--parts", type=int, default=1)
+        try:
+            return max(1, int(parser.parse_known_args(self.words)[0].parts))
+        except argparse.ArgumentError:
+            # The converter refuses these words, and says why.
+            return 1
+
+    def is_full(self, name: str) -> bool:
+        """Whether a file of that name says all that its wholesaler has."""
+        if not self.full:
+            return False
+        return not self.full_names or any(fnmatch.fnmatchcase(name, pattern) for pattern in self.full_names)
+
+
+def read_lines(machine: Machine, path: Path) -> dict[str, tuple[int, str]]:
+    """What each NAME of a file is set to, and at which line."""
+    try:
+        text = machine.read(path).decode("utf-8")
+    except OSError as error:
+        raise BadCall(f"{path}: {error.strerror}") from None
+    except UnicodeDecodeError:
+        raise BadCall(f"{path}: it is no UTF-8") from None
+    found: dict[str, tuple[int, str]] = {}
+    for place, line in enumerate(text.split("\n"), 1):
+        if not line.strip() or line.lstrip().startswith("#"):
+            continue
+        name, equals, value = (part.strip() for part in line.partition("="))
+        if not equals:
+            raise BadCall(f"{path}:{place}: no line of the form NAME=VALUE")
+        if name in found:
+            raise BadCall(f"{path}:{place}: {name} is given twice")
+        if re.search(r"(^|\s)#", value):
+            raise BadCall(f"{path}:{place}: a remark has a line of its own, which begins with #")
+        found[name] = place, value
+    return found
+
+
+def address(value: str) -> dict[str, Any]:
+    url = urlsplit(value)
+    if url.scheme != "http" or not url.hostname or url.port is None or url.path not in ("", "/"):
+        raise ValueError("DESK is http://HOST:PORT")
+    return {"host": url.hostname, "port": url.port}
+
+
+def words(value: str) -> tuple[str, ...]:
+    found = tuple(shlex.split(value))
+    is_value = False
+    for word in found:
+        if not is_value and (RESERVED.fullmatch(word) or not word.startswith("-")):
+            raise ValueError(f"{word} is no word of WORDS: the inbox gives it, or leaves it out")
+        is_value = not is_value and "=" not in word
+    return found
+
+
+def file(value: str) -> Path | None:
+    return Path(value) if value else None
+
+
+# The setting that each line sets, what it may be, and how it is read.
+READERS: dict[str, tuple[str, str, Callable[[str], Any]]] = {
+    "DESK": ("", ".*", address),
+    "BATCHES": ("batches", "/.+", Path),
+    "WORDS": ("words", ".*", words),
+    "NUMBER": ("number", "own|next", str),
+    "SENDER": ("sender", "[0-9]{2},.+", lambda value: (value[:2], value[3:])),
+    "UNCHANGED_SECONDS": ("unchanged_seconds", "[0-9]{1,6}", int),
+    "LEAVE": ("leave", "yes|no", lambda value: value == "yes"),
+    "TERMS": ("terms", "|/.+", file),
+    "STOP": ("stop", "yes|no", lambda value: value == "yes"),
+    "SILENT_DAYS": ("silent_days", "[1-9][0-9]{0,3}", int),
+    "FULL": ("full", "[0-9]{1,4}", int),
+    "FULL_NAMES": ("full_names", ".*", lambda value: tuple(value.split())),
+}
+
+WHAT = {
+    "SENDER": "TYPE,VALUE with a TYPE of two digits",
+    "NUMBER": "own or next",
+    "TERMS": "a file, whose name begins with /, or nothing",
+    "BATCHES": "a socket, whose name begins with /",
+}
+
+
+def read_settings(machine: Machine, path: Path) -> Settings:
+    """The settings of an inbox; BadCall, which names the line, where they are wrong."""
+    found: dict[str, Any] = {}
+    for name, (place, value) in read_lines(machine, path).items():
+        if name not in READERS:
+            raise BadCall(f"{path}:{place}: {name} is none of {', '.join(READERS)}")
+        attribute, pattern, read = READERS[name]
+        try:
+            if not re.fullmatch(pattern, value):
+                raise ValueError(f"it is {WHAT.get(name, pattern)}")
+            made = read(value)
+        except ValueError as error:
+            raise BadCall(f"{path}:{place}: {name}: {error}") from None
+        found.update({attribute: made} if attribute else made)
+    if "sender" not in found:
+        raise BadCall(f"{path}: SENDER is missing: the sender that messages must have")
+    settings = Settings(**found)
+    if settings.number == NEXT and any(OFFSET.fullmatch(word) for word in settings.words):
+        raise BadCall(f"{path}: NUMBER=next and --number-offset do not go together")
+    return settings
+
+
+def terms_of(machine: Machine, path: Path, today: str) -> bytes:
+    """The table of terms that holds today: of the file, or of the latest FILE.YYYY-MM-DD beside it whose day has
+    come."""
+    dated = re.compile(re.escape(path.name) + r"\.([0-9]{4})-([0-9]{2})-([0-9]{2})").fullmatch
+    days = {}
+    for entry in machine.entries(path.parent):
+        if found := dated(entry.name):
+            days["".join(found.groups())] = entry.name
+    begun = [day for day in days if day <= today]
+    return machine.read(path.with_name(days[max(begun)]) if begun else path)

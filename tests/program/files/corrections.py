@@ -1,0 +1,80 @@
+"""correct.sh, with stand-ins of the programs that it calls, which write down each call."""
+
+import os
+import signal
+import stat
+import subprocess
+from collections.abc import Iterator
+from pathlib import Path
+
+from tests.program.room import Room
+from tests.running import Outcome
+from tools.root import ROOT
+
+TEXT = """\
+Agree,north,06,N,06,S,1
+Message,2,06,N,06,S,1,1,,,
+EndMessage,1
+Message,2,06,N,06,S,2,1,,,
+EndMessage,1
+"""
+
+# The corrected text is kept by the restore, whose status is that of a file.
+PROGRAMS = {
+    "desk-copy": "mkdir before",
+    "onixdesk": 'cat "$ROOM/text"',
+    "onixdesk-inbox": "",
+    "desk-restore": 'cp "$2" "$ROOM/corrected"; [ ! -e "$ROOM/hangs-up" ] || kill -HUP $PPID; exit "$(cat "$ROOM/status")"',
+    "systemctl": "",
+}
+
+REFUSE = ["--refuse", "3f9a0c51d2b7", "north"]
+TAKE_OUT = ["/^Message,2,06,N,06,S,2,/,/^EndMessage,/d", "/^Agree,north,/aWaive,north,2"]
+
+CALLS = [
+    "onixdesk-inbox --refuse 3f9a0c51d2b7 north",
+    "desk-copy /var/lib/onixdesk/shop.db before",
+    "onixdesk --db before/shop.db --existing export",
+    "desk-restore --text after.csv before",
+    "systemctl start onixdesk-copy.service",
+]
+
+
+def corrected(room: Room, *words: str, status: int = 0) -> tuple[int, list[str]]:
+    """The status, and what was called."""
+    folder = room.path("programs")
+    folder.mkdir(exist_ok=True)
+    for name, text in PROGRAMS.items():
+        path = folder / name
+        path.write_text(f'#!/bin/sh\necho "{name} $*" >>"$ROOM/calls"\n{text}\n')
+        path.chmod(stat.S_IRWXU)
+    room.write("text", TEXT.encode())
+    room.write("status", str(status).encode())
+    for name in ("calls", "corrected"):
+        room.path(name).unlink(missing_ok=True)
+    environment = {**os.environ, "PATH": f"{folder}:{os.environ['PATH']}", "ROOM": str(room.folder)}
+    script: list[str | Path] = [ROOT / "programs/desk-restore/correct.sh", *words]
+    done = subprocess.run(script, env=environment, capture_output=True, preexec_fn=default_signals)
+    calls = room.path("calls")
+    return done.returncode, calls.read_text().splitlines() if calls.exists() else []
+
+
+def default_signals() -> None:
+    signal.signal(signal.SIGHUP, signal.SIG_DFL)
+
+
+def a_message_is_taken_out(room: Room) -> Iterator[Outcome]:
+    yield Outcome("refused first, a new copy at the end", corrected(room, *REFUSE, *TAKE_OUT), (0, CALLS))
+    lines = TEXT.splitlines(keepends=True)
+    wanted = "".join([lines[0], "Waive,north,2\n", *lines[1:3]])
+    yield Outcome("the text", room.path("corrected").read_text(), wanted)
+    yield Outcome("no file", corrected(room, *TAKE_OUT), (0, CALLS[1:]))
+
+
+def what_ends_it(room: Room) -> Iterator[Outcome]:
+    yield Outcome("no line changes", corrected(room, "s/^Agree,south/x/"), (1, CALLS[1:3]))
+    yield Outcome("a wrong expression", corrected(room, "s/x")[1], CALLS[1:3])
+    yield Outcome("no expression", corrected(room), (1, []))
+    yield Outcome("a restore that lacks something", corrected(room, *TAKE_OUT, status=1), (1, CALLS[1:]))
+    room.write("hangs-up", b"")
+    yield Outcome("a terminal that hangs up", corrected(room, *TAKE_OUT), (0, CALLS[1:]))

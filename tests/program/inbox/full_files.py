@@ -1,0 +1,95 @@
+"""What full files do not name any more."""
+
+from collections.abc import Iterator
+from typing import Any
+
+from onixdesk_shop.inbox import decide, report
+from onixdesk_shop.settings import NEXT
+from tests.program.room import Room
+from tests.running import Outcome
+from tests.shop.fake_program import feed_of
+from tests.shop.inboxes import FakeInbox
+
+Prices = dict[str, str]
+
+
+def books(*numbers: int) -> Prices:
+    return {f"B{number}": "5.00" for number in numbers}
+
+
+def send_all(inbox: FakeInbox, **files: Prices) -> None:
+    for name, products in files.items():
+        inbox.send(f"{name}.xml", feed_of(None, products, sent=name))
+        inbox.run()
+
+
+def named(inbox: FakeInbox) -> list[str]:
+    return sorted(inbox.series.catalogue())
+
+
+def inbox_in(room: Room, name: str, **settings: Any) -> FakeInbox:
+    room.path(name).mkdir()
+    return FakeInbox(room.path(name), number=NEXT, **settings)
+
+
+def deleted(room: Room) -> Iterator[Outcome]:
+    inbox = inbox_in(room, "one", full=1, full_names=("full*",))
+    send_all(inbox, full1=books(1, 2, 3), delta=books(4), full2=books(2, 3))
+    yield Outcome("all that the last full file has not", named(inbox), ["B2", "B3"])
+    inbox = inbox_in(room, "three", full=3)
+    send_all(inbox, a=books(1), b=books(2), c=books(3), d=books(4), e=books(5))
+    yield Outcome("a load in three files", named(inbox), ["B3", "B4", "B5"])
+    inbox = inbox_in(room, "too many", full=1)
+    send_all(inbox, a=books(*range(60)), b=books(*range(40)))
+    yield Outcome("too many", (inbox.states()["b.xml"], len(named(inbox))), ("quarantined", 60))
+    send_all(inbox, c=books(*range(55)))
+    yield Outcome("a newer one takes its place", (inbox.states()["b.xml"], len(named(inbox))), ("replaced", 55))
+    inbox = inbox_in(room, "let in", full=1, stop=False)
+    send_all(inbox, a=books(*range(60)), b=books(*range(40)))
+    yield Outcome("too many, whatever STOP says", inbox.states()["b.xml"], "quarantined")
+    inbox.work(lambda each: decide.decide(each, "let-in", each.ledger.files("state = 'quarantined'")[0].mark))
+    inbox.run()
+    yield Outcome("let in", len(named(inbox)), 40)
+
+
+def not_deleted(room: Room) -> Iterator[Outcome]:
+    room.path("missing").mkdir()
+    inbox = FakeInbox(room.path("missing"), full=1)
+    inbox.send("1.xml", feed_of(1, books(1, 2)))
+    inbox.send("3.xml", feed_of(3, books(2)))
+    inbox.run()
+    inbox.send("2.xml", feed_of(2, books(1, 2, 3)))
+    inbox.run()
+    yield Outcome("a number is missing below", named(inbox), ["B1", "B2", "B3"])
+    inbox = inbox_in(room, "left out", full=1)
+    said = "onixdesk: Product left out: no RecordReference: 1\n"
+    inbox.send("a.xml", feed_of(None, books(1, 2)))
+    inbox.run()
+    told = []
+    for name in ("b", "c", "d"):
+        inbox.send(f"{name}.xml", feed_of(None, books(2), sent=name, said=said))
+        told += [line for line in inbox.run() if "in a row" in line]
+    yield Outcome("a product was left out", named(inbox), ["B1", "B2"])
+    yield Outcome("told", told, ["3 full files in a row deleted nothing: the converter left a product out"])
+    machine = inbox.machine()
+    inbox.work(report.report, machine)
+    yield Outcome(
+        "what the last one did not name", "1 article not named since number 4\n  B1\n" in machine.written, True
+    )
+
+
+def of_a_resend(room: Room) -> Iterator[Outcome]:
+    room.path("resend").mkdir()
+    inbox = FakeInbox(room.path("resend"), full=1)
+    inbox.send("1.xml", feed_of(1, books(1, 2)))
+    inbox.run()
+    inbox.send("2.xml", feed_of(2, books(2)))
+    inbox.run()
+    inbox.send("2-again.xml", feed_of(2, books(2), sent="again"))
+    inbox.run()
+    yield Outcome("had", (inbox.states()["2-again.xml"], named(inbox)), ("had", ["B2"]))
+    for days, wanted in (6, "1 article deleted in seven days"), (2, "0 articles deleted in seven days"):
+        inbox.clock += days * 86_400
+        machine = inbox.machine()
+        inbox.work(report.report, machine)
+        yield Outcome(wanted, f"\n{wanted}\n" in machine.written, True)

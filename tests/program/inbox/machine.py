@@ -1,0 +1,64 @@
+"""How children end, and how files are written whole."""
+
+import os
+import sys
+import threading
+from collections.abc import Callable, Iterator
+
+from onixdesk_shop.faults import BadEnd
+from onixdesk_shop.machine import Machine
+from tests.program.room import Room
+from tests.running import Outcome
+
+SHELL = ["sh", "-c"]
+
+
+def why(work: Callable[[], object]) -> str:
+    try:
+        work()
+    except BadEnd as end:
+        return str(end)
+    return ""
+
+
+def ends(_room: Room) -> Iterator[Outcome]:
+    """An end that is not known is a failure."""
+    machine = Machine("test")
+
+    def run(text: str, **more: float) -> Callable[[], object]:
+        return lambda: machine.run([*SHELL, text], (0, 1), **more)  # type: ignore[arg-type]
+
+    yield Outcome(
+        "known", machine.run([*SHELL, "cat; echo told >&2; exit 1"], (0, 1), b"given")[:], (1, b"given", b"told\n")
+    )
+    yield Outcome("another", why(run("echo no >&2; exit 3")), "sh ended with status 3: no")
+    yield Outcome("killed", why(run("kill -9 $$")), "sh was killed by signal 9")
+    yield Outcome("too long", why(run("sleep 60", seconds=0.1)), "sh takes too long")
+    yield Outcome("not there", why(lambda: machine.run(["/none"])), "/none cannot be run: No such file or directory")
+    before, ended = machine.run_pipe([*SHELL, "echo one; exit 5"], ["cat"], (0,), 60)
+    yield Outcome("a pipe", (before, ended.output), (5, b"one\n"))
+    pipe = ["yes"], [*SHELL, "kill -9 $$"]
+    yield Outcome("killed in a pipe", why(lambda: machine.run_pipe(*pipe, (0,), 60)), "sh was killed by signal 9")
+
+
+def whole_files(room: Room) -> Iterator[Outcome]:
+    """Who reads a file meanwhile has one of those that were written, whole."""
+    path, texts = room.path("file"), [bytes([65 + place]) * 100_000 for place in range(4)]
+    machine = Machine("test")
+    machine.write_whole(path, texts[0])
+    writers = [threading.Thread(target=machine.write_whole, args=(path, text)) for text in texts * 5]
+    for writer in writers:
+        writer.start()
+    found = {path.read_bytes() for _ in range(100)}
+    for writer in writers:
+        writer.join()
+    yield Outcome("whole", found <= set(texts), True)
+    yield Outcome("nothing else is left", os.listdir(room.folder), ["file"])
+
+
+def broken_output(room: Room) -> Iterator[Outcome]:
+    """A program whose output nobody takes goes on, and ends with 3."""
+    text = "import sys; from onixdesk_shop.ends import run_program\ndef work(machine):\n for _ in range(9): machine.write('x' * 99999)\n machine.tell(5, 'done'); return 0\nsys.exit(run_program('test', work))"
+    call = f"PYTHONPATH={':'.join(sys.path)} {sys.executable} -c \"{text}\" | true; exit ${{PIPESTATUS[0]}}"
+    ran = room.call(["bash", "-c", call])
+    yield Outcome("it goes on", (ran.status, ran.errors), (3, b"test: done\n"))

@@ -1,0 +1,32 @@
+"""The inbox as a state machine (tests/shop/model.py), some runs of it; ONIXDESK_MODEL_SECONDS says for how long it is tried
+besides, each time with other seeds."""
+
+import os
+import time
+import unittest
+from collections.abc import Iterator
+
+from tests.program.room import Room
+from tests.running import Outcome, left_out
+
+EXAMPLES, STEPS = 60, 25
+
+
+def model(room: Room) -> Iterator[Outcome]:
+    try:
+        from tests.shop.model import case
+    except ModuleNotFoundError as error:
+        yield left_out(f"{error.name}, which Debian's python3-hypothesis has")
+        return
+    yield Outcome("the same runs each time", failures(case(EXAMPLES, STEPS, room.folder, is_same=True)), [])
+    end = time.monotonic() + float(os.environ.get("ONIXDESK_MODEL_SECONDS", "0"))
+    while time.monotonic() < end:
+        if found := failures(case(EXAMPLES, STEPS * 2, room.folder)):
+            yield Outcome("others", found, [])
+            return
+
+
+def failures(case: type[unittest.TestCase]) -> list[str]:
+    result = unittest.TestResult()
+    case("runTest").run(result)
+    return [text for _, text in [*result.failures, *result.errors]]

@@ -1,0 +1,104 @@
+"""Which feeds are in quarantine, by the answers of the built program."""
+
+from collections.abc import Iterator
+from dataclasses import replace
+from typing import Any
+
+from onixdesk_shop.inbox.decide import decide
+from tests.program.room import Room
+from tests.running import Outcome
+from tests.shop.feeds import Book, feed
+from tests.shop.inboxes import FakeInbox
+
+BOOKS = [Book(number) for number in range(40)]
+
+RULES = '[[rule]]\nseries = "*"\ncodes = ["20", "21"]\n'
+
+Feed = list[Book]
+
+
+def all_with(**changes: Any) -> Feed:
+    return [replace(book, **changes) for book in BOOKS]
+
+
+def some_with(count: int, **changes: Any) -> Feed:
+    return [*all_with(**changes)[:count], *BOOKS[count:]]
+
+
+# Behind a feed of forty books at 10.00 in GBP for GB.
+QUARANTINED: dict[str, Feed] = {
+    "a hundredfold": all_with(price="1000.00"),
+    "in pence, eleven of forty": some_with(11, price="1000.00"),
+    "a hundredfold from the day after tomorrow": all_with(later=("20261202", "1000.00")),
+    "a third of the price": all_with(price="3.33"),
+    "a half less for all": all_with(price="5.50"),
+    "in another currency": all_with(currency="EUR"),
+    "for another market": all_with(country="US"),
+    "all deleted": all_with(kind="05"),
+    "no prices": all_with(price=""),
+    "new references": [replace(book, reference=f"N{book.number}") for book in BOOKS],
+    "ISBNs shifted by one": [replace(book, reference=f"R{book.number + 1}") for book in BOOKS],
+    "none to be had": all_with(availability="40"),
+}
+
+PASSES: dict[str, Feed] = {
+    "the same again": BOOKS,
+    "a sale of a third off": all_with(price="6.67"),
+    "a rise of a tenth": all_with(price="11.00"),
+    "new titles alone": [Book(number) for number in range(100, 112)],
+    "in pence, ten of forty": some_with(10, price="1000.00")[1:],
+    "deletions of a few": some_with(5, kind="05"),
+    "an update of few": [replace(book, kind="04", price="10.50") for book in BOOKS[:12]],
+}
+
+
+def behind_a_first_feed(room: Room, name: str, books: Feed, **settings: Any) -> tuple[FakeInbox, str]:
+    folder = room.path(name.replace(" ", "-"))
+    folder.mkdir()
+    inbox = FakeInbox(folder, room.program, **settings)
+    inbox.places.rules.write_text(RULES)
+    inbox.send("first.xml", feed(1, BOOKS))
+    inbox.run()
+    inbox.send("second.xml", feed(2, books, extra="" if books else "<NoProduct/>"))
+    inbox.run()
+    return inbox, inbox.states()["second.xml"]
+
+
+def feeds_that_look_wrong(room: Room) -> Iterator[Outcome]:
+    for name, books in QUARANTINED.items():
+        yield Outcome(name, behind_a_first_feed(room, name, books)[1], "quarantined")
+    for name, books in PASSES.items():
+        yield Outcome(name, behind_a_first_feed(room, name, books)[1], "applied")
+
+
+def few_deletions_of_many(room: Room) -> Iterator[Outcome]:
+    inbox = FakeInbox(room.folder, room.program)
+    books = [Book(number) for number in range(300)]
+    inbox.send("first.xml", feed(1, books))
+    inbox.run()
+    inbox.send("second.xml", feed(2, [replace(book, kind="05") for book in books[:40]]))
+    inbox.run()
+    yield Outcome("forty of three hundred", inbox.states()["second.xml"], "applied")
+    inbox.send("third.xml", feed(3, [replace(book, kind="05") for book in books[40:100]]))
+    inbox.run()
+    yield Outcome("sixty of what is left", inbox.states()["third.xml"], "quarantined")
+
+
+def other_reasons(room: Room) -> Iterator[Outcome]:
+    yield Outcome(
+        "STOP=no", behind_a_first_feed(room, "no stop", QUARANTINED["a hundredfold"], stop=False)[1], "applied"
+    )
+    inbox = FakeInbox(room.folder, room.program)
+    inbox.send("1.xml", feed(1, []))
+    inbox.send("2.xml", feed(102, [], extra="<NoProduct/>"))
+    inbox.send("3.xml", feed(103, [], extra="<NoProduct/>"))
+    inbox.run()
+    yield Outcome("neither a Product nor a NoProduct", inbox.states()["1.xml"], "quarantined")
+    yield Outcome("what is behind it waits", inbox.states()["2.xml"], "new")
+    yield Outcome("and is counted", (inbox.shown()["waiting"], inbox.shown()["quarantined"]), (2, 1))
+    mark = inbox.files()[0].mark
+    inbox.work(lambda each: decide(each, "let-in", mark))
+    inbox.run()
+    yield Outcome("let in", inbox.states(), {"1.xml": "applied", "2.xml": "held", "3.xml": "quarantined"})
+    why = next(file.why for file in inbox.files() if file.name == "3.xml")
+    yield Outcome("far ahead", why, "its number is 101 ahead of the one that the series waits for")

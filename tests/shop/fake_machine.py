@@ -1,0 +1,177 @@
+"""A machine whose files are real, and whose desk, program and clock are the tests'; with faults at each of its calls."""
+
+import contextlib
+import os
+import shutil
+import sqlite3
+from collections import Counter
+from collections.abc import Callable, Iterator
+from pathlib import Path
+
+from onixdesk_shop.children import Ended, Words
+from onixdesk_shop.faults import BadEnd
+from onixdesk_shop.machine import Entry, Machine
+from tests.shop import fake_program
+from tests.shop.fake_desk import FakeDesk
+
+
+class Killed(BaseException):
+    """The program is gone, here."""
+
+
+class Disk:
+    """What was done to folders and is not synced: it can be undone."""
+
+    def __init__(self) -> None:
+        self.undo: list[tuple[Path, Callable[[], None]]] = []
+
+    def note(self, folder: Path, undo: Callable[[], None]) -> None:
+        self.undo.append((folder, undo))
+
+    def sync(self, folder: Path) -> None:
+        self.undo = [(each, undo) for each, undo in self.undo if each != folder]
+
+    def lose_power(self) -> None:
+        for _, undo in reversed(self.undo):
+            with contextlib.suppress(FileNotFoundError):
+                undo()
+        self.undo = []
+
+
+def put_back(now: Path, before: Path) -> None:
+    """A name is as it was, unless somebody has it by now, whose file came behind."""
+    if not before.exists():
+        os.rename(now, before)
+
+
+class FakeMachine(Machine):
+    """One run of a program: `fault` is what happens at which step, or at any without a name, and at the how many'th."""
+
+    def __init__(
+        self, disk: Disk, desk: FakeDesk | None, clock: float, fault: tuple[str, str, int] = ("", "", 0)
+    ) -> None:
+        super().__init__("test")
+        self.disk = disk
+        self.desk = desk
+        self.clock = clock
+        self.kind, *self.at = fault
+        self.steps: Counter[str] = Counter()
+        self.is_dead = False
+        self.lines: list[tuple[int, str]] = []
+        self.written = ""
+
+    @property
+    def calls(self) -> int:
+        """How many steps there were."""
+        return self.steps[""]
+
+    def step(self, what: str) -> None:
+        """Before and behind each call: the fault, where it is its turn."""
+        if self.is_dead:
+            raise Killed
+        self.steps.update([what, ""])
+        if self.at not in ([what, self.steps[what]], ["", self.steps[""]]):
+            return
+        if self.kind == "error":
+            raise OSError(28, "No space left on device", what)
+        self.is_dead = True
+        if self.kind == "power":
+            self.disk.lose_power()
+        raise Killed
+
+    def now(self) -> float:
+        self.clock += 0.001
+        return self.clock
+
+    def today(self) -> str:
+        return "20261130"
+
+    def sleep(self, seconds: float) -> None:
+        self.clock += seconds
+
+    def entry(self, path: Path) -> Entry:
+        found = super().entry(path)
+        # The tests set times of files, and nobody can set the one by which the machine knows a change.
+        return found._replace(changed=found.modified)
+
+    def copy(self, source: Path, target: Path) -> str:
+        self.step("copy")
+        digest = super().copy(source, target)
+        self.disk.note(target.parent, target.unlink)
+        self.step("copied")
+        return digest
+
+    def write_whole(self, path: Path, data: bytes, mode: int = 0o644) -> None:
+        self.step("write")
+        super().write_whole(path, data, mode)
+        self.step("written")
+
+    def rename(self, old: Path, new: Path) -> None:
+        self.step("rename")
+        super().rename(old, new)
+        self.disk.note(new.parent, lambda: put_back(new, old))
+        self.step("renamed")
+
+    def remove(self, path: Path) -> None:
+        self.step("remove")
+        if path.exists():
+            kept = path.parent.parent / f"lost-{path.name}"
+            shutil.copy2(path, kept)
+            super().remove(path)
+            self.disk.note(path.parent, lambda: put_back(kept, path))
+        self.step("removed")
+
+    def sync_folder(self, folder: Path) -> None:
+        self.step("sync")
+        self.disk.sync(folder)
+        self.step("synced")
+
+    @contextlib.contextmanager
+    def transaction(self, connection: sqlite3.Connection) -> Iterator[None]:
+        self.step("begin")
+        with super().transaction(connection):
+            yield
+            self.step("commit")
+        self.step("committed")
+
+    def http(self, host: str, port: int, method: str, target: str, body: bytes | None = None) -> tuple[int, bytes]:
+        self.step("http")
+        if not self.desk:
+            raise ConnectionRefusedError(111, "Connection refused")
+        answer = self.desk.http(method, target, body)
+        self.step("answered")
+        return answer
+
+    def batch(self, address: Path, text: bytes) -> bytes:
+        self.step("batch")
+        if not self.desk:
+            raise ConnectionRefusedError(111, "Connection refused")
+        answer = self.desk.batch(text.decode()).encode()
+        self.step("answered")
+        return answer
+
+    def run(
+        self,
+        words: Words,
+        known: tuple[int, ...] = (0,),
+        text: bytes = b"",
+        output: Path | None = None,
+        seconds: float | None = None,
+    ) -> Ended:
+        self.step("child")
+        ended = fake_program.check(text) if "check" in words else fake_program.batch(text)
+        if ended.status not in known:
+            raise BadEnd(f"{words[0]} ended with status {ended.status}")
+        return ended
+
+    def run_pipe(self, first: Words, second: Words, known: tuple[int, ...], seconds: float) -> tuple[int, Ended]:
+        self.step("child")
+        if "convert" in second:
+            return 0, fake_program.convert(Path(first[-1]), [str(word) for word in second])
+        return 0, fake_program.titles(Path(first[-1]))
+
+    def tell(self, priority: int, line: str) -> None:
+        self.lines.append((priority, line))
+
+    def write(self, text: str) -> None:
+        self.written += text

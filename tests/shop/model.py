@@ -1,0 +1,451 @@
+"""The inbox as a state machine: whatever comes, breaks or is put back, the desk has what a plain list of first deliveries in
+order gives, no number has two texts, and nothing that was taken is lost or waits unseen."""
+
+import functools
+import json
+import os
+import shutil
+import sqlite3
+import tempfile
+import unittest
+from collections.abc import Callable
+from contextlib import closing
+from dataclasses import dataclass, field
+from pathlib import Path
+
+from hypothesis import HealthCheck
+from hypothesis import settings as hypothesis_settings
+from hypothesis import strategies as st
+from hypothesis.stateful import RuleBasedStateMachine, initialize, precondition, rule
+
+from onixdesk_shop.desk import Desk
+from onixdesk_shop.faults import Fault
+from onixdesk_shop.inbox import decide, run
+from onixdesk_shop.inbox.context import Inbox, Places
+from onixdesk_shop.inbox.ledger import File, Ledger
+from onixdesk_shop.places import LEDGER, STORE
+from onixdesk_shop.settings import NEXT, OWN, Settings
+from onixdesk_shop.shop_json import Shop
+from tests.shop import fake_program
+from tests.shop.fake_desk import WAIVED, Contents, FakeDesk, Series, contents_of, records_of
+from tests.shop.fake_machine import Disk, FakeMachine, Killed
+from tests.shop.fake_program import SENDER
+
+SERIES = "north"
+START = 1_790_000_000
+SHOP = Shop("GB", "GBP", "02", "", [1], {}, {})
+FAULTS = ("error", "kill", "power")
+STEPS = (
+    "copy copied rename renamed remove removed sync synced write written begin commit committed http answered batch child"
+).split()
+
+REFERENCES = [f"R{number}" for number in range(4)]
+MANY = [f"M{number}" for number in range(12)]
+
+# A price that nobody asks: with it a feed looks wrong.
+WRONG = 1000.0
+
+
+@dataclass
+class Sent:
+    """Bytes that were sent: when first, whether the desk can take them, and what a person decided."""
+
+    data: bytes
+    time: int
+    is_whole: bool
+    number: int | None
+    is_rejected: bool = False
+    is_let_in: bool = False
+    # Whether a desk was seen without it, since a person refused it.
+    is_gone: bool = False
+    terms: set[bytes | None] = field(default_factory=set)
+
+
+@functools.cache
+def contents(data: bytes, parts: int, terms: bytes | None) -> tuple[Contents, ...]:
+    """The contents of the messages of a feed."""
+    messages = fake_program.messages_of(json.loads(data), 1, parts, terms)
+    return tuple(contents_of(records_of(message)) for message in messages)
+
+
+def bare(had: Contents | str | None) -> Contents | str | None:
+    """Contents without what was added to a full file."""
+    if isinstance(had, tuple):
+        return tuple(record for record in had if record[:1] != ("Product",) or record[3] != "01")
+    return had
+
+
+class Model(RuleBasedStateMachine):
+    place: Path | None = None
+
+    @initialize(
+        number=st.sampled_from([OWN, NEXT]), parts=st.integers(1, 2), leave=st.booleans(), full=st.integers(0, 2)
+    )
+    def begin(self, number: str, parts: int, leave: bool, full: int) -> None:
+        self.folder = Path(tempfile.mkdtemp(prefix="model-", dir=self.place))
+        self.places = Places(*(self.folder / name for name in ("program", "incoming", "inboxes", "state", "rules")))
+        for folder in (self.places.incoming, self.places.inboxes, self.places.state):
+            (folder / SERIES).mkdir(parents=True)
+        (self.places.inboxes / SERIES / STORE).mkdir()
+        self.places.program.touch()
+        words = ("--parts", str(parts))
+        self.settings = Settings(SENDER, words=words, number=number, unchanged_seconds=0, leave=leave, full=full)
+        self.is_next, self.parts = number == NEXT, parts
+        self.terms: bytes | None = None
+        self.disk, self.desk = Disk(), FakeDesk()
+        self.desk.series[SERIES] = Series((*SENDER, "", ""), 1)
+        self.copies: list[FakeDesk] = [self.desk.copy()]
+        self.ledgers: list[Path] = []
+        self.sent: dict[bytes, Sent] = {}
+        self.waived: set[int] = set()
+        self.clock = START
+        self.ever: dict[int, Contents] = {}
+        self.unsure: set[int] = set()
+        # What was judged over another desk may look wrong beside what this one has.
+        self.is_restored = False
+
+    def teardown(self) -> None:
+        if hasattr(self, "folder"):
+            shutil.rmtree(self.folder)
+
+    # What comes
+
+    def upload(self, name: str, data: bytes, is_whole: bool, number: int | None, is_late: bool = False) -> None:
+        """A wholesaler that overwrites its file before that is taken has sent nothing before: this one waits."""
+        path = self.places.incoming / SERIES / name
+        if path.exists():
+            self.clean()
+        self.clock += 120
+        time = self.clock - 60 - (100_000 if is_late else 0)
+        path.write_bytes(data)
+        os.utime(path, (time, time))
+        sent = self.sent.setdefault(data, Sent(data, time, is_whole, number))
+        sent.terms.add(self.terms)
+
+    names = st.sampled_from(["a.xml", "b.xml", "c d'.xml", "-e.xml", "f.onix"])
+    prices = st.sampled_from(["1.00", "1.50", "1.70", "", "-"])
+    small = st.dictionaries(st.sampled_from(REFERENCES), prices, max_size=4)
+    large = st.sampled_from(["5.00", "6.00", "4.50"]).map(lambda price: dict.fromkeys(MANY, price))
+
+    @rule(
+        name=names,
+        number=st.integers(1, 5),
+        products=small | large,
+        sent=st.sampled_from(["", "x"]),
+        is_late=st.booleans(),
+    )
+    def send(self, name: str, number: int, products: dict[str, str], sent: str, is_late: bool) -> None:
+        of_sender = None if self.is_next else number
+        # Other bytes of the same contents are a resend where the sender numbers its files, and else another file.
+        data = fake_program.feed_of(of_sender, products, sent="" if self.is_next else sent)
+        self.upload(name, data, True, of_sender, is_late and self.is_next and data not in self.sent)
+
+    @rule(name=names, number=st.integers(1, 5), price=st.sampled_from([WRONG, WRONG * 2]))
+    def send_wrong(self, name: str, number: int, price: float) -> None:
+        of_sender = None if self.is_next else number
+        self.upload(name, fake_program.feed_of(of_sender, dict.fromkeys(MANY, f"{price:.2f}")), True, of_sender)
+
+    @rule(name=names, data=st.sampled_from([b"", b"<cut", b'{"number": null}']))
+    def send_broken(self, name: str, data: bytes) -> None:
+        self.upload(name, data, False, None)
+
+    @precondition(lambda self: bool(self.sent))
+    @rule(name=names, data=st.data())
+    def send_again(self, name: str, data: st.DataObject) -> None:
+        sent = self.one_of(data)
+        self.upload(name, sent.data, sent.is_whole, sent.number)
+
+    def one_of(self, data: st.DataObject) -> Sent:
+        return data.draw(st.sampled_from(sorted(self.sent.values(), key=lambda each: (each.time, each.data))))
+
+    # What breaks
+
+    @rule(kind=st.sampled_from(FAULTS), what=st.sampled_from(STEPS), place=st.integers(1, 8))
+    def run_with_fault(self, kind: str, what: str, place: int) -> None:
+        self.run(FakeMachine(self.disk, self.desk, self.clock, (kind, what, place)))
+
+    @rule(kind=st.sampled_from(FAULTS), place=st.integers(2, 4))
+    def lose_an_answer(self, kind: str, place: int) -> None:
+        """The first request asks for the gaps."""
+        self.run(FakeMachine(self.disk, self.desk, self.clock, (kind, "answered", place)))
+
+    @rule()
+    def run_without_desk(self) -> None:
+        machine = self.run(FakeMachine(self.disk, None, self.clock))
+        assert not self.shown()["desk"]
+        assert self.settings.leave or not self.unread(), machine.lines
+
+    @rule()
+    def copy(self) -> None:
+        self.copies.append(self.desk.copy())
+        target = self.folder / f"ledger-{len(self.ledgers)}"
+        self.with_inbox(self.sound(), lambda inbox: None)
+        with closing(sqlite3.connect(self.ledger)) as old, closing(sqlite3.connect(target)) as new:
+            old.backup(new)
+        self.ledgers.append(target)
+
+    @rule(data=st.data())
+    def restore(self, data: st.DataObject) -> None:
+        self.desk = data.draw(st.sampled_from(self.copies)).copy()
+        self.is_restored = True
+        had = set(map(bare, self.desk.series[SERIES].had.values()))
+        for sent in self.sent.values():
+            parts = [each for part in range(self.parts) for each in self.may_be(sent, part)] if sent.is_whole else []
+            sent.is_gone = sent.is_rejected and not self.unsure and had.isdisjoint(parts)
+
+    @precondition(lambda self: bool(self.ledgers) and not self.is_next and self.parts == 1)
+    @rule(data=st.data())
+    def put_back_ledger(self, data: st.DataObject) -> None:
+        for ending in ("", "-wal", "-shm"):
+            self.ledger.with_name(f"{self.ledger.name}{ending}").unlink(missing_ok=True)
+        shutil.copyfile(data.draw(st.sampled_from(self.ledgers)), self.ledger)
+        # What came since is converted with the terms of then, should a desk lack it too.
+        self.unsure |= {
+            0,
+            *self.ever,
+            *(number for desk in [self.desk, *self.copies] for number in desk.series[SERIES].had),
+        }
+        for sent in self.sent.values():
+            sent.is_gone = False
+
+    # What people do
+
+    @rule(terms=st.sampled_from([None, b"50", b"60"]))
+    def change_terms(self, terms: bytes | None) -> None:
+        self.terms = terms
+        for sent in self.sent.values():
+            sent.terms.add(terms)
+
+    @precondition(lambda self: bool(self.sent))
+    @rule(data=st.data())
+    def refuse(self, data: st.DataObject) -> None:
+        self.clean()
+        sent = self.one_of(data)
+        self.with_inbox(self.sound(), lambda inbox: self.refuse_file(inbox, sent))
+
+    def refuse_file(self, inbox: Inbox, sent: Sent) -> None:
+        file = next(file for file in inbox.ledger.files("1") if self.stored(file) == sent.data)
+        if file.state not in ("rejected", "replaced"):
+            decide.decide(inbox, "refuse", file.mark)
+            sent.is_rejected = True
+
+    @rule()
+    def let_in(self) -> None:
+        self.clean()
+        self.with_inbox(self.sound(), self.let_in_first)
+
+    def let_in_first(self, inbox: Inbox) -> None:
+        for file in inbox.ledger.files("state = 'quarantined'")[:1]:
+            decide.decide(inbox, "let-in", file.mark)
+            self.sent[self.stored(file)].is_let_in = True
+
+    @precondition(lambda self: not self.is_next)
+    @rule(number=st.integers(1, 8))
+    def waive(self, number: int) -> None:
+        self.clean()
+        self.with_inbox(self.sound(), lambda inbox: self.waive_number(inbox, number))
+
+    def waive_number(self, inbox: Inbox, number: int) -> None:
+        try:
+            decide.waive(inbox, number)
+            self.waived.add(number)
+        except Fault:
+            assert inbox.ledger.stands(number)
+
+    # Running it
+
+    @property
+    def ledger(self) -> Path:
+        return self.places.inboxes / SERIES / LEDGER
+
+    def sound(self) -> FakeMachine:
+        return FakeMachine(self.disk, self.desk, self.clock)
+
+    def with_inbox(self, machine: FakeMachine, work: Callable[[Inbox], object]) -> None:
+        ledger = Ledger(machine, self.ledger)
+        try:
+            desk = Desk(machine, self.settings.address)
+            work(Inbox(machine, SERIES, self.settings, self.places, ledger, desk, SHOP, self.terms))
+        finally:
+            ledger.close()
+            self.clock = int(machine.clock) + 1
+
+    def run(self, machine: FakeMachine) -> FakeMachine:
+        try:
+            self.with_inbox(machine, run.run)
+        except (Killed, OSError, Fault):
+            pass
+        return machine
+
+    def unread(self) -> list[str]:
+        return os.listdir(self.places.incoming / SERIES)
+
+    def stored(self, file: File) -> bytes:
+        return (self.places.inboxes / SERIES / STORE / f"{file.digest}{file.ending}").read_bytes()
+
+    def shown(self) -> dict[str, object]:
+        found: dict[str, object] = json.loads((self.places.state / f"{SERIES}.json").read_bytes())
+        return found
+
+    @rule()
+    def clean(self) -> None:
+        """Nothing fails any more: two runs later all is as it should be."""
+        for _ in range(2):
+            self.run(self.sound())
+        machine = self.sound()
+        self.with_inbox(machine, run.run)
+        self.with_inbox(machine, self.check)
+
+    # What holds then
+
+    def check(self, inbox: Inbox) -> None:
+        assert self.settings.leave or not self.unread()
+        files = inbox.ledger.files("1")
+        self.check_seen(files)
+        series = self.desk.series[SERIES]
+        waiting = {self.stored(file) for file in files if file.state in ("new", "quarantined", "replaced")}
+        whole = sorted((sent for sent in self.sent.values() if sent.is_whole), key=lambda sent: sent.time)
+        judged = [sent for sent in whole if sent.data not in waiting]
+        if self.is_next:
+            self.check_next(series, judged)
+            if not self.is_restored:
+                self.check_prices(series)
+        else:
+            self.check_own(series, judged)
+        self.check_texts(series)
+        self.check_full(inbox, series)
+
+    def check_seen(self, files: list[File]) -> None:
+        """Each file that was sent has a row, its bytes are there, and what waits is counted."""
+        assert {self.stored(file) for file in files} == set(self.sent)
+        first = min(((file.time, file.name, file.id) for file in files if file.state == "quarantined"), default=None)
+        for file in files:
+            if file.state == "new":
+                assert first and (file.time, file.name, file.id) > first, file
+            assert file.state != "posting", file
+            assert self.sent[self.stored(file)].is_whole or file.state in (
+                "new",
+                "refused",
+                "rejected",
+                "replaced",
+            ), file
+        shown = self.shown()
+        assert shown["waiting"] == sum(file.state in ("new", "posting", "held") for file in files)
+        assert shown["quarantined"] == sum(file.state == "quarantined" for file in files)
+        assert shown["desk"]
+
+    def check_texts(self, series: Series) -> None:
+        """No number ever has two texts, but where a person refused the first."""
+        rejected = [
+            part
+            for sent in self.sent.values()
+            for terms in (sent.terms if sent.is_rejected and sent.is_whole else ())
+            for part in contents(sent.data, self.parts, terms)
+        ]
+        for number, had in series.had.items():
+            if isinstance(had, str) or number in self.unsure:
+                continue
+            before = self.ever.setdefault(number, had)
+            assert before == had or bare(before) in rejected, (number, before, had)
+            self.ever[number] = had
+
+    def may_be(self, sent: Sent, part: int) -> list[Contents | str | None]:
+        """What a part of a feed may be, by the tables of terms since it came."""
+        return [contents(sent.data, self.parts, terms)[part] for terms in sent.terms]
+
+    def check_own(self, series: Series, judged: list[Sent]) -> None:
+        by_number: dict[int, list[Sent]] = {}
+        for sent in judged:
+            by_number.setdefault(sent.number or 0, []).append(sent)
+        for number, candidates in by_number.items():
+            standing = next((sent for sent in candidates if not sent.is_rejected), None)
+            for part in range(self.parts):
+                at = (number - 1) * self.parts + part + 1
+                right = self.may_be(standing, part) if standing else [None]
+                stays = [sent for sent in candidates if sent.is_rejected and not sent.is_gone]
+                right += [each for sent in stays for each in self.may_be(sent, part)]
+                right += [WAIVED] if at in self.waived else []
+                assert bare(series.had.get(at)) in right, (at, series.had.get(at), right)
+            for sent in candidates:
+                had = [bare(series.had.get((number - 1) * self.parts + part + 1)) for part in range(self.parts)]
+                is_there = any(each in self.may_be(sent, part) for part, each in enumerate(had))
+                # A ledger of before may not know that a person refused it.
+                sent.is_gone = sent.is_rejected and not is_there and not self.unsure
+        named = {each.number for each in self.sent.values() if each.number}
+        numbers = {(number - 1) * self.parts + part + 1 for number in named for part in range(self.parts)}
+        assert set(series.had) <= numbers | self.waived
+
+    def check_next(self, series: Series, judged: list[Sent]) -> None:
+        """The contents by number are those of the files in order of their times, but for what a person let in later; what
+        a person refused is waived, or stays."""
+        had = [bare(series.had[number]) for number in sorted(series.had)]
+        assert sorted(series.had) == list(range(1, len(had) + 1)), series.had
+        ordered = [sent for sent in judged if not sent.is_let_in]
+        others = [sent for sent in judged if sent.is_let_in]
+        for at in range(0, len(had), self.parts):
+            group = had[at : at + self.parts]
+            if all(each == WAIVED for each in group):
+                continue
+            if later := next((sent for sent in others if self.fits(sent, group)), None):
+                others.remove(later)
+                continue
+            while ordered and not self.fits(ordered[0], group):
+                assert ordered[0].is_rejected, (ordered[0], group)
+                ordered.pop(0)
+            assert ordered and not ordered[0].is_gone, group
+            ordered.pop(0)
+        assert all(sent.is_rejected for sent in [*ordered, *others]), (ordered, others)
+
+    def fits(self, sent: Sent, group: list[Contents | str | None]) -> bool:
+        return all(each in self.may_be(sent, part) for part, each in enumerate(group))
+
+    def check_prices(self, series: Series) -> None:
+        """A feed with prices that nobody asks is not posted where the desk had others, unless a person let it in."""
+        before: dict[str, float] = {}
+        for number in range(series.first, series.next):
+            had = series.had[number]
+            prices = self.prices_of(had)
+            wrong = [name for name, price in prices.items() if price >= WRONG and 0 < before.get(name, 0) * 2 < price]
+            is_let_in = any(bare(had) in self.may_be(sent, number % self.parts - 1) for sent in self.let_in_files())
+            assert not wrong or is_let_in, (number, wrong)
+            before.update(prices)
+
+    def let_in_files(self) -> list[Sent]:
+        return [sent for sent in self.sent.values() if sent.is_let_in]
+
+    def prices_of(self, had: Contents | str) -> dict[str, float]:
+        found: dict[str, float] = {}
+        reference = ""
+        for record in had if isinstance(had, tuple) else ():
+            if record[0] == "Product":
+                reference = record[1]
+                found[reference] = 0
+            elif record[0] == "Price" and record[1] == "02":
+                found[reference] = float(record[2])
+        return found
+
+    def check_full(self, inbox: Inbox, series: Series) -> None:
+        """Behind a full file the desk has what it named, where nothing was missing and nobody refused anything."""
+        last = inbox.ledger.full_files()[:1]
+        refused = any(sent.is_rejected for sent in self.sent.values())
+        if self.settings.full != 1 or not self.is_next or not last or refused or last[0].state != "applied":
+            return
+        products = json.loads(self.stored(last[0]))["products"]
+        named = {name for name, price in products.items() if price != "-"}
+        assert set(series.catalogue()) == named, (last[0], last[0].not_deleted)
+
+
+def case(examples: int, steps: int, place: Path | None = None, is_same: bool = False) -> type[unittest.TestCase]:
+    """The model as a case of so many runs of so many steps each, which are the same each time, or others."""
+    Model.place = place
+    found: type[unittest.TestCase] = Model.TestCase
+    found.settings = hypothesis_settings(  # type: ignore[attr-defined]
+        max_examples=examples,
+        stateful_step_count=steps,
+        deadline=None,
+        database=None,
+        print_blob=False,
+        derandomize=is_same,
+        suppress_health_check=list(HealthCheck),
+    )
+    return found

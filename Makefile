@@ -33,7 +33,6 @@ check: lint ## in minutes: the lints, and the tests of the built program
 lint: ## looks over the Python, the shell, the JavaScript, and the Rattle as far as that needs no proof
 	@tools/lint
 
-# The package has the page too: packaging/build makes it of the commit.
 definitions: ## writes docs/DEFINITIONS.md, which git does not keep
 	tools/definitions
 
@@ -51,6 +50,7 @@ page-test: ## the buyers' page in a browser, before nginx and the built program
 postgres-test: ## the tables and functions in PostgreSQL, on a cluster of the tests' own
 	@tests/postgres/run
 
+# Of the commit; it has the page of definitions too.
 package: ## dist/onixdesk_VERSION_amd64.deb, of the built program
 	@packaging/build
 

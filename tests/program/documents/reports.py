@@ -6,7 +6,7 @@ import sqlite3
 from collections.abc import Iterator
 
 from tests.program.documents.examples import blocks, commands, example, like_the_repository, written
-from tests.program.room import Ran, Room
+from tests.program.room import Ran, Room, needs
 from tests.running import Outcome
 from tools.root import ROOT
 
@@ -33,6 +33,7 @@ def desks(room: Room) -> Ran:
     return ran
 
 
+@needs("sqlite3")
 def questions(room: Room) -> Iterator[Outcome]:
     room.path("days").mkdir()
     yield Outcome(f"{PAGE}: the copy", desks(room).status, 0)

@@ -1,0 +1,194 @@
+"""What docs/MISTAKES.md has for mistakes that were made: each of its blocks is run as it is, at a desk and an inbox
+where they were made, and prices are compared before and behind it. Each line that it calls wrong is tried too, and
+the right line beside it."""
+
+import hashlib
+import re
+from collections.abc import Iterator
+
+from tests.program.documents.examples import blocks, written
+from tests.program.files.machines import Machine, feed, machine
+from tests.program.room import Room
+from tests.running import Outcome
+from tools.root import ROOT
+
+PAGE = "docs/MISTAKES.md"
+CORRECT = "/usr/share/onixdesk/correct.sh"
+
+AGREEMENT = "Agree,north,06,{},06,5012345678900,{}\n"
+AGREED = AGREEMENT.format("4012345000009", 1)
+
+
+def block_with(text: str) -> list[str]:
+    """The one block that has this text."""
+    (found,) = (lines for lines in blocks(PAGE) if text in "\n".join(lines))
+    return found
+
+
+def mark(data: bytes) -> str:
+    return hashlib.sha256(data).hexdigest()[:12]
+
+
+def undone(
+    desk: Machine, text: str, before: dict[str, str], behind: dict[str, str], marks: dict[str, str] | None = None
+) -> Iterator[Outcome]:
+    """Runs the block of the page with that text, in which files have their own marks, and compares prices."""
+    yield Outcome(f"{text}: prices before", desk.prices(), {name: [amount] for name, amount in before.items()})
+    lines = "\n".join(block_with(text))
+    for shown, own in (marks or {}).items():
+        lines = lines.replace(shown, own)
+    ran = desk.run([lines])
+    yield Outcome(f"{text}: it is undone", (ran.status, ran.status and (ran.output, ran.errors)), (0, 0))
+    desk.take({})
+    yield Outcome(f"{text}: prices behind", desk.prices(), {name: [amount] for name, amount in behind.items()})
+
+
+def a_mistyped_sender(room: Room) -> Iterator[Outcome]:
+    with machine(room, AGREEMENT.format("4012345000008", 1), SENDER="06,4012345000008") as desk:
+        states = desk.take({"1.xml": feed(1, a="10.00", b="20.00"), "2.xml": feed(2, a="11.00")})
+        yield Outcome("a mistyped sender: its files", states, {"1.xml": "refused", "2.xml": "refused"})
+        yield from undone(desk, "s/^Agree,north,06,4012345000008,", {}, {"a": "11.000", "b": "20.000"})
+
+
+def a_first_number_too_high(room: Room) -> Iterator[Outcome]:
+    with machine(room, AGREEMENT.format("4012345000009", 2)) as desk:
+        files = {"1.xml": feed(1, a="14.00", b="9.00"), "2.xml": feed(2, c="12.99"), "3.xml": feed(3, a="16.00")}
+        states = desk.take(files)
+        wanted = {"1.xml": "refused", "2.xml": "applied", "3.xml": "applied"}
+        yield Outcome("a first number too high: its files", states, wanted)
+        before, behind = {"a": "16.000", "c": "12.990"}, {"a": "16.000", "b": "9.000", "c": "12.990"}
+        yield from undone(desk, "s/^\\(Agree,north,.*\\),2$/", before, behind)
+
+
+def a_first_number_too_low(room: Room) -> Iterator[Outcome]:
+    with machine(room, AGREED) as desk:
+        states = desk.take({"3.xml": feed(3, a="10.00")})
+        yield Outcome("a first number too low: its file", states, {"3.xml": "held"})
+        yield from undone(desk, "for number in 1 2", {}, {"a": "10.000"})
+
+
+def another_identifier(room: Room) -> Iterator[Outcome]:
+    with machine(room, AGREED) as desk:
+        files = {"1.xml": feed(1, a="10.00", b="20.00"), "2.xml": feed(2, "4012345000016", a="11.00")}
+        states = desk.take(files)
+        yield Outcome("another identifier: its files", states, {"1.xml": "applied", "2.xml": "refused"})
+        before, behind = {"a": "10.000", "b": "20.000"}, {"a": "11.000", "b": "20.000"}
+        yield from undone(desk, "s/^\\(Agree,[^,]*\\|Message", before, behind)
+
+
+def a_wrong_number(room: Room) -> Iterator[Outcome]:
+    """It is in quarantine first, since its number is far ahead, and somebody lets it in."""
+    with machine(room, AGREED) as desk:
+        dated = feed(20250401, a="10.00")
+        desk.take({"1.xml": feed(1, a="9.00", b="20.00"), "feed.xml": dated})
+        desk.run([f"onixdesk-inbox --let-in {mark(dated)} north"])
+        yield Outcome("a wrong number: its files", desk.take({}), {"1.xml": "applied", "feed.xml": "held"})
+        before, behind = {"a": "9.000", "b": "20.000"}, {"a": "10.000", "b": "20.000"}
+        yield from undone(desk, "20250401,/,/^EndMessage", before, behind, {"3f9a0c51d2b7": mark(dated)})
+        wanted = ["gaps,north,first=1,next=3,greatest=2,held=0,missing=0"]
+        yield Outcome("a wrong number: the gaps", desk.ask("AskGaps,north"), wanted)
+
+
+def a_waiver_too_early(room: Room) -> Iterator[Outcome]:
+    """Behind the block number 6 waits, until the file of number 5 is put into its folder again."""
+    with machine(room, AGREEMENT.format("4012345000009", 4)) as desk:
+        desk.take({"4.xml": feed(4, a="14.00", b="5.00")})
+        desk.run(["onixdesk-inbox waive north 5"])
+        arrived = {"5.xml": feed(5, a="16.00", c="7.00")}
+        states = desk.take({"6.xml": feed(6, b="6.00")}) | desk.take(arrived)
+        yield Outcome("a waiver too early: its files", states["5.xml"], "refused")
+        before, behind = {"a": "14.000", "b": "6.000"}, {"a": "14.000", "b": "5.000"}
+        yield from undone(desk, "waive --back north 5", before, behind)
+        states = desk.take(arrived)
+        yield Outcome("a waiver too early: put there again", (states["5.xml"], states["6.xml"]), ("applied", "applied"))
+        wanted = {"a": ["16.000"], "b": ["6.000"], "c": ["7.000"]}
+        yield Outcome("a waiver too early: prices then", desk.prices(), wanted)
+
+
+def with_a_wrong_message(desk: Machine) -> tuple[dict[str, str], bytes]:
+    """A copy of an earlier night, and a wrong message that was applied behind it: the prices, and its file."""
+    wrong = feed(2, a="1.00", b="1.00")
+    desk.take({"1.xml": feed(1, a="10.00")})
+    desk.run(["systemctl start onixdesk-copy.service"])
+    desk.take({"wrong.xml": wrong, "3.xml": feed(3, c="7.00")})
+    return {"a": "1.000", "b": "1.000", "c": "7.000"}, wrong
+
+
+def what_comes_then(desk: Machine) -> Iterator[Outcome]:
+    found = desk.ask("AskGaps,north"), desk.take({"4.xml": feed(4, a="10.50")})["4.xml"]
+    wanted = ["gaps,north,first=1,next=4,greatest=3,held=0,missing=0"], "applied"
+    yield Outcome("a wrong message: what comes then", found, wanted)
+
+
+def a_wrong_message(room: Room) -> Iterator[Outcome]:
+    with machine(room, AGREED) as desk:
+        before, wrong = with_a_wrong_message(desk)
+        marks = {"3f9a0c51d2b7": mark(wrong)}
+        yield from undone(desk, "/aWaive,north,2", before, {"a": "10.000", "c": "7.000"}, marks)
+        yield from what_comes_then(desk)
+
+
+def a_copy_from_before_it(room: Room) -> Iterator[Outcome]:
+    """The line that is printed refuses the wrong file, and the block waives its number."""
+    with machine(room, AGREED) as desk:
+        before, _ = with_a_wrong_message(desk)
+        restoring = "desk-restore /var/lib/onixdesk-copies/*"
+        asked = desk.run([restoring], said="no\n")
+        (line,) = (line for line in asked.output.decode().splitlines() if line.endswith("; wrong.xml"))
+        yield Outcome("a copy from before it: nothing is done yet", (asked.status, desk.prices()["a"]), (1, ["1.000"]))
+        ran = desk.run([line.partition(";")[0], restoring])
+        yield Outcome("a copy from before it: the restore", (ran.status, ran.status and ran.errors), (0, 0))
+        (lines,) = (lines for lines in blocks(PAGE) if lines == ["onixdesk-inbox waive north 2"])
+        yield Outcome("a copy from before it: its number", desk.run(lines).status, 0)
+        desk.take({})
+        yield Outcome("a copy from before it: prices", desk.prices(), {"a": ["10.000"], "c": ["7.000"]})
+        yield from what_comes_then(desk)
+
+
+TERMS = '[[term]]\ntypes = ["02"]\nnet = "05"\npercent = "4.25"\n'
+
+
+def a_wrong_percent(room: Room) -> Iterator[Outcome]:
+    """12.99, 10.00 and 1.00 less 4.25 %, and less 42.5 %, a half being rounded up."""
+    with machine(room, AGREED, NUMBER="next", TERMS=room.path("etc/onixdesk/terms/north.toml")) as desk:
+        room.write("etc/onixdesk/terms/north.toml", TERMS.encode())
+        full, update = feed(None, a="12.99", b="20.00"), feed(None, b="10.00", c="1.00")
+        states = desk.take({"full.xml": full, "update.xml": update})
+        yield Outcome("a wrong percent: its files", states, {"full.xml": "applied", "update.xml": "applied"})
+        yield Outcome("a wrong percent: before", desk.prices("05"), {"a": ["12.440"], "b": ["9.580"], "c": ["0.960"]})
+        lines = "\n".join(block_with("s/^percent = "))
+        lines = lines.replace("3f9a0c51d2b7", mark(full)).replace("08be117c40f3", mark(update))
+        ran = desk.run([lines])
+        yield Outcome("a wrong percent: it is mended", (ran.status, ran.errors), (0, b""))
+        desk.take({})
+        yield Outcome("a wrong percent: behind", desk.prices("05"), {"a": ["7.470"], "b": ["5.750"], "c": ["0.580"]})
+
+
+def a_wholesaler_that_is_gone(room: Room) -> Iterator[Outcome]:
+    """References with quotation marks and commas, too."""
+    lines = ["Message,1,06,4012345000009,06,5012345678900,1,1,20250401,02,GBP"]
+    for reference in ["R1", '"R,""2"""', '"A, B"']:
+        lines += [
+            f"Product,{reference},03,15,9781234567897",
+            "ProductSupply,,WORLD,",
+            "SupplyDetail,04,06,4012345000009,North Books,21,",
+            "Price,02,10.00,GBP,,WORLD,,,",
+        ]
+    with machine(room, AGREED + written([*lines, f"EndMessage,{len(lines)}"]).decode()) as desk:
+        yield Outcome("a wholesaler that is gone: its offers", desk.prices(), {"a": ["10.000"] * 3})
+        ran = desk.run(block_with("batch() {"))
+        answer = b"applied,north,2,replaced=0,updated=0,deleted=3,unknown=0,ignored=0\n"
+        yield Outcome("a wholesaler that is gone: its records", (ran.status, ran.output), (0, answer))
+        yield Outcome("a wholesaler that is gone: prices", desk.prices(), {})
+
+
+def causes(room: Room) -> Iterator[Outcome]:
+    """Each line that the page calls wrong is malformed, and the one beside it is a request."""
+    text = (ROOT / PAGE).read_text(encoding="utf-8")
+    rows = re.findall(r"^\| `(.+?)` \| .+? \| (?:`(.+?)` )?\|$", text, re.M)
+    yield Outcome("why malformed: causes", len(rows), 11)
+    for wrong, right in rows:
+        found = room.run("batch", given=written([wrong])).output
+        yield Outcome(f"why malformed: {wrong}", found, b"refused,malformed,1\n")
+        answer = room.run("batch", given=written([right] if right else [])).output
+        yield Outcome(f"why malformed: {right}", (bool(answer) == bool(right), b"malformed" in answer), (True, False))

@@ -45,9 +45,10 @@ PROGRAMS = {
     "desk-restore": f'exec "{ROOT}/bin/desk-restore" {OF_DESK} --copies ROOM/var/lib/onixdesk-copies "$@"',
     "desk-renew": f'exec "{ROOT}/bin/desk-renew" {OF_DESK} --rules ROOM/etc/onixdesk/rules.toml "$@"',
     "onixdesk-inbox": f"""case $1 in waive|show|report) name=$1; shift;; esac
-exec "{ROOT}/bin/onixdesk-inbox" ${{name-}} --settings ROOM/etc/onixdesk/inbox --incoming ROOM/var/lib/onixdesk-incoming \
---inboxes ROOM/var/lib/onixdesk-inbox --state ROOM/var/lib/onixdesk-state --rules ROOM/etc/onixdesk/rules.toml \
---page ROOM/etc/onixdesk/page/desk.json "$@" """,
+set -- --rules ROOM/etc/onixdesk/rules.toml --page ROOM/etc/onixdesk/page/desk.json "$@"
+set -- --inboxes ROOM/var/lib/onixdesk-inbox --state ROOM/var/lib/onixdesk-state "$@"
+set -- --settings ROOM/etc/onixdesk/inbox --incoming ROOM/var/lib/onixdesk-incoming "$@"
+exec "{ROOT}/bin/onixdesk-inbox" ${{name-}} "$@" """,
     "systemctl": f"""cd ROOM; echo "$*" >>units; word=$1; shift
 start() {{ case $1 in
 onixdesk|onixdesk.service)
@@ -64,7 +65,7 @@ case $word in
 list-units) for unit in onixdesk.service onixdesk-inbox@north.timer; do
     [ ! -e pid ] || echo "$unit loaded active running"; done ;;
 show) echo inactive ;;
-start) for unit; do start "$unit"; done ;;
+start|enable) for unit; do start "$unit"; done ;;
 restart) for unit; do stop "$unit"; start "$unit"; done ;;
 stop) for unit; do stop "$unit"; done ;;
 esac""",

@@ -57,6 +57,7 @@ onixdesk|onixdesk.service)
         wait $!; rm pid' >lines 2>&1 </dev/null &
     until grep -qs listening lines && [ -S {SOCKET} ]; do sleep 0.02; done ;;
 onixdesk-inbox@north.timer) onixdesk-inbox -- north >>inbox 2>&1 || : ;;
+onixdesk-prices) desk-prices --rules ROOM/etc/onixdesk/rules.toml {DESK} ROOM/var/lib/onixdesk-prices ;;
 onixdesk-copy.service) desk-copy --keep 7 --inboxes ROOM/var/lib/onixdesk-inbox {DESK} ROOM/var/lib/onixdesk-copies ;;
 esac; }}
 stop() {{ case $1 in onixdesk|onixdesk.service)
@@ -117,12 +118,16 @@ class Machine:
         text = "".join(f"{name}={value}\n" for name, value in lines.items())
         self.room.write("etc/onixdesk/inbox/north.conf", text.encode())
 
-    def take(self, files: dict[str, bytes]) -> dict[str, str]:
-        """Has files come one after the other; in which state each is then that came so far."""
+    def put(self, files: dict[str, bytes]) -> None:
+        """Has files come one after the other."""
         for place, (name, data) in enumerate(files.items(), 1):
             path = self.room.path("var/lib/onixdesk-incoming/north") / name
             path.write_bytes(data)
             os.utime(path, (place, place))
+
+    def take(self, files: dict[str, bytes]) -> dict[str, str]:
+        """Has the inbox take files; in which state each is then that came so far."""
+        self.put(files)
         self.run(["onixdesk-inbox -- north"])
         with closing(sqlite3.connect(self.room.path("var/lib/onixdesk-inbox/north/ledger.db"))) as ledger:
             return dict(ledger.execute("SELECT name, state FROM file ORDER BY id"))

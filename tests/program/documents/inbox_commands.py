@@ -96,7 +96,7 @@ def set_up_and_removed(room: Room) -> Iterator[Outcome]:
         yield Outcome(f"{PAGE}: what began is ended", [*begun, "onixdesk-fetch@north.timer"], ended)
 
 
-@needs("sshd", "ssh-keygen")
+@needs("sshd")
 def uploads_by_sftp(room: Room) -> Iterator[Outcome]:
     room.call(["ssh-keygen", "-q", "-t", "ed25519", "-N", "", "-f", "host"])
     lines = [f"HostKey {room.path('host')}", *block_with("Match Group")]
@@ -105,7 +105,7 @@ def uploads_by_sftp(room: Room) -> Iterator[Outcome]:
     yield Outcome(f"{PAGE}: the lines of sshd_config", (ran.status, ran.errors), (0, b""))
 
 
-@needs("ssh-keygen", "rclone")
+@needs("sshd", "rclone")
 def fetched_by_sftp(room: Room) -> Iterator[Outcome]:
     """rclone reads the key that the block writes; no server is asked."""
     desk = Machine(room)
@@ -131,7 +131,6 @@ def fetched_by_sftp(room: Room) -> Iterator[Outcome]:
     yield Outcome(f"{PAGE}: its files", (mode, "FROM=north:out" in lines), (0o600, True))
 
 
-@needs("curl")
 def an_address_with_a_date(room: Room) -> Iterator[Outcome]:
     """The script, from a folder in place of the server. What came once is not fetched again."""
     desk = Machine(room)

@@ -47,9 +47,8 @@ def moved_to_another_machine(room: Room) -> Iterator[Outcome]:
         first, *others = block_with("desk-copy --inboxes")
         yield Outcome(f"{PAGE}: {first}", desk.run([first]).status, 0)
         desk.run(["systemctl stop onixdesk.service", "rm -r /var/lib/onixdesk/* /var/lib/onixdesk-inbox/*"])
-        restore, start = others
-        yield Outcome(f"{PAGE}: {restore}", desk.run([restore]).status, 1)
-        yield Outcome(f"{PAGE}: {start}", desk.run([start]).status, 0)
+        ran = desk.run(others)
+        yield Outcome(f"{PAGE}: the other machine", (ran.status, b"there was none before" in ran.errors), (0, True))
         states = desk.take({"2.xml": feed(2, b="9.00")})
         yield Outcome(f"{PAGE}: the ledger goes on", states, {"1.xml": "applied", "2.xml": "applied"})
         yield Outcome(f"{PAGE}: the prices there", desk.prices(), {"a": ["8.000"], "b": ["9.000"]})

@@ -98,12 +98,13 @@ class Machine:
         return text
 
     def run(self, lines: list[str], said: str = "yes\n") -> Ran:
-        """Runs lines as root pastes them, who answers yes."""
+        """Runs lines as root pastes them: what asks reads what comes behind its line. Where nothing asks for the answer,
+        it is a command that keeps the status."""
         folder = self.room.folder
         environment = {**os.environ, "PATH": f"{folder}/bin:{os.environ['PATH']}", "TMPDIR": f"{folder}/tmp"}
-        words = ["bash", "-c", self.placed("\n".join(lines))]
+        pasted = "\n".join(["yes() { return $?; }", self.placed("\n".join(lines)), said])
         done = subprocess.run(
-            words, cwd=folder, env=environment, input=said.encode(), capture_output=True, timeout=SECONDS
+            ["bash"], cwd=folder, env=environment, input=pasted.encode(), capture_output=True, timeout=SECONDS
         )
         return Ran(done.returncode, done.stdout, done.stderr)
 

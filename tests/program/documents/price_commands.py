@@ -1,6 +1,7 @@
 """Commands of docs/PRICES.md, each run as the page has it, in a room that stands for a shop's machine."""
 
 import csv
+import re
 from collections.abc import Iterator
 
 from tests.program.documents.examples import blocks, written
@@ -8,6 +9,7 @@ from tests.program.documents.mistakes import AGREED
 from tests.program.files.machines import Machine, machine
 from tests.program.room import Room
 from tests.running import Outcome
+from tools.root import ROOT
 
 PAGE = "docs/PRICES.md"
 
@@ -78,7 +80,8 @@ def form_for_a_till(room: Room) -> Iterator[Outcome]:
         path = room.path("etc/onixdesk/page/desk.json")
         form = "\n".join(block_with('"price_file"'))
         path.write_text(f"{path.read_text().rstrip().removesuffix('}').rstrip()},\n{form}\n}}\n", encoding="utf-8")
-        ran = desk.run(["desk-prices --check /var/lib/onixdesk/shop.db FOLDER", "systemctl start onixdesk-prices"])
+        (check,) = re.findall("`(desk-prices --check.*?)`", (ROOT / PAGE).read_text(encoding="utf-8"))
+        ran = desk.run(["set -e", check, "systemctl start onixdesk-prices"])
         yield Outcome(f"{PAGE}: the form", (ran.status, ran.errors), (0, b""))
         lines = room.path(NIGHT).read_text(encoding="utf-8").splitlines()
         yield Outcome(f"{PAGE}: the till's file", lines, ["EAN;Net;From", f"{ISBN};8.00;North Books"])

@@ -125,6 +125,9 @@ def a_wrong_message(room: Room) -> Iterator[Outcome]:
         before, wrong = with_a_wrong_message(desk)
         marks = {"3f9a0c51d2b7": mark(wrong)}
         yield from undone(desk, "/aWaive,north,2", before, {"a": "10.000", "c": "7.000"}, marks)
+        copies = (path.name for path in room.path("var/lib/onixdesk-copies").iterdir() if path.is_dir())
+        aside = sorted(name.endswith(".before-correction") for name in copies)
+        yield Outcome("a wrong message: a new copy, and the one from before", aside, [False, True])
         yield from what_comes_then(desk)
 
 

@@ -31,8 +31,9 @@ function titleCell(row, answer, { settings, titles }) {
   return [...title, element("small", {}, link, " · ", sayCount("order.ofLines", lines.length, { lines: names }))];
 }
 
-/** The copies, as a button that leads to their number in the text. */
+/** The copies: of one line a button that leads to their number in the text; of several, no line has the sum. */
 function copiesCell({ isbn, copies, lines }, { goTo }) {
+  if (lines.length > 1) return [inDigits(copies)];
   const button = element("button", { type: "button", class: "number" }, inDigits(copies));
   button.setAttribute("aria-label", say("order.toNumber", { isbn, copies: inDigits(copies), line: lines[0].number }));
   button.addEventListener("click", () => goTo(lines[0].number));

@@ -135,6 +135,10 @@ def marks(site: PlainSite, browser: Browser) -> Iterator[Outcome]:
     browser.open("#order")
     browser.wait(lambda: browser.shows("#get-orders"))
     yield Outcome("the list outlives a reload", lines(browser).split("\n")[0], f"{isbn_of(0)} 2")
+    open_list(browser, f"{isbn_of(0)} 2\n{isbn_of(0)} 3\n")
+    looked_up(browser, 1)
+    shown = "return [document.querySelector('#list tbody .copies').textContent, document.querySelector('#list button.number')]"
+    yield Outcome("copies: of two lines none has the sum to set", browser.run(shown), ["5", None])
 
 
 def scanned(site: PlainSite, browser: Browser) -> Iterator[Outcome]:

@@ -1,5 +1,5 @@
 .DEFAULT_GOAL := help
-.PHONY: help setup try demo build test check lint definitions mutants page-test postgres-test package package-test
+.PHONY: help setup try demo build test check lint definitions commands mutants page-test postgres-test package package-test
 
 help: ## this list
 	@awk -F ':.*## ' '/^[a-z-]+:.*## / { printf "make %-13s %s\n", $$1, $$2 }' Makefile
@@ -35,6 +35,10 @@ lint: ## looks over the Python, the shell, the JavaScript, and the Rattle as far
 
 definitions: ## writes docs/DEFINITIONS.md, which git does not keep
 	tools/definitions
+
+# It asks the program of 'make try'.
+commands: ## writes docs/COMMANDS.md, which git does not keep
+	tools/python -m tools.commands
 
 # The prover must refuse each of them too.
 mutants: ## tries the mutants, wrong bodies that the gate leaves out

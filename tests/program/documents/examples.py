@@ -15,6 +15,8 @@ from tools.root import ROOT
 
 MARGIN = "    "
 
+TOUR = "docs/TOUR.md"
+
 
 def blocks(document: str) -> list[list[str]]:
     """The blocks of lines that a document sets off by a margin."""
@@ -78,12 +80,13 @@ def tried(room: Room, page: str, lines: list[str], port: int = 8080) -> Iterator
         yield Outcome(f"{page}: {command}", (came.status, ended), (0, written(shown)))
 
 
-def first_batch(room: Room) -> Iterator[Outcome]:
+def first_batches(room: Room) -> Iterator[Outcome]:
+    """The batch that README.md begins with, and that of the tour."""
     like_the_repository(room)
-    lines = block("README.md", "bin/onixdesk batch < examples/first.csv")
-    yield from tried(room, "README.md", lines + block("README.md", "agreed,north,1"))
-    shown = written(block("README.md", "Agree,north,"))
-    yield Outcome("README.md: what the first batch says", shown, example("examples/first.csv"))
+    gap = room.run("batch", given=written(block("README.md", "Agree,north,")))
+    yield Outcome("README.md: a gap", gap, Ran(0, written(block("README.md", "agreed,north,1"))))
+    yield from tried(room, TOUR, block(TOUR, "bin/onixdesk batch < examples/first.csv"))
+    yield Outcome("docs/TOUR.md: the first batch", written(block(TOUR, "Agree,north,")), example("examples/first.csv"))
 
 
 def own_file(room: Room) -> Iterator[Outcome]:
@@ -104,9 +107,6 @@ def own_file(room: Room) -> Iterator[Outcome]:
             wanted = ["agreed,mine,1", *applied[:parts], "price,9781234567897,1", "catalogue,mine,2"]
             yield Outcome(f"README.md: {words}, {turn}", (came.status, found), (0, wanted))
         shutil.rmtree(room.path("try"))
-    (look,) = re.findall("`(bin/onixdesk-look [^`]*my.xml)`", (ROOT / "README.md").read_text(encoding="utf-8"))
-    looked = room.call(["sh", "-c", look])
-    yield Outcome(f"README.md: {look}", (looked.status, b"messages needed, --parts: 1\n" in looked.output), (0, True))
 
 
 def week(room: Room) -> Iterator[Outcome]:
@@ -126,9 +126,6 @@ def week_in_xml(room: Room) -> Iterator[Outcome]:
     for command, *lines in blocks(OF_FEEDS):
         came = room.call(["sh", "-c", f"exec 2>&1; {command}"])
         yield Outcome(f"{OF_FEEDS}: {command}", came, Ran(0, written(lines)))
-
-
-TOUR = "docs/TOUR.md"
 
 
 def over_http(room: Room, page: str) -> Iterator[Outcome]:

@@ -9,7 +9,5 @@ pub mod Waivers
 pub mod TakenTexts
 pub mod AskedDesks
 pub mod AppendedTexts
-pub mod PartLemmas
-pub mod FolderLemmas
 pub mod ResumedLoads
 pub mod ChangeLemmas

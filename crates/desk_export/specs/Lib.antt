@@ -5,6 +5,5 @@ pub mod RequestTexts
 pub mod Exporting
 pub mod Asking
 pub mod ListTexts
-pub mod PartTexts
 pub mod Resuming
 pub mod Changes

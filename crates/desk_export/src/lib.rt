@@ -7,15 +7,12 @@
 //!
 //! `list_text` writes one, of any desk that lists what it stands for, to whatever takes its texts
 //! (`taking`), and other lists too; `export` has that of a series, `request_text` and
-//! `message_text` the text of a request. `folder` puts an export into files of parts
-//! (`part_texts`).
+//! `message_text` the text of a request.
 #![tactic(auto)]
 
 pub mod export;
-pub mod folder;
 pub mod laws;
 pub mod list_text;
 mod message_text;
-mod part_texts;
 pub mod request_text;
 pub mod taking;

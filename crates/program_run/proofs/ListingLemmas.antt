@@ -1,14 +1,11 @@
 -- How a command ends that lists what a desk in two files holds.
-use Rattle.std.proofs.Common.{◌⊎◌, ℕ, Bool, List, [], Some, None, inl, inr, refl}
+use Rattle.std.proofs.Common.{◌⊎◌, ℕ, List, inl, inr}
 use Rattle.series_rules.specs.Views.{DeskKind, LeavesOnly, View}
 use Rattle.series_rules.specs.declared.requests.Request.{Request}
-use Rattle.desk_export.proofs.FolderLemmas.{none_named}
 use Rattle.desk_export.specs.Asking.{IsAsked}
-use Rattle.program_files.specs.Holdings.{Holdings}
 use Rattle.program_words.specs.declared.invocation.Listing.{Listing}
-use Rattle.program_words.specs.declared.invocation.Listing.TheVariants.{Agreements, Export, Gaps}
 use Rattle.program_desks.specs.DeskFiles.{LeavesAs, OpensAs, SeenAs}
-use Rattle.program_run.specs.ListingEnds.{ListingEnds, SparesFiles}
+use Rattle.program_run.specs.ListingEnds.{ListingEnds}
 
 -- what only asked a desk only asked that from which it came and what came of it
 module _ {k : DeskKind} (old first last new : View k) (IsSo : List Request → Type 0) (opens : OpensAs old first) (leaves : LeavesAs last new) (asked : IsAsked first last IsSo) where
@@ -50,14 +47,7 @@ module _ {D : Type 0} (j k : DeskKind) (first : D → View j) (second : D → Vi
     so = λ L held sound. asked.so L ((same.stands old L).1 held) ((same.sound new).1 sound);
   }
 
--- nothing was done, so that no file is touched
-pub spared : (written : List ℕ → Type 0) (is_told : Bool) (holds : Holdings) (listing : Listing) → written [] → SparesFiles written is_told holds holds listing
-spared written is_told holds Agreements none = refl
-spared written is_told holds Gaps none = refl
-spared written is_told holds (Export None) none = refl
-spared written is_told holds (Export (Some folder)) none = (none, λ told. ([], none_named [] holds))
-
 -- a listing that ended over a desk ended so over its files
-pub listing_between : {k : DeskKind} (written : List ℕ → Type 0) (is_told : Bool) (before after : Holdings) (listing : Listing) (old first last new : View k) (status : ℕ) → OpensAs old first → LeavesAs last new
-    → ListingEnds written is_told before after listing first last status → ListingEnds written is_told before after listing old new status
-listing_between written is_told before after listing old first last new status opens leaves end = (asked_between old first last new _ opens leaves end.0, end.1)
+pub listing_between : {k : DeskKind} (written : List ℕ → Type 0) (listing : Listing) (old first last new : View k) (status : ℕ) → OpensAs old first → LeavesAs last new
+    → ListingEnds written listing first last status → ListingEnds written listing old new status
+listing_between written listing old first last new status opens leaves end = (asked_between old first last new _ opens leaves end.0, end.1)

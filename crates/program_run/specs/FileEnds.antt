@@ -12,7 +12,7 @@ use Rattle.program_desks.specs.declared.kept_desks.Creation.TheVariants.{Never}
 use Rattle.program_words.specs.Asked.{Reads}
 use Rattle.program_words.specs.ConvertWords.{asked_view}
 use Rattle.program_run.specs.ConvertEnds.{ConvertEnds}
-use Rattle.program_run.specs.ListingEnds.{ListingEnds, SparesFiles}
+use Rattle.program_run.specs.ListingEnds.{ListingEnds}
 use Rattle.program_run.specs.OverFiles.{EndsOverFiles, IsUnserved, IsUntouched, MigrateEnds, creation_by}
 use Rattle.program_clients.specs.Printing.{PrintEnds}
 use Rattle.program_clients.specs.Clients.{ClientTexts}
@@ -101,9 +101,9 @@ module _ {M : Type 0} {m : DeskKind} (seen : M → View m) {K : Type 0} {k : Des
   abbrev pub IsQuiet : Type 0
   IsQuiet = IsApart × (are ≡ were)
 
-  -- how an action can end under those rules, with what it leaves of files. Only `export` into a
-  -- folder and `convert` change what names hold, only `--batches` sends anything to a desk that is
-  -- open, and only `serve` serves clients
+  -- how an action can end under those rules, with what it leaves of files. Only `convert` changes
+  -- what names hold, only `--batches` sends anything to a desk that is open, and only `serve` serves
+  -- clients
   abbrev pub ActionEnds : List Rule → Action → ℕ → FilesLeft K N U C → Type 0
   ActionEnds rules (InMemory task) status left =
       IsApart × IsUntouched left
@@ -113,9 +113,9 @@ module _ {M : Type 0} {m : DeskKind} (seen : M → View m) {K : Type 0} {k : Des
       × EndsOverFiles files databases db.name.now (creation_by db.is_existing) written
       (TaskLeads rules written task before told coming were are) status left
   ActionEnds rules (Listed db listing) status left =
-      (sent ≡ was_sent) × (are ≡ were) × SparesFiles written is_told before after listing
-      × EndsOverFiles files databases db.name.now Never written
-      (ListingEnds written is_told before after listing) status left
+      IsQuiet
+      × EndsOverFiles files databases db.name.now Never written (ListingEnds written listing)
+      status left
   ActionEnds rules (Migrate db) status left =
       IsQuiet
       × MigrateEnds files databases db.name.now (creation_by db.is_existing) written status left

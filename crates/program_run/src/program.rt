@@ -159,7 +159,7 @@ fn run_action<
             return run_in_file(rt, db, databases, precedence, task, machine);
         }
         Action::Listed { db, listing } => {
-            return listing::list_file(rt, db, databases, *listing, files, streams);
+            return listing::list_file(rt, db, databases, *listing, streams);
         }
         Action::Migrate { db } => return migrating::migrate_file(rt, db, databases, streams),
         Action::InMemory(task) => run_in_memory(rt, precedence, task, files, entrances, streams),
@@ -238,8 +238,8 @@ fn read_words<'a, R, W: Write, E: Write>(
 /// for a fault of storage, a file, input, output, the port or the socket, or when out of memory. The
 /// command line is judged first, then the rules file, then what the command itself meets.
 /// `databases` has the database file that the words may name; of the machine `desks` has the open
-/// desk, and `files` opens FILEs and makes those of `convert` and `export`. Beside the status comes
-/// what is left of the database's files.
+/// desk, and `files` opens FILEs and makes those of `convert`. Beside the status comes what is left
+/// of the database's files.
 ///
 /// Each list of requests that the files held, with those that took effect, is what they hold then;
 /// what is written is of their answers; and a crash leaves just that.

@@ -5,7 +5,7 @@ use Rattle.clap.proofs.OnLiterals.{clap_on_literals}
 use Rattle.clap.specs.Simple.{Shape, built, entered, matches_of, names_of, subcommand_of}
 use Rattle.clap.specs.Walk.{Names, Row, Rule, Text, Walk, nothing_held, stop_after, walk_from, walked, walked_from}
 use Rattle.program_words.specs.Asked.{IsAction, IsListing, IsTask, Reads, ReadsWords}
-use Rattle.program_words.specs.CommandLine.{command_of, convert_command, export_command, free_operand, needed, onixdesk, serve_command, some_operands}
+use Rattle.program_words.specs.CommandLine.{command_of, convert_command, free_operand, needed, onixdesk, serve_command, some_operands}
 use Rattle.program_words.specs.CommandNames.{NamesAreOfCommands, action_name, listing_name, task_name}
 use Rattle.program_words.specs.declared.invocation.Action.{Action}
 use Rattle.program_words.specs.declared.invocation.Action.TheVariants.{CheckRules, CheckTerms, CheckTexts, Convert, InMemory, InFile, Listed, Migrate, Send}
@@ -26,7 +26,7 @@ task_named name own (task.Serve port requests batches) is = sym is.0
 listing_named : (name : Text) (own : List Row) (listed : Listing) → IsListing name own listed → listing_name listed ≡ name
 listing_named name own listing.Agreements is = sym is
 listing_named name own listing.Gaps is = sym is.0
-listing_named name own (listing.Export folder) is = sym is.0
+listing_named name own listing.Export is = sym is
 
 action_named : (top : List Row) (name : Text) (own : List Row) (action : Action) → IsAction top name own action → action_name action ≡ name
 action_named top name own (InMemory task) is = task_named name own task is.0
@@ -145,7 +145,7 @@ abbrev from_gaps : List Shape
 from_gaps = command_of "gaps" (free_operand (codes "name") ∷ []) ∷ from_migrate
 
 abbrev from_export : List Shape
-from_export = export_command ∷ from_gaps
+from_export = command_of "export" [] ∷ from_gaps
 
 abbrev from_deliver : List Shape
 from_deliver = command_of "deliver" (needed (some_operands (codes "file") 1) ∷ []) ∷ from_export

@@ -38,9 +38,7 @@ module _ (name : Text) (own : List Row) where
   abbrev pub IsListing : Listing → Type 0
   IsListing listing.Agreements = name ≡ codes "agreements"
   IsListing listing.Gaps = (name ≡ codes "gaps") × (text_in own (codes "name") ≡ None)
-  IsListing (listing.Export folder) =
-      (name ≡ codes "export")
-      × (option_map (λ folder. folder.now) folder ≡ text_in own (codes "folder"))
+  IsListing listing.Export = name ≡ codes "export"
 
 module _ (top : List Row) where
   -- the database file is that of `--db`, which `--existing` wants to be there; without `--db` there

@@ -73,10 +73,6 @@ convert_command = command_of "convert" (
     ∷ some_operands (codes "file") 0
     ∷ [])
 
--- export [-o FOLDER]
-abbrev pub export_command : Shape
-export_command = command_of "export" (short_option (codes "folder") 111 ∷ [])
-
 -- serve --port N [--batches SOCKET] [--requests K]
 abbrev pub serve_command : Shape
 serve_command = command_of "serve" (
@@ -96,8 +92,8 @@ program_options =
     ∷ tied (text_option (codes "batches"))
     ∷ []
 
--- agreements, batch, check FILE.., convert, deliver FILE.., export [-o FOLDER], gaps [NAME],
--- migrate, rules FILE, serve, terms FILE
+-- agreements, batch, check FILE.., convert, deliver FILE.., export, gaps [NAME], migrate,
+-- rules FILE, serve, terms FILE
 abbrev pub program_commands : List Shape
 program_commands =
     command_of "agreements" []
@@ -105,7 +101,7 @@ program_commands =
     ∷ command_of "check" (needed (some_operands (codes "file") 1) ∷ [])
     ∷ convert_command
     ∷ command_of "deliver" (needed (some_operands (codes "file") 1) ∷ [])
-    ∷ export_command
+    ∷ command_of "export" []
     ∷ command_of "gaps" (free_operand (codes "name") ∷ [])
     ∷ command_of "migrate" []
     ∷ command_of "rules" (needed (free_operand (codes "file")) ∷ [])

@@ -23,7 +23,7 @@ task_name (task.Serve port requests batches) = codes "serve"
 abbrev pub listing_name : Listing → Text
 listing_name listing.Agreements = codes "agreements"
 listing_name listing.Gaps = codes "gaps"
-listing_name (listing.Export folder) = codes "export"
+listing_name listing.Export = codes "export"
 
 -- the name of the command whose action it is
 abbrev pub action_name : Action → Text

@@ -3,7 +3,7 @@
 ghost use Rattle.std.specs.Prelude.{◌∷◌, ℕ, [], IfOk, codes};
 ghost use Rattle.clap.specs.Simple.{App, Shape, new_shape, with_rule, with_subcommand};
 ghost use Rattle.clap.specs.Walk.{Rule};
-ghost use Rattle.program_words.specs.CommandLine.{IsCommand, IsProgram, IsWord, command_of, convert_command, export_command, flag_option, free_operand, needed, number_option, onixdesk, program_of, program_options, serve_command, short_option, some_operands, text_option, tied};
+ghost use Rattle.program_words.specs.CommandLine.{IsCommand, IsProgram, IsWord, command_of, convert_command, flag_option, free_operand, needed, number_option, onixdesk, program_of, program_options, serve_command, short_option, some_operands, text_option, tied};
 
 use clap::builder::ValueParser;
 use clap::{Arg, ArgAction, Command};
@@ -173,32 +173,15 @@ fn check<'a>(alloc: Global) -> Result<Command<'a>, AllocError>
     with_word(Ok(check), Ok(texts(alloc)))
 }
 
-// The option `-o FOLDER`.
-fn folder_option<'a>(alloc: Global, help: &'a str) -> Arg<'a>
-    ensures { IsWord (short_option (codes "folder") 111) result }
+fn export<'a>(alloc: Global) -> Command<'a>
+    ensures { IsCommand (command_of "export" []) result }
 {
-    operand(alloc, "folder", "FOLDER", help).short('o')
-}
-
-fn export_folder<'a>(alloc: Global) -> Arg<'a>
-    ensures { IsWord (short_option (codes "folder") 111) result }
-{
-    folder_option(
-        alloc,
-        "Write the desk into FOLDER, as the files 1.csv, 2.csv and so on, each of which a batch takes, in place of standard output",
-    )
-}
-
-fn export<'a>(alloc: Global) -> Result<Command<'a>, AllocError>
-    ensures { IfOk result (IsCommand export_command) }
-{
-    let export = bare_command(
+    bare_command(
         alloc,
         "export",
         "Write the desk as a batch that makes it again",
-        "Writes the desk as the batch that makes it again: for each series, in the order of the bytes of their names, its agreement, and then for each number in order the message or the waiver that is recorded at it. A new desk that is given these requests answers every further request as this one does. The database file is named before the command: onixdesk --db FILE export. The desk is not changed. A missing or empty file, or one that has no desk, is a fault, and no desk is made. A message of more than 4,194,304 bytes is a fault, since no batch takes it. A batch has no more bytes than that; with -o a larger desk is cut between requests into files that are batches, and a new desk is given them in the order of their numbers. An existing file is never overwritten: it is a fault unless it has the same bytes.\n\nExample: onixdesk --db shop.db export > shop.csv",
-    );
-    with_word(Ok(export), Ok(export_folder(alloc)))
+        "Writes the desk as the batch that makes it again: for each series, in the order of the bytes of their names, its agreement, and then for each number in order the message or the waiver that is recorded at it. A new desk that is given these requests answers every further request as this one does. The database file is named before the command: onixdesk --db FILE export. The desk is not changed. A missing or empty file, or one that has no desk, is a fault, and no desk is made. A message of more than 4,194,304 bytes is a fault, since no batch takes it. A batch has no more bytes than that: cut a longer text before a request, and give a new desk the parts in their order.\n\nExample: onixdesk --db shop.db export > shop.csv",
+    )
 }
 
 fn series<'a>(alloc: Global) -> Arg<'a>
@@ -418,10 +401,13 @@ fn wrong<'a>(alloc: Global) -> Arg<'a>
 fn folder<'a>(alloc: Global) -> Arg<'a>
     ensures { IsWord (short_option (codes "folder") 111) result }
 {
-    folder_option(
+    operand(
         alloc,
+        "folder",
+        "FOLDER",
         "Write each message into a file of its own in FOLDER, in place of standard output",
     )
+    .short('o')
 }
 
 fn terms<'a>(alloc: Global) -> Arg<'a>
@@ -558,7 +544,7 @@ pub fn program<'a>(alloc: Global) -> Result<Command<'a>, AllocError>
     let program = with_command(program, check(alloc));
     let program = with_command(program, convert(alloc));
     let program = with_command(program, deliver(alloc));
-    let program = with_command(program, export(alloc));
+    let program = with_command(program, Ok(export(alloc)));
     let program = with_command(program, gaps(alloc));
     let program = with_command(program, Ok(migrate(alloc)));
     let program = with_command(program, rules_check(alloc));

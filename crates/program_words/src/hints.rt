@@ -67,7 +67,7 @@ fn hint_of_operand(command: &str) -> &'static str {
             "onixdesk: batch reads standard input: write onixdesk batch < FILE, or onixdesk deliver FILE for a message\n"
         }
         "export" => {
-            "onixdesk: export writes to standard output, or into a folder: write onixdesk --db FILE export > BATCH, or export -o FOLDER\n"
+            "onixdesk: export writes to standard output: write onixdesk --db FILE export > BATCH\n"
         }
         _ => "",
     }

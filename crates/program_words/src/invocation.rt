@@ -35,14 +35,13 @@ pub enum Task<'a> {
 
 /// What is listed of the desk in a file, which is only asked.
 #[derive(Clone, Copy)]
-pub enum Listing<'a> {
+pub enum Listing {
     /// `agreements`: the agreements of all series.
     Agreements,
     /// `gaps` without a NAME: which numbers each series lacks.
     Gaps,
-    /// `export [-o FOLDER]`: the requests that make the desk again, as files of a folder or as one
-    /// text.
-    Export { folder: Option<&'a str> },
+    /// `export`: the requests that make the desk again.
+    Export,
 }
 
 /// The database file of `--db`, and whether it has to be there, by `--existing`.
@@ -65,7 +64,7 @@ pub enum Action<'a> {
     /// What the desk in this database file holds is listed.
     Listed {
         db: Database<'a>,
-        listing: Listing<'a>,
+        listing: Listing,
     },
     /// `migrate`: the desk in this database file is brought to version 2.
     Migrate {
@@ -209,7 +208,7 @@ fn database_of<'a>(matches: &ArgMatches<'a>) -> Option<Database<'a>>
 }
 
 // What `gaps` without a NAME lists.
-fn gaps_listing<'a>(words: &ArgMatches<'a>) -> Option<Listing<'a>>
+fn gaps_listing<'a>(words: &ArgMatches<'a>) -> Option<Listing>
     ensures { IfSome result (IsListing (codes "gaps") (words_in words.now)) }
 {
     match text_in(words, "name") {
@@ -219,21 +218,19 @@ fn gaps_listing<'a>(words: &ArgMatches<'a>) -> Option<Listing<'a>>
 }
 
 // What the command of that name lists, or none where it lists nothing.
-fn listing_of<'a>(name: &str, words: &ArgMatches<'a>) -> Option<Listing<'a>>
+fn listing_of<'a>(name: &str, words: &ArgMatches<'a>) -> Option<Listing>
     ensures { IfSome result (IsListing name.now (words_in words.now)) }
 {
     match name {
         "agreements" => Some(Listing::Agreements),
-        "export" => Some(Listing::Export {
-            folder: text_in(words, "folder"),
-        }),
+        "export" => Some(Listing::Export),
         "gaps" => gaps_listing(words),
         _ => None,
     }
 }
 
 // What a command asks for that lists what a desk holds.
-fn listing_reading<'a>(matches: &ArgMatches<'a>, listing: Listing<'a>) -> Reading<'a>
+fn listing_reading<'a>(matches: &ArgMatches<'a>, listing: Listing) -> Reading<'a>
     ensures { (name : Text) (own : List Row) → IsListing name own listing.entry
         → text_in (words_in matches.now) (codes "batches") ≡ None
         → ReadsAs (words_in matches.now) name own result }

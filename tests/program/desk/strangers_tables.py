@@ -29,7 +29,7 @@ def strangers_rows(room: Room) -> list[tuple[object, ...]]:
 
 
 # The commands that only list, over a database without `--existing` too.
-LISTING = ["agreements", "export", "export -o parts", "gaps"]
+LISTING = ["agreements", "export", "gaps"]
 
 # Those that may change a desk, with `--existing`.
 CHANGING = ["batch", f"deliver {MESSAGE}", "gaps north", "serve --port 1 --requests 1", "migrate"]
@@ -41,26 +41,23 @@ def is_left(words: list[str], command: str, room: Room) -> Iterator[Outcome]:
     """SQLite reads the file as before, too."""
     execute(room, STRANGERS)
     room.write(MESSAGE, FIRST)
-    room.path("parts").mkdir()
     found = room.path(DATABASE).read_bytes()
     name = f"another program's database: {' '.join([*words, command])}"
     for time in "once", "again":
         came = room.run(*words, *command.split(), given=UNREADABLE)
         yield Outcome(f"{name}, {time}", came, UNUSABLE)
         yield Outcome(f"{name}, {time}: is the file as it was", room.path(DATABASE).read_bytes() == found, True)
-    yield Outcome(f"{name}: the parts", list(room.path("parts").iterdir()), [])
     yield Outcome(f"{name}: the tables", table_names(room), ["dashboard", "panel"])
     yield Outcome(f"{name}: the rows", (strangers_rows(room), complaints(room)), (STRANGERS_ROWS, []))
 
 
 def is_not_made(command: str, room: Room) -> Iterator[Outcome]:
     """What lists a desk makes none of a missing file, nor of an empty one."""
-    room.path("parts").mkdir()
     for words in ["--db", DATABASE], EXISTING:
         came = room.run(*words, *command.split(), given=UNREADABLE)
         yield Outcome(f"a missing file: {' '.join([*words, command])}", came, UNUSABLE)
     yield Outcome(
-        f"a missing file: the folder after {command}", [path.name for path in room.folder.iterdir()], ["parts"]
+        f"a missing file: the folder after {command}", [path.name for path in room.folder.iterdir()], []
     )
     room.write(DATABASE, b"")
     came = room.run("--db", DATABASE, *command.split(), given=UNREADABLE)

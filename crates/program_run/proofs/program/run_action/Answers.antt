@@ -7,7 +7,7 @@ pub returns-in-InFile-clause-end : goal.returns-in-InFile-clause-end
 returns-in-InFile-clause-end g c = rw c.in-InFile.is ((ap g.O.OpenDesks.sent c.run_in_file.ensures.desks, ap g.F.NamedFiles.holds c.run_in_file.ensures.files), c.run_in_file.ensures.unserved, c.run_in_file.ensures.end)
 
 pub returns-in-Listed-clause-end : goal.returns-in-Listed-clause-end
-returns-in-Listed-clause-end g c = rw c.in-Listed.is (refl, refl, c.list_file.ensures.spares, c.list_file.ensures.end)
+returns-in-Listed-clause-end g c = rw c.in-Listed.is (((refl, refl), refl), c.list_file.ensures.end)
 
 pub returns-in-Migrate-clause-end : goal.returns-in-Migrate-clause-end
 returns-in-Migrate-clause-end g c = rw c.in-Migrate.is (((refl, refl), refl), c.migrate_file.ensures.end)

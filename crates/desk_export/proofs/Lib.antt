@@ -11,5 +11,3 @@ pub mod AskedDesks
 pub mod AppendedTexts
 pub mod PartLemmas
 pub mod FolderLemmas
-pub mod ResumedLoads
-pub mod ChangeLemmas

@@ -6,5 +6,3 @@ pub mod Exporting
 pub mod Asking
 pub mod ListTexts
 pub mod PartTexts
-pub mod Resuming
-pub mod Changes

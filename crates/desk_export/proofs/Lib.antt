@@ -9,5 +9,3 @@ pub mod Waivers
 pub mod TakenTexts
 pub mod AskedDesks
 pub mod AppendedTexts
-pub mod ResumedLoads
-pub mod ChangeLemmas

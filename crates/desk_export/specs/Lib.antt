@@ -5,5 +5,3 @@ pub mod RequestTexts
 pub mod Exporting
 pub mod Asking
 pub mod ListTexts
-pub mod Resuming
-pub mod Changes

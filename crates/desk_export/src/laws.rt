@@ -6,10 +6,8 @@ ghost use Rattle.onix_records.specs.Message.{message_of};
 ghost use Rattle.onix_records.specs.declared.parts.Header.{Header};
 ghost use Rattle.onix_records.specs.declared.parts.Product.{Product};
 ghost use Rattle.desk_texts.specs.Requests.{requests_of};
-ghost use Rattle.desk_export.specs.Changes.{ChangesAreTrue};
 ghost use Rattle.desk_export.specs.Exports.{ExportIsTrue};
 ghost use Rattle.desk_export.specs.MessageRecords.{message_records, numbered_header};
-ghost use Rattle.desk_export.specs.Resuming.{LoadsAreResumed};
 ghost use Rattle.desk_export.specs.RequestTexts.{CanBeWritten, ExportIsRead};
 
 use csv_records::laws::one_text;
@@ -49,20 +47,6 @@ pub fn export_is_read()
 {
     one_text();
     export_is_true();
-}
-
-/// A request changes something exactly if the list with it comes to something else than the list
-/// before, so that another export is made of it; a question changes nothing.
-pub fn changes_are_true()
-    ensures { ChangesAreTrue }
-{}
-
-/// A desk that has a part of what was exported, as one into which a load was broken off, stands for
-/// the same as the list behind a whole load, and behind a part of one still for a part of the list.
-pub fn loads_are_resumed()
-    ensures { LoadsAreResumed }
-{
-    messages_read_back();
 }
 
 /// Each request that is read from a batch can be written.

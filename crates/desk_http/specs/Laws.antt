@@ -1,26 +1,10 @@
--- Laws of replies and of what is asked for.
-use Rattle.std.specs.Prelude.{◌≡◌, ◌≤◌, ◌+◌, ◌&&◌, ℕ, Bool, false, List, length, nat_le, codes}
-use Rattle.std.specs.Str.{bytes_eq}
-use Rattle.serde_json.specs.Data.{Data, member, object, string}
-use Rattle.series_rules.specs.declared.answers.Answer.{Answer}
+-- Laws of what is asked for.
+use Rattle.std.specs.Prelude.{◌≡◌, ◌≤◌, ◌+◌, ℕ, List, length}
 use Rattle.desk_http.specs.declared.exchange.Wanted.{Wanted}
-use Rattle.desk_http.specs.AnswerJson.{answer_json}
-use Rattle.desk_http.specs.AnswerReply.{status_of}
 use Rattle.csv_records.specs.RecordTexts.{limit}
 use Rattle.http_requests.specs.Head.{head_limit}
 use Rattle.desk_http.specs.Asks.{AsksFor}
 use Rattle.desk_http.specs.Serves.{AreWanted}
-
--- JSON that says at once that something is refused
-abbrev pub is_refused : Data → Bool
-is_refused (object (member key (string text) _)) =
-    bytes_eq key (codes "answer") && bytes_eq text (codes "refused")
-is_refused _ = false
-
--- the status of an answer is one of HTTP's errors, 400 or above, exactly where its JSON says that
--- something is refused
-abbrev pub RefusalsAreErrors : Type 0
-RefusalsAreErrors = (a : Answer) → nat_le 400 (status_of a) ≡ is_refused (answer_json a)
 
 -- what an input asks for is one thing
 abbrev pub AsksOnce : Type 0

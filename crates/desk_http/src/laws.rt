@@ -1,12 +1,6 @@
 //! Laws of the definitions.
 
-ghost use Rattle.desk_http.specs.Laws.{AsksOnce, AsksSomething, RefusalsAreErrors, WantedIsBounded};
-
-/// An answer has one of HTTP's statuses for errors, 400 or above, exactly where its JSON begins
-/// with the member `answer` of value `refused`.
-pub fn refusals_are_errors()
-    ensures { RefusalsAreErrors }
-{}
+ghost use Rattle.desk_http.specs.Laws.{AsksOnce, AsksSomething, WantedIsBounded};
 
 /// An input asks for one thing: a request, or the refusal that comes first.
 pub fn asks_once()

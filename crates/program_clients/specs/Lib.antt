@@ -1,4 +1,3 @@
 pub mod Clients
 pub mod Printing
-pub mod Sent
 pub mod Streams

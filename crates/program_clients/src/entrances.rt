@@ -8,38 +8,21 @@ use crate::timed::Timed;
 use std::rt::HostRuntime;
 
 /// Where a desk that serves is reached: at a port, and at a socket for batches where one is named.
-/// A function over any entrances has no other clients than theirs.
 pub trait Entrances {
     ghost use Rattle.std.specs.Prelude.{◌≡◌, IfOk, is_some};
-    ghost use Rattle.program_clients.specs.Clients.{ClientTexts, OpensTo};
-
-    // What each client sends that is still to come.
-    ghost coming: { Self → ClientTexts };
-
-    // What each client was sent that was served, in order.
-    ghost replied: { Self → ClientTexts };
 
     /// The clients of what was opened.
     type Opened: Clients + Drop;
 
     /// Binds a port, so that nobody else has it from then on. Whether it could be is told where it
     /// is opened.
-    fn bind(&mut self, port: u16)
-        ensures coming { coming self.new ≡ coming self.old }
-        ensures replied { replied self.new ≡ replied self.old };
+    fn bind(&mut self, port: u16);
 
     /// Opens a port, the one that was bound where there is one, and where one is named a socket of
     /// the file system for batches, which come at no port.
     fn open(&mut self, port: u16, batches: Option<&str>) -> Result<Self::Opened, Fault>
-        ensures clients { OpensTo Self.Opened.coming Self.Opened.replied
-            (coming self.old) (replied self.old) result }
-        ensures takes { IfOk result (λ clients.
-            Self.Opened.takes_batches clients ≡ is_some batches.entry) }
-        ensures replied { replied self.new ≡ replied self.old };
-
-    /// Closes what was opened.
-    fn close(&mut self, clients: Self::Opened)
-        ensures { replied self.new ≡ Self.Opened.replied clients };
+        ensures { IfOk result (λ clients.
+            Self.Opened.takes_batches clients ≡ is_some batches.entry) };
 }
 
 /// What is listened at: a port, or a port and a socket for batches.
@@ -50,17 +33,9 @@ pub enum Opened<'a> {
 }
 
 impl<'a> Clients for Opened<'a> {
-    ghost use Rattle.std.specs.Prelude.{None};
-    ghost use Rattle.program_clients.specs.Streams.{are_both, protocol_of};
+    ghost use Rattle.program_clients.specs.Streams.{are_both};
 
     ghost takes_batches = { are_both };
-
-    // Of what a client sends and is sent over a socket no clause can say which bytes they are.
-    ghost coming = { λ opened. None };
-
-    ghost replied = { λ opened. None };
-
-    ghost speaks = { λ way. protocol_of way.stream };
 
     type Reader = Timed<'a>;
 
@@ -103,13 +78,6 @@ impl<'a> HostEntrances<'a> {
 }
 
 impl<'a> Entrances for HostEntrances<'a> {
-    ghost use Rattle.std.specs.Prelude.{None};
-
-    // As for `Opened`, whose clients these are.
-    ghost coming = { λ entrances. None };
-
-    ghost replied = { λ entrances. None };
-
     type Opened = Opened<'a>;
 
     fn bind(&mut self, port: u16) {
@@ -122,9 +90,5 @@ impl<'a> Entrances for HostEntrances<'a> {
             None => Ok(Opened::Port(port?)),
             Some(socket) => Ok(Opened::Both(Doors::open(self.rt, port, socket)?)),
         }
-    }
-
-    fn close(&mut self, clients: Opened<'a>) {
-        drop(clients);
     }
 }

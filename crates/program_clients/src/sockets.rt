@@ -88,16 +88,9 @@ fn send_whole(stream: &mut UnixStream, text: &[u8]) -> Result<(), Fault> {
 pub struct Sockets;
 
 impl OpenDesks for Sockets {
-    ghost use Rattle.std.specs.Prelude.{None};
-
-    // Of what goes and comes over a socket no clause can say which bytes they are.
-    ghost answers = { λ sockets name text. None };
-
-    ghost sent = { λ sockets. None };
-
     type Reader = UnixStream;
 
-    fn send(&mut self, rt: &HostRuntime, name: &str, text: &[u8]) -> Result<UnixStream, Fault> {
+    fn send(&self, rt: &HostRuntime, name: &str, text: &[u8]) -> Result<UnixStream, Fault> {
         let Ok(mut stream) = UnixStream::connect(rt, name) else {
             return Err(Fault::Socket);
         };

@@ -1,9 +1,10 @@
 -- What comes of a desk, of which a first part is written.
-use Rattle.std.proofs.Common.{◌≡◌, ◌++◌, ◌∙◌, ℕ, Bool, List, [], Option, None, Some, Result, Ok, Err, ap, append-nil, append_assoc, inl, inr, refl, sym}
+use Rattle.std.proofs.Common.{◌≡◌, ◌++◌, ◌∙◌, ℕ, Bool, List, [], Option, None, Some, Result, Ok, Err, ap, append_assoc, length, subst, sym}
 use Rattle.std.specs.Io.KnownBytes.{Consumes}
 use Rattle.csv_records.specs.Streams.{IsTold}
-use Rattle.program_clients.specs.Sent.{IsSent, Message, SendsFront, SendsWhole}
-use Rattle.program_commands.specs.Sending.{WritesCame}
+use Rattle.csv_records.specs.RecordTexts.{records_of}
+use Rattle.desk_texts.specs.Requests.{HasRecords, requests_of}
+use Rattle.program_commands.specs.Sending.{SendFits, TakesAnswers, WritesCame, unanswered}
 use Rattle.program_clients.specs.declared.fault.Fault.{Fault}
 
 -- what was taken begins what comes
@@ -30,18 +31,8 @@ pub wrote_part : (was now : Option (List ℕ)) (written : List ℕ → Type 0) (
 wrote_part was now written bytes chunk part rest took is wrote =
     let came = came_of was now (bytes ++ chunk) took in (bytes ++ part, rest ++ came.0, told_part was bytes part rest chunk came.0 is came.1, wrote)
 
--- ---- what is sent
+-- ---- the answers to the batch of a text
 
-pub none_sent : (message : Message) (old : Option (List Message)) → SendsFront message old old
-none_sent message None = tt
-none_sent message (Some all) = (all, refl, inl refl)
-
--- what was sent whole is a first part of it
-pub front_sent : (name text : List ℕ) (old new : Option (List Message)) → SendsWhole (name, text) old new → SendsFront (name, text) old new
-front_sent name text old None sent = tt
-front_sent name text old (Some all) (before, was, is) = (before, was, inr (text, [], append-nil text, is))
-
--- it was sent, whatever came of that
-pub sent_by : (name text : List ℕ) (old new : Option (List Message)) → SendsWhole (name, text) old new → (result : Result Bool Fault) → IsSent (name, text) old new result
-sent_by name text old new sent (Ok refused) = sent
-sent_by name text old new sent (Err fault) = front_sent name text old new sent
+pub sent_fits : (text : List ℕ) (asked : ℕ) (came : Option (List ℕ)) (written : List ℕ → Type 0) (result : Result Bool Fault) → HasRecords text → asked ≡ length (requests_of text) → TakesAnswers asked came written result → SendFits text written result
+sent_fits text asked came written (Ok refused) has is takes = (has, (takes.0, tt, subst (λ n. unanswered n (records_of takes.0) ≡ 0) is takes.2, takes.3, takes.4))
+sent_fits text asked came written (Err f) has is takes = (takes.0, takes.1, tt, takes.3)

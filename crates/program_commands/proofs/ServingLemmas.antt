@@ -10,9 +10,6 @@ use Rattle.series_rules.proofs.TraceLemmas.{trace_then}
 use Rattle.series_rules.specs.Steps.{Asked, Step}
 use Rattle.series_rules.specs.Views.{DeskKind, View}
 use Rattle.desk_http.specs.Writing.{WritesFront}
-use Rattle.program_clients.specs.Clients.{ClientTexts}
-use Rattle.program_clients.specs.declared.clients.Protocol.{Protocol}
-use Rattle.program_commands.proofs.ClientLemmas.{first_of, none_first, none_replied}
 use Rattle.program_commands.proofs.ConnectionLines.{lines_behind}
 use Rattle.program_commands.specs.Connections.{Connection, IsServed}
 use Rattle.program_commands.specs.Serving.{listening_line}
@@ -30,33 +27,21 @@ one_more_asked seen rules old mid new served c asked one =
     (trace_then seen rules (steps_of served) c.steps old mid new asked one)
 
 -- no client was served: the line of the port was not written, or a first part of it
-pub unserved_ends : (asked : List Step → Type 0) (written : List ℕ → Type 0) (batches : Bool) (coming old : ClientTexts) (port count status : ℕ) → asked [] → status ≡ 3 → WritesFront written (listening_line port)
-    → ServeEnds asked written batches coming old old port count status
-unserved_ends asked written batches coming old port count status none three front =
-    ([], first_of coming coming [] (none_first coming), none_replied old, (omega arith, All-nil (IsServed batches), none), inl (three, refl, front))
+pub unserved_ends : (asked : List Step → Type 0) (written : List ℕ → Type 0) (batches : Bool) (port count status : ℕ) → asked [] → status ≡ 3 → WritesFront written (listening_line port)
+    → ServeEnds asked written batches port count status
+unserved_ends asked written batches port count status none three front = ([], (omega arith, All-nil (IsServed batches), none), inl (three, refl, front))
 
 -- clients were served behind the line of the port
-pub served_ends : {R : Type 0} (asked : List Step → Type 0) (was before holds : Option (List ℕ)) (speaks : R → Protocol) (batches : Bool) (coming old new : ClientTexts) (port count status : ℕ) → Appends was before (listening_line port)
-    → ConnectionsServed asked (Appends before holds) speaks batches coming old new count status → ServeEnds asked (Appends was holds) batches coming old new port count status
-served_ends asked was before holds speaks batches coming old new port count status line ended = (
+pub served_ends : (asked : List Step → Type 0) (was before holds : Option (List ℕ)) (batches : Bool) (port count status : ℕ) → Appends was before (listening_line port)
+    → ConnectionsServed asked (Appends before holds) batches count status → ServeEnds asked (Appends was holds) batches port count status
+served_ends asked was before holds batches port count status line ended = (
   ended.0,
   ended.1,
-  ended.2,
-  ended.4,
   inr (
-    lines_behind was before holds (listening_line port) ended.0 line ended.5.0,
-    elim ended.5.1 [
+    lines_behind was before holds (listening_line port) ended.0 line ended.2.0,
+    elim ended.2.1 [
       | inl done ↦ inl (done.0, done.1, Appends-trans was before holds _ _ line done.2)
       | inr three ↦ inr three
     ],
   ),
 )
-
--- the same of clients of whom the same is told
-pub serving_as : (asked : List Step → Type 0) (written : List ℕ → Type 0) (a b : Bool) (coming come old were new are : ClientTexts) (port count status : ℕ) → a ≡ b → coming ≡ come → old ≡ were → new ≡ are
-    → ServeEnds asked written a coming old new port count status → ServeEnds asked written b come were are port count status
-serving_as asked written a b coming come old were new are port count status batches of_coming of_old of_new ended =
-    subst (λ x. ServeEnds asked written x come were are port count status) batches
-    (subst (λ x. ServeEnds asked written a x were are port count status) of_coming
-    (subst (λ x. ServeEnds asked written a coming x are port count status) of_old
-    (subst (λ x. ServeEnds asked written a coming old x port count status) of_new ended)))

@@ -13,13 +13,10 @@ use Rattle.desk_texts.specs.Requests.{HasRecords}
 use Rattle.desk_batch.specs.Talks.{Talks}
 use Rattle.desk_batch.specs.declared.batch.BatchFault.{BatchFault}
 use Rattle.desk_http.specs.Writing.{WritesFront}
-use Rattle.program_commands.specs.ServedClients.{AreFirst, AreReplied, IsOf}
 use Rattle.program_commands.specs.Connections.{Connection, EndsServing, IsServed}
 use Rattle.program_commands.specs.Deliveries.{AreTexts, delivery_of}
 use Rattle.program_clients.specs.Printing.{PrintEnds}
 use Rattle.program_commands.specs.Serving.{listening_line}
-use Rattle.program_clients.specs.Clients.{ClientTexts}
-use Rattle.program_clients.specs.declared.clients.Protocol.{Protocol}
 
 -- the status of requests that were asked: 0, or 1 where an answer is a refusal, or 3 before the end
 abbrev pub batch_status : Result ℕ BatchFault → ℕ
@@ -62,22 +59,17 @@ module _ (asked : List Step → Type 0) (written : List ℕ → Type 0) where
   GapsEnds (Some series) status = RequestsEnd (AskGaps series ∷ []) status
   GapsEnds None status = asked [] × PrintEnds 1 written (text_of UnknownSeries) status
 
-  -- serving so many clients, and writing the line of each. Coming: what the clients send, where
-  -- that is known; old, new: what those that were served were sent. Speaks: by what a client is
-  -- served that is read so
-  abbrev pub ConnectionsServed : {R : Type 0} → (R → Protocol) → Bool
-      → ClientTexts → ClientTexts → ClientTexts → ℕ → ℕ → Type 0
-  ConnectionsServed speaks batches coming old new count status =
-      (served : List Connection) × AreFirst coming served × AreReplied old new served
-      × All (λ c. IsOf speaks c.ending) served
-      × ConnectionsEnd asked batches count served × EndsServing written count served status
+  -- serving so many clients, and writing the line of each
+  abbrev pub ConnectionsServed : Bool → ℕ → ℕ → Type 0
+  ConnectionsServed batches count status =
+      (served : List Connection) × ConnectionsEnd asked batches count served
+      × EndsServing written count served status
 
   -- `serve` of so many connections at that port, and at a socket where batches are taken: their
   -- lines are written behind the one of the port; or a first part of that is, with 3, and none was
   -- served
-  abbrev pub ServeEnds : Bool → ClientTexts → ClientTexts → ClientTexts → ℕ → ℕ → ℕ → Type 0
-  ServeEnds batches coming old new port count status =
-      (served : List Connection) × AreFirst coming served × AreReplied old new served
-      × ConnectionsEnd asked batches count served
+  abbrev pub ServeEnds : Bool → ℕ → ℕ → ℕ → Type 0
+  ServeEnds batches port count status =
+      (served : List Connection) × ConnectionsEnd asked batches count served
       × (((status ≡ 3) × (served ≡ []) × WritesFront written (listening_line port))
       ⊎ EndsServing (λ lines. written (listening_line port ++ lines)) count served status)

@@ -2,6 +2,5 @@ pub mod Deliveries
 pub mod Unknown
 pub mod Serving
 pub mod Connections
-pub mod ServedClients
 pub mod Sending
 pub mod CommandEnds

@@ -1,13 +1,12 @@
 -- How the command `batch` ends that sends its batch to an open desk, whose answers it writes.
 use Prim.Native.String.{String}
-use Rattle.std.specs.Prelude.{◌≡◌, ◌-◌, ◌++◌, ◌∷◌, ◌⊎◌, ℕ, Bool, List, [], Option, Result, Ok, Err, length, if◌then◌else◌}
+use Rattle.std.specs.Prelude.{◌≡◌, ◌-◌, ◌++◌, ◌∷◌, ◌⊎◌, ℕ, Bool, List, [], None, Option, Result, Ok, Err, length, if◌then◌else◌}
 use Rattle.std.specs.List.{list_any}
 use Rattle.csv_records.specs.RecordTexts.{records_of}
 use Rattle.csv_records.specs.Streams.{IsTold}
 use Rattle.desk_texts.specs.Records.{Records, begins_with}
 use Rattle.desk_texts.specs.Requests.{HasRecords, requests_of}
 use Rattle.program_clients.specs.declared.fault.Fault.{Fault}
-use Rattle.program_clients.specs.Sent.{Message, SendsFront, SendsWhole}
 
 -- the names that begin the answer to a question
 abbrev pub report_names : List String
@@ -38,24 +37,19 @@ TakesAnswers asked came written (Ok refused) =
     × written answers
 TakesAnswers asked came written (Err f) = WritesCame came written
 
--- how sending the batch of a text can end: each request has an answer among those that came, which
--- were written; or a first part of them was
-abbrev pub SendFits : List ℕ → Option (List ℕ) → (List ℕ → Type 0) → Result Bool Fault
-    → Type 0
-SendFits text came written (Ok refused) =
-    HasRecords text × TakesAnswers (length (requests_of text)) came written (Ok refused)
-SendFits text came written (Err f) = WritesCame came written
+-- how sending the batch of a text can end: each request has an answer in what came, which was
+-- written; or some of it was. Of a desk that is open nothing is told
+abbrev pub SendFits : List ℕ → (List ℕ → Type 0) → Result Bool Fault → Type 0
+SendFits text written (Ok refused) =
+    HasRecords text × TakesAnswers (length (requests_of text)) None written (Ok refused)
+SendFits text written (Err f) = WritesCame None written
 
--- how the command can end with this status: the text of the input was sent as a batch, and all is
--- answered, with 0, or 1 for a refusal; or a fault ended it, with 3, and a first part of the
--- answers is written. Told: what the input tells of its bytes. Answers: what comes from the desk of
--- a name once it was sent a text, where that is known; old, new: what was sent to desks
-abbrev pub SendEnds : Option (List ℕ) → (List ℕ → List ℕ → Option (List ℕ))
-    → Option (List Message) → Option (List Message) → (List ℕ → Type 0) → List ℕ → ℕ → Type 0
-SendEnds told answers old new written socket status =
+-- how the command can end with this status: each request of the input has an answer in what came,
+-- which was written, with 0, or 1 for a refusal; or a fault ended it, with 3. Told: what the input
+-- tells of its bytes
+abbrev pub SendEnds : Option (List ℕ) → (List ℕ → Type 0) → ℕ → Type 0
+SendEnds told written status =
     (text : List ℕ) × IsTold told text
-    × (((refused : Bool)
-    × (HasRecords text
-    × TakesAnswers (length (requests_of text)) (answers socket text) written (Ok refused))
-    × SendsWhole (socket, text) old new × (status ≡ (if refused then 1 else 0)))
-    ⊎ ((status ≡ 3) × SendsFront (socket, text) old new × WritesCame (answers socket text) written))
+    × (((refused : Bool) × SendFits text written (Ok refused)
+    × (status ≡ (if refused then 1 else 0)))
+    ⊎ ((status ≡ 3) × WritesCame None written))

@@ -3,8 +3,7 @@
 //! wrong with their requests. `sending` sends a batch to a desk that is open. `checked_texts` reads
 //! texts and asks no desk, `malformed` says behind the answers why requests were refused so, and
 //! `unread` why a file is not read or a text has no records. `front` keeps the first bytes of a
-//! connection, or a posted message. `known_clients` shows that there are clients of whom it is known
-//! what they send. `streams` has what a command reads and writes.
+//! connection, or a posted message. `streams` has what a command reads and writes.
 #![tactic(auto)]
 
 pub mod batch;
@@ -14,7 +13,6 @@ pub mod deliver;
 mod faults;
 mod front;
 pub mod gaps;
-pub mod known_clients;
 mod malformed;
 pub mod sending;
 pub mod serve;

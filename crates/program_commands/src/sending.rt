@@ -9,7 +9,6 @@ ghost use Rattle.csv_records.specs.RecordTexts.{records_of};
 ghost use Rattle.csv_records.specs.Streams.{IsTold};
 ghost use Rattle.desk_texts.specs.Records.{begins_with, is_one_of};
 ghost use Rattle.desk_texts.specs.Requests.{HasRecords, requests_of};
-ghost use Rattle.program_clients.specs.Sent.{IsSent};
 ghost use Rattle.program_commands.specs.Sending.{SendEnds, SendFits, TakesAnswers, WritesCame, answer_names, report_names, unanswered};
 
 use crate::malformed::tell_batch;
@@ -174,14 +173,12 @@ fn count_requests(alloc: Global, text: &[u8]) -> Result<usize, Fault>
 // refusal.
 fn send_batch<K: OpenDesks, W: Write>(
     rt: &HostRuntime,
-    desks: &mut K,
+    desks: &K,
     socket: &str,
     text: &[u8],
     output: &mut W,
 ) -> Result<bool, Fault>
-    ensures end { SendFits text.now (K.answers desks.old socket.now text.now)
-        (Appends (W.contents output.old) (W.contents output.new)) result }
-    ensures sent { IsSent (socket.now, text.now) (K.sent desks.old) (K.sent desks.new) result }
+    ensures { SendFits text.now (Appends (W.contents output.old) (W.contents output.new)) result }
 {
     let asked = count_requests(rt.alloc(), text)?;
     let mut from = desks.send(rt, socket, text)?;
@@ -225,15 +222,13 @@ fn report_unsent<E: Write>(
 /// which is reported; a missing answer is a fault of the socket.
 pub fn send_input<K: OpenDesks, R: Read, W: Write, E: Write>(
     rt: &HostRuntime,
-    desks: &mut K,
+    desks: &K,
     socket: &str,
     streams: &mut Streams<R, W, E>,
 ) -> u8
     ensures status { result ≤ 3 }
-    ensures end { SendEnds (R.remaining streams.old.input) (K.answers desks.old)
-        (K.sent desks.old) (K.sent desks.new)
-        (Appends (W.contents streams.old.output) (W.contents streams.new.output))
-        socket.now result }
+    ensures end { SendEnds (R.remaining streams.old.input)
+        (Appends (W.contents streams.old.output) (W.contents streams.new.output)) result }
 {
     let text = match read_text(rt.alloc(), &mut streams.input) {
         Ok(text) => text,

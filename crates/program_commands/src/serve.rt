@@ -3,9 +3,9 @@
 
 ghost use Rattle.std.specs.Prelude.{◌≡◌, ◌≤◌, is_some};
 ghost use Rattle.std.specs.Io.KnownBytes.{Appends};
-ghost use Rattle.program_commands.specs.ServedClients.{ServesNext};
 ghost use Rattle.series_rules.specs.Steps.{Asked};
 ghost use Rattle.program_clients.specs.Printing.{WritesWhole};
+ghost use Rattle.program_commands.specs.Connections.{ServesNext};
 ghost use Rattle.program_commands.specs.Serving.{listening_line};
 ghost use Rattle.program_commands.specs.CommandEnds.{ConnectionsServed, ServeEnds};
 
@@ -45,9 +45,8 @@ fn serve_next<D: Desk, C: Clients, I, O: Write, E: Write>(
     clients: &mut C,
     streams: &mut Streams<I, O, E>,
 ) -> Result<(), Fault>
-    ensures served { ServesNext (Asked D.seen precedence.now desk.old desk.new) C.speaks
-        (C.takes_batches clients.old) (C.coming clients.old) (C.coming clients.new)
-        (C.replied clients.old) (C.replied clients.new)
+    ensures served { ServesNext (Asked D.seen precedence.now desk.old desk.new)
+        (C.takes_batches clients.old)
         (Appends (O.contents streams.old.output) (O.contents streams.new.output)) result }
     ensures takes { C.takes_batches clients.new ≡ C.takes_batches clients.old }
 {
@@ -97,12 +96,10 @@ pub fn serve_clients<D: Desk, C: Clients, I, O: Write, E: Write>(
     ensures status { result ≤ 3 }
     // Each client was replied to or answered as the desk makes it, and what was answered is kept,
     // by an exchange or within a batch: behind a fault of the store too. The lines are written,
-    // each whole but perhaps the last; with 0 they are all. A batch comes of a reader that speaks
-    // batches.
+    // each whole but perhaps the last; with 0 they are all.
     ensures end { ConnectionsServed (Asked D.seen precedence.now desk.old desk.new)
-        (Appends (O.contents streams.old.output) (O.contents streams.new.output)) C.speaks
-        (C.takes_batches clients.old) (C.coming clients.old)
-        (C.replied clients.old) (C.replied clients.new) requests result }
+        (Appends (O.contents streams.old.output) (O.contents streams.new.output))
+        (C.takes_batches clients.old) requests result }
 {
     'serving: for _served in 0..requests {
         match serve_next(rt, routes, desk, precedence, clients, streams) {
@@ -165,9 +162,7 @@ pub fn serve_desk<D: Desk, N: Entrances, I, O: Write, E: Write>(
     // As `serve_clients`, behind the line of the port; with batches only where a socket is named.
     ensures end { ServeEnds (Asked D.seen precedence.now desk.old desk.new)
         (Appends (O.contents streams.old.output) (O.contents streams.new.output))
-        (is_some place.entry.batches) (N.coming entrances.old)
-        (N.replied entrances.old) (N.replied entrances.new)
-        place.entry.port place.entry.requests result }
+        (is_some place.entry.batches) place.entry.port place.entry.requests result }
 {
     let routes = match Routes::new(rt.alloc()) {
         Ok(routes) => routes,
@@ -179,12 +174,9 @@ pub fn serve_desk<D: Desk, N: Entrances, I, O: Write, E: Write>(
     };
     match print_listening(place.port, &mut streams.output) {
         Ok(()) => {}
-        Err(fault) => {
-            entrances.close(clients);
-            return report(&fault, &mut streams.errors.writer);
-        }
+        Err(fault) => return report(&fault, &mut streams.errors.writer),
     }
-    let status = serve_clients(
+    serve_clients(
         rt,
         &routes,
         desk,
@@ -192,7 +184,5 @@ pub fn serve_desk<D: Desk, N: Entrances, I, O: Write, E: Write>(
         &mut clients,
         place.requests,
         streams,
-    );
-    entrances.close(clients);
-    status
+    )
 }

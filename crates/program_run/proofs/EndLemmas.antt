@@ -1,7 +1,6 @@
 -- What led from one desk to another led from the files of which that was opened to those as which this is left.
 use Rattle.std.proofs.Common.{◌≡◌, ◌⊎◌, ◌||◌, ℕ, Bool, true, false, List, [], ◌∷◌, Option, Some, None, Ok, Err, inl, inr, refl, subst, sym}
 use Rattle.std.proofs.lemmas.List.Elements.{All-head, All-tail}
-use Rattle.program_clients.specs.Clients.{ClientTexts}
 use Rattle.program_files.specs.Holdings.{Holdings}
 use Rattle.onix_terms.specs.SeriesName.{series_name_of}
 use Rattle.price_rules.specs.declared.precedence.Rule.{Rule}
@@ -17,7 +16,7 @@ use Rattle.program_desks.specs.declared.files_left.FilesLeft.{FilesLeft}
 use Rattle.program_desks.specs.declared.kept_desks.Creation.{Creation}
 use Rattle.program_desks.specs.declared.files_left.FilesLeft.TheVariants.{Closed, Unclosed, Unopened, Untouched}
 use Rattle.program_run.specs.FileEnds.{TaskEnds, TaskLeads}
-use Rattle.program_run.specs.OverFiles.{Closes, EndsOverFiles, IsUnserved}
+use Rattle.program_run.specs.OverFiles.{Closes, EndsOverFiles}
 use Rattle.program_commands.proofs.TalkEnds.{batch_as, talks_as}
 use Rattle.program_commands.specs.CommandEnds.{GapsEnds, RequestsEnd}
 use Rattle.program_words.specs.declared.invocation.Task.{Task}
@@ -86,31 +85,25 @@ requests_as : (asked asks : List Step → Type 0) (written : List ℕ → Type 0
 requests_as asked asks written f rs status (result, talks, is) = (result, talks_as asked asks written written rs _ _ f (λ t was. was) (λ steps stop given. given) talks, is)
 
 -- a command that asked so asked as well so
-pub task_as : (asked asks : List Step → Type 0) (written : List ℕ → Type 0) → ((steps : List Step) → asked steps → asks steps) → (task : Task) (holds : Holdings) (told : Option (List ℕ)) (coming were are : ClientTexts) (status : ℕ)
-    → TaskEnds asked written task holds told coming were are status → TaskEnds asks written task holds told coming were are status
-task_as asked asks written f task.Batch holds told coming were are status (none, (text, result, is, ran, same)) =
-    (none, (text, result, is, batch_as asked asks written written f (λ t was. was) text result ran, same))
-task_as asked asks written f (task.Deliver names) holds told coming were are status (none, ended) =
-    (none, (ended.0, ended.1, ended.2, ended.3, requests_as asked asks written f _ _ ended.4, ended.5))
-task_as asked asks written f (task.Gaps name) holds told coming were are status (none, ended) = (none, by (series_name_of name.now) ended)
+pub task_as : (asked asks : List Step → Type 0) (written : List ℕ → Type 0) → ((steps : List Step) → asked steps → asks steps) → (task : Task) (holds : Holdings) (told : Option (List ℕ)) (status : ℕ)
+    → TaskEnds asked written task holds told status → TaskEnds asks written task holds told status
+task_as asked asks written f task.Batch holds told status (text, result, is, ran, same) =
+    (text, result, is, batch_as asked asks written written f (λ t was. was) text result ran, same)
+task_as asked asks written f (task.Deliver names) holds told status ended =
+    (ended.0, ended.1, ended.2, ended.3, requests_as asked asks written f _ _ ended.4, ended.5)
+task_as asked asks written f (task.Gaps name) holds told status ended = by (series_name_of name.now) ended
   where
     by : (o : Option (List ℕ)) → GapsEnds asked written o status → GapsEnds asks written o status
     by (Some series) end = requests_as asked asks written f _ _ end
     by None end = (f [] end.0, end.1)
-task_as asked asks written f (task.Serve port requests batches) holds told coming were are status ended =
-    (ended.0, ended.1, ended.2, (ended.3.0, ended.3.1, f _ ended.3.2), ended.4)
-
--- so it did over clients of whom the same is told
-pub task_of : (asked : List Step → Type 0) (written : List ℕ → Type 0) (task : Task) (holds : Holdings) (told : Option (List ℕ)) (coming come were was are : ClientTexts) (status : ℕ) → coming ≡ come → were ≡ was
-    → TaskEnds asked written task holds told coming were are status → TaskEnds asked written task holds told come was are status
-task_of asked written task holds told coming come were was are status of_coming of_were ended =
-    subst (λ x. TaskEnds asked written task holds told x was are status) of_coming (subst (λ x. TaskEnds asked written task holds told coming x are status) of_were ended)
+task_as asked asks written f (task.Serve port requests batches) holds told status ended =
+    (ended.0, (ended.1.0, ended.1.1, f _ ended.1.2), ended.2)
 
 -- a command that ended over a desk ended so over its files
-pub task_between : {k : DeskKind} (rules : List Rule) (written : List ℕ → Type 0) (task : Task) (holds : Holdings) (told : Option (List ℕ)) (coming were are : ClientTexts) (old first last new : View k) (own : ℕ) → OpensAs old first → LeavesAs last new
-    → TaskLeads rules written task holds told coming were are first last own → TaskLeads rules written task holds told coming were are old new own
-task_between rules written task holds told coming were are old first last new own opens leaves ended =
-    task_as (λ steps. Leads rules steps first last) (λ steps. Leads rules steps old new) written (λ steps leads. leads_between rules steps old first last new opens leaves leads) task holds told coming were are own ended
+pub task_between : {k : DeskKind} (rules : List Rule) (written : List ℕ → Type 0) (task : Task) (holds : Holdings) (told : Option (List ℕ)) (old first last new : View k) (own : ℕ) → OpensAs old first → LeavesAs last new
+    → TaskLeads rules written task holds told first last own → TaskLeads rules written task holds told old new own
+task_between rules written task holds told old first last new own opens leaves ended =
+    task_as (λ steps. Leads rules steps first last) (λ steps. Leads rules steps old new) written (λ steps leads. leads_between rules steps old first last new opens leaves leads) task holds told own ended
 
 -- what ended over a desk that was opened, and whose files were then closed, ended so over the files
 pub over_files : {K : Type 0} {k : DeskKind} {C U N : Type 0} (files : DeskFiles K k C U N) (databases : K) (name : List ℕ) (creation : Creation) (written : List ℕ → Type 0) (ends : View k → View k → ℕ → Type 0)
@@ -122,10 +115,3 @@ over_files files databases name creation written ends between first last own sta
     (three, own, between (files.found databases name creation) first last (files.unclosed left) own opens leaves ended)
 over_files files databases name creation written ends between first last own status (Unopened left) opens closes ended = absurd closes
 over_files files databases name creation written ends between first last own status (Untouched left) opens closes ended = absurd closes
-
--- what is closed was opened
-pub after_opening : {K : Type 0} {k : DeskKind} {C U N : Type 0} (files : DeskFiles K k C U N) (desk : View k) (own status : ℕ) (were are : ClientTexts) (left : FilesLeft K N U C) → Closes files desk own status left → IsUnserved were are left
-after_opening files desk own status were are (Closed closed) closes = tt
-after_opening files desk own status were are (Unclosed left) closes = tt
-after_opening files desk own status were are (Unopened left) closes = absurd closes
-after_opening files desk own status were are (Untouched databases) closes = tt

@@ -13,10 +13,8 @@ use Rattle.program_words.specs.Asked.{Reads}
 use Rattle.program_words.specs.ConvertWords.{asked_view}
 use Rattle.program_run.specs.ConvertEnds.{ConvertEnds}
 use Rattle.program_run.specs.ListingEnds.{ListingEnds}
-use Rattle.program_run.specs.OverFiles.{EndsOverFiles, IsUnserved, IsUntouched, MigrateEnds, creation_by}
+use Rattle.program_run.specs.OverFiles.{EndsOverFiles, IsUntouched, MigrateEnds, creation_by}
 use Rattle.program_clients.specs.Printing.{PrintEnds}
-use Rattle.program_clients.specs.Clients.{ClientTexts}
-use Rattle.program_clients.specs.Sent.{Message}
 use Rattle.program_rules.specs.RulesFile.{CheckEnds, ReadsTable, status_of}
 use Rattle.program_rules.specs.TermsRead.{CheckTermsEnds}
 use Rattle.program_commands.specs.CommandEnds.{BatchEnds, DeliverEnds, GapsEnds, ServeEnds}
@@ -32,28 +30,25 @@ use Rattle.program_rules.specs.declared.rules.RulesFault.{RulesFault}
 
 -- How a command over a desk can end with this status. Asked: the desk was asked these steps.
 -- Written: these bytes were written. Holds: what names hold. Told: what the input tells of its
--- bytes. Coming: what the clients send of a desk that serves; were, are: what those that were
--- served were sent, before and after
+-- bytes
 abbrev pub TaskEnds : (List Step → Type 0) → (List ℕ → Type 0) → Task → Holdings
-    → Option (List ℕ) → ClientTexts → ClientTexts → ClientTexts → ℕ → Type 0
-TaskEnds asked written task.Batch holds told coming were are status =
-    (are ≡ were) × BatchEnds asked written told status
-TaskEnds asked written (task.Deliver names) holds told coming were are status =
-    (are ≡ were)
-    × DeliverEnds asked written holds told (map (λ name. name.now) names.items) status
-TaskEnds asked written (task.Gaps name) holds told coming were are status =
-    (are ≡ were) × GapsEnds asked written (series_name_of name.now) status
-TaskEnds asked written (task.Serve port requests batches) holds told coming were are status =
-    ServeEnds asked written (is_some batches) coming were are port requests status
+    → Option (List ℕ) → ℕ → Type 0
+TaskEnds asked written task.Batch holds told status = BatchEnds asked written told status
+TaskEnds asked written (task.Deliver names) holds told status =
+    DeliverEnds asked written holds told (map (λ name. name.now) names.items) status
+TaskEnds asked written (task.Gaps name) holds told status =
+    GapsEnds asked written (series_name_of name.now) status
+TaskEnds asked written (task.Serve port requests batches) holds told status =
+    ServeEnds asked written (is_some batches) port requests status
 
 -- of a command under these rules, by the same
 module _ (rules : List Rule) (written : List ℕ → Type 0) (task : Task) (holds : Holdings)
-    (told : Option (List ℕ)) (coming were are : ClientTexts) where
+    (told : Option (List ℕ)) where
   -- how it can end over a desk that was seen as `old` at first and as `new` at last: what it asked
   -- led from the one to the other
   abbrev pub TaskLeads : {k : DeskKind} → View k → View k → ℕ → Type 0
   TaskLeads old new =
-      TaskEnds (λ steps. Leads rules steps old new) written task holds told coming were are
+      TaskEnds (λ steps. Leads rules steps old new) written task holds told
 
   -- how it can end over a new desk, which has seen no request
   abbrev pub NewDeskEnds : {M : Type 0} → {k : DeskKind} → (M → View k) → ℕ → Type 0
@@ -84,53 +79,39 @@ IsUnread written words status =
 -- ---- by what the program is asked
 
 -- Seen: what is seen of a desk in memory. Files: what is seen of the files that `databases` opens.
--- Answers: what comes from the desk at the socket of a name once it was sent a text, where that is
--- known; was sent, sent: what was sent to such desks, before and after. Coming, were, are: as of a
--- command. Is told: whether it is told what files hold; before, after: what names hold. Written:
--- these bytes were written. Told: what the input tells of its bytes
+-- Is told: whether it is told what files hold; before, after: what names hold. Written: these bytes
+-- were written. Told: what the input tells of its bytes
 module _ {M : Type 0} {m : DeskKind} (seen : M → View m) {K : Type 0} {k : DeskKind}
     {C U N : Type 0} (files : DeskFiles K k C U N) (databases : K)
-    (answers : List ℕ → List ℕ → Option (List ℕ)) (was_sent sent : Option (List Message))
-    (coming were are : ClientTexts) (is_told : Bool) (before after : Holdings)
-    (written : List ℕ → Type 0) (told : Option (List ℕ)) where
-  -- nothing was sent to a desk that is open, and each name holds what it held
-  abbrev pub IsApart : Type 0
-  IsApart = (sent ≡ was_sent) × (after ≡ before)
-
-  -- so it is, and no client was served
-  abbrev pub IsQuiet : Type 0
-  IsQuiet = IsApart × (are ≡ were)
-
+    (is_told : Bool) (before after : Holdings) (written : List ℕ → Type 0)
+    (told : Option (List ℕ)) where
   -- how an action can end under those rules, with what it leaves of files. Only `convert` changes
-  -- what names hold, only `--batches` sends anything to a desk that is open, and only `serve` serves
-  -- clients
+  -- what names hold
   abbrev pub ActionEnds : List Rule → Action → ℕ → FilesLeft K N U C → Type 0
   ActionEnds rules (InMemory task) status left =
-      IsApart × IsUntouched left
-      × NewDeskEnds rules written task before told coming were are seen status
+      (after ≡ before) × IsUntouched left
+      × NewDeskEnds rules written task before told seen status
   ActionEnds rules (InFile db task) status left =
-      IsApart × IsUnserved were are left
+      (after ≡ before)
       × EndsOverFiles files databases db.name.now (creation_by db.is_existing) written
-      (TaskLeads rules written task before told coming were are) status left
+      (TaskLeads rules written task before told) status left
   ActionEnds rules (Listed db listing) status left =
-      IsQuiet
+      (after ≡ before)
       × EndsOverFiles files databases db.name.now Never written (ListingEnds written listing)
       status left
   ActionEnds rules (Migrate db) status left =
-      IsQuiet
+      (after ≡ before)
       × MigrateEnds files databases db.name.now (creation_by db.is_existing) written status left
   ActionEnds rules (Send socket) status left =
-      (after ≡ before) × (are ≡ were) × IsUntouched left
-      × SendEnds told answers was_sent sent written socket.now status
+      (after ≡ before) × IsUntouched left × SendEnds told written status
   ActionEnds rules (Convert c) status left =
-      (sent ≡ was_sent) × (are ≡ were) × IsUntouched left
-      × ConvertEnds is_told before after told written (asked_view c) status
+      IsUntouched left × ConvertEnds is_told before after told written (asked_view c) status
   ActionEnds rules (CheckRules file) status left =
-      IsQuiet × IsUntouched left × CheckEnds written (before file.now) status
+      (after ≡ before) × IsUntouched left × CheckEnds written (before file.now) status
   ActionEnds rules (CheckTerms file) status left =
-      IsQuiet × IsUntouched left × CheckTermsEnds written (before file.now) status
+      (after ≡ before) × IsUntouched left × CheckTermsEnds written (before file.now) status
   ActionEnds rules (CheckTexts files) status left =
-      IsQuiet × IsUntouched left × written []
+      (after ≡ before) × IsUntouched left × written []
 
   -- how the program can end by what a command line asks: under its rules; or, where these cannot be
   -- read, nothing was done
@@ -139,7 +120,7 @@ module _ {M : Type 0} {m : DeskKind} (seen : M → View m) {K : Type 0} {k : Des
       ((rules : List Rule) × ReadsRules before invocation.rules (Ok rules)
       × ActionEnds rules invocation.action status left)
       ⊎ ((fault : RulesFault) × ReadsRules before invocation.rules (Err fault)
-      × (status ≡ status_of fault) × written [] × IsUntouched left × IsQuiet)
+      × (status ≡ status_of fault) × written [] × IsUntouched left × (after ≡ before))
 
   -- how the program can end on these words, of which the first is its name: by what they ask; or
   -- with nothing done, where they are read as no command line
@@ -147,4 +128,4 @@ module _ {M : Type 0} {m : DeskKind} (seen : M → View m) {K : Type 0} {k : Des
   RunEnds words status left =
       ((invocation : Invocation) × Reads words (reading.Run invocation)
       × InvocationEnds invocation status left)
-      ⊎ (IsUnread written words status × IsUntouched left × IsQuiet)
+      ⊎ (IsUnread written words status × IsUntouched left × (after ≡ before))

@@ -9,18 +9,11 @@ use Rattle.program_desks.specs.declared.kept_desks.Creation.TheVariants.{Anywher
 use Rattle.program_desks.specs.declared.kept_desks.Migration.{Migration}
 use Rattle.program_desks.specs.declared.kept_desks.Migration.TheVariants.{Migrated, Unneeded}
 use Rattle.program_clients.specs.Printing.{PrintEnds}
-use Rattle.program_clients.specs.Clients.{ClientTexts}
 
 -- no file of a desk was touched: what opens them is handed back, and nothing can make that anew
 abbrev pub IsUntouched : {K N U C : Type 0} → FilesLeft K N U C → Type 0
 IsUntouched (Untouched databases) = ⊤
 IsUntouched _ = ⊥
-
--- where no desk was opened, no client was served. Were, are: what those that were served were sent,
--- before and after
-abbrev pub IsUnserved : {K N U C : Type 0} → ClientTexts → ClientTexts → FilesLeft K N U C → Type 0
-IsUnserved were are (Unopened left) = are ≡ were
-IsUnserved were are _ = ⊤
 
 -- the files in which a command makes a desk that may change one, by whether they have to be there
 abbrev pub creation_by : Bool → Creation

@@ -4,7 +4,7 @@ ghost use Rattle.std.specs.Prelude.{◌≡◌, ◌≤◌, IfErr, IfOk, map};
 ghost use Rattle.std.specs.Io.KnownBytes.{Appends};
 ghost use Rattle.program_run.specs.FileEnds.{ActionEnds, IsUnread, NewDeskEnds, ReadsRules, RunEnds, TaskLeads};
 ghost use Rattle.program_words.specs.Asked.{Reads};
-ghost use Rattle.program_run.specs.OverFiles.{EndsOverFiles, IsUnserved, creation_by};
+ghost use Rattle.program_run.specs.OverFiles.{EndsOverFiles, creation_by};
 
 use crate::closing::close_desk;
 use crate::machine::Machine;
@@ -56,8 +56,7 @@ fn run_in_memory<F: NamedFiles, N: Entrances, R: Read, W: Write, E: Write>(
     ensures status { result ≤ 3 }
     ensures end { NewDeskEnds precedence.now
         (Appends (W.contents streams.old.output) (W.contents streams.new.output)) task.now
-        (F.holds files.now) (R.remaining streams.old.input) (N.coming entrances.old)
-        (N.replied entrances.old) (N.replied entrances.new)
+        (F.holds files.now) (R.remaining streams.old.input)
         ⟦<MemoryDesk as Desk>⟧.seen result }
 {
     let mut desk = MemoryDesk::new(rt.alloc());
@@ -87,7 +86,6 @@ fn run_in_file<
     machine: &mut Machine<O, N, F, R, W, E>,
 ) -> (u8, FilesLeft<K, K::Unopened, K::Unclosed, K::Closed>)
     ensures status { result.0 ≤ 3 }
-    ensures desks { machine.new.desks ≡ machine.old.desks }
     ensures files { machine.new.files ≡ machine.old.files }
     // The command ends as over any desk, whose files are then closed; the status is 3 where they
     // could not be.
@@ -96,11 +94,8 @@ fn run_in_file<
         (Appends (W.contents machine.old.streams.output) (W.contents machine.new.streams.output))
         (TaskLeads precedence.now
         (Appends (W.contents machine.old.streams.output) (W.contents machine.new.streams.output))
-        task.now (F.holds machine.old.files) (R.remaining machine.old.streams.input)
-        (N.coming machine.old.entrances)
-        (N.replied machine.old.entrances) (N.replied machine.new.entrances)) result.0 result.1 }
-    ensures unserved { IsUnserved
-        (N.replied machine.old.entrances) (N.replied machine.new.entrances) result.1 }
+        task.now (F.holds machine.old.files) (R.remaining machine.old.streams.input))
+        result.0 result.1 }
 {
     let Machine {
         entrances,
@@ -140,9 +135,6 @@ fn run_action<
 ) -> (u8, FilesLeft<K, K::Unopened, K::Unclosed, K::Closed>)
     ensures status { result.0 ≤ 3 }
     ensures end { ActionEnds ⟦<MemoryDesk as Desk>⟧.seen K.files databases
-        (O.answers machine.old.desks) (O.sent machine.old.desks) (O.sent machine.new.desks)
-        (N.coming machine.old.entrances)
-        (N.replied machine.old.entrances) (N.replied machine.new.entrances)
         F.is_told (F.holds machine.old.files) (F.holds machine.new.files)
         (Appends (W.contents machine.old.streams.output) (W.contents machine.new.streams.output))
         (R.remaining machine.old.streams.input) precedence.now action.now result.0 result.1 }
@@ -260,9 +252,6 @@ pub fn run<
 ) -> (u8, FilesLeft<K, K::Unopened, K::Unclosed, K::Closed>)
     ensures status { result.0 ≤ 3 }
     ensures end { RunEnds ⟦<MemoryDesk as Desk>⟧.seen K.files databases
-        (O.answers machine.old.desks) (O.sent machine.old.desks) (O.sent machine.new.desks)
-        (N.coming machine.old.entrances)
-        (N.replied machine.old.entrances) (N.replied machine.new.entrances)
         F.is_told (F.holds machine.old.files) (F.holds machine.new.files)
         (Appends (W.contents machine.old.streams.output) (W.contents machine.new.streams.output))
         (R.remaining machine.old.streams.input) (map (λ word. word.now) words.now)

@@ -1,6 +1,6 @@
 //! A command over a desk, by what it is asked.
 
-ghost use Rattle.std.specs.Prelude.{◌≡◌, ◌≤◌};
+ghost use Rattle.std.specs.Prelude.{◌≤◌};
 ghost use Rattle.std.specs.Io.KnownBytes.{Appends};
 ghost use Rattle.series_rules.specs.Steps.{Asked};
 ghost use Rattle.program_run.specs.FileEnds.{TaskEnds};
@@ -20,10 +20,7 @@ use std::rt::HostRuntime;
 
 /// Binds the port at which a command serves, before its desk is opened, so that nobody else has it
 /// meanwhile and clients wait; whether it could be is told behind the faults of the desk.
-pub(crate) fn bind_port<N: Entrances>(entrances: &mut N, task: &Task<'_>)
-    ensures coming { N.coming entrances.new ≡ N.coming entrances.old }
-    ensures replied { N.replied entrances.new ≡ N.replied entrances.old }
-{
+pub(crate) fn bind_port<N: Entrances>(entrances: &mut N, task: &Task<'_>) {
     if let Task::Serve { port, .. } = task {
         entrances.bind(*port);
     }
@@ -42,8 +39,7 @@ pub(crate) fn run_task<D: Desk, F: NamedFiles, N: Entrances, R: Read, W: Write, 
     ensures status { result ≤ 3 }
     ensures end { TaskEnds (Asked D.seen precedence.now desk.old desk.new)
         (Appends (W.contents streams.old.output) (W.contents streams.new.output))
-        task.now (F.holds files.now) (R.remaining streams.old.input) (N.coming entrances.old)
-        (N.replied entrances.old) (N.replied entrances.new) result }
+        task.now (F.holds files.now) (R.remaining streams.old.input) result }
 {
     match task {
         Task::Batch => answer_input(rt.alloc(), desk, precedence, streams),

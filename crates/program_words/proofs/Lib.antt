@@ -1,3 +1,2 @@
 mod CommandLemmas
 mod AskedLemmas
-mod CommandNameLemmas

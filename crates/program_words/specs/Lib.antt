@@ -2,4 +2,3 @@ pub mod Words
 pub mod ConvertWords
 pub mod CommandLine
 pub mod Asked
-pub mod CommandNames

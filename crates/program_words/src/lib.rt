@@ -8,4 +8,3 @@ pub mod commands;
 pub mod convert_words;
 pub mod hints;
 pub mod invocation;
-pub mod laws;

@@ -3,21 +3,16 @@ use Rattle.std.specs.Prelude.{All}
 use Rattle.std.specs.List.{flat_map}
 use Rattle.std.specs.Io.KnownBytes.{Appends}
 use Rattle.series_rules.specs.Steps.{Asked}
-use Rattle.program_commands.specs.ServedClients.{AreReplied, IsOf}
 use Rattle.program_commands.specs.Connections.{Connection, IsServed, lines_of}
-use Rattle.program_commands.proofs.ClientLemmas.{AreFirstOf}
 use Rattle.program_commands.proofs.serve.serve_clients.Given as goal
 
--- each connection so far is of a client, and has its line
+-- each connection so far was served, and has its line
 abbrev pub invariant-serving : goal.invariant-serving
 invariant-serving g l = record {
   served : List Connection;
   counted : length served ≡ l._served;
   takes : g.C.Clients.takes_batches l.clients ≡ g.C.Clients.takes_batches l.fn.clients;
   all : All (IsServed (g.C.Clients.takes_batches l.fn.clients)) served;
-  each : All (λ (c : Connection). IsOf g.C.Clients.speaks c.ending) served;
-  first : AreFirstOf (g.C.Clients.coming l.fn.clients) (g.C.Clients.coming l.clients) served;
-  replied : AreReplied (g.C.Clients.replied l.fn.clients) (g.C.Clients.replied l.clients) served;
   lines : Appends (g.O.Write.contents l.fn.streams.output) (g.O.Write.contents l.streams.output) (lines_of served);
   asked : Asked g.D.Desk.seen l.precedence l.fn.desk l.desk (flat_map (λ (c : Connection). c.steps) served);
 }

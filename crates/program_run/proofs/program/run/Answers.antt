@@ -7,38 +7,32 @@ use Rattle.program_run.specs.FileEnds.{InvocationEnds}
 use Rattle.program_run.proofs.program.run.Goals as goal
 
 pub returns-in-Err-clause-end : goal.returns-in-Err-clause-end
-returns-in-Err-clause-end g c = inr (c.in-Err.ensures.err, tt, ((refl, refl), refl))
+returns-in-Err-clause-end g c = inr (c.in-Err.ensures.err, tt, refl)
 
 -- where the words are read, the streams are as before
 pub returns-in-Err-rules_of-clause-end : goal.returns-in-Err-rules_of-clause-end
 returns-in-Err-rules_of-clause-end g c =
     let holds = g.F.NamedFiles.holds in
-    let sent = g.O.OpenDesks.sent in
-    let replied = g.N.Entrances.replied in
     let machine = c.args.machine.now in
     let output = g.W.Write.contents c.read_words.new.streams.output in
     inl (
       c.in-Ok.invocation,
       c.in-Ok.ensures.ok.1,
-      subst (λ s. InvocationEnds ghosts.seen g.K.KeepsDesks.files c.args.databases (g.O.OpenDesks.answers machine.desks) (sent machine.desks) (sent machine.desks)
-          (g.N.Entrances.coming machine.entrances) (replied machine.entrances) (replied machine.entrances)
+      subst (λ s. InvocationEnds ghosts.seen g.K.KeepsDesks.files c.args.databases
           g.F.NamedFiles.is_told (holds machine.files) (holds machine.files) (Appends (g.W.Write.contents s.output) output) (g.R.Read.remaining s.input)
           c.in-Ok.invocation c.report_rules-status.result (Untouched c.args.databases))
-          c.in-Ok.ensures.ok.0 (inr (c.in-Err-rules_of.fault, c.in-Err-rules_of.ensures, c.report_rules-status.ensures, Appends-nil output, tt, ((refl, refl), refl))),
+          c.in-Ok.ensures.ok.0 (inr (c.in-Err-rules_of.fault, c.in-Err-rules_of.ensures, c.report_rules-status.ensures, Appends-nil output, tt, refl)),
     )
 
 pub returns-clause-end : goal.returns-clause-end
 returns-clause-end g c =
     let holds = g.F.NamedFiles.holds in
-    let sent = g.O.OpenDesks.sent in
-    let replied = g.N.Entrances.replied in
     let before = c.args.machine.now in
     let after = c.run_action-ended.new.machine in
     inl (
       c.in-Ok.invocation,
       c.in-Ok.ensures.ok.1,
-      subst (λ s. InvocationEnds ghosts.seen g.K.KeepsDesks.files c.args.databases (g.O.OpenDesks.answers before.desks) (sent before.desks) (sent after.desks)
-          (g.N.Entrances.coming before.entrances) (replied before.entrances) (replied after.entrances)
+      subst (λ s. InvocationEnds ghosts.seen g.K.KeepsDesks.files c.args.databases
           g.F.NamedFiles.is_told (holds before.files) (holds after.files) (Appends (g.W.Write.contents s.output) (g.W.Write.contents after.streams.output)) (g.R.Read.remaining s.input)
           c.in-Ok.invocation c.run_action-ended.result.0 c.run_action-ended.result.1)
           c.in-Ok.ensures.ok.0 (inl (c.in-Ok-rules_of.precedence, c.in-Ok-rules_of.ensures, c.run_action-ended.ensures.end)),

@@ -4,7 +4,7 @@ use Rattle.std.specs.Io.KnownBytes.{Appends}
 use Rattle.series_rules.proofs.StepLemmas.{traces_lead}
 use Rattle.program_desks.proofs.SeenLemmas.{leads_as}
 use Rattle.program_desks.specs.DeskFiles.{OpensAs}
-use Rattle.program_run.proofs.EndLemmas.{after_opening, over_files, task_as, task_between, task_of}
+use Rattle.program_run.proofs.EndLemmas.{over_files, task_as, task_between}
 use Rattle.program_run.specs.FileEnds.{TaskLeads}
 use Rattle.program_run.specs.OverFiles.{creation_by}
 use Rattle.series_rules.specs.Steps.{Asked, Leads}
@@ -21,17 +21,13 @@ returns-in-Ok-clause-end g c =
     let task = c.args.task.now in
     let holds = g.F.NamedFiles.holds c.args.machine.now.files in
     let told = g.R.Read.remaining c.args.machine.now.streams.input in
-    let coming = g.N.Entrances.coming c.args.machine.now.entrances in
-    let were = g.N.Entrances.replied c.args.machine.now.entrances in
-    let are = g.N.Entrances.replied c.run_task-status.new.entrances in
-    let ended = task_of (Asked theirs rules first last) written task holds told _ coming _ were are c.run_task-status.result c.bind_port.ensures.coming c.bind_port.ensures.replied c.run_task-status.ensures.end in
     let files = g.K.KeepsDesks.files in
     let name = c.args.db.now.name.now in
     let creation = creation_by c.args.db.now.is_existing in
-    over_files files c.args.databases name creation written (TaskLeads rules written task holds told coming were are) (task_between rules written task holds told coming were are) (seen first) (seen last) c.run_task-status.result c.close_desk.result.0
+    over_files files c.args.databases name creation written (TaskLeads rules written task holds told) (task_between rules written task holds told) (seen first) (seen last) c.run_task-status.result c.close_desk.result.0
     c.close_desk.result.1 (subst (λ by. OpensAs (files.found c.args.databases name by) (seen first)) c.creation_of.ensures c.in-Ok.ensures.ok) c.close_desk.ensures.end
     (task_as (Asked theirs rules first last) (λ steps. Leads rules steps (seen first) (seen last)) written
-    (λ steps trace. leads_as g.D.Desk.kind g.K.KeepsDesks.kind theirs seen g.met.K.KeepsDesks.same rules steps first last (traces_lead theirs rules steps first last trace)) task holds told coming were are c.run_task-status.result ended)
+    (λ steps trace. leads_as g.D.Desk.kind g.K.KeepsDesks.kind theirs seen g.met.K.KeepsDesks.same rules steps first last (traces_lead theirs rules steps first last trace)) task holds told c.run_task-status.result c.run_task-status.ensures.end)
 
 pub returns-in-Err-clause-end : goal.returns-in-Err-clause-end
 returns-in-Err-clause-end g c = (
@@ -39,11 +35,3 @@ returns-in-Err-clause-end g c = (
   Appends-nil (g.W.Write.contents c.args.machine.now.streams.output),
   subst (λ by. g.K.KeepsDesks.files.spared c.args.databases c.args.db.now.name.now by c.in-Err.left) c.creation_of.ensures c.in-Err.ensures.err,
 )
-
-pub returns-in-Ok-clause-unserved : goal.returns-in-Ok-clause-unserved
-returns-in-Ok-clause-unserved g c =
-    let replied = g.N.Entrances.replied in
-    after_opening g.K.KeepsDesks.files (g.K.KeepsDesks.seen c.run_task-status.new.desk) c.run_task-status.result c.close_desk.result.0 (replied c.args.machine.now.entrances) (replied c.run_task-status.new.entrances) c.close_desk.result.1 c.close_desk.ensures.end
-
-pub returns-in-Err-clause-unserved : goal.returns-in-Err-clause-unserved
-returns-in-Err-clause-unserved g c = c.bind_port.ensures.replied

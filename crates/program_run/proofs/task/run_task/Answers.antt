@@ -1,4 +1,4 @@
-use Rattle.std.proofs.Common.{List, map, refl, subst, ℕ}
+use Rattle.std.proofs.Common.{List, map, subst, ℕ}
 use Rattle.std.specs.Borrow.{Bor}
 use Rattle.std.specs.Io.KnownBytes.{Appends}
 use Rattle.series_rules.specs.Steps.{Asked}
@@ -6,7 +6,7 @@ use Rattle.program_commands.specs.CommandEnds.{DeliverEnds}
 use Rattle.program_run.proofs.task.run_task.Goals as goal
 
 pub returns-in-Batch-clause-end : goal.returns-in-Batch-clause-end
-returns-in-Batch-clause-end g c = rw c.in-Batch.is (refl, c.answer_input.ensures.end)
+returns-in-Batch-clause-end g c = rw c.in-Batch.is c.answer_input.ensures.end
 
 pub returns-in-Deliver-clause-end : goal.returns-in-Deliver-clause-end
 returns-in-Deliver-clause-end g c =
@@ -15,10 +15,10 @@ returns-in-Deliver-clause-end g c =
     let ended =
     subst (λ names. DeliverEnds asked written (g.F.NamedFiles.holds c.args.files.now) (g.R.Read.remaining c.args.streams.now.input) (map (λ (name : Bor (List ℕ)). name.now) names) c.deliver_files.result)
     c.as_slice.ensures.value c.deliver_files.ensures.end in
-    rw c.in-Deliver.is (refl, ended)
+    rw c.in-Deliver.is ended
 
 pub returns-in-Gaps-clause-end : goal.returns-in-Gaps-clause-end
-returns-in-Gaps-clause-end g c = rw c.in-Gaps.is (refl, c.ask_gaps.ensures.end)
+returns-in-Gaps-clause-end g c = rw c.in-Gaps.is c.ask_gaps.ensures.end
 
 pub returns-in-Serve-clause-end : goal.returns-in-Serve-clause-end
 returns-in-Serve-clause-end g c = rw c.in-Serve.is c.serve_desk.ensures.end

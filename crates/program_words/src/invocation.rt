@@ -57,37 +57,21 @@ pub enum Action<'a> {
     /// A command over a new desk in memory.
     InMemory(Task<'a>),
     /// A command over the desk in this database file.
-    InFile {
-        db: Database<'a>,
-        task: Task<'a>,
-    },
+    InFile { db: Database<'a>, task: Task<'a> },
     /// What the desk in this database file holds is listed.
-    Listed {
-        db: Database<'a>,
-        listing: Listing,
-    },
+    Listed { db: Database<'a>, listing: Listing },
     /// `migrate`: the desk in this database file is brought to version 2.
-    Migrate {
-        db: Database<'a>,
-    },
+    Migrate { db: Database<'a> },
     /// `--batches SOCKET batch`: the batch is sent to the desk that is open there.
-    Send {
-        socket: &'a str,
-    },
+    Send { socket: &'a str },
     /// `convert`: messages in XML become CSV records, and no desk is opened.
     Convert(Conversion<'a>),
     /// `rules FILE`: the precedence table of a file is read, and no desk is opened.
-    CheckRules {
-        file: &'a str,
-    },
+    CheckRules { file: &'a str },
     /// `terms FILE`: the table of the shop's terms in a file is read, and no desk is opened.
-    CheckTerms {
-        file: &'a str,
-    },
+    CheckTerms { file: &'a str },
     /// `check FILE..`: each FILE is read as a text of requests, and no desk is opened.
-    CheckTexts {
-        files: Vec<&'a str>,
-    },
+    CheckTexts { files: Vec<&'a str> },
 }
 
 /// What the program is asked to do, under the precedence table of a file or under no rules.

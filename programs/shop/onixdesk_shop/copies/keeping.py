@@ -36,9 +36,8 @@ def set_aside(machine: Machine, folder: Path) -> None:
 
 def keep_latest(machine: Machine, folder: Path, count: int, newest: Path) -> None:
     """Removes all but the latest copies. The newest stays, also where a clock that was ahead has given others later
-    names. One that is being removed is no copy any longer: a run that is killed would leave a part of it."""
+    names. One that is being removed has a hidden name: a run that is killed would leave a part of it."""
     others = [copy for copy in copies_in(machine, folder) if copy != newest]
     for old in others[: max(0, len(others) + 1 - count)]:
-        removed = folder / f"{UNFINISHED}-{old.name}"
-        machine.rename(old, removed)
-        machine.remove_tree(removed)
+        machine.rename(old, folder / UNFINISHED)
+        machine.remove_tree(folder / UNFINISHED)

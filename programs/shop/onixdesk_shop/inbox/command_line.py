@@ -4,14 +4,13 @@ import argparse
 import contextlib
 import os
 import pwd
-import shutil
 import sys
 from collections.abc import Iterator
 from pathlib import Path
 
 from onixdesk_shop.desk import Desk
-from onixdesk_shop.ends import parser_of, run_program
-from onixdesk_shop.faults import DONE, BadCall, Fault
+from onixdesk_shop.ends import parser_of, program_of, run_program
+from onixdesk_shop.faults import DONE, BadCall
 from onixdesk_shop.feeds import check_words
 from onixdesk_shop.inbox import decide, report, run, show
 from onixdesk_shop.inbox.context import Inbox, Places
@@ -108,10 +107,7 @@ def read_all(machine: Machine, options: argparse.Namespace) -> tuple[Settings, b
 
 
 def places_of(options: argparse.Namespace) -> Places:
-    program = shutil.which(options.program)
-    if not program:
-        raise Fault(f"{options.program}: there is no such program")
-    return Places(Path(program), options.incoming, options.inboxes, options.state, options.rules)
+    return Places(program_of(options.program), options.incoming, options.inboxes, options.state, options.rules)
 
 
 @contextlib.contextmanager

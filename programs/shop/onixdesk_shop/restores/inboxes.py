@@ -80,6 +80,11 @@ class Inbox:
         sender = settings.sender if settings else ("", "")
         return f"Agree,{self.series},{','.join(sender)},{','.join(addressee)},{first}"
 
+    def has_unanswered(self) -> bool:
+        """Whether the desk has not said yet what it makes of a message."""
+        with self.ledger() as ledger:
+            return bool(ledger.value("SELECT count(*) FROM message WHERE state IN ('ready', 'posted')"))
+
     def has_refused(self, number: int) -> bool:
         """Whether the desk has refused that number since, or a person its file."""
         with self.ledger() as ledger:

@@ -30,18 +30,21 @@ class Places:
     settings: Path
     copies: Path
     copy: Path
-    text: Path | None
-    has_gaps: bool
+    text: Path | None = None
+    has_gaps: bool = False
 
 
 class Restore:
-    def __init__(self, machine: Machine, places: Places, work: Work, units: Units) -> None:
+    remedy = "with --gaps it is put into place all the same"
+
+    def __init__(self, machine: Machine, places: Places) -> None:
         self.machine = machine
         self.places = places
-        self.work = work
-        self.units = units
-        self.desk = DeskFile(machine, places.program, work.new)
+        self.work = Work(machine, places.database)
+        self.units = Units(machine)
+        self.desk = DeskFile(machine, places.program, self.work.new)
         self.base = Contents()
+        self.said: list[str] = []
         self.planned: dict[str, list[int]] = {}
         self.has_all = True
 
@@ -137,7 +140,7 @@ class Restore:
 
     def is_wanted(self, is_told: bool) -> bool:
         """Says what comes, and asks. Failed where something is lost and nobody said that it may."""
-        for line in self.prepare(self.present()):
+        for line in [*self.said, *self.prepare(self.present())]:
             self.machine.write(f"{line}\n")
         return is_told or self.machine.ask("put it into the desk's place? (yes) ") == "yes"
 
@@ -146,7 +149,7 @@ class Restore:
         self.send_since(present)
         said, lost = self.plan(present)
         if lost and not self.places.has_gaps:
-            raise Failed(f"{self.places.copy}: {'; '.join(lost)}; with --gaps it is put into place all the same")
+            raise Failed(f"{self.places.copy}: {'; '.join(lost)}; {self.remedy}")
         return [*said, *lost]
 
     # The exchange
@@ -156,7 +159,7 @@ class Restore:
         the desk lacks."""
         machine, places, work = self.machine, self.places, self.work
         work.keep_units(self.units.begun)
-        self.units.stop(self.units.all)
+        self.stop()
         if machine.is_open(places.database):
             raise Fault(f"{places.database}: another program has it open; stop it before")
         self.prepare(self.present())
@@ -167,6 +170,9 @@ class Restore:
         before = work.put_in_place()
         stood = f"the one before is {before}" if machine.exists(before) else "there was none before"
         machine.tell(NOTICE, f"the desk is in place as {places.database}; {stood}")
+
+    def stop(self) -> None:
+        self.units.stop(self.units.all)
 
     def put_ledgers_back(self) -> None:
         """A ledger of the copy has its place where there is none."""

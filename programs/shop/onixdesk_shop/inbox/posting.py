@@ -23,6 +23,7 @@ REASONS = {
     "before-first": "number {number} is below the first number of the series, {first}",
     "waived": "number {number} was waived",
     "other-contents": "the desk has another message of number {number}; a correction needs a number of its own",
+    "other-series": "it went into the series {series}, which has its sender and addressee",
 }
 
 
@@ -62,6 +63,8 @@ def post_row(inbox: Inbox, row: Row) -> None:
     if current.state == State.READY:
         inbox.ledger.set_message(row.number, State.POSTED)
     answer = inbox.desk.post(inbox.ledger.text(row.number))
+    if isinstance(answer, Taken) and answer.series != inbox.series:
+        answer = Refused("other-series", {"series": answer.series}, answer.said)
     with inbox.ledger.step():
         if isinstance(answer, Taken):
             settle_taken(inbox, current, answer)
@@ -75,12 +78,7 @@ def settle_taken(inbox: Inbox, row: Row, answer: Taken) -> None:
     ledger.set_message(row.number, state, answer.said)
     if state == State.APPLIED and row.state != State.APPLIED:
         ledger.name_references(row.number, products_of(ledger.text(row.number)))
-    file = ledger.file(row.file)
-    if answer.series != inbox.series:
-        inbox.tell_file(
-            ERROR, file, f"number {answer.number} went into the series {answer.series}: whose agreement is it?"
-        )
-    settle_file(inbox, file)
+    settle_file(inbox, ledger.file(row.file))
 
 
 def settle_file(inbox: Inbox, file: File) -> None:
@@ -108,6 +106,21 @@ def settle_refused(inbox: Inbox, row: Row, answer: Refused) -> None:
             return
     ledger.set_state(file, State.REFUSED, why)
     inbox.tell_refused(file, why, row.number)
+
+
+def retry_unknown(inbox: Inbox, gaps: Gaps) -> None:
+    """Posts again what no agreement was for, without a line: that the desk has another one by now shows in nothing
+    else."""
+    query = (
+        "SELECT number, file FROM message WHERE state IN ('refused', 'returned') AND number >= ? AND text IS NOT NULL"
+        " AND answer LIKE '%\"unknown-series\"%' AND file IN (SELECT id FROM file WHERE state = 'refused')"
+        " ORDER BY number"
+    )
+    for number, file in inbox.ledger.rows(query, gaps.first):
+        if isinstance(inbox.desk.post(inbox.ledger.text(number)), Taken):
+            with inbox.ledger.step():
+                inbox.ledger.set_message(number, State.POSTED)
+                inbox.ledger.set_state(inbox.ledger.file(file), State.POSTING)
 
 
 def below_first(inbox: Inbox, gaps: Gaps) -> None:

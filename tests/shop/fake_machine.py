@@ -74,6 +74,9 @@ class FakeMachine(Machine):
             return
         if self.kind == "error":
             raise OSError(28, "No space left on device", what)
+        if self.kind == "signal":
+            # The program goes on with what it does at its end.
+            raise SystemExit(143)
         self.is_dead = True
         if self.kind == "power":
             self.disk.lose_power()

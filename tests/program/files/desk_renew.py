@@ -11,6 +11,7 @@ from onixdesk_shop.machine import Machine
 from onixdesk_shop.renewals import catalogue
 from onixdesk_shop.renewals.command_line import command_line, renew
 from tests.program.databases import DATABASE, all_rows, batch
+from tests.program.inbox.inboxes import script
 from tests.program.room import Group, Ran, Room
 from tests.running import Outcome
 from tests.shop.desk_files import UNITS, Shop, ShopMachine, read
@@ -149,6 +150,11 @@ def too_few_numbers(room: Room) -> Iterator[Outcome]:
     yield Outcome("says so", (machine.lines, of_before(room)), ([line], []))
 
 
+# Programs that ask the built one, of which the second answers of the new desk as none does.
+KILLED = 'text=$(cat; echo .); case $text in Ask*) kill -9 $$;; esac; printf %s "${text%.}" | PROGRAM "$@"'
+DIFFERS = 'case "$*" in */new/*batch) PROGRAM "$@" | sed s/^price,/cost,/;; *) exec PROGRAM "$@";; esac'
+
+
 def what_differs(room: Room) -> Iterator[Outcome]:
     """A row or an answer that is another one is a failure, and so is a program that is killed as it answers."""
     batch(room, DESK.encode())
@@ -160,6 +166,14 @@ def what_differs(room: Room) -> Iterator[Outcome]:
     finally:
         catalogue.territory = told
     yield Outcome("says which", [line[:35] for line in machine.lines], ["the renewed desk differs: offer: on"])
+    for name, text, status, said in (
+        ("killed", KILLED, 3, "killed was killed by signal 9"),
+        ("differs", DIFFERS, 1, "the renewed desk differs: the copy answers [['price'"),
+    ):
+        machine = RealMachine()
+        program = script(room, name, text.replace("PROGRAM", str(room.program)))
+        found = renewed(room, machine, program=program), of_before(room), [line[: len(said)] for line in machine.lines]
+        yield Outcome(name, found, (status, [], [said]))
 
 
 # Over files of the tests, in this process
@@ -265,7 +279,7 @@ def killed(kind: str, room: Room) -> Iterator[Outcome]:
         machine = shop.machine(kind, at)
         try:
             run(shop, machine)
-        except Killed:
+        except (Killed, SystemExit):
             pass
         if machine.calls < at:
             break
@@ -278,4 +292,4 @@ def killed(kind: str, room: Room) -> Iterator[Outcome]:
     yield Outcome("there are some", at > 40, True)
 
 
-GROUPS = [Group(f"renewals, {kind}", partial(killed, kind)) for kind in ("kill", "power", "error")]
+GROUPS = [Group(f"renewals, {kind}", partial(killed, kind)) for kind in ("kill", "power", "error", "signal")]

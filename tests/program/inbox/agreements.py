@@ -13,21 +13,23 @@ ADDRESSEE = "06", "5012345678900"
 
 
 def mistyped(room: Room) -> Iterator[Outcome]:
-    """What was refused for want of an agreement is taken once that is corrected, under the number that it has."""
-    for number in ("own", NEXT):
-        inbox = inbox_in(room, number, number=number)
+    """What was refused for want of an agreement is taken once that is corrected, under the numbers that it has."""
+    for number, parts in ("own", 1), (NEXT, 1), ("own", 2), (NEXT, 2):
+        inbox = inbox_in(room, f"{number}{parts}", number=number, words=("--parts", str(parts)))
         inbox.series.parties = (*SENDER, *ADDRESSEE)
-        inbox.send("1.xml", feed_of(1, {"R1": "1.00"}))
-        said = [line.rpartition("refused: ")[2] for line in inbox.run()]
-        wanted = ["no series of its sender and addressee is agreed; 1.xml"]
-        yield Outcome(f"{number}: no agreement", (said, inbox.shown()["refused"]), (wanted, 1))
-        yield Outcome(f"{number}: told once", inbox.run(), [])
+        inbox.send("1.xml", feed_of(1, {"R1": "1.00", "R2": "1.00"}))
+        said = {line.rpartition("refused: ")[2] for line in inbox.run()}
+        wanted = {"no series of its sender and addressee is agreed; 1.xml"}
+        name = f"{number}, {parts}"
+        yield Outcome(f"{name}: no agreement", (said, inbox.shown()["refused"], inbox.run()), (wanted, 1, []))
         inbox.series.parties = (*SENDER, "", "")
         inbox.run()
-        yield Outcome(f"{number}: corrected", (inbox.states(), price_of(inbox, "R1")), ({"1.xml": "applied"}, "1.000"))
+        found = inbox.states(), price_of(inbox, "R1"), price_of(inbox, "R2")
+        yield Outcome(f"{name}: corrected", found, ({"1.xml": "applied"}, "1.000", "1.000"))
         inbox.send("2.xml", feed_of(2, {"R1": "2.00"}))
         inbox.run()
-        yield Outcome(f"{number}: the next one", (sorted(inbox.series.had), inbox.run()), ([1, 2], []))
+        found = sorted(inbox.series.had), price_of(inbox, "R1"), inbox.run()
+        yield Outcome(f"{name}: the next one", found, ([*range(1, 2 * parts + 1)], "2.000", []))
 
 
 def over_a_restored_desk(room: Room) -> Iterator[Outcome]:

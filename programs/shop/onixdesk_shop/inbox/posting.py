@@ -118,9 +118,16 @@ def retry_unknown(inbox: Inbox, gaps: Gaps) -> None:
     )
     for number, file in inbox.ledger.rows(query, gaps.first):
         if isinstance(inbox.desk.post(inbox.ledger.text(number)), Taken):
-            with inbox.ledger.step():
-                inbox.ledger.set_message(number, State.POSTED)
-                inbox.ledger.set_state(inbox.ledger.file(file), State.POSTING)
+            begin_again(inbox, inbox.ledger.file(file), number)
+
+
+def begin_again(inbox: Inbox, file: File, taken: int) -> None:
+    """Has all messages of a refused file posted again, of which the desk has taken one."""
+    with inbox.ledger.step():
+        for row in inbox.ledger.messages_of(file):
+            if row.state in (State.REFUSED, State.RETURNED):
+                inbox.ledger.set_message(row.number, State.POSTED if row.number == taken else State.READY)
+        inbox.ledger.set_state(file, State.POSTING)
 
 
 def below_first(inbox: Inbox, gaps: Gaps) -> None:

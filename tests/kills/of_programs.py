@@ -67,7 +67,7 @@ class OfRenewal(OfRestore):
         self.script("systemctl", "exit 0")
 
     def words(self) -> Sequence[Word]:
-        places = ["--inboxes=none", "--settings=none", "--rules=none", f"--program={self.room.program}"]
+        places = ["--inboxes=none", "--settings=none", "--copies=none", f"--program={self.room.program}"]
         return [ROOT / "bin/desk-renew", "--db", f"desk/{DATABASE}", *places, "--yes"]
 
     def is_sound(self) -> bool:

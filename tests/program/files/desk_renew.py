@@ -110,8 +110,8 @@ def renewed(room: Room, machine: Machine, **more: object) -> int:
     words = {
         "db": room.path(DATABASE),
         "inboxes": room.path("none"),
+        "copies": room.path("none"),
         "program": room.program,
-        "rules": room.path("none"),
     }
     options = command_line().parse_args([f"--{name}={value}" for name, value in (words | more).items()] + ["--yes"])
     return status_of(machine, lambda each: renew(each, options))
@@ -150,13 +150,8 @@ def too_few_numbers(room: Room) -> Iterator[Outcome]:
     yield Outcome("says so", (machine.lines, of_before(room)), ([line], []))
 
 
-# Programs that ask the built one, of which the second answers of the new desk as none does.
-KILLED = 'text=$(cat; echo .); case $text in Ask*) kill -9 $$;; esac; printf %s "${text%.}" | PROGRAM "$@"'
-DIFFERS = 'case "$*" in */new/*batch) PROGRAM "$@" | sed s/^price,/cost,/;; *) exec PROGRAM "$@";; esac'
-
-
 def what_differs(room: Room) -> Iterator[Outcome]:
-    """A row or an answer that is another one is a failure, and so is a program that is killed as it answers."""
+    """A row that is another one is a failure, and so is a program that is killed as it makes the new desk."""
     batch(room, DESK.encode())
     told = catalogue.territory
     catalogue.territory = lambda included, world, excluded: told(included, world, "")
@@ -165,15 +160,12 @@ def what_differs(room: Room) -> Iterator[Outcome]:
         yield Outcome("a row", (renewed(room, machine), of_before(room)), (1, []))
     finally:
         catalogue.territory = told
-    yield Outcome("says which", [line[:35] for line in machine.lines], ["the renewed desk differs: offer: on"])
-    for name, text, status, said in (
-        ("killed", KILLED, 3, "killed was killed by signal 9"),
-        ("differs", DIFFERS, 1, "the renewed desk differs: the copy answers [['price'"),
-    ):
-        machine = RealMachine()
-        program = script(room, name, text.replace("PROGRAM", str(room.program)))
-        found = renewed(room, machine, program=program), of_before(room), [line[: len(said)] for line in machine.lines]
-        yield Outcome(name, found, (status, [], [said]))
+    said = "the renewed desk differs, and the desk is as it was: offer: on"
+    yield Outcome("says which", [line[: len(said)] for line in machine.lines], [said])
+    machine = RealMachine()
+    program = script(room, "killed", "kill -9 $$")
+    found = renewed(room, machine, program=program), of_before(room), machine.lines
+    yield Outcome("killed", found, (3, [], ["killed was killed by signal 9"]))
 
 
 # Over files of the tests, in this process
@@ -189,10 +181,7 @@ def shop_in(room: Room, name: str) -> Shop:
 
 def run(shop: Shop, machine: ShopMachine | None = None) -> int:
     machine = machine or shop.machine()
-    options = command_line().parse_args(
-        [f"--{name}={place}" for name, place in shop.options.items() if name != "copies"]
-    )
-    options.rules = shop.settings / "none"
+    options = command_line().parse_args([f"--{name}={place}" for name, place in shop.options.items()])
     try:
         return status_of(machine, lambda each: renew(each, options))
     finally:
@@ -242,7 +231,8 @@ def unanswered(room: Room) -> Iterator[Outcome]:
     shop = shop_in(room, "never")
     shop.inbox.work(lambda inbox: inbox.ledger.set_message(5, "posted"))
     shop.is_inbox_run = False
-    yield Outcome("never answered", (run(shop), shop.units), (1, []))
+    status, stopped = run(shop), [words for words in shop.units if words.startswith("stop")]
+    yield Outcome("never answered", (status, stopped, standing(shop)), (1, [], (1, [1, 2, 3, 5])))
 
 
 class Waiving(ShopMachine):
@@ -266,7 +256,7 @@ def written_meanwhile(room: Room) -> Iterator[Outcome]:
     yield Outcome("and ends at last", (run(shop, machine), standing(shop)[0], shop.started), (3, 1, {*UNITS}))
 
 
-STRIDE = int(os.environ.get("ONIXDESK_STRIDE", "25"))
+STRIDE = int(os.environ.get("ONIXDESK_STRIDE", "33"))
 
 
 def killed(kind: str, room: Room) -> Iterator[Outcome]:

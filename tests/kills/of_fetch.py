@@ -14,6 +14,7 @@ from tools.words import Word
 
 # bash runs this before each command of the script: it counts, and kills all at the one that it is told.
 COUNTING = """\
+COMMANDS=0
 set -o functrace
 trap '[ $BASHPID != $$ ] || { echo >>"$COUNT"; ((++COMMANDS == AT)) && kill -KILL -- -$$; }' DEBUG
 """

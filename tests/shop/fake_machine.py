@@ -158,7 +158,6 @@ class FakeMachine(Machine):
         words: Words,
         known: tuple[int, ...] = (0,),
         text: bytes = b"",
-        output: Path | None = None,
         seconds: float | None = None,
     ) -> Ended:
         self.step("child")

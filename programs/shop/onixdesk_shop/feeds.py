@@ -119,18 +119,6 @@ def convert(
     return Converted(messages, said)
 
 
-def check_words(machine: Machine, program: Path, words: list[str], terms: bytes | None) -> None:
-    """BadCall where the converter does not take the words, or the table of terms."""
-    with machine.scratch() as folder:
-        call: list[str | Path] = [program, "convert", *words, "-o", folder]
-        if terms is not None:
-            machine.write_whole(folder / "terms.toml", terms)
-            call += ["--terms", folder / "terms.toml"]
-        ended = machine.run([*call, "-"], (DONE, FAILED, BAD_CALL), seconds=CHECK_SECONDS)
-    if ended.status == BAD_CALL:
-        raise BadCall(f"WORDS or TERMS: {cut(ended.errors.decode('utf-8', 'replace').partition(chr(10))[0])}")
-
-
 def check(machine: Machine, program: Path, message: bytes) -> str:
     """Why the desk would not take a message, or an empty text."""
     ended = machine.run([program, "check", "-"], (DONE, FAILED), message, seconds=CHECK_SECONDS)

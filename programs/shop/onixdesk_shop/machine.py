@@ -39,7 +39,6 @@ class Entry(NamedTuple):
     modified: int
     changed: int
     is_regular: bool
-    links: int
     inode: int
 
 
@@ -71,7 +70,7 @@ class Machine:
         found = os.lstat(path)
         is_regular = stat.S_ISREG(found.st_mode)
         times = found.st_mtime_ns, found.st_ctime_ns
-        return Entry(path.name, found.st_size, *times, is_regular, found.st_nlink, found.st_ino)
+        return Entry(path.name, found.st_size, *times, is_regular, found.st_ino)
 
     def copy(self, source: Path, target: Path) -> str:
         """Copies a regular file, of which the disk has the target then, with its time; the SHA-256 of its bytes."""
@@ -264,12 +263,10 @@ class Machine:
         words: Words,
         known: tuple[int, ...] = (DONE,),
         text: bytes = b"",
-        output: Path | None = None,
         seconds: float | None = None,
     ) -> Ended:
-        """Runs a child that reads the text, and writes to the file if there is one. BadEnd where it does not end in a
-        way that is known."""
-        return children.run(words, known, text, output, seconds)
+        """Runs a child that reads the text. BadEnd where it does not end in a way that is known."""
+        return children.run(words, known, text, seconds)
 
     def run_pipe(self, first: Words, second: Words, known: tuple[int, ...], seconds: float) -> tuple[int, Ended]:
         """Runs a child that reads what another one writes, whose status is the first of the two."""

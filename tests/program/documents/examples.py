@@ -106,7 +106,7 @@ def own_file(room: Room) -> Iterator[Outcome]:
         shutil.rmtree(room.path("try"))
     (look,) = re.findall("`(bin/onixdesk-look [^`]*my.xml)`", (ROOT / "README.md").read_text(encoding="utf-8"))
     looked = room.call(["sh", "-c", look])
-    yield Outcome(f"README.md: {look}", (looked.status, b"messages needed, --parts: 1\n" in looked.output), (0, True))
+    yield Outcome(f"README.md: {look}", (looked.status, b"; messages: 1\n" in looked.output), (0, True))
 
 
 def week(room: Room) -> Iterator[Outcome]:

@@ -2,7 +2,7 @@
 
 from collections.abc import Callable
 
-from onixdesk_shop.faults import BadCall, Failed
+from onixdesk_shop.faults import DONE, BadCall, Failed
 from onixdesk_shop.inbox.context import Inbox
 from onixdesk_shop.inbox.ledger import Decision, File, State
 from onixdesk_shop.lines import token
@@ -75,15 +75,16 @@ DECISIONS: dict[str, Callable[[Inbox, File], str]] = {
 }
 
 
-def decide(inbox: Inbox, what: str, mark: str) -> None:
+def decide(inbox: Inbox, what: str, mark: str) -> int:
     """One transaction: the decision, and the state that follows."""
     with inbox.ledger.step():
         file = file_of(inbox, mark)
         said = DECISIONS[what](inbox, file)
     inbox.machine.write(f"{file.mark} {said}; {token(file.name)}\n")
+    return DONE
 
 
-def waive(inbox: Inbox, number: int) -> None:
+def waive(inbox: Inbox, number: int) -> int:
     """Has a number waived that will never come."""
     row = inbox.ledger.row(number)
     if row and inbox.ledger.stands(number):
@@ -93,11 +94,13 @@ def waive(inbox: Inbox, number: int) -> None:
         )
     inbox.ledger.decide(Decision.WAIVE, number=number)
     inbox.machine.write(f"number {number} is waived by the next run\n")
+    return DONE
 
 
-def take_back(inbox: Inbox, number: int) -> None:
+def take_back(inbox: Inbox, number: int) -> int:
     """The waiver of a number is not made again. The desk has it until its text is corrected."""
     if number not in inbox.ledger.waived():
         raise Failed(f"number {number} is not waived here")
     inbox.ledger.decide(Decision.UNWAIVE, number=number)
     inbox.machine.write(f"number {number} is not waived again\n")
+    return DONE

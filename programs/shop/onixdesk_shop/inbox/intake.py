@@ -14,8 +14,6 @@ ENDINGS = {".csv": ".csv", ".xml": ".xml", ".onix": ".xml", ".onx": ".xml", ".gz
 # How files are named that are still being written.
 UNFINISHED = (".part", ".partial", ".filepart", ".tmp", ".uploading")
 
-MOST_BYTES = 4 << 30
-
 SECOND = 1_000_000_000
 
 # A server that gives no time gives that of 1970.
@@ -44,12 +42,8 @@ def take_entry(inbox: Inbox, entry: Entry) -> None:
         why = "it seems to be still being written"
     elif not entry.is_regular:
         why = "it is no regular file"
-    elif entry.links > 1:
-        why = "it has a second name"
     elif Path(name).suffix not in ENDINGS:
         why = f"it does not end in {', '.join(ENDINGS)}"
-    elif entry.size > MOST_BYTES:
-        why = f"it has more than {MOST_BYTES} bytes"
     elif not inbox.is_settled(entry.changed):
         return
     else:

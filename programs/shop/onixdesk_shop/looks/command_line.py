@@ -2,19 +2,19 @@
 
 import argparse
 import sys
-from collections.abc import Iterator
 from pathlib import Path
 
 from onixdesk_shop.desk_files import DeskFile
 from onixdesk_shop.ends import day_word, parser_of, program_of, run_program
 from onixdesk_shop.faults import DONE, FAILED, Fault
 from onixdesk_shop.feeds import Refusal
+from onixdesk_shop.lines import count
 from onixdesk_shop.looks import page
-from onixdesk_shop.looks.sample import Sample, converted, count_priced, counts_of, facts_of
+from onixdesk_shop.looks.sample import converted, count_priced
 from onixdesk_shop.machine import Machine
 from onixdesk_shop.places import DESK_JSON
 from onixdesk_shop.settings import words
-from onixdesk_shop.shop_json import Shop, read_shop
+from onixdesk_shop.shop_json import read_shop
 
 NAME = "onixdesk-look"
 
@@ -26,6 +26,8 @@ agreement, the settings of the inbox and a table of terms. No desk of the shop i
 STATUSES = """\
 Status 0; 1 if FILE is refused, or products of it are wrong; 2 for a bad command line; 3 if a file cannot be read.
 docs/ONIX.md has what to ask a wholesaler for."""
+
+TO_PASTE = "To paste; the last field of Agree is to be the number of the first message that the desk gets"
 
 
 def command_line() -> argparse.ArgumentParser:
@@ -52,33 +54,18 @@ def look(machine: Machine, options: argparse.Namespace) -> int:
         except Refusal as refusal:
             machine.write(f"refused: {refusal}\n")
             return FAILED
-        desk = DeskFile(machine, program, folder / "desk.db")
-        for line in lines(machine, options, sample, shop, terms, desk):
-            machine.write(f"{line}\n")
+        sample.count()
+        sample.read_facts(machine, options.file)
+        question = f"{options.day or machine.today()},{shop.country},{shop.currency},{shop.price_type}"
+        priced = count_priced(DeskFile(machine, program, folder / "desk.db"), sample, question)
+    lines = [*page.of_feed(sample), f"\nOf {count(len(sample.isbns), 'article')} {priced} have a price: {question}"]
+    lines += [*page.section_of("To look at", page.remarks(sample, shop.price_type, terms))]
+    lines += [*page.section_of(TO_PASTE, page.lines_to_paste(options.file.name, sample, options.words))]
+    if not terms and page.needs_terms(sample, shop.price_type):
+        table = page.terms_to_paste(sample, shop.price_type)
+        lines += [*page.section_of("A table for TERMS, once each percent is written", table.splitlines())]
+    machine.write("".join(f"{line}\n" for line in lines))
     return FAILED if sample.said.wrong else DONE
-
-
-def lines(
-    machine: Machine, options: argparse.Namespace, sample: Sample, shop: Shop, terms: bytes | None, desk: DeskFile
-) -> Iterator[str]:
-    """All that is said of a sample."""
-    counts, facts = counts_of(sample.messages), facts_of(machine, options.file)
-    codes = [(tuple(code), number) for code, number in facts["codes"]]
-    facts["codes"] = codes
-    yield from page.of_feed(sample, counts, facts)
-    question = f"{options.day or machine.today()},{shop.country},{shop.currency},{shop.price_type}"
-    priced = count_priced(desk, sample, counts.isbns, question)
-    yield f"\nOf {len(counts.isbns)} articles {priced} have a price: {question}"
-    if found := [*page.remarks(sample, counts, facts, shop, terms)]:
-        yield "\nTo look at"
-        yield from (f"  {line}" for line in found)
-    yield "\nTo paste; the last field of Agree has to be the number of the first message that the desk gets"
-    pasted = page.lines_to_paste(page.series_of(options.file.name), sample, options.words)
-    yield from (f"  {line}" for line in pasted)
-    if options.terms:
-        yield f"  TERMS={options.terms.absolute()}"
-    elif page.needs_terms(counts, shop) and (table := page.terms_to_paste(codes, shop)):
-        yield f"\nA table for TERMS, once each percent is written\n{table}"
 
 
 def main() -> int:

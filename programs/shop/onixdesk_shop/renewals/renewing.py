@@ -43,6 +43,7 @@ class Renewing(Restore):
     def stop(self) -> None:
         """Stops all once each message has its answer: below the new first numbers none would get one."""
         self.wait_for_answers()
+        self.work.keep_units(self.units.begun)
         self.units.stop([unit for unit in self.units.all if unit.startswith(OF_INBOX) and unit.endswith(BEGIN)])
         self.units.wait_for_inboxes()
         super().stop()

@@ -158,7 +158,6 @@ class Restore:
         """Stops what runs, and puts the new files into place. Nothing is lost whatever ends this: each inbox posts what
         the desk lacks."""
         machine, places, work = self.machine, self.places, self.work
-        work.keep_units(self.units.begun)
         self.stop()
         if machine.is_open(places.database):
             raise Fault(f"{places.database}: another program has it open; stop it before")
@@ -172,6 +171,8 @@ class Restore:
         machine.tell(NOTICE, f"the desk is in place as {places.database}; {stood}")
 
     def stop(self) -> None:
+        """Stops what runs, once the disk has what is to be started again."""
+        self.work.keep_units(self.units.begun)
         self.units.stop(self.units.all)
 
     def put_ledgers_back(self) -> None:

@@ -44,7 +44,7 @@ class OfInbox(Scenario):
             shutil.rmtree(self.room.path(name))
             self.room.path(name).mkdir()
         self.series = f"s{next(self.places)}"
-        settings = f"DESK=http://127.0.0.1:{self.desk.port}\nBATCHES={self.room.path('batches')}\nNUMBER=next\n"
+        settings = f"BATCHES={self.room.path('batches')}\nNUMBER=next\n"
         more = f"SENDER=06,S{self.series[1:]}\nUNCHANGED_SECONDS=0\n"
         self.room.write(f"settings/{self.series}.conf", f"{settings}{more}".encode())
         for name in ("incoming", "inboxes"):

@@ -137,14 +137,6 @@ class FakeMachine(Machine):
             self.step("commit")
         self.step("committed")
 
-    def http(self, host: str, port: int, method: str, target: str, body: bytes | None = None) -> tuple[int, bytes]:
-        self.step("http")
-        if not self.desk:
-            raise ConnectionRefusedError(111, "Connection refused")
-        answer = self.desk.http(method, target, body)
-        self.step("answered")
-        return answer
-
     def batch(self, address: Path, text: bytes) -> bytes:
         self.step("batch")
         if not self.desk:

@@ -36,7 +36,7 @@ START = 1_790_000_000
 SHOP = Shop("GB", "GBP", "02", "", [1], {}, {})
 FAULTS = ("error", "kill", "power", "signal")
 STEPS = (
-    "copy copied rename renamed remove removed sync synced write written begin commit committed http answered batch child"
+    "copy copied rename renamed remove removed sync synced write written begin commit committed answered batch child"
 ).split()
 
 REFERENCES = [f"R{number}" for number in range(4)]

@@ -1,10 +1,9 @@
-"""The one place where the package touches the machine: files, SQLite, the desk's port and socket, children, the clock,
+"""The one place where the package touches the machine: files, SQLite, the desk's socket, children, the clock,
 output. The tests put their faults here, and nowhere else."""
 
 import contextlib
 import fcntl
 import hashlib
-import http.client
 import os
 import shutil
 import socket
@@ -22,7 +21,6 @@ from onixdesk_shop.children import Ended, Words
 from onixdesk_shop.faults import DONE
 
 PIECE = 1 << 20
-MOST_OUTPUT = 64 << 20
 
 # Where SQLite locks a database: an open desk has all of it.
 LOCKED_FROM, LOCKED_LENGTH = 1 << 30, 512
@@ -231,18 +229,6 @@ class Machine:
             old.backup(new)
 
     # The desk
-
-    def http(self, host: str, port: int, method: str, target: str, body: bytes | None = None) -> tuple[int, bytes]:
-        """The status and the body of a reply; OSError where there is none."""
-        connection = http.client.HTTPConnection(host, port, timeout=SECONDS)
-        try:
-            connection.request(method, target, body)
-            reply = connection.getresponse()
-            return reply.status, reply.read(MOST_OUTPUT)
-        except http.client.HTTPException as error:
-            raise OSError(None, f"it gives no whole reply ({type(error).__name__})") from None
-        finally:
-            connection.close()
 
     def batch(self, address: Path, text: bytes) -> bytes:
         """The answers of a desk to a batch at its socket; OSError where there is none."""

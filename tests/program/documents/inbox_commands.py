@@ -77,7 +77,7 @@ def set_up_and_removed(room: Room) -> Iterator[Outcome]:
     """Users and groups are the machine's: what makes them, and who owns a folder, is only written down."""
     with machine(room, AGREED) as desk:
         example = (ROOT / "programs/onixdesk-inbox/example.conf").read_text(encoding="utf-8")
-        example = desk.placed(example.replace(":8080", f":{desk.port}"))
+        example = desk.placed(example)
         room.write("etc/onixdesk/inbox/example.conf", example.encode())
         room.path("etc/onixdesk/inbox/north.conf").unlink()
         room.path("var/lib/onixdesk-incoming/north").rmdir()

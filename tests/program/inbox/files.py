@@ -103,7 +103,7 @@ def texts(room: Room) -> Iterator[Outcome]:
     why = "the desk has another message of number 1; a correction needs a number of its own; other.xml"
     yield Outcome("the line", lines[0].partition("refused: ")[2], why)
     inbox.desk = None
-    wanted = ["files wait: no desk answers at http://127.0.0.1:8080"]
+    wanted = ["files wait: no desk answers at /run/onixdesk/batches"]
     yield Outcome("no desk", (inbox.run(), inbox.run(), inbox.shown()["desk"]), (wanted, [], False))
 
 
@@ -194,7 +194,7 @@ def returned(room: Room) -> Iterator[Outcome]:
     """A number that the desk gave back is the next file's, over a restored desk too; the first one gets another."""
     inbox = inbox_in(room, "returned", number=NEXT)
     assert inbox.desk
-    with patch.object(inbox.desk, "deliver", lambda _: (413, {"answer": "refused", "reason": "too-large"})):
+    with patch.object(inbox.desk, "deliver", lambda _: ["refused", "malformed", "1"]):
         inbox.send("a.xml", feed_of(None, {"R1": "1.00"}))
         inbox.run()
     yield Outcome("refused by the desk", (inbox.states()["a.xml"], inbox.series.had), ("refused", {}))

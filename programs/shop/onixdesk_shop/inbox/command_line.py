@@ -126,7 +126,7 @@ def opened(machine: Machine, options: argparse.Namespace) -> Iterator[Inbox]:
     with machine.lock(folder):
         ledger = Ledger(machine, folder / LEDGER)
         try:
-            desk = Desk(machine, settings.address)
+            desk = Desk(machine, settings.batches)
             yield Inbox(machine, options.series, settings, places, ledger, desk, shop, terms)
         finally:
             ledger.close()

@@ -4,7 +4,7 @@ from onixdesk_shop.desk import Gaps, Refused, Taken
 from onixdesk_shop.faults import Fault
 from onixdesk_shop.inbox.context import Inbox
 from onixdesk_shop.inbox.ledger import Decision, File, Row, State
-from onixdesk_shop.lines import ERROR, NOTICE, cut, ranges
+from onixdesk_shop.lines import ERROR, NOTICE, WARNING, count, cut, ranges
 from onixdesk_shop.messages import products_of
 from onixdesk_shop.settings import NEXT
 
@@ -16,8 +16,6 @@ QUICKER = "other-contents", "waived", "before-first"
 
 REASONS = {
     "malformed": "row {row} of its records is malformed",
-    "not-utf8": "its records are no UTF-8",
-    "too-large": "it has too many bytes of records",
     "unnumbered": "it has no MessageNumber",
     "unknown-series": "no series of its sender and addressee is agreed",
     "before-first": "number {number} is below the first number of the series, {first}",
@@ -73,12 +71,15 @@ def post_row(inbox: Inbox, row: Row) -> None:
 
 
 def settle_taken(inbox: Inbox, row: Row, answer: Taken) -> None:
-    ledger = inbox.ledger
-    state = State.APPLIED if answer.waiting_for is None else State.HELD
+    ledger, file = inbox.ledger, inbox.ledger.file(row.file)
+    state = State.HELD if "waiting-for" in answer.counts else State.APPLIED
     ledger.set_message(row.number, state, answer.said)
     if state == State.APPLIED and row.state != State.APPLIED:
         ledger.name_references(row.number, products_of(ledger.text(row.number)))
-    settle_file(inbox, ledger.file(row.file))
+        if unknown := answer.counts["unknown"]:
+            said = f"{count(unknown, 'update or deletion')} of what the desk has not: ask the wholesaler for a full feed"
+            inbox.tell_file(WARNING, file, said)
+    settle_file(inbox, file)
 
 
 def settle_file(inbox: Inbox, file: File) -> None:

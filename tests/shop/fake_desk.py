@@ -53,6 +53,11 @@ def contents_of(records: Records) -> Contents:
     return tuple(found)
 
 
+def kinds_in(contents: Contents | str) -> list[tuple[str, str]]:
+    """The reference and the NotificationType of each product."""
+    return [(record[1], record[2]) for record in contents if record[0] == "Product"]
+
+
 @dataclass
 class Series:
     parties: tuple[str, ...]
@@ -137,10 +142,12 @@ class FakeDesk:
             return ["refused", "waived", name, str(number)]
         if before is not None and before != contents:
             return ["refused", "other-contents", name, str(number)]
+        before_it = {reference for each in series.had.values() for reference, _ in kinds_in(each)}
         series.had[number] = contents
         self.texts.setdefault(number, text_of(records))
         if number < series.next:
-            return ["applied", name, str(number), "replaced=0", "updated=0", "deleted=0", "unknown=0", "ignored=0"]
+            unknown = sum(kind in ("04", "05") and reference not in before_it for reference, kind in kinds_in(contents))
+            return ["applied", name, str(number), f"unknown={unknown}"]
         return ["held", name, str(number), f"waiting-for={series.next}"]
 
     def batch(self, text: str) -> str:

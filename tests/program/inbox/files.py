@@ -190,6 +190,31 @@ def asked(room: Room) -> Iterator[Outcome]:
         yield Outcome(f"report: a server that nobody verifies: {value}", is_said, value == "yes")
 
 
+def begins_again(room: Room) -> Iterator[Outcome]:
+    """A newer file of number 1, whose contents are others, is refused with the setting by which it is taken."""
+    inbox = inbox_in(room, "again")
+    for number in (1, 2, 3):
+        inbox.send(f"{number}.xml", feed_of(number, {"R1": f"{number}.00"}))
+        inbox.run()
+    inbox.send("new.xml", feed_of(1, {"R1": "9.00"}))
+    (line,) = inbox.run()
+    yield Outcome("the setting", line.partition(";")[0], "if it begins again at 1: WORDS=--number-offset 3")
+    inbox.send("2.xml", feed_of(2, {"R1": "9.00"}))
+    yield Outcome("another one that was had", "begins again" in "".join(inbox.run()), False)
+
+
+def said_of_products(room: Room) -> Iterator[Outcome]:
+    """What several suppliers offer, and an update of what the desk has not, is a warning."""
+    inbox = inbox_in(room, "said")
+    records = message_of(1, [product_of("R1", "1.00", None) + [["SupplyDetail", "04", "", "", "South", "21", ""]]])
+    inbox.send("two.csv", records)
+    lines = inbox.run()
+    yield Outcome("several suppliers", lines[0].partition(":")[0], "1 product with several suppliers")
+    inbox.send("gone.csv", message_of(2, [product_of("R2", "-", None)]))
+    lines = inbox.run()
+    yield Outcome("what is not there", lines[0].partition(":")[0], "1 update or deletion of what the desk has not")
+
+
 def returned(room: Room) -> Iterator[Outcome]:
     """A number that the desk gave back is the next file's, over a restored desk too; the first one gets another."""
     inbox = inbox_in(room, "returned", number=NEXT)

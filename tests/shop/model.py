@@ -269,7 +269,7 @@ class Model(RuleBasedStateMachine):
 
     def waive_number(self, inbox: Inbox, number: int) -> None:
         try:
-            decide.waive(inbox, number)
+            decide.waive(inbox, range(number, number + 1))
             self.waived.add(number)
         except Fault:
             assert inbox.ledger.stands(number)

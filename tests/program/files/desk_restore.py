@@ -245,10 +245,10 @@ def waiver_taken_back(room: Room) -> Iterator[Outcome]:
     """The message of a number that was waived arrived: the waiver is taken out of the text, and not made again."""
     shop = shop_in(room, "waived")
     shop.send(("1.xml", feed_of(1, {"R1": "10.00"})))
-    shop.inbox.work(lambda inbox: decide.waive(inbox, 2))
+    shop.inbox.work(lambda inbox: decide.waive(inbox, range(2, 3)))
     shop.send(("3.xml", feed_of(3, {"R1": "13.00"})), ("2.xml", feed_of(2, {"R2": "12.00"})))
     yield Outcome("refused", (shop.inbox.states()["2.xml"], shop.inbox.series.had[2]), ("refused", WAIVED))
-    shop.inbox.work(lambda inbox: decide.take_back(inbox, 2))
+    shop.inbox.work(lambda inbox: decide.take_back(inbox, range(2, 3)))
     copy = shop.take_copy("before")
     text = room.path("after.csv")
     text.write_text(text_of(shop.inbox.desk).replace(f"Waive,{SERIES},2\n", ""))

@@ -7,11 +7,12 @@ from unittest.mock import patch
 
 from onixdesk_shop.faults import BadEnd
 from onixdesk_shop.inbox import decide, keeping, report, show
+from onixdesk_shop.inbox.command_line import numbers_word
 from onixdesk_shop.settings import NEXT
 from tests.program.room import Room
 from tests.running import Outcome
 from tests.shop.fake_desk import WAIVED, FakeDesk, Series
-from tests.shop.fake_program import SENDER, feed_of, isbn_of
+from tests.shop.fake_program import SENDER, feed_of, isbn_of, message_of, product_of
 from tests.shop.inboxes import SERIES, START, FakeInbox
 
 DAY = 86_400
@@ -131,11 +132,14 @@ def gone(room: Room) -> Iterator[Outcome]:
     inbox.send("c.xml", feed_of(3, {"R1": "3.00"}))
     lines = inbox.run()
     yield Outcome("nothing is posted", (inbox.series.had, inbox.states()["c.xml"]), ({}, "new"))
-    yield Outcome(
-        "the line",
-        [line for line in lines if "number 1" in line],
-        ["the desk lacks number 1, whose texts are not kept any more: restore a later copy"],
-    )
+    (line,) = [line for line in lines if "number 1" in line]
+    command, _, why = line.partition("; ")
+    yield Outcome("the line", why, "the desk lacks number 1, whose texts are not kept any more")
+    word = command.removeprefix("onixdesk-inbox waive north ").partition(" ")[0]
+    inbox.work(lambda each: decide.waive(each, numbers_word(word)))
+    inbox.run()
+    yield Outcome("the command waives it", ([*inbox.series.had], inbox.states()["c.xml"]), ([1, 2, 3], "applied"))
+    inbox.series.had.clear()
     assert inbox.desk
     inbox.desk.series.clear()
     lines = inbox.run()

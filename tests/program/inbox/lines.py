@@ -5,6 +5,7 @@ import shlex
 from collections.abc import Iterator
 
 from onixdesk_shop.inbox import decide
+from onixdesk_shop.inbox.command_line import numbers_word
 from tests.program.inbox.files import inbox_in
 from tests.program.room import Room
 from tests.running import Outcome
@@ -82,7 +83,7 @@ def what_is_told_once(room: Room) -> Iterator[Outcome]:
     said = inbox.run()
     yield Outcome("a missing number", said[0].partition(";")[0], "onixdesk-inbox waive north 2 (or have it sent again)")
     yield Outcome("once", inbox.run(), [])
-    inbox.work(lambda each: decide.waive(each, 2))
+    inbox.work(lambda each: decide.waive(each, range(2, 3)))
     inbox.run()
     yield Outcome("waived", inbox.series.had[2], WAIVED)
     inbox.clock += 5 * DAY
@@ -105,7 +106,7 @@ def refused_by_a_person(room: Room) -> Iterator[Outcome]:
     inbox.send("3.xml", feed_of(3, {"R1": "3.00"}))
     inbox.run()
     yield Outcome("the next one waits, and is counted", (states(inbox), inbox.shown()["waiting"]), (["held"], 1))
-    inbox.work(lambda each: decide.waive(each, int(command.split()[-1])))
+    inbox.work(lambda each: decide.waive(each, numbers_word(command.split()[-1])))
     inbox.run()
     yield Outcome("the number is waived", (states(inbox), inbox.series.next), (["applied"], 4))
 

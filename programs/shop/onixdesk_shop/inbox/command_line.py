@@ -26,7 +26,7 @@ DESCRIPTION = """\
 Takes the files of a wholesaler's folder to a running desk, once each, in order:
     onixdesk-inbox SERIES
     onixdesk-inbox --let-in MARK | --refuse MARK | --dismiss MARK | --again MARK SERIES
-    onixdesk-inbox waive SERIES NUMBER
+    onixdesk-inbox waive SERIES NUMBER | FIRST-LAST
     onixdesk-inbox show SERIES --number N | --isbn ISBN | --file NAME
     onixdesk-inbox report SERIES
 A MARK is the first letters of the digest of a file, as the lines have it."""
@@ -67,6 +67,11 @@ def number_word(word: str) -> int:
     return int(word)
 
 
+def numbers_word(word: str) -> range:
+    first, dash, last = word.partition("-")
+    return range(number_word(first), number_word(last if dash else first) + 1)
+
+
 def parser_for(name: str) -> argparse.ArgumentParser:
     """The words behind the name of a command, or of a run, which has none."""
     parser = parser_of(f"{PROGRAM} {name}".strip(), DESCRIPTION, STATUSES)
@@ -78,7 +83,7 @@ def parser_for(name: str) -> argparse.ArgumentParser:
     parser.add_argument("series", metavar="SERIES", type=series_word)
     if name == "waive":
         parser.add_argument("--back", action="store_true", help="does not waive it again")
-        parser.add_argument("number", metavar="NUMBER", type=number_word)
+        parser.add_argument("numbers", metavar="NUMBER", type=numbers_word, help="or FIRST-LAST")
     if name == "show":
         what = parser.add_mutually_exclusive_group(required=True)
         what.add_argument("--number", metavar="N", type=number_word)
@@ -135,7 +140,7 @@ def opened(machine: Machine, options: argparse.Namespace) -> Iterator[Inbox]:
 def work(machine: Machine, name: str, options: argparse.Namespace) -> int:
     with opened(machine, options) as inbox:
         if name == "waive":
-            return (decide.take_back if options.back else decide.waive)(inbox, options.number)
+            return (decide.take_back if options.back else decide.waive)(inbox, options.numbers)
         if name == "show":
             return show.show(inbox, options.number, options.isbn, options.file)
         if name == "report":

@@ -189,7 +189,8 @@ class Restore:
             machine.own(new, places.inboxes)
             machine.rename(new, folder / LEDGER)
             machine.sync_folder(folder)
-            machine.tell(NOTICE, f"the ledger of {name} is the copy's, since there was none")
+            since = "what was refused, let in or waived since is not known"
+            machine.tell(WARNING, f"onixdesk-inbox report {name}; its ledger is the copy's, as there was none: {since}")
 
 
 def is_from_before(copy: Path) -> bool:

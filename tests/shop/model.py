@@ -286,7 +286,7 @@ class Model(RuleBasedStateMachine):
     def with_inbox(self, machine: FakeMachine, work: Callable[[Inbox], object]) -> None:
         ledger = Ledger(machine, self.ledger)
         try:
-            desk = Desk(machine, self.settings.address)
+            desk = Desk(machine, self.settings.batches)
             work(Inbox(machine, SERIES, self.settings, self.places, ledger, desk, SHOP, self.terms))
         finally:
             ledger.close()

@@ -104,7 +104,9 @@ def convert(
         machine.write_whole(work / "terms.toml", terms)
         call[2:2] = ["--terms", work / "terms.toml"]
     try:
-        before, ended = machine.run_pipe(child("feed_stream", source), call, (DONE, FAILED, BAD_CALL), CONVERSION_SECONDS)
+        before, ended = machine.run_pipe(
+            child("feed_stream", source), call, (DONE, FAILED, BAD_CALL), CONVERSION_SECONDS
+        )
     except BadEnd as end:
         raise Refusal(f"its conversion failed: {end}") from None
     said = said_in(ended.errors)

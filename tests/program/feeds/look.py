@@ -155,7 +155,11 @@ def wrong_products(room: Room) -> Iterator[Outcome]:
 def refused(room: Room) -> Iterator[Outcome]:
     room.write("bad.xml", BAD.replace(b"<SenderIDType>06</SenderIDType><IDValue>S</IDValue>", b""))
     came = look(room, "bad.xml")
-    found = came.status, came.output.startswith(b"refused: line "), b"--sender TYPE,VALUE in WORDS gives one" in came.output
+    found = (
+        came.status,
+        came.output.startswith(b"refused: line "),
+        b"--sender TYPE,VALUE in WORDS gives one" in came.output,
+    )
     yield Outcome("a feed without a sender", found, (1, True, True))
     came = look(room, "absent.xml")
     yield Outcome("no file", came, Ran(3, b"", b"onixdesk-look: absent.xml: there is no such file\n"))

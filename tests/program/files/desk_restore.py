@@ -230,8 +230,8 @@ def held_at_a_wrong_number(room: Room) -> Iterator[Outcome]:
     yield Outcome("let in, and held", shop.inbox.states()["date.xml"], "held")
     copy = shop.take_copy("before")
     text = room.path("after.csv")
-    taken_out = text_of(shop.inbox.desk).rpartition("Message,")[0]
-    text.write_text(taken_out)
+    assert shop.inbox.desk
+    text.write_text(text_of(shop.inbox.desk).rpartition("\nMessage,")[0] + "\n")
     shop.inbox.work(lambda inbox: decide.decide(inbox, "refuse", mark))
     yield Outcome("the status", (run(shop, copy, text=text), has(shop)), (0, [1]))
     shop.inbox.run()
@@ -251,6 +251,7 @@ def waiver_taken_back(room: Room) -> Iterator[Outcome]:
     shop.inbox.work(lambda inbox: decide.take_back(inbox, range(2, 3)))
     copy = shop.take_copy("before")
     text = room.path("after.csv")
+    assert shop.inbox.desk
     text.write_text(text_of(shop.inbox.desk).replace(f"Waive,{SERIES},2\n", ""))
     yield Outcome("the status", run(shop, copy, text=text), 0)
     shop.send(("2.xml", feed_of(2, {"R2": "12.00"})))

@@ -6,9 +6,7 @@ import os
 import zipfile
 from collections.abc import Iterator
 from dataclasses import replace
-from unittest.mock import patch
 
-from onixdesk_shop import feed_stream
 from onixdesk_shop.inbox import decide
 from onixdesk_shop.settings import NEXT
 from tests.program.room import Room
@@ -28,19 +26,6 @@ def zipped(*names: str) -> bytes:
         for name in names:
             archive.writestr(name, feed(3, []).replace("</Header>", "</Header><NoProduct/>"))
     return written.getvalue()
-
-
-def bombs(room: Room) -> Iterator[Outcome]:
-    """What unpacks to far more than it has is refused, and what unpacks to little is not."""
-    room.write("a.gz", gzip.compress(bytes(1_000_000)))
-    room.write("a.xml", bytes(1_000_000))
-    for name, always, wanted in ("a.gz", 1_000, False), ("a.gz", 1_000_000, True), ("a.xml", 1_000, True):
-        with patch.multiple(feed_stream, ALWAYS=always, TIMES=100):
-            try:
-                is_taken = sum(map(len, feed_stream.pieces_of(room.path(name)))) == 1_000_000
-            except feed_stream.Damaged:
-                is_taken = False
-        yield Outcome(f"{name}, {always} bytes", is_taken, wanted)
 
 
 def packed_again(room: Room) -> Iterator[Outcome]:

@@ -57,7 +57,9 @@ def series_word(word: str) -> str:
     if not is_series(word):
         raise argparse.ArgumentTypeError(f"{token(word)} is no name of a series")
     if word in OTHERS:
-        raise argparse.ArgumentTypeError(f"{word}.json is another file of the page's: agree on the series by another name")
+        raise argparse.ArgumentTypeError(
+            f"{word}.json is another file of the page's: agree on the series by another name"
+        )
     return word
 
 

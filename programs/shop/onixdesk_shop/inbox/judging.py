@@ -130,9 +130,9 @@ def look_at(inbox: Inbox, feed: Feed, gaps: Gaps) -> None:
     if mixed:
         said = f"{count(mixed, 'product')} with several suppliers: ask the wholesaler for its own offers alone"
         inbox.tell_file(WARNING, feed.file, said)
-    for isbn, count in records.most_common(1):
-        if count > MOST_RECORDS_OF_ONE_ISBN:
-            raise Refusal(f"{count} of its records have the ISBN {isbn}, and {MOST_RECORDS_OF_ONE_ISBN} may")
+    for isbn, most in records.most_common(1):
+        if most > MOST_RECORDS_OF_ONE_ISBN:
+            raise Refusal(f"{most} of its records have the ISBN {isbn}, and {MOST_RECORDS_OF_ONE_ISBN} may")
     inbox.ledger.set_of_file(feed.file, products=feed.products)
     if not is_given_number(inbox, feed.file):
         inbox.ledger.set_of_file(feed.file, number=feed.messages[0].number)

@@ -51,6 +51,7 @@ def convert(source: Path, words: list[str]) -> Ended:
     number = int(given["--number"]) if "--number" in given else feed["number"]
     if number is None:
         return Ended(1, b"", b"onixdesk: -: refused: no MessageNumber, and --number N gives one\n")
+    number += int(given.get("--number-offset", 0))
     terms = Path(given["--terms"]).read_bytes() if "--terms" in given else None
     for part, text in enumerate(messages_of(feed, number, parts, terms)):
         (Path(given["-o"]) / f"message.part-{part:02}.csv").write_text(text)

@@ -383,15 +383,11 @@ class Model(RuleBasedStateMachine):
 
     def is_had(self, sent: Sent, series: Series) -> bool:
         """Whether the desk has a feed of that number with the same products, by whichever terms."""
+        first = ((sent.number or 0) - 1) * self.parts + 1
+        had = [bare(series.had.get(first + part)) for part in range(self.parts)]
         products = json.loads(sent.data)["products"]
-        return any(
-            other.is_whole and other.number == sent.number and json.loads(other.data)["products"] == products
-            for other in self.sent.values()
-            if all(
-                bare(series.had.get(((sent.number or 0) - 1) * self.parts + part + 1)) in self.may_be(other, part)
-                for part in range(self.parts)
-            )
-        )
+        others = [other for other in self.sent.values() if other.is_whole and other.number == sent.number]
+        return any(self.fits(other, had) for other in others if json.loads(other.data)["products"] == products)
 
     def check_texts(self, series: Series) -> None:
         """No number ever has two texts, but where a person refused the first."""

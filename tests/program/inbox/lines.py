@@ -118,7 +118,7 @@ def what_to_ask_for(room: Room) -> Iterator[Outcome]:
     inbox.send("1.xml", feed_of(1, {"R1": "1.00"}))
     inbox.run()
     inbox.send("2.xml", feed_of(2, {"R1": "-", "R8": "-", "R9": "-"}))
-    asked = "2 updates or deletions of what the desk has not: ask the wholesaler for a full feed; 2.xml"
+    asked = "2 changes of what the desk has not: ask the wholesaler for a full feed; 2.xml"
     said = [line for line in inbox.run() if "ask" in line]
     yield Outcome("updates", (said, inbox.states()["2.xml"]), ([asked], "applied"))
     product = product_of("R1", "1.00", None)

@@ -1,7 +1,5 @@
 """What the ledger has, posted to the desk: only the ledger's text, in order of numbers."""
 
-import itertools
-
 from onixdesk_shop.desk import Gaps, Refused, Taken
 from onixdesk_shop.faults import Fault
 from onixdesk_shop.inbox.context import Inbox
@@ -43,9 +41,7 @@ def post_all(inbox: Inbox, gaps: Gaps) -> Gaps:
     for _ in range(ROUNDS):
         rows = inbox.ledger.to_post(gaps)
         if gone := [row.number for row in rows if not row.has_text]:
-            last = next(number for number in itertools.count(gone[0]) if number + 1 not in gone)
-            command = f"onixdesk-inbox waive {inbox.series} {gone[0]}-{last} (or restore a later copy)"
-            raise TextsGone(f"{command}; the desk lacks {ranges(gone)}, whose texts are not kept any more")
+            raise TextsGone(f"the desk lacks {ranges(gone)}, whose texts are not kept any more: restore a later copy")
         if not rows:
             break
         if again := [row.number for row in rows if row.state in (State.HELD, State.APPLIED) and gaps.lacks(row.number)]:
@@ -81,9 +77,7 @@ def settle_taken(inbox: Inbox, row: Row, answer: Taken) -> None:
     if state == State.APPLIED and row.state != State.APPLIED:
         ledger.name_references(row.number, products_of(ledger.text(row.number)))
         if unknown := answer.counts["unknown"]:
-            said = (
-                f"{count(unknown, 'update or deletion')} of what the desk has not: ask the wholesaler for a full feed"
-            )
+            said = f"{count(unknown, 'change')} of what the desk has not: ask the wholesaler for a full feed"
             inbox.tell_file(WARNING, file, said)
     settle_file(inbox, file)
 

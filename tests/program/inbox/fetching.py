@@ -254,7 +254,10 @@ def ftp_is_verified(room: Room) -> Iterator[Outcome]:
         yield Outcome("fetch: ftps", (fetch.run(), fetch.came()), (Ran(0), both))
         fetch.take()
         fetch.settings["VERB"] = "move"
-        yield Outcome("fetch: what may not be removed comes", (fetch.run().status, fetch.came()), (1, both))
+        # rclone takes that for a removal: the files come anew in each run.
+        for _ in range(2):
+            fetch.run()
+            yield Outcome("fetch: what may not be removed comes", fetch.came(), both)
 
 
 def https_without_times(room: Room) -> Iterator[Outcome]:

@@ -186,12 +186,18 @@ class Model(RuleBasedStateMachine):
 
     @rule(data=st.data())
     def restore(self, data: st.DataObject) -> None:
-        self.desk = data.draw(st.sampled_from(self.copies)).copy()
+        desk = data.draw(st.sampled_from(self.copies)).copy()
+        had = set(map(bare, desk.series[SERIES].had.values()))
+        if any(sent.is_gone and not had.isdisjoint(self.all_parts(sent)) for sent in self.sent.values()):
+            # It has what was refused, and taken out since: desk-restore does not take it.
+            return
+        self.desk = desk
         self.is_restored = True
-        had = set(map(bare, self.desk.series[SERIES].had.values()))
         for sent in self.sent.values():
-            parts = [each for part in range(self.parts) for each in self.may_be(sent, part)] if sent.is_whole else []
-            sent.is_gone = sent.is_rejected and not self.unsure and had.isdisjoint(parts)
+            sent.is_gone = sent.is_rejected and not self.unsure and had.isdisjoint(self.all_parts(sent))
+
+    def all_parts(self, sent: Sent) -> list[Contents | str | None]:
+        return [each for part in range(self.parts) for each in self.may_be(sent, part)] if sent.is_whole else []
 
     @precondition(lambda self: bool(self.ledgers) and not self.is_next and self.parts == 1)
     @rule(data=st.data())

@@ -85,6 +85,7 @@ def refused_before(room: Room) -> Iterator[Outcome]:
     """A bad feed that is refused by the line that was printed does not come back."""
     shop = shop_in(room, "refused", number=NEXT)
     copy = four_days(shop)
+    wrong = shop.take_copy("2026-11-30T02-30-12Z")
     machine = shop.machine()
     machine.said = "no"
     yield Outcome("without a yes", (run(shop, copy, machine), has(shop), shop.units), (1, [1, 2, 3, 4], []))
@@ -94,6 +95,8 @@ def refused_before(room: Room) -> Iterator[Outcome]:
     yield Outcome("the others", (run(shop, copy), price(shop), shop.inbox.states()["4.xml"]), (0, "13.000", "rejected"))
     shop.inbox.run()
     yield Outcome("its number is waived", shop.inbox.series.had[4], WAIVED)
+    aside = wrong.with_name(f"{wrong.name}.before-correction")
+    yield Outcome("a copy that has it is set aside", (copy.exists(), aside.exists()), (True, True))
 
 
 def output_that_breaks(room: Room) -> Iterator[Outcome]:

@@ -216,7 +216,7 @@ def said_of_products(room: Room) -> Iterator[Outcome]:
     yield Outcome("several suppliers", lines[0].partition(":")[0], "1 product with several suppliers")
     inbox.send("gone.csv", message_of(2, [product_of("R2", "-", None)]))
     lines = inbox.run()
-    yield Outcome("what is not there", lines[0].partition(":")[0], "1 update or deletion of what the desk has not")
+    yield Outcome("what is not there", lines[0].partition(":")[0], "1 change of what the desk has not")
 
 
 def returned(room: Room) -> Iterator[Outcome]:

@@ -3,7 +3,6 @@
 import os
 import shlex
 from collections.abc import Iterator
-from dataclasses import replace
 
 from onixdesk_shop.inbox import decide
 from onixdesk_shop.inbox.command_line import numbers_word
@@ -11,7 +10,7 @@ from tests.program.inbox.files import inbox_in
 from tests.program.room import Room
 from tests.running import Outcome
 from tests.shop.fake_desk import WAIVED
-from tests.shop.fake_program import feed_of, message_of, product_of
+from tests.shop.fake_program import feed_of
 from tests.shop.inboxes import FakeInbox
 
 HOUR, DAY = 3_600, 86_400
@@ -110,40 +109,6 @@ def refused_by_a_person(room: Room) -> Iterator[Outcome]:
     inbox.work(lambda each: decide.waive(each, numbers_word(command.split()[-1])))
     inbox.run()
     yield Outcome("the number is waived", (states(inbox), inbox.series.next), (["applied"], 4))
-
-
-def what_to_ask_for(room: Room) -> Iterator[Outcome]:
-    """Updates of what the desk has not, and offers of several wholesalers, are taken, and said."""
-    inbox = inbox_in(room, "ask")
-    inbox.send("1.xml", feed_of(1, {"R1": "1.00"}))
-    inbox.run()
-    inbox.send("2.xml", feed_of(2, {"R1": "-", "R8": "-", "R9": "-"}))
-    asked = "2 changes of what the desk has not: ask the wholesaler for a full feed; 2.xml"
-    said = [line for line in inbox.run() if "ask" in line]
-    yield Outcome("updates", (said, inbox.states()["2.xml"]), ([asked], "applied"))
-    product = product_of("R1", "1.00", None)
-    supply = [[*product[2][:4], "South", *product[2][5:]], product[3]]
-    inbox.send("3.csv", message_of(3, [[*product, *supply], product_of("R2", "1.00", None)]))
-    asked = "1 product with several suppliers: ask the wholesaler for its own offers alone; 3.csv"
-    said = [line for line in inbox.run() if "ask" in line]
-    yield Outcome("suppliers", (said, inbox.states()["3.csv"]), ([asked], "applied"))
-
-
-def beginning_again(room: Room) -> Iterator[Outcome]:
-    """A wholesaler that begins again at 1: the line has the setting by which its files go on."""
-    inbox = inbox_in(room, "again")
-    for number in (1, 2, 3):
-        inbox.send(f"{number}.xml", feed_of(number, {"R1": f"{number}.00"}))
-    inbox.run()
-    inbox.send("new.xml", feed_of(1, {"R1": "4.00"}))
-    said = [part for line in inbox.run() for part in line.split("; ") if "WORDS=" in part]
-    yield Outcome("the setting", said, ["if it begins again at 1: WORDS=--number-offset 3"])
-    inbox.settings = replace(inbox.settings, words=("--number-offset", "3"))
-    inbox.run()
-    yield Outcome("it goes on", (inbox.states()["new.xml"], sorted(inbox.series.had)), ("applied", [1, 2, 3, 4]))
-    inbox.send("other.xml", feed_of(2, {"R1": "5.00"}))
-    said = [line for line in inbox.run() if "WORDS=" in line]
-    yield Outcome("the next one", (said, inbox.states()["other.xml"]), ([], "applied"))
 
 
 def states(inbox: FakeInbox) -> list[str]:

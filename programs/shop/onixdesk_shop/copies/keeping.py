@@ -26,10 +26,10 @@ def copies_in(machine: Machine, folder: Path) -> list[Path]:
     return [folder / entry.name for entry in machine.entries(folder) if is_name(entry.name)]
 
 
-def set_aside(machine: Machine, folder: Path) -> None:
-    """Names all copies as those from before a correction."""
+def set_aside(machine: Machine, folder: Path, last: str) -> None:
+    """Names all copies behind the last good one as those from before a correction."""
     for copy in copies_in(machine, folder):
-        if not copy.name.endswith(CORRECTED):
+        if copy.name > last and not copy.name.endswith(CORRECTED):
             machine.rename(copy, copy.with_name(f"{copy.name}{CORRECTED}"))
     machine.sync_folder(folder)
 

@@ -1,5 +1,7 @@
 """What the ledger has, posted to the desk: only the ledger's text, in order of numbers."""
 
+import itertools
+
 from onixdesk_shop.desk import Gaps, Refused, Taken
 from onixdesk_shop.faults import Fault
 from onixdesk_shop.inbox.context import Inbox
@@ -41,7 +43,9 @@ def post_all(inbox: Inbox, gaps: Gaps) -> Gaps:
     for _ in range(ROUNDS):
         rows = inbox.ledger.to_post(gaps)
         if gone := [row.number for row in rows if not row.has_text]:
-            raise TextsGone(f"the desk lacks {ranges(gone)}, whose texts are not kept any more: restore a later copy")
+            last = next(number for number in itertools.count(gone[0]) if number + 1 not in gone)
+            command = f"onixdesk-inbox waive {inbox.series} {gone[0]}-{last} (or restore a later copy)"
+            raise TextsGone(f"{command}; the desk lacks {ranges(gone)}, whose texts are not kept any more")
         if not rows:
             break
         if again := [row.number for row in rows if row.state in (State.HELD, State.APPLIED) and gaps.lacks(row.number)]:

@@ -47,6 +47,8 @@ class Restore:
         self.said: list[str] = []
         self.planned: dict[str, list[int]] = {}
         self.has_all = True
+        # Whether the present desk has a message that a person refused, and the copy has not.
+        self.has_refused = False
 
     # The new files
 
@@ -110,6 +112,7 @@ class Restore:
                 continue
             again = inbox.again(gaps)
             self.planned[inbox.series] = again.numbers
+            self.has_refused |= any((inbox.series, number) in had for number in again.refused)
             said += [f"{inbox.series}: the copy waits for number {gaps.next}", *again.lines]
             if again.gone:
                 lost.append(f"{inbox.series}: the texts of {ranges(again.gone)} are not kept any more")
@@ -164,8 +167,9 @@ class Restore:
         self.prepare(self.present())
         work.make_ready()
         self.put_ledgers_back()
-        if places.text and machine.exists(places.copies):
-            set_aside(machine, places.copies)
+        if (places.text or self.has_refused) and machine.exists(places.copies):
+            is_among = not places.text and places.copy.parent == places.copies
+            set_aside(machine, places.copies, places.copy.name if is_among else "")
         before = work.put_in_place()
         stood = f"the one before is {before}" if machine.exists(before) else "there was none before"
         machine.tell(NOTICE, f"the desk is in place as {places.database}; {stood}")

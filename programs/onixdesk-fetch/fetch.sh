@@ -114,6 +114,7 @@ deliver() {
 # Nothing that waits in the folder is overwritten: it gets a name with its digest.
 put() {
     local to=$folder/$1 part=$folder/.fetched.part
+    rm -rf -- "$part"
     cp --preserve=timestamps -- "$whole/$1" "$part" && sync -- "$part" || return
     if [ -e "$to" ] && ! cmp -s -- "$to" "$part"; then
         mv -T -- "$to" "$folder/$(sha256sum <"$to" | cut -c 1-12)-$(tail -c 200 <<<"$1")" || return

@@ -4,9 +4,9 @@
     tests/killed --list
 
 It needs Debian's strace. A run that nobody kills is traced; then there is one for each such call of the program itself,
-which is killed (SIGKILL) as it comes to the call. The state that it leaves is judged, and the one that the next run
-makes of it: no file that was taken is lost or taken as two, nothing is called a copy that is not whole, no number is
-given twice. With --most only N calls that rename a file are tried of each, and half as many others, as far apart as can
+which is killed (SIGKILL) as it comes to the call; the script that fetches is killed at each of its commands, with what
+it has started. The state that it leaves is judged, and the one that the next run makes of it: no file that was taken is
+lost or taken as two, nothing is called a copy that is not whole, no number is given twice. With --most only N calls that rename a file are tried of each, and half as many others, as far apart as can
 be.
 
 A line with the counts is written for each program, and one for each state that is wrong. Status 0; 1 where one is; 2

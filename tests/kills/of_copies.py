@@ -37,9 +37,6 @@ class OfCopy(Scenario):
     def words(self) -> Sequence[Word]:
         return [ROOT / "bin/desk-copy", DATABASE, "copy"]
 
-    def environment(self) -> Mapping[str, str]:
-        return os.environ
-
     def wrong_then(self) -> Iterator[str]:
         folder = self.room.path("copy")
         if folder.exists() and files_in(folder) != self.desk:

@@ -6,7 +6,7 @@ import os
 import shutil
 import sqlite3
 import urllib.request
-from collections.abc import Iterator, Mapping, Sequence
+from collections.abc import Iterator, Sequence
 from contextlib import closing
 from typing import Any
 
@@ -44,7 +44,7 @@ class OfInbox(Scenario):
             shutil.rmtree(self.room.path(name))
             self.room.path(name).mkdir()
         self.series = f"s{next(self.places)}"
-        settings = f"DESK=http://127.0.0.1:{self.desk.port}\nBATCHES={self.room.path('batches')}\nNUMBER=next\n"
+        settings = f"BATCHES={self.room.path('batches')}\nNUMBER=next\n"
         more = f"SENDER=06,S{self.series[1:]}\nUNCHANGED_SECONDS=0\n"
         self.room.write(f"settings/{self.series}.conf", f"{settings}{more}".encode())
         for name in ("incoming", "inboxes"):
@@ -65,9 +65,6 @@ class OfInbox(Scenario):
         places = [word for name in ("settings", "incoming", "inboxes", "state") for word in (f"--{name}", name)]
         more = ["--rules", "none", "--page", "none", "--program", str(self.room.program)]
         return [ROOT / "bin/onixdesk-inbox", *places, *more, self.series]
-
-    def environment(self) -> Mapping[str, str]:
-        return os.environ
 
     def asked(self, target: str) -> dict[str, Any]:
         with urllib.request.urlopen(f"http://127.0.0.1:{self.desk.port}{target}") as reply:

@@ -1,5 +1,6 @@
 """What a program is killed over, and how the state that it leaves is judged."""
 
+import os
 import signal
 from collections import Counter
 from collections.abc import Iterator, Mapping, Sequence
@@ -27,7 +28,14 @@ class Scenario:
         raise NotImplementedError
 
     def environment(self) -> Mapping[str, str]:
-        raise NotImplementedError
+        return os.environ
+
+    def points(self) -> tuple[Ran, list[Point]]:
+        """How a run ends that nobody kills, and where another one can be."""
+        return points_of(self.words(), self.room.folder, self.environment())
+
+    def kill_at(self, point: Point) -> Ran:
+        return kill_at(point, self.words(), self.room.folder, self.environment())
 
     def wrong_then(self) -> Iterator[str]:
         """What is wrong once the program was killed."""
@@ -70,15 +78,14 @@ def at_each_point(scenario: Scenario, most: int | None = None) -> Judged:
     """Kills a program at its points, or at so many of them. Each time the state is judged that it leaves, and that
     which the next run makes of it."""
     scenario.prepare()
-    room = scenario.room
-    ran, points = points_of(scenario.words(), room.folder, scenario.environment())
+    ran, points = scenario.points()
     if ran.status != scenario.status or (wrong := [*scenario.wrong_at_end()]):
         raise Failed(f"a run that nobody kills: {ran}: {wrong if ran.status == scenario.status else ''}")
     found = []
     tried = chosen(points, most)
     for point in tried:
         scenario.prepare()
-        ended = kill_at(point, scenario.words(), room.folder, scenario.environment())
+        ended = scenario.kill_at(point)
         # One that came to fewer calls of the kind than the first run has done all.
         if ended.status not in (-signal.SIGKILL, scenario.status):
             found.append(f"{point}: {ended}")

@@ -20,15 +20,15 @@ TABLES = ["meta", "series", "held", "applied", "record", "article", "offer", "pr
 
 
 def words_of(room: Room, database: str, *words: Word) -> list[Word]:
-    return [PROGRAM, "--room", room.folder, "--database", database, *words, DATABASE]
+    return [PROGRAM, "--program", room.program, "--database", database, *words, DATABASE]
 
 
 def follow(room: Room, database: str, *words: Word) -> Ran:
     return room.call(words_of(room, database, *words))
 
 
-def kind(ran: Ran) -> str:
-    """What a run says that it did, without the moment; or what is wrong with it."""
+def brought(ran: Ran) -> str:
+    """How much a run says that it brought, without the moment; or what is wrong with it."""
     if ran.status or ran.errors:
         return f"{ran}"
     return ran.output.decode().partition(" UTC: ")[2].rstrip("\n")

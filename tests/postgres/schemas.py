@@ -6,7 +6,7 @@ from collections.abc import Iterator
 from functools import partial
 
 from tests.postgres.cluster import Cluster
-from tests.postgres.follower import ask, execute, follow, in_postgres, kind, state_of
+from tests.postgres.follower import ask, brought, execute, follow, in_postgres, state_of
 from tests.postgres.steps import ASKED, deliver
 from tests.program.databases import DATABASE, execute as execute_in_file
 from tests.program.messages import AGREEMENT
@@ -59,33 +59,36 @@ def elsewhere(cluster: Cluster, room: Room) -> Iterator[Outcome]:
     )
     follow(room, database)
     before = ask(database, ELSEWHERE)
-    execute(database, OLD_LAYOUT)
     deliver(room, 2)
-    for wanted in ["everything: 2 messages, 30 records", "what changed: 0 messages, 0 records"]:
-        yield Outcome(f"followed, {wanted}", kind(follow(room, database)), wanted)
-        yield Outcome("all but the schema is untouched", ask(database, ELSEWHERE), before)
+    yield Outcome("followed", brought(follow(room, database)), "2 messages, 30 records")
+    yield Outcome("all but the schema is untouched", ask(database, ELSEWHERE), before)
     yield Outcome("rows of public stay", ask(database, "SELECT * FROM public.price"), [("ours",)])
 
 
 def depended_on(cluster: Cluster, room: Room) -> Iterator[Outcome]:
-    """What others have made of the tables is not dropped with them."""
+    """What others have made of the tables goes on; another version's schema stays until somebody takes it away."""
     database = cluster.make_database("depended")
     deliver(room, 1, agreement=AGREEMENT)
     follow(room, database)
-    execute(database, f"CREATE VIEW public.own AS SELECT reference FROM desk.price; {OLD_LAYOUT}")
+    execute(database, "CREATE VIEW public.own AS SELECT reference FROM desk.price")
+    deliver(room, 2)
+    yield Outcome("a view of the shop's", brought(follow(room, database)), "2 messages, 30 records")
+    yield Outcome("it has the rows", len(ask(database, "SELECT * FROM public.own")), 30)
+    execute(database, OLD_LAYOUT)
     before = in_postgres(database)
     ran = follow(room, database)
-    found = ran.status, b"view public.own depends on table desk.price" in ran.errors or ran.errors
-    yield Outcome("a view of the shop's", found, (3, True))
-    yield Outcome("all is as before", in_postgres(database), before)
-    execute(database, "DROP VIEW public.own; CREATE VIEW desk.own AS SELECT 1 AS one")
-    ran = follow(room, database)
-    yield Outcome("a view in the schema", (ran.status, ask(database, "SELECT * FROM desk.own")), (3, [(1,)]))
-    execute(database, "DROP VIEW desk.own")
-    yield Outcome("without them", kind(follow(room, database)), "everything: 1 messages, 30 records")
+    found = ran.status, b"DROP SCHEMA desk CASCADE takes it away" in ran.errors
+    yield Outcome("another version's", (*found, in_postgres(database) == before), (3, True, True))
+    execute(database, "DROP SCHEMA desk CASCADE")
+    yield Outcome("made anew", brought(follow(room, database)), "2 messages, 30 records")
+
+
+GRANTED = """\
+GRANT USAGE ON SCHEMA desk TO "buyers of books"; GRANT SELECT ON ALL TABLES IN SCHEMA desk TO "buyers of books\""""
 
 
 def role_of_readers(cluster: Cluster, room: Room) -> Iterator[Outcome]:
+    """What a role is granted once it has behind each run."""
     database = cluster.make_database("reading")
     deliver(room, 1, agreement=AGREEMENT)
     execute(database, 'CREATE ROLE "buyers of books" LOGIN')
@@ -93,7 +96,8 @@ def role_of_readers(cluster: Cluster, room: Room) -> Iterator[Outcome]:
     words = database.replace("user=desk", "user='buyers of books'")
     for is_let in (False, True):
         if is_let:
-            yield Outcome("readers are let read", follow(room, database, "--readers", "buyers of books").status, 0)
+            execute(database, GRANTED)
+            yield Outcome("behind that", follow(room, database).status, 0)
         wanted = None if is_let else "42501"
         yield Outcome(f"a reader who is let: {is_let}", state_of(partial(ask, words, ASKED)), wanted)
     yield Outcome("a reader, let", len(ask(words, ASKED)), 1)
@@ -117,19 +121,15 @@ def faults(cluster: Cluster, room: Room) -> Iterator[Outcome]:
     yield Outcome("a bad table", ran, Ran(2, b"", b"desk-follow: rules: bad rule 1\n"))
     ran = follow(room, database, "--rules", "missing.toml")
     yield Outcome("no table", ran, Ran(3, b"", b"desk-follow: missing.toml: No such file or directory\n"))
-    ran = follow(room, database, "--readers", "nobody there")
-    yield Outcome("no such role", (ran.status, b'role "nobody there" does not exist' in ran.errors), (3, True))
     execute_in_file(room, "UPDATE meta SET amount = 3")
     ran = follow(room, database)
-    line = b"desk-follow: cases.db: it is of version 3 of a desk's tables, in place of 2\n"
+    line = b"desk-follow: its tables are of version 3 of a desk's, in place of 2\n"
     yield Outcome("another version", ran, Ran(3, b"", line))
     room.write(DATABASE, b"no database" * 1000)
     yield Outcome("no database", (follow(room, database).status), 3)
     room.path(DATABASE).unlink()
     yield Outcome("no file", follow(room, database), Ran(3, b"", b"desk-follow: cases.db: there is no such file\n"))
     yield Outcome("all is as before", in_postgres(database), before)
-    left = [each.name for each in room.folder.iterdir() if each.name.startswith(".desk")]
-    yield Outcome("no copy is left", left, [])
 
 
 def moment(cluster: Cluster, room: Room) -> Iterator[Outcome]:

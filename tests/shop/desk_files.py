@@ -63,6 +63,21 @@ def read(database: Path) -> FakeDesk:
     return desk
 
 
+def text_of(desk: FakeDesk) -> str:
+    """A desk as the batch that makes it again."""
+    lines = []
+    for name, series in desk.series.items():
+        parties = ",".join(series.parties)
+        lines.append(f"Agree,{name},{parties},{series.first}")
+        for number, contents in sorted(series.had.items()):
+            if isinstance(contents, str):
+                lines.append(f"Waive,{name},{number}")
+            else:
+                records = map(",".join, contents)
+                lines += [f"Message,2,{parties},{number},1,,,", *records, f"EndMessage,{len(contents) + 1}"]
+    return "".join(f"{line}\n" for line in lines)
+
+
 def reports(desk: FakeDesk) -> str:
     lines = []
     for name, series in desk.series.items():

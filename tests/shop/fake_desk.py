@@ -3,9 +3,7 @@
 import copy
 import csv
 import io
-import json
 from dataclasses import dataclass, field
-from typing import Any
 
 Records = list[list[str]]
 Contents = tuple[tuple[str, ...], ...]
@@ -15,6 +13,12 @@ WAIVED = "waived"
 
 def records_of(text: str) -> Records:
     return [record for record in csv.reader(io.StringIO(text, newline="")) if record]
+
+
+def text_of(records: Records) -> str:
+    written = io.StringIO()
+    csv.writer(written, lineterminator="\n").writerows(records)
+    return written.getvalue()
 
 
 def amount(text: str) -> str:
@@ -47,6 +51,11 @@ def contents_of(records: Records) -> Contents:
             record = ["Price", record[1] or kind, amount(record[2]), record[3] or currency, *record[4:]]
         found.append(tuple(record))
     return tuple(found)
+
+
+def kinds_in(contents: Contents | str) -> list[tuple[str, str]]:
+    """The reference and the NotificationType of each product."""
+    return [(record[1], record[2]) for record in contents if record[0] == "Product"]
 
 
 @dataclass
@@ -114,46 +123,32 @@ class FakeDesk:
     def of_parties(self, parties: tuple[str, ...]) -> tuple[str, Series] | None:
         return next(((name, series) for name, series in self.series.items() if series.parties == parties), None)
 
-    def deliver(self, text: str) -> tuple[int, dict[str, Any]]:
-        records = records_of(text)
+    def deliver(self, records: Records) -> list[str]:
+        """The answer to a message."""
         if not is_message(records):
-            return 422, {"answer": "refused", "reason": "malformed", "row": 1}
+            return ["refused", "malformed", "1"]
         header = records[0]
         if not header[6]:
-            return 422, {"answer": "refused", "reason": "unnumbered"}
+            return ["refused", "unnumbered"]
         found, number = self.of_parties(tuple(header[2:6])), int(header[6])
         if not found:
-            return 422, {"answer": "refused", "reason": "unknown-series"}
+            return ["refused", "unknown-series"]
         name, series = found
-        members = {"number": number, "series": name}
         if number < series.first:
-            return 422, {"answer": "refused", "reason": "before-first", "first": series.first, **members}
+            return ["refused", "before-first", name, str(number), str(series.first)]
         contents = contents_of(records)
         before = series.had.get(number)
         if before == WAIVED:
-            return 409, {"answer": "refused", "reason": "waived", **members}
+            return ["refused", "waived", name, str(number)]
         if before is not None and before != contents:
-            return 409, {"answer": "refused", "reason": "other-contents", **members}
+            return ["refused", "other-contents", name, str(number)]
+        before_it = {reference for each in series.had.values() for reference, _ in kinds_in(each)}
         series.had[number] = contents
-        self.texts.setdefault(number, text)
+        self.texts.setdefault(number, text_of(records))
         if number < series.next:
-            return 200, {"answer": "applied", **members}
-        return 202, {"answer": "held", "waiting_for": series.next, **members}
-
-    def http(self, method: str, target: str, body: bytes | None) -> tuple[int, bytes]:
-        status, members = self.reply(method, target, body)
-        return status, json.dumps(members).encode()
-
-    def reply(self, method: str, target: str, body: bytes | None) -> tuple[int, dict[str, Any]]:
-        if method == "POST":
-            return self.deliver((body or b"").decode())
-        name = target.split("/")[2]
-        series = self.series.get(name)
-        if not series:
-            return 404, {"answer": "refused", "reason": "unknown-series"}
-        greatest = max(series.had, default=None)
-        gaps = {"first": series.first, "next": series.next, "greatest": greatest, "missing": series.missing}
-        return 200, {"answer": "gaps", "series": name, "held": 0, **gaps}
+            unknown = sum(kind in ("04", "05") and reference not in before_it for reference, kind in kinds_in(contents))
+            return ["applied", name, str(number), f"unknown={unknown}"]
+        return ["held", name, str(number), f"waiting-for={series.next}"]
 
     def batch(self, text: str) -> str:
         written = io.StringIO()
@@ -163,15 +158,13 @@ class FakeDesk:
             if record[0] == "Message" or message:
                 message.append(record)
                 if record[0] == "EndMessage":
-                    writer.writerows(self.answer_message(message))
+                    writer.writerow(self.deliver(message))
                     message = []
             else:
                 writer.writerows(self.answer(record))
+        if message:
+            writer.writerow(self.deliver(message))
         return written.getvalue()
-
-    def answer_message(self, message: Records) -> Records:
-        status, members = self.deliver("\n".join(",".join(record) for record in message))
-        return [[members["answer"], members.get("reason", members.get("series", ""))]]
 
     def answer(self, record: list[str]) -> Records:
         kind, *words = record
@@ -180,6 +173,8 @@ class FakeDesk:
             return [["agreed", words[0], words[5]]]
         if kind == "Waive":
             return [self.waive(self.series[words[0]], words[0], int(words[1]))]
+        if kind == "AskGaps":
+            return self.gaps(words[0])
         offers = self.offers(words[0])
         if kind == "AskPrice":
             lines = [["offer", name, ref, "1", code, price] for name, ref, code, price in offers]
@@ -190,6 +185,14 @@ class FakeDesk:
                 lines += [["offer", name, ref, "1", code], ["span", words[1], words[2], price]]
             return [["calendar", words[0], str(len(offers))], *lines]
         return [["choice", words[0], "none"]]
+
+    def gaps(self, name: str) -> Records:
+        series = self.series.get(name)
+        if not series:
+            return [["refused", "unknown-series"]]
+        numbers = {"first": series.first, "next": series.next, "greatest": max(series.had, default="")}
+        head = ["gaps", name, *(f"{word}={number}" for word, number in numbers.items()), "held=0", "missing=0"]
+        return [head, *(["missing", *map(str, span)] for span in series.missing)]
 
     def waive(self, series: Series, name: str, number: int) -> list[str]:
         if isinstance(series.had.get(number), tuple):

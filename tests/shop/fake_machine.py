@@ -74,6 +74,9 @@ class FakeMachine(Machine):
             return
         if self.kind == "error":
             raise OSError(28, "No space left on device", what)
+        if self.kind == "signal":
+            # The program goes on with what it does at its end.
+            raise SystemExit(143)
         self.is_dead = True
         if self.kind == "power":
             self.disk.lose_power()
@@ -134,14 +137,6 @@ class FakeMachine(Machine):
             self.step("commit")
         self.step("committed")
 
-    def http(self, host: str, port: int, method: str, target: str, body: bytes | None = None) -> tuple[int, bytes]:
-        self.step("http")
-        if not self.desk:
-            raise ConnectionRefusedError(111, "Connection refused")
-        answer = self.desk.http(method, target, body)
-        self.step("answered")
-        return answer
-
     def batch(self, address: Path, text: bytes) -> bytes:
         self.step("batch")
         if not self.desk:
@@ -155,7 +150,6 @@ class FakeMachine(Machine):
         words: Words,
         known: tuple[int, ...] = (0,),
         text: bytes = b"",
-        output: Path | None = None,
         seconds: float | None = None,
     ) -> Ended:
         self.step("child")

@@ -2,6 +2,7 @@
 
 import json
 import zlib
+from collections.abc import Sequence
 from pathlib import Path
 from typing import Any
 
@@ -33,8 +34,8 @@ def product_of(reference: str, price: str, percent: int | None) -> Records:
     return records
 
 
-def message_of(number: int, products: list[Records], sent: str = "") -> str:
-    records = [["Message", "2", *SENDER, "", "", str(number), "", sent, "", ""]]
+def message_of(number: int, products: list[Records], sent: str = "", sender: Sequence[str] = SENDER) -> str:
+    records = [["Message", "2", *sender, "", "", str(number), "", sent, "", ""]]
     records += [record for product in products for record in product]
     return "".join(",".join(record) + "\n" for record in [*records, ["EndMessage", str(len(records))]])
 
@@ -50,6 +51,7 @@ def convert(source: Path, words: list[str]) -> Ended:
     number = int(given["--number"]) if "--number" in given else feed["number"]
     if number is None:
         return Ended(1, b"", b"onixdesk: -: refused: no MessageNumber, and --number N gives one\n")
+    number += int(given.get("--number-offset", 0))
     terms = Path(given["--terms"]).read_bytes() if "--terms" in given else None
     for part, text in enumerate(messages_of(feed, number, parts, terms)):
         (Path(given["-o"]) / f"message.part-{part:02}.csv").write_text(text)
@@ -59,8 +61,9 @@ def convert(source: Path, words: list[str]) -> Ended:
 def messages_of(feed: Feed, number: int, parts: int, terms: bytes | None) -> list[str]:
     percent = None if terms is None else int(terms)
     products = [product_of(reference, price, percent) for reference, price in feed["products"].items()]
+    sender = feed.get("sender", SENDER)
     return [
-        message_of((number - 1) * parts + part + 1, products[part::parts], feed.get("sent", ""))
+        message_of((number - 1) * parts + part + 1, products[part::parts], feed.get("sent", ""), sender)
         for part in range(parts)
     ]
 

@@ -45,7 +45,7 @@ class ProgramMachine(FakeMachine):
 
     def batch(self, address: Path, text: bytes) -> bytes:
         assert self.desk
-        if text.startswith(b"Waive"):
+        if not text.startswith(b"Ask") or text.startswith(b"AskGaps"):
             return super().batch(address, text)
         taken = "".join([AGREEMENT, *(self.desk.texts[number] for number in sorted(self.desk.texts))]).encode()
         rules: list[str | Path] = ["--rules", self.places.rules] if self.places.rules.exists() else []
@@ -103,7 +103,7 @@ class FakeInbox:
         machine = machine or self.machine()
         ledger = Ledger(machine, self.ledger)
         try:
-            desk = Desk(machine, self.settings.address)
+            desk = Desk(machine, self.settings.batches)
             return work(Inbox(machine, SERIES, self.settings, self.places, ledger, desk, self.shop, self.terms))
         finally:
             ledger.close()

@@ -10,7 +10,7 @@ import tempfile
 import unittest
 from collections.abc import Callable
 from contextlib import closing
-from dataclasses import dataclass, field
+from dataclasses import dataclass, field, replace
 from pathlib import Path
 
 from hypothesis import HealthCheck
@@ -34,9 +34,9 @@ from tests.shop.fake_program import SENDER
 SERIES = "north"
 START = 1_790_000_000
 SHOP = Shop("GB", "GBP", "02", "", [1], {}, {})
-FAULTS = ("error", "kill", "power")
+FAULTS = ("error", "kill", "power", "signal")
 STEPS = (
-    "copy copied rename renamed remove removed sync synced write written begin commit committed http answered batch child"
+    "copy copied rename renamed remove removed sync synced write written begin commit committed answered batch child"
 ).split()
 
 REFERENCES = [f"R{number}" for number in range(4)]
@@ -186,12 +186,18 @@ class Model(RuleBasedStateMachine):
 
     @rule(data=st.data())
     def restore(self, data: st.DataObject) -> None:
-        self.desk = data.draw(st.sampled_from(self.copies)).copy()
+        desk = data.draw(st.sampled_from(self.copies)).copy()
+        had = set(map(bare, desk.series[SERIES].had.values()))
+        if any(sent.is_gone and not had.isdisjoint(self.all_parts(sent)) for sent in self.sent.values()):
+            # It has what was refused, and taken out since: desk-restore does not take it.
+            return
+        self.desk = desk
         self.is_restored = True
-        had = set(map(bare, self.desk.series[SERIES].had.values()))
         for sent in self.sent.values():
-            parts = [each for part in range(self.parts) for each in self.may_be(sent, part)] if sent.is_whole else []
-            sent.is_gone = sent.is_rejected and not self.unsure and had.isdisjoint(parts)
+            sent.is_gone = sent.is_rejected and not self.unsure and had.isdisjoint(self.all_parts(sent))
+
+    def all_parts(self, sent: Sent) -> list[Contents | str | None]:
+        return [each for part in range(self.parts) for each in self.may_be(sent, part)] if sent.is_whole else []
 
     @precondition(lambda self: bool(self.ledgers) and not self.is_next and self.parts == 1)
     @rule(data=st.data())
@@ -229,6 +235,28 @@ class Model(RuleBasedStateMachine):
             decide.decide(inbox, "refuse", file.mark)
             sent.is_rejected = True
 
+    @precondition(lambda self: bool(self.sent))
+    @rule(data=st.data())
+    def correct(self, data: st.DataObject) -> None:
+        """A file is refused, and its messages are taken out of the desk's text."""
+        self.clean()
+        sent = self.one_of(data)
+        self.with_inbox(self.sound(), lambda inbox: self.take_out(inbox, sent))
+
+    def take_out(self, inbox: Inbox, sent: Sent) -> None:
+        self.refuse_file(inbox, sent)
+        series = self.desk.series[SERIES]
+        file = next(file for file in inbox.ledger.files("1") if self.stored(file) == sent.data)
+        for row in inbox.ledger.messages_of(file):
+            if sent.is_rejected and row.state in ("posted", "held", "applied"):
+                series.had.pop(row.number, None)
+                sent.is_gone = not self.unsure
+
+    @rule(days=st.integers(4, 6))
+    def change_settings(self, days: int) -> None:
+        """Which ones does not matter: what was refused is tried again."""
+        self.settings = replace(self.settings, silent_days=days)
+
     @rule()
     def let_in(self) -> None:
         self.clean()
@@ -247,7 +275,7 @@ class Model(RuleBasedStateMachine):
 
     def waive_number(self, inbox: Inbox, number: int) -> None:
         try:
-            decide.waive(inbox, number)
+            decide.waive(inbox, range(number, number + 1))
             self.waived.add(number)
         except Fault:
             assert inbox.ledger.stands(number)
@@ -264,7 +292,7 @@ class Model(RuleBasedStateMachine):
     def with_inbox(self, machine: FakeMachine, work: Callable[[Inbox], object]) -> None:
         ledger = Ledger(machine, self.ledger)
         try:
-            desk = Desk(machine, self.settings.address)
+            desk = Desk(machine, self.settings.batches)
             work(Inbox(machine, SERIES, self.settings, self.places, ledger, desk, SHOP, self.terms))
         finally:
             ledger.close()
@@ -273,7 +301,7 @@ class Model(RuleBasedStateMachine):
     def run(self, machine: FakeMachine) -> FakeMachine:
         try:
             self.with_inbox(machine, run.run)
-        except (Killed, OSError, Fault):
+        except (Killed, SystemExit, OSError, Fault):
             pass
         return machine
 
@@ -289,11 +317,12 @@ class Model(RuleBasedStateMachine):
 
     @rule()
     def clean(self) -> None:
-        """Nothing fails any more: two runs later all is as it should be."""
+        """Nothing fails any more: two runs later all is as it should be, and nothing more is said of it."""
         for _ in range(2):
             self.run(self.sound())
         machine = self.sound()
         self.with_inbox(machine, run.run)
+        assert not machine.lines, machine.lines
         self.with_inbox(machine, self.check)
 
     # What holds then
@@ -313,6 +342,7 @@ class Model(RuleBasedStateMachine):
         else:
             self.check_own(series, judged)
         self.check_texts(series)
+        self.check_states(inbox, files, series)
         self.check_full(inbox, series)
 
     def check_seen(self, files: list[File]) -> None:
@@ -334,14 +364,40 @@ class Model(RuleBasedStateMachine):
         assert shown["quarantined"] == sum(file.state == "quarantined" for file in files)
         assert shown["desk"]
 
-    def check_texts(self, series: Series) -> None:
-        """No number ever has two texts, but where a person refused the first."""
-        rejected = [
+    def rejected(self) -> list[Contents]:
+        """The contents of all that a person refused."""
+        return [
             part
             for sent in self.sent.values()
             for terms in (sent.terms if sent.is_rejected and sent.is_whole else ())
             for part in contents(sent.data, self.parts, terms)
         ]
+
+    def check_states(self, inbox: Inbox, files: list[File], series: Series) -> None:
+        """What is called taken the desk has, and what is called refused is not what it has."""
+        if self.unsure:
+            return
+        rejected = self.rejected()
+        for file in files:
+            if file.state in ("applied", "held"):
+                for row in inbox.ledger.messages_of(file):
+                    had, text = series.had.get(row.number), inbox.ledger.text(row.number).decode()
+                    assert had == contents_of(records_of(text)) or bare(had) in rejected, (file, had)
+            if file.state == "refused" and self.sent[self.stored(file)].is_whole:
+                assert not self.is_next, file
+                assert not self.is_had(self.sent[self.stored(file)], series), file
+
+    def is_had(self, sent: Sent, series: Series) -> bool:
+        """Whether the desk has a feed of that number with the same products, by whichever terms."""
+        first = ((sent.number or 0) - 1) * self.parts + 1
+        had = [bare(series.had.get(first + part)) for part in range(self.parts)]
+        products = json.loads(sent.data)["products"]
+        others = [other for other in self.sent.values() if other.is_whole and other.number == sent.number]
+        return any(self.fits(other, had) for other in others if json.loads(other.data)["products"] == products)
+
+    def check_texts(self, series: Series) -> None:
+        """No number ever has two texts, but where a person refused the first."""
+        rejected = self.rejected()
         for number, had in series.had.items():
             if isinstance(had, str) or number in self.unsure:
                 continue
@@ -425,14 +481,15 @@ class Model(RuleBasedStateMachine):
         return found
 
     def check_full(self, inbox: Inbox, series: Series) -> None:
-        """Behind a full file the desk has what it named, where nothing was missing and nobody refused anything."""
-        last = inbox.ledger.full_files()[:1]
+        """The desk has what the last full files named, where nothing was missing and nobody refused anything."""
+        last = inbox.ledger.full_files()[: self.settings.full]
         refused = any(sent.is_rejected for sent in self.sent.values())
-        if self.settings.full != 1 or not self.is_next or not last or refused or last[0].state != "applied":
+        if not self.is_next or not last or refused or any(file.state != "applied" for file in last):
             return
-        products = json.loads(self.stored(last[0]))["products"]
-        named = {name for name, price in products.items() if price != "-"}
-        assert set(series.catalogue()) == named, (last[0], last[0].not_deleted)
+        prices: dict[str, str] = {}
+        for file in reversed(last):
+            prices |= json.loads(self.stored(file))["products"]
+        assert set(series.catalogue()) == {name for name, price in prices.items() if price != "-"}, last
 
 
 def case(examples: int, steps: int, place: Path | None = None, is_same: bool = False) -> type[unittest.TestCase]:

@@ -4,7 +4,7 @@ from collections.abc import Iterator
 from contextlib import contextmanager
 
 import psycopg2
-from psycopg2.extensions import connection, quote_ident
+from psycopg2.extensions import connection
 
 from onixdesk_shop.faults import Fault
 
@@ -15,21 +15,13 @@ LOCK = 0x6465736B
 WAIT = "15min"
 
 
-class DatabaseFault(Fault):
-    """What the database says."""
-
-
-def quoted(connection: connection, name: str) -> str:
-    return quote_ident(name, connection)
-
-
 @contextmanager
 def connected(words: str) -> Iterator[connection]:
     """The connection, with no other follower at work in that database meanwhile."""
     try:
         connection = psycopg2.connect(words, application_name="desk-follow")
     except psycopg2.Error as error:
-        raise DatabaseFault(f"the database: {told(error)}") from error
+        raise Fault(f"the database: {told(error)}") from error
     try:
         connection.set_client_encoding("UTF8")
         connection.autocommit = True
@@ -40,7 +32,7 @@ def connected(words: str) -> Iterator[connection]:
         connection.autocommit = False
         yield connection
     except psycopg2.Error as error:
-        raise DatabaseFault(f"the database: {told(error)}") from error
+        raise Fault(f"the database: {told(error)}") from error
     finally:
         connection.close()
 

@@ -10,5 +10,4 @@ ALTER TABLE desk.offer ADD PRIMARY KEY (series, reference, place);
 ALTER TABLE desk.price ADD PRIMARY KEY (series, reference, place, price_place);
 ALTER TABLE desk.price_minimum ADD PRIMARY KEY (series, reference, place, price_place);
 ALTER TABLE desk.rule ADD PRIMARY KEY (rule);
-ALTER TABLE desk.front ADD PRIMARY KEY (series);
 ALTER TABLE desk.moment ADD PRIMARY KEY (is_one);

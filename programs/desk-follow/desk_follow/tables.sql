@@ -90,9 +90,3 @@ CREATE TABLE desk.moment (
     is_one boolean NOT NULL DEFAULT true CHECK (is_one),
     taken timestamp with time zone NOT NULL
 );
-
--- What the follower knows a desk by: a digest of what was applied in each series, up to its next number.
-CREATE TABLE desk.front (
-    series text COLLATE "C" NOT NULL,
-    digest text NOT NULL
-);

@@ -36,9 +36,9 @@ def too_long(words: Words) -> BadEnd:
     return BadEnd(f"{Path(words[0]).name} takes too long")
 
 
-def run(words: Words, known: tuple[int, ...], text: bytes, output: Path | None, seconds: float | None) -> Ended:
-    """Runs a child that reads the text, and writes to the file if there is one."""
-    with open(output, "wb") if output else tempfile.TemporaryFile() as written:
+def run(words: Words, known: tuple[int, ...], text: bytes, seconds: float | None) -> Ended:
+    """Runs a child that reads the text."""
+    with tempfile.TemporaryFile() as written:
         try:
             ran = subprocess.run(
                 words, input=text, stdout=written, stderr=subprocess.PIPE, env=ENVIRONMENT, timeout=seconds
@@ -47,7 +47,7 @@ def run(words: Words, known: tuple[int, ...], text: bytes, output: Path | None, 
             raise BadEnd(f"{words[0]} cannot be run: {error.strerror}") from None
         except subprocess.TimeoutExpired:
             raise too_long(words) from None
-        return known_end(words, known, ran.returncode, b"" if output else read(written), ran.stderr)
+        return known_end(words, known, ran.returncode, read(written), ran.stderr)
 
 
 def read(written: IO[bytes]) -> bytes:

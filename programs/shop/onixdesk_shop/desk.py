@@ -1,4 +1,4 @@
-"""The one client of the desk: reports on gaps, messages, batches."""
+"""The one client of the desk, at its socket for batches: reports on gaps, messages, questions."""
 
 import csv
 import io
@@ -6,7 +6,7 @@ import json
 from collections.abc import Iterable, Iterator
 from dataclasses import dataclass
 from pathlib import Path
-from typing import Any, NamedTuple
+from typing import Any
 
 from onixdesk_shop.faults import Fault
 from onixdesk_shop.lines import cut
@@ -17,18 +17,7 @@ PAUSE = 1.0
 
 
 class NoDesk(Fault):
-    """Nobody answers."""
-
-
-class Address(NamedTuple):
-    """Where a desk answers: its port, and its socket for batches."""
-
-    host: str
-    port: int
-    batches: Path
-
-    def __str__(self) -> str:
-        return f"http://{self.host}:{self.port}"
+    """Nobody answers, or not to the end."""
 
 
 @dataclass(frozen=True)
@@ -53,11 +42,12 @@ class Gaps:
 
 @dataclass(frozen=True)
 class Taken:
-    """What the desk says of a message that it has: in which series, at which number, and behind which it waits."""
+    """What the desk says of a message that it has: in which series, at which number, and how many products had which
+    effect, or for which number it waits."""
 
     series: str
     number: int
-    waiting_for: int | None
+    counts: dict[str, int]
     said: str
 
 
@@ -70,71 +60,60 @@ class Refused:
     said: str
 
 
-APPLIED, HELD = (200, "applied"), (202, "held")
-REFUSALS = (400, 409, 413, 422)
+# What the desk says besides in a refusal.
+MEMBERS = {
+    "malformed": ("row",),
+    "before-first": ("series", "number", "first"),
+    "waived": ("series", "number"),
+    "other-contents": ("series", "number"),
+}
 
 
 class Desk:
     """A desk that is open. It is waited for as long as nobody listens yet, so many seconds at most."""
 
-    def __init__(self, machine: Machine, address: Address, patience: float = 0) -> None:
+    def __init__(self, machine: Machine, socket: Path, patience: float = 0) -> None:
         self.machine = machine
-        self.address = address
+        self.socket = socket
         self.patience = patience
 
-    def request(self, method: str, target: str, body: bytes | None = None) -> tuple[int, dict[str, Any]]:
-        """NoDesk where nobody answers; Fault where the reply is none of a desk."""
+    def answers(self, batch: bytes) -> list[list[str]]:
+        """The records that it answers a batch with. NoDesk where nobody answers to the end."""
         end = self.machine.now() + self.patience
         while True:
             try:
-                status, text = self.machine.http(self.address.host, self.address.port, method, target, body)
+                said = self.machine.batch(self.socket, batch)
                 break
-            except ConnectionRefusedError:
+            except (ConnectionRefusedError, FileNotFoundError):
                 if self.machine.now() >= end:
-                    raise NoDesk(f"no desk answers at {self.address}") from None
+                    raise NoDesk(f"no desk answers at {self.socket}") from None
                 self.machine.sleep(PAUSE)
             except OSError as error:
-                raise NoDesk(f"no desk answers at {self.address}: {error.strerror or error}") from None
-        try:
-            members = json.loads(text)
-        except (ValueError, RecursionError):
-            members = None
-        if not isinstance(members, dict):
-            raise Fault(f"what answers at {self.address} is no desk: {status} {cut(text.decode('utf-8', 'replace'))}")
-        return status, members
+                raise NoDesk(f"no desk answers at {self.socket}: {error.strerror or error}") from None
+        if not said.endswith(b"\n"):
+            raise NoDesk(f"the desk at {self.socket} gives no whole answer")
+        return records_of(said)
+
+    def batch(self, text: str) -> list[list[str]]:
+        return self.answers(text.encode())
 
     def gaps(self, series: str) -> Gaps | None:
         """Its report on a series; nothing where it has not agreed on that."""
-        status, members = self.request("GET", f"/series/{series}/gaps")
-        if (status, members.get("reason")) == (404, "unknown-series"):
-            return None
-        try:
-            missing = tuple((int(low), int(high)) for low, high in members["missing"])
-            greatest = None if members["greatest"] is None else int(members["greatest"])
-            return Gaps(int(members["first"]), int(members["next"]), greatest, missing)
-        except (KeyError, TypeError, ValueError):
-            raise Fault(f"the desk gives no report on {series}: {status} {cut(json.dumps(members))}") from None
+        records = self.batch(f"AskGaps,{series}\n")
+        return None if records[0][:2] == ["refused", "unknown-series"] else reports_in(records)[series]
 
     def post(self, message: bytes) -> Taken | Refused:
         """What it says of a message. Fault where it says neither yes nor no."""
-        status, members = self.request("POST", "/messages", message)
-        said = json.dumps(members, sort_keys=True)
-        try:
-            if (status, members["answer"]) in (APPLIED, HELD):
-                return Taken(str(members["series"]), int(members["number"]), members.get("waiting_for"), said)
-            if status in REFUSALS and members["answer"] == "refused":
-                return Refused(str(members["reason"]), members, said)
-        except (KeyError, TypeError, ValueError):
-            pass
-        raise Fault(f"the desk answers {status} {cut(said)}")
-
-    def batch(self, text: str) -> list[list[str]]:
-        """The records that it answers a batch with. NoDesk where nobody answers."""
-        try:
-            said = self.machine.batch(self.address.batches, text.encode())
-        except OSError as error:
-            raise NoDesk(f"no desk answers at {self.address.batches}: {error.strerror or error}") from None
-        return records_of(said)
+        match self.answers(message):
+            case [["applied" | "held" as kind, series, number, *words]]:
+                counts = {name: int(value) for name, value in (word.split("=") for word in words)}
+                said = {"answer": kind, "series": series, "number": int(number), **counts}
+                return Taken(series, int(number), counts, json.dumps(said))
+            case [["refused", reason, *more]]:
+                members = dict(zip(MEMBERS.get(reason, ()), more))
+                return Refused(reason, members, json.dumps({"answer": "refused", "reason": reason, **members}))
+            case records:
+                raise Fault(f"the desk answers {cut(str(records))}")
 
 
 def records_of(answers: bytes) -> list[list[str]]:
@@ -156,3 +135,14 @@ def answers_in(records: Iterable[list[str]]) -> Iterator[list[list[str]]]:
         answer.append(record)
     if answer:
         yield answer
+
+
+def reports_in(records: list[list[str]]) -> dict[str, Gaps]:
+    """The reports on gaps by their series."""
+    found = {}
+    for (_, name, *words), *missing in answers_in(records):
+        head = dict(word.split("=", 1) for word in words)
+        greatest = int(head["greatest"]) if head["greatest"].isdigit() else None
+        spans = tuple((int(low), int(high)) for _, low, high in missing)
+        found[name] = Gaps(int(head["first"]), int(head["next"]), greatest, spans)
+    return found

@@ -4,7 +4,7 @@ import sqlite3
 from dataclasses import dataclass, field
 from pathlib import Path
 
-from onixdesk_shop.desk import Gaps, records_of
+from onixdesk_shop.desk import Gaps, records_of, reports_in
 from onixdesk_shop.faults import BadEnd, Failed
 from onixdesk_shop.lines import cut
 from onixdesk_shop.machine import Machine
@@ -95,22 +95,3 @@ class DeskFile:
         except BadEnd as error:
             raise Failed(f"the desk does not take the files: {error}") from None
         return reports_in(records_of(answers))
-
-
-def reports_in(records: list[list[str]]) -> dict[str, Gaps]:
-    """The reports of records `gaps` with those `missing` behind them."""
-    heads: dict[str, dict[str, str]] = {}
-    missing: dict[str, list[tuple[int, int]]] = {}
-    name = ""
-    for kind, *words in records:
-        if kind == "gaps":
-            name = words[0]
-            heads[name] = dict(word.split("=", 1) for word in words[1:])
-            missing[name] = []
-        elif kind == "missing":
-            missing[name].append((int(words[0]), int(words[1])))
-    found = {}
-    for name, head in heads.items():
-        greatest = int(head["greatest"]) if head["greatest"].isdigit() else None
-        found[name] = Gaps(int(head["first"]), int(head["next"]), greatest, tuple(missing[name]))
-    return found

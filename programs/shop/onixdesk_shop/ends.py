@@ -2,14 +2,17 @@
 
 import argparse
 import os
+import shutil
 import signal
 import sys
 import traceback
 from collections.abc import Callable
+from datetime import date
+from pathlib import Path
 from types import FrameType
 
 from onixdesk_shop.faults import DONE, FAULT, Fault
-from onixdesk_shop.lines import ERROR
+from onixdesk_shop.lines import ERROR, token
 from onixdesk_shop.machine import Machine
 
 
@@ -22,6 +25,22 @@ def parser_of(program: str, description: str, statuses: str) -> argparse.Argumen
         formatter_class=argparse.RawDescriptionHelpFormatter,
         allow_abbrev=False,
     )
+
+
+def day_word(word: str) -> str:
+    """A day of the calendar on a command line, as the desk writes it."""
+    try:
+        return date.fromisoformat(word).isoformat().replace("-", "")
+    except ValueError:
+        raise argparse.ArgumentTypeError(f"{token(word)} is no day YYYYMMDD") from None
+
+
+def program_of(word: Path) -> Path:
+    """A program of that name, or at that place."""
+    found = shutil.which(word)
+    if not found:
+        raise Fault(f"{word}: there is no such program")
+    return Path(found).absolute()
 
 
 def end(number: int, _frame: FrameType | None) -> None:

@@ -1,19 +1,23 @@
 """Reads a feed from standard input, and writes a line of JSON for each product that has an ISBN: the ISBN, whether it is a
-deletion, title, subtitle, contributors, publisher. For people alone: the desk has none of it. It is a child of its own."""
+deletion, title, subtitle, contributors, publisher."""
 
-import codecs
-import html.entities
 import json
 import re
 import sys
 from collections.abc import Iterator
+from pathlib import Path
 from typing import Any
-from xml.parsers import expat
 
-# How much of each text is kept, and how many contributors.
-LONGEST, CONTRIBUTORS = 300, 3
+if __name__ == "__main__":
+    # Run as a program of its own, it finds its package beside itself.
+    sys.path[0] = str(Path(__file__).resolve().parent.parent)
 
-# The elements that count, by their short tags, and what stands for them here.
+from onixdesk_shop.feed_products import LONGEST, Element, read_input
+
+# How many contributors are kept.
+CONTRIBUTORS = 3
+
+# The elements that count, by their short tags.
 TAGS = dict(
     pair.split("=")
     for pair in """
@@ -24,66 +28,8 @@ TAGS = dict(
     publishingdetail=PublishingDetail publisher=Publisher b081=PublisherName imprint=Imprint b079=ImprintName
     """.split()
 )
-NAMES = frozenset(TAGS.values())
 
 DELETION = "05"
-
-
-class Element:
-    def __init__(self, name: str) -> None:
-        self.name = name
-        self.pieces: list[str] = []
-        self.children: list[Element] = []
-
-    def all(self, name: str) -> list["Element"]:
-        return [child for child in self.children if child.name == name]
-
-    def text(self, name: str) -> str:
-        """The text of the first child of that name that has one."""
-        texts = (" ".join("".join(child.pieces).split())[:LONGEST] for child in self.all(name))
-        return next(filter(None, texts), "")
-
-
-class Reader:
-    """Products one after the other; nothing outside of them is kept."""
-
-    def __init__(self, first: bytes) -> None:
-        encoding = "utf-8" if first.startswith(codecs.BOM_UTF8) else None
-        self.parser = expat.ParserCreate(encoding)
-        self.parser.buffer_text = True
-        self.parser.UseForeignDTD(True)
-        self.parser.SetParamEntityParsing(expat.XML_PARAM_ENTITY_PARSING_NEVER)
-        self.parser.StartElementHandler = self.start
-        self.parser.EndElementHandler = self.end
-        self.parser.CharacterDataHandler = self.add
-        self.parser.SkippedEntityHandler = self.add_entity
-        self.open: list[Element | None] = []
-        self.products: list[Element] = []
-
-    def start(self, tag: str, _: Any) -> None:
-        name = TAGS.get(tag, tag).rpartition(":")[2]
-        above = self.open[-1] if self.open else None
-        element = Element(name) if name in NAMES and (above or name == "Product") else None
-        if above and element:
-            above.children.append(element)
-        self.open.append(element)
-
-    def end(self, _: str) -> None:
-        element = self.open.pop()
-        if element and element.name == "Product":
-            self.products.append(element)
-
-    def add(self, text: str) -> None:
-        if self.open and (element := self.open[-1]):
-            element.pieces.append(text)
-
-    def add_entity(self, name: str, _: bool) -> None:
-        self.add(html.entities.html5.get(f"{name};", ""))
-
-    def read(self, piece: bytes, is_last: bool = False) -> Iterator[Element]:
-        self.parser.Parse(piece, is_last)
-        found, self.products = self.products, []
-        yield from found
 
 
 def isbn_of(product: Element) -> str:
@@ -123,26 +69,9 @@ def publisher_of(detail: Element) -> str:
 
 
 def row_of(product: Element) -> list[Any]:
-    empty = [Element("")]
-    detail = (product.all("DescriptiveDetail") or empty)[0]
-    publishing = (product.all("PublishingDetail") or empty)[0]
+    detail, publishing = product.first("DescriptiveDetail"), product.first("PublishingDetail")
     texts = [*title_of(detail), contributors_of(detail), publisher_of(publishing)]
     return [isbn_of(product), product.text("NotificationType") == DELETION, *texts]
-
-
-def main() -> int:
-    stream = sys.stdin.buffer
-    piece = stream.read(65_536)
-    reader = Reader(piece)
-    try:
-        while piece:
-            write(reader.read(piece))
-            piece = stream.read(65_536)
-        write(reader.read(b"", is_last=True))
-    except (expat.ExpatError, ValueError, LookupError) as error:
-        print(f"expat does not take it: {error}", file=sys.stderr)
-        return 1
-    return 0
 
 
 def write(products: Iterator[Element]) -> None:
@@ -152,4 +81,4 @@ def write(products: Iterator[Element]) -> None:
 
 
 if __name__ == "__main__":
-    sys.exit(main())
+    sys.exit(read_input(TAGS, write))

@@ -79,9 +79,17 @@ def refusal_of(said: Said) -> str:
     return why
 
 
-def stream_of(source: Path) -> list[str | Path]:
-    """The words of the child that writes a feed, unpacked and recoded."""
-    return [sys.executable, "-E", "-s", "-S", "-B", Path(__file__).with_name("feed_stream.py"), source]
+def child(module: str, *words: str | Path) -> list[str | Path]:
+    """The words by which a module of the package is a program of its own."""
+    return [sys.executable, "-E", "-s", "-S", "-B", Path(__file__).with_name(f"{module}.py"), *words]
+
+
+def read_by(machine: Machine, module: str, source: Path, seconds: float) -> bytes:
+    """What a module says that reads a feed, unpacked and recoded. BadEnd where it does not read it to its end."""
+    before, ended = machine.run_pipe(child("feed_stream", source), child(module), (DONE,), seconds)
+    if before:
+        raise BadEnd("it cannot be unpacked")
+    return ended.output
 
 
 def convert(
@@ -96,7 +104,9 @@ def convert(
         machine.write_whole(work / "terms.toml", terms)
         call[2:2] = ["--terms", work / "terms.toml"]
     try:
-        before, ended = machine.run_pipe(stream_of(source), call, (DONE, FAILED, BAD_CALL), CONVERSION_SECONDS)
+        before, ended = machine.run_pipe(
+            child("feed_stream", source), call, (DONE, FAILED, BAD_CALL), CONVERSION_SECONDS
+        )
     except BadEnd as end:
         raise Refusal(f"its conversion failed: {end}") from None
     said = said_in(ended.errors)
@@ -109,18 +119,6 @@ def convert(
     if not messages:
         raise Refusal(refusal_of(said))
     return Converted(messages, said)
-
-
-def check_words(machine: Machine, program: Path, words: list[str], terms: bytes | None) -> None:
-    """BadCall where the converter does not take the words, or the table of terms."""
-    with machine.scratch() as folder:
-        call: list[str | Path] = [program, "convert", *words, "-o", folder]
-        if terms is not None:
-            machine.write_whole(folder / "terms.toml", terms)
-            call += ["--terms", folder / "terms.toml"]
-        ended = machine.run([*call, "-"], (DONE, FAILED, BAD_CALL), seconds=CHECK_SECONDS)
-    if ended.status == BAD_CALL:
-        raise BadCall(f"WORDS or TERMS: {cut(ended.errors.decode('utf-8', 'replace').partition(chr(10))[0])}")
 
 
 def check(machine: Machine, program: Path, message: bytes) -> str:

@@ -1,10 +1,9 @@
-"""The one place where the package touches the machine: files, SQLite, the desk's port and socket, children, the clock,
+"""The one place where the package touches the machine: files, SQLite, the desk's socket, children, the clock,
 output. The tests put their faults here, and nowhere else."""
 
 import contextlib
 import fcntl
 import hashlib
-import http.client
 import os
 import shutil
 import socket
@@ -22,7 +21,6 @@ from onixdesk_shop.children import Ended, Words
 from onixdesk_shop.faults import DONE
 
 PIECE = 1 << 20
-MOST_OUTPUT = 64 << 20
 
 # Where SQLite locks a database: an open desk has all of it.
 LOCKED_FROM, LOCKED_LENGTH = 1 << 30, 512
@@ -39,7 +37,6 @@ class Entry(NamedTuple):
     modified: int
     changed: int
     is_regular: bool
-    links: int
     inode: int
 
 
@@ -71,7 +68,7 @@ class Machine:
         found = os.lstat(path)
         is_regular = stat.S_ISREG(found.st_mode)
         times = found.st_mtime_ns, found.st_ctime_ns
-        return Entry(path.name, found.st_size, *times, is_regular, found.st_nlink, found.st_ino)
+        return Entry(path.name, found.st_size, *times, is_regular, found.st_ino)
 
     def copy(self, source: Path, target: Path) -> str:
         """Copies a regular file, of which the disk has the target then, with its time; the SHA-256 of its bytes."""
@@ -233,18 +230,6 @@ class Machine:
 
     # The desk
 
-    def http(self, host: str, port: int, method: str, target: str, body: bytes | None = None) -> tuple[int, bytes]:
-        """The status and the body of a reply; OSError where there is none."""
-        connection = http.client.HTTPConnection(host, port, timeout=SECONDS)
-        try:
-            connection.request(method, target, body)
-            reply = connection.getresponse()
-            return reply.status, reply.read(MOST_OUTPUT)
-        except http.client.HTTPException as error:
-            raise OSError(None, f"it gives no whole reply ({type(error).__name__})") from None
-        finally:
-            connection.close()
-
     def batch(self, address: Path, text: bytes) -> bytes:
         """The answers of a desk to a batch at its socket; OSError where there is none."""
         with socket.socket(socket.AF_UNIX) as client:
@@ -264,12 +249,10 @@ class Machine:
         words: Words,
         known: tuple[int, ...] = (DONE,),
         text: bytes = b"",
-        output: Path | None = None,
         seconds: float | None = None,
     ) -> Ended:
-        """Runs a child that reads the text, and writes to the file if there is one. BadEnd where it does not end in a
-        way that is known."""
-        return children.run(words, known, text, output, seconds)
+        """Runs a child that reads the text. BadEnd where it does not end in a way that is known."""
+        return children.run(words, known, text, seconds)
 
     def run_pipe(self, first: Words, second: Words, known: tuple[int, ...], seconds: float) -> tuple[int, Ended]:
         """Runs a child that reads what another one writes, whose status is the first of the two."""

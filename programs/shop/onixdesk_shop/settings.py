@@ -8,9 +8,7 @@ from collections.abc import Callable
 from dataclasses import dataclass
 from pathlib import Path
 from typing import Any
-from urllib.parse import urlsplit
 
-from onixdesk_shop.desk import Address
 from onixdesk_shop.faults import BadCall
 from onixdesk_shop.machine import Machine
 from onixdesk_shop.places import BATCHES
@@ -28,8 +26,6 @@ is_series = re.compile("[a-z0-9-]{1,32}").fullmatch
 @dataclass(frozen=True)
 class Settings:
     sender: tuple[str, str]
-    host: str = "127.0.0.1"
-    port: int = 8080
     batches: Path = BATCHES
     words: tuple[str, ...] = ()
     number: str = OWN
@@ -40,10 +36,6 @@ class Settings:
     silent_days: int = 4
     full: int = 0
     full_names: tuple[str, ...] = ()
-
-    @property
-    def address(self) -> Address:
-        return Address(self.host, self.port, self.batches)
 
     @property
     def parts(self) -> int:
@@ -86,13 +78,6 @@ def read_lines(machine: Machine, path: Path) -> dict[str, tuple[int, str]]:
     return found
 
 
-def address(value: str) -> dict[str, Any]:
-    url = urlsplit(value)
-    if url.scheme != "http" or not url.hostname or url.port is None or url.path not in ("", "/"):
-        raise ValueError("DESK is http://HOST:PORT")
-    return {"host": url.hostname, "port": url.port}
-
-
 def words(value: str) -> tuple[str, ...]:
     found = tuple(shlex.split(value))
     is_value = False
@@ -109,7 +94,6 @@ def file(value: str) -> Path | None:
 
 # The setting that each line sets, what it may be, and how it is read.
 READERS: dict[str, tuple[str, str, Callable[[str], Any]]] = {
-    "DESK": ("", ".*", address),
     "BATCHES": ("batches", "/.+", Path),
     "WORDS": ("words", ".*", words),
     "NUMBER": ("number", "own|next", str),
@@ -141,10 +125,9 @@ def read_settings(machine: Machine, path: Path) -> Settings:
         try:
             if not re.fullmatch(pattern, value):
                 raise ValueError(f"it is {WHAT.get(name, pattern)}")
-            made = read(value)
+            found[attribute] = read(value)
         except ValueError as error:
             raise BadCall(f"{path}:{place}: {name}: {error}") from None
-        found.update({attribute: made} if attribute else made)
     if "sender" not in found:
         raise BadCall(f"{path}: SENDER is missing: the sender that messages must have")
     settings = Settings(**found)

@@ -77,7 +77,7 @@ def set_up_and_removed(room: Room) -> Iterator[Outcome]:
     """Users and groups are the machine's: what makes them, and who owns a folder, is only written down."""
     with machine(room, AGREED) as desk:
         example = (ROOT / "programs/onixdesk-inbox/example.conf").read_text(encoding="utf-8")
-        example = desk.placed(example.replace(":8080", f":{desk.port}"))
+        example = desk.placed(example)
         room.write("etc/onixdesk/inbox/example.conf", example.encode())
         room.path("etc/onixdesk/inbox/north.conf").unlink()
         room.path("var/lib/onixdesk-incoming/north").rmdir()
@@ -86,7 +86,7 @@ def set_up_and_removed(room: Room) -> Iterator[Outcome]:
         script(room, "bin/install", 'shift 5; exec /usr/bin/install -d "$@"')
         ran = desk.run(["set -e", *block_with("addgroup")])
         yield Outcome(f"{PAGE}: an inbox is set up", (ran.status, ran.errors), (0, b""))
-        yield Outcome(f"{PAGE}: its settings", desk.run(["onixdesk-inbox --check north"]).status, 0)
+        yield Outcome(f"{PAGE}: its settings", desk.run(["onixdesk-inbox north"]).status, 0)
         mode = room.path("var/lib/onixdesk-incoming/north").stat().st_mode & 0o7777
         yield Outcome(f"{PAGE}: its folder", mode, 0o2770)
         lines = block_with("systemctl disable")

@@ -76,6 +76,15 @@ def another_identifier(room: Room) -> Iterator[Outcome]:
         yield from undone(desk, "s/^\\(Agree,[^,]*\\|Message", before, behind)
 
 
+def numbers_that_begin_again(room: Room) -> Iterator[Outcome]:
+    with machine(room, AGREED, WORDS="") as desk:
+        desk.take({"1.xml": feed(1, a="10.00", b="20.00"), "2.xml": feed(2, a="11.00")})
+        states = desk.take({"new.xml": feed(1, a="12.00")})
+        yield Outcome("numbers that begin again: the file", states["new.xml"], "refused")
+        before, behind = {"a": "11.000", "b": "20.000"}, {"a": "12.000", "b": "20.000"}
+        yield from undone(desk, "WORDS=--number-offset 2", before, behind)
+
+
 def a_wrong_number(room: Room) -> Iterator[Outcome]:
     """It is in quarantine first, since its number is far ahead, and somebody lets it in."""
     with machine(room, AGREED) as desk:

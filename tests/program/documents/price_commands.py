@@ -1,7 +1,6 @@
 """Commands of docs/PRICES.md, each run as the page has it, in a room that stands for a shop's machine."""
 
 import csv
-import re
 from collections.abc import Iterator
 
 from tests.program.documents.examples import blocks, written
@@ -9,7 +8,6 @@ from tests.program.documents.mistakes import AGREED
 from tests.program.files.machines import Machine, machine
 from tests.program.room import Room
 from tests.running import Outcome
-from tools.root import ROOT
 
 PAGE = "docs/PRICES.md"
 
@@ -62,9 +60,8 @@ def set_up(room: Room) -> Iterator[Outcome]:
         shown = ran.output.decode().splitlines()[:2]
         yield Outcome(f"{PAGE}: what head shows", shown, room.path(NIGHT).read_text().splitlines())
         row = line_of(desk, NIGHT)
-        found = {name: row[name] for name in ("isbn", "wholesaler", "price", "rrp", "margin")}
-        # 4.00 of 12.00 remain.
-        wanted = {"isbn": ISBN, "wholesaler": "North Books", "price": "8.00", "rrp": "12.00", "margin": "33.3"}
+        found = {name: row[name] for name in ("isbn", "wholesaler", "price", "rrp")}
+        wanted = {"isbn": ISBN, "wholesaler": "North Books", "price": "8.00", "rrp": "12.00"}
         yield Outcome(f"{PAGE}: its line", found, wanted)
         desk.ask(*message(2, "9.00").splitlines())
         desk.run(["systemctl start onixdesk-prices"])
@@ -80,8 +77,7 @@ def form_for_a_till(room: Room) -> Iterator[Outcome]:
         path = room.path("etc/onixdesk/page/desk.json")
         form = "\n".join(block_with('"price_file"'))
         path.write_text(f"{path.read_text().rstrip().removesuffix('}').rstrip()},\n{form}\n}}\n", encoding="utf-8")
-        (check,) = re.findall("`(desk-prices --check.*?)`", (ROOT / PAGE).read_text(encoding="utf-8"))
-        ran = desk.run(["set -e", check, "systemctl start onixdesk-prices"])
+        ran = desk.run(["set -e", "systemctl start onixdesk-prices"])
         yield Outcome(f"{PAGE}: the form", (ran.status, ran.errors), (0, b""))
         lines = room.path(NIGHT).read_text(encoding="utf-8").splitlines()
         yield Outcome(f"{PAGE}: the till's file", lines, ["EAN;Net;From", f"{ISBN};8.00;North Books"])

@@ -4,7 +4,6 @@ each program that reads such a file has the same."""
 import re
 from collections.abc import Iterator
 
-from desk_follow.rules import KEYS, OTHER_KEYS
 from tests.program.room import Room
 from tests.running import Outcome
 from tools.root import ROOT
@@ -35,8 +34,6 @@ def keys(room: Room) -> Iterator[Outcome]:
     table = dict(ROW.findall(text_of("docs/FORMATS.md").partition("| Key of a rule |")[2].partition("\n\n")[0]))
     for reader, (file, pattern) in READERS.items():
         yield Outcome(f"keys of a rule: {reader}", set(re.findall(pattern, text_of(file))), table.keys())
-    needed = {key for key, has_to in table.items() if has_to == "yes"}
-    yield Outcome("keys of a rule: the follower", (KEYS, OTHER_KEYS), (needed, table.keys() - needed))
 
 
 def each_alone(room: Room) -> Iterator[Outcome]:
@@ -45,7 +42,7 @@ def each_alone(room: Room) -> Iterator[Outcome]:
     for left_out in ("", *rule):
         text = "".join(f"{key} = {value}\n" for key, value in rule.items() if key != left_out)
         room.write("rules.toml", f"[[rule]]\n{text}".encode())
-        status = 2 if left_out in KEYS else 0
+        status = 2 if left_out in ("series", "codes") else 0
         came = room.run("rules", "rules.toml").status
         yield Outcome(f"keys of a rule, without one: {left_out}", came, status)
     room.write("rules.toml", b'[[rule]]\nseries = "*"\ncodes = ["20"]\nmin = "1"\n')

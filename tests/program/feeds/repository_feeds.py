@@ -12,7 +12,7 @@ from tests.program.databases import batch
 from tests.program.feeds.feed_oracle import Verdict, effect, judge, records_text
 from tests.program.feeds.feed_reading import read
 from tests.program.feeds.feed_trees import Words
-from tests.program.inbox.inboxes import WORDS, Inbox, of_series
+from tests.program.inbox.inboxes import SOCKET, WORDS, Inbox, of_series
 from tests.program.room import Group, Ran, Room
 from tests.program.serving import serving
 from tests.running import Outcome
@@ -83,9 +83,9 @@ def taken(path: Path, parts: int, room: Room) -> Iterator[Outcome]:
     """An inbox takes it, and the desk applies each of its parts."""
     hoped = wanted(path, Words(parts=parts, wrong="all"))
     batch(room, hoped.agreement)
-    with serving(room, WORDS, None) as desk:
+    with serving(room, WORDS, None, ["--batches", SOCKET]) as desk:
         sender = ",".join(hoped.agreement.decode().split(",")[2:4])
-        inbox = Inbox(room, desk.port, "s", WORDS=f"--parts {parts} --wrong all", SENDER=sender)
+        inbox = Inbox(room, "s", WORDS=f"--parts {parts} --wrong all", SENDER=sender)
         inbox.put({path.name: path.read_bytes()})
         came = inbox.run()
         desk.stopped()

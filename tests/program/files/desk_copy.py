@@ -107,12 +107,14 @@ def first_next(room: Room, database: Path) -> int:
 
 def taken(room: Room, sender: Sender, place: int) -> str:
     """What is wrong with a copy that is taken now."""
+    folder = room.path(f"taken-{place}")
+    folder.mkdir()
     before = sender.answered
-    ran = copy(room, DATABASE, f"copy-{place}")
+    ran = copy(room, DATABASE, folder / "copy")
     after = sender.sent
     if ran.status or ran.errors:
         return f"not taken: {ran}"
-    database = room.path(f"copy-{place}") / DATABASE
+    database = folder / "copy" / DATABASE
     as_of, messages, *prices = counted(database)
     amounts = [PRODUCTS, 1000 * messages, 1000 * messages] if messages else [0, None, None]
     if (messages, prices) != (as_of - 1, amounts):
@@ -183,7 +185,7 @@ def of_a_desk_at_rest(room: Room) -> Iterator[Outcome]:
 
 def each_night(room: Room) -> Iterator[Outcome]:
     shop = shop_in(room, "night")
-    for name in (*OLD, "of the shop", ".desk-copy", ".desk-copy-2024-01-01T00-00-00Z"):
+    for name in (*OLD, "of the shop", ".desk-copy"):
         (shop.copies / name).mkdir()
     words = "--keep", 3, "--inboxes", shop.inbox.places.inboxes, shop.database, shop.copies
     yield Outcome("status", run(shop, *words), 0)

@@ -55,10 +55,9 @@ SETTINGS = {
 RULES = '[[rule]]\nseries = "*"\ncodes = ["21"]\n'
 
 WANTED = [
-    "isbn,wholesaler,series,reference,availability,price,price_10,currency,holds_until,next_price,next_day,rrp,margin,"
-    "others_least,title,day,may_be_old",
-    f"{ONE},North & Co,north,A,21,6.00,5.50,GBP,20250331,7.00,20250401,10.00,40.0,8.00,A book,20250310,",
-    f"{TWO},,,,,,,GBP,,,,12.00,,,,20250310,yes",
+    "isbn,wholesaler,series,reference,availability,price,currency,rrp,title,day,may_be_old",
+    f"{ONE},North & Co,north,A,21,6.00,GBP,10.00,A book,20250310,",
+    f"{TWO},,,,,,GBP,12.00,,20250310,yes",
 ]
 
 
@@ -95,9 +94,11 @@ def a_file_of_prices(room: Room) -> Iterator[Outcome]:
     yield Outcome("another form", room.path("till/prices.csv").read_text(), f'{ONE};"6,00"\n{TWO};\n')
     yield Outcome("the file of before", room.path("till/prices.before.csv").read_text().splitlines(), WANTED)
     room.write("desk.json", json.dumps(SETTINGS | {"price_file": {"columns": ["isbn"], "file": "x"}}).encode())
-    came = run(room, "--check")
+    came = run(room)
     yield Outcome("a wrong key", (came.status, came.errors), (2, b"desk-prices: desk.json: price_file: file\n"))
     room.write("desk.json", json.dumps(SETTINGS | {"minutes_to_usual": 5}).encode())
     came = run(room)
     why = b"desk-prices: desk.json: minutes_to_usual is no key of it\n"
     yield Outcome("an unknown key", (came.status, came.errors), (2, why))
+    came = run(room, "--day", "20250230")
+    yield Outcome("no day of the calendar", (came.status, b"20250230 is no day YYYYMMDD" in came.errors), (2, True))

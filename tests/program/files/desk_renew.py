@@ -11,6 +11,7 @@ from onixdesk_shop.machine import Machine
 from onixdesk_shop.renewals import catalogue
 from onixdesk_shop.renewals.command_line import command_line, renew
 from tests.program.databases import DATABASE, all_rows, batch
+from tests.program.inbox.inboxes import script
 from tests.program.room import Group, Ran, Room
 from tests.running import Outcome
 from tests.shop.desk_files import UNITS, Shop, ShopMachine, read
@@ -109,8 +110,8 @@ def renewed(room: Room, machine: Machine, **more: object) -> int:
     words = {
         "db": room.path(DATABASE),
         "inboxes": room.path("none"),
+        "copies": room.path("none"),
         "program": room.program,
-        "rules": room.path("none"),
     }
     options = command_line().parse_args([f"--{name}={value}" for name, value in (words | more).items()] + ["--yes"])
     return status_of(machine, lambda each: renew(each, options))
@@ -150,7 +151,7 @@ def too_few_numbers(room: Room) -> Iterator[Outcome]:
 
 
 def what_differs(room: Room) -> Iterator[Outcome]:
-    """A row or an answer that is another one is a failure, and so is a program that is killed as it answers."""
+    """A row that is another one is a failure, and so is a program that is killed as it makes the new desk."""
     batch(room, DESK.encode())
     told = catalogue.territory
     catalogue.territory = lambda included, world, excluded: told(included, world, "")
@@ -159,7 +160,12 @@ def what_differs(room: Room) -> Iterator[Outcome]:
         yield Outcome("a row", (renewed(room, machine), of_before(room)), (1, []))
     finally:
         catalogue.territory = told
-    yield Outcome("says which", [line[:35] for line in machine.lines], ["the renewed desk differs: offer: on"])
+    said = "the renewed desk differs, and the desk is as it was: offer: on"
+    yield Outcome("says which", [line[: len(said)] for line in machine.lines], [said])
+    machine = RealMachine()
+    program = script(room, "killed", "kill -9 $$")
+    found = renewed(room, machine, program=program), of_before(room), machine.lines
+    yield Outcome("killed", found, (3, [], ["killed was killed by signal 9"]))
 
 
 # Over files of the tests, in this process
@@ -175,10 +181,7 @@ def shop_in(room: Room, name: str) -> Shop:
 
 def run(shop: Shop, machine: ShopMachine | None = None) -> int:
     machine = machine or shop.machine()
-    options = command_line().parse_args(
-        [f"--{name}={place}" for name, place in shop.options.items() if name != "copies"]
-    )
-    options.rules = shop.settings / "none"
+    options = command_line().parse_args([f"--{name}={place}" for name, place in shop.options.items()])
     try:
         return status_of(machine, lambda each: renew(each, options))
     finally:
@@ -228,31 +231,29 @@ def unanswered(room: Room) -> Iterator[Outcome]:
     shop = shop_in(room, "never")
     shop.inbox.work(lambda inbox: inbox.ledger.set_message(5, "posted"))
     shop.is_inbox_run = False
-    yield Outcome("never answered", (run(shop), shop.units), (1, []))
+    status, stopped = run(shop), [words for words in shop.units if words.startswith("stop")]
+    yield Outcome("never answered", (status, stopped, standing(shop)), (1, [], (1, [1, 2, 3, 5])))
 
 
-class Waiving(ShopMachine):
-    """A desk to which a number is waived while the new one is made, so many times."""
-
-    times = 1
+class WrittenMeanwhile(ShopMachine):
+    """A desk to which a number is waived, and a feed comes, while the new one is made."""
 
     def run(self, words: Words, *others: Any, **more: Any) -> Ended:
-        if words[-1] == "batch" and self.times:
-            self.times -= 1
-            self.shop.inbox.series.had[10 + self.times] = WAIVED
+        if words[-1] == "batch" and 10 not in self.shop.inbox.series.had:
+            self.shop.inbox.series.had[10] = WAIVED
+            self.shop.send(("4.xml", feed_of(4, {"R1": "14.00"})))
         return super().run(words, *others, **more)
 
 
 def written_meanwhile(room: Room) -> Iterator[Outcome]:
+    """The waiver is made again, and the inbox posts the feed again."""
     shop = shop_in(room, "meanwhile")
-    yield Outcome("begins again", (run(shop, Waiving(shop, ("", -1))), standing(shop)), (0, (3, [3, 5, 10])))
-    shop = shop_in(room, "always")
-    machine = Waiving(shop, ("", -1))
-    machine.times = 99
-    yield Outcome("and ends at last", (run(shop, machine), standing(shop)[0], shop.started), (3, 1, {*UNITS}))
+    status = run(shop, WrittenMeanwhile(shop, ("", -1)))
+    yield Outcome("written meanwhile", (status, standing(shop)), (0, (3, [3, 5, 10])))
+    yield Outcome("the new desk has both", sorted(shop.inbox.series.had), [3, 4, 5, 10])
 
 
-STRIDE = int(os.environ.get("ONIXDESK_STRIDE", "25"))
+STRIDE = int(os.environ.get("ONIXDESK_STRIDE", "33"))
 
 
 def killed(kind: str, room: Room) -> Iterator[Outcome]:
@@ -265,7 +266,7 @@ def killed(kind: str, room: Room) -> Iterator[Outcome]:
         machine = shop.machine(kind, at)
         try:
             run(shop, machine)
-        except Killed:
+        except (Killed, SystemExit):
             pass
         if machine.calls < at:
             break
@@ -278,4 +279,4 @@ def killed(kind: str, room: Room) -> Iterator[Outcome]:
     yield Outcome("there are some", at > 40, True)
 
 
-GROUPS = [Group(f"renewals, {kind}", partial(killed, kind)) for kind in ("kill", "power", "error")]
+GROUPS = [Group(f"renewals, {kind}", partial(killed, kind)) for kind in ("kill", "power", "error", "signal")]

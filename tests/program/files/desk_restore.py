@@ -13,16 +13,16 @@ from onixdesk_shop.restores.command_line import restore
 from onixdesk_shop.settings import NEXT
 from tests.program.room import Group, Room
 from tests.running import Outcome
-from tests.shop.desk_files import UNITS, Shop, ShopMachine, options_of, read
+from tests.shop.desk_files import UNITS, Shop, ShopMachine, options_of, read, text_of
 from tests.shop.fake_desk import WAIVED, FakeDesk
 from tests.shop.fake_machine import Killed
-from tests.shop.fake_program import feed_of, isbn_of
+from tests.shop.fake_program import SENDER, feed_of, isbn_of
 from tests.shop.inboxes import SERIES
 
 OPTIONS: dict[str, Any] = {"yes": False, "gaps": False, "before_correction": False, "text": None}
 
 # Of the calls of a restore each so many'th is tried; ONIXDESK_STRIDE=1 tries all.
-STRIDE = int(os.environ.get("ONIXDESK_STRIDE", "25"))
+STRIDE = int(os.environ.get("ONIXDESK_STRIDE", "33"))
 
 
 def shop_in(room: Room, name: str, **settings: object) -> Shop:
@@ -85,6 +85,7 @@ def refused_before(room: Room) -> Iterator[Outcome]:
     """A bad feed that is refused by the line that was printed does not come back."""
     shop = shop_in(room, "refused", number=NEXT)
     copy = four_days(shop)
+    wrong = shop.take_copy("2026-11-30T02-30-12Z")
     machine = shop.machine()
     machine.said = "no"
     yield Outcome("without a yes", (run(shop, copy, machine), has(shop), shop.units), (1, [1, 2, 3, 4], []))
@@ -94,6 +95,8 @@ def refused_before(room: Room) -> Iterator[Outcome]:
     yield Outcome("the others", (run(shop, copy), price(shop), shop.inbox.states()["4.xml"]), (0, "13.000", "rejected"))
     shop.inbox.run()
     yield Outcome("its number is waived", shop.inbox.series.had[4], WAIVED)
+    aside = wrong.with_name(f"{wrong.name}.before-correction")
+    yield Outcome("a copy that has it is set aside", (copy.exists(), aside.exists()), (True, True))
 
 
 def output_that_breaks(room: Room) -> Iterator[Outcome]:
@@ -198,16 +201,6 @@ def ledgers(room: Room) -> Iterator[Outcome]:
     yield Outcome("it knows the first feed", shop.inbox.states()["1.xml"], "applied")
 
 
-def text_of(shop: Shop) -> str:
-    """The desk as a batch makes it again."""
-    assert shop.inbox.desk
-    series = shop.inbox.series
-    lines = [f"Agree,{SERIES},{','.join(series.parties)},{series.first}\n"]
-    for number, contents in sorted(series.had.items()):
-        lines.append(f"Waive,{SERIES},{number}\n" if contents == WAIVED else shop.inbox.desk.texts[number])
-    return "".join(lines)
-
-
 def corrections(room: Room) -> Iterator[Outcome]:
     """A desk of a corrected text: what came meanwhile is there too, and the copies from before are set aside."""
     shop = shop_in(room, "corrections")
@@ -215,7 +208,7 @@ def corrections(room: Room) -> Iterator[Outcome]:
     assert shop.inbox.desk
     copy = shop.take_copy("before")
     text = room.path("after.csv")
-    text.write_text(text_of(shop).replace(",14.00,", ",99.00,"))
+    text.write_text(text_of(shop.inbox.desk).replace(",14.000,", ",99.000,"))
     series = shop.inbox.series
     series.had[6] = WAIVED
     shop.send(("5.xml", feed_of(5, {"R2": "15.00"})))
@@ -240,8 +233,8 @@ def held_at_a_wrong_number(room: Room) -> Iterator[Outcome]:
     yield Outcome("let in, and held", shop.inbox.states()["date.xml"], "held")
     copy = shop.take_copy("before")
     text = room.path("after.csv")
-    taken_out = text_of(shop).rpartition("Message,")[0]
-    text.write_text(taken_out)
+    assert shop.inbox.desk
+    text.write_text(text_of(shop.inbox.desk).rpartition("\nMessage,")[0] + "\n")
     shop.inbox.work(lambda inbox: decide.decide(inbox, "refuse", mark))
     yield Outcome("the status", (run(shop, copy, text=text), has(shop)), (0, [1]))
     shop.inbox.run()
@@ -255,16 +248,47 @@ def waiver_taken_back(room: Room) -> Iterator[Outcome]:
     """The message of a number that was waived arrived: the waiver is taken out of the text, and not made again."""
     shop = shop_in(room, "waived")
     shop.send(("1.xml", feed_of(1, {"R1": "10.00"})))
-    shop.inbox.work(lambda inbox: decide.waive(inbox, 2))
+    shop.inbox.work(lambda inbox: decide.waive(inbox, range(2, 3)))
     shop.send(("3.xml", feed_of(3, {"R1": "13.00"})), ("2.xml", feed_of(2, {"R2": "12.00"})))
     yield Outcome("refused", (shop.inbox.states()["2.xml"], shop.inbox.series.had[2]), ("refused", WAIVED))
-    shop.inbox.work(lambda inbox: decide.take_back(inbox, 2))
+    shop.inbox.work(lambda inbox: decide.take_back(inbox, range(2, 3)))
     copy = shop.take_copy("before")
     text = room.path("after.csv")
-    text.write_text(text_of(shop).replace(f"Waive,{SERIES},2\n", ""))
+    assert shop.inbox.desk
+    text.write_text(text_of(shop.inbox.desk).replace(f"Waive,{SERIES},2\n", ""))
     yield Outcome("the status", run(shop, copy, text=text), 0)
     shop.send(("2.xml", feed_of(2, {"R2": "12.00"})))
     yield Outcome("it has its place", (price(shop), price(shop, "R2")), ("13.000", "12.000"))
+
+
+OTHER = "06", "4012345000016"
+
+
+def renamed(shop: Shop, name: str) -> int:
+    """The sender becomes another one in the desk's text: the status of the restore, by a copy of that name."""
+    assert shop.inbox.desk
+    copy = shop.take_copy(name)
+    text = shop.copies.with_name(f"{name}.csv")
+    text.write_text(text_of(shop.inbox.desk).replace(SENDER[1], OTHER[1]))
+    return run(shop, copy, text=text)
+
+
+def another_identifier(room: Room) -> Iterator[Outcome]:
+    """A copy from before the correction is put into place: what came since waits until that is made again."""
+    shop = shop_in(room, "identifier")
+    copy = four_days(shop)
+    shop.inbox.settings = replace(shop.inbox.settings, sender=OTHER)
+    settings = shop.settings / f"{SERIES}.conf"
+    settings.write_text(settings.read_text().replace(SENDER[1], OTHER[1]))
+    yield Outcome("corrected", (renamed(shop, "first"), has(shop)), (0, [1, 2, 3, 4]))
+    shop.send(("5.xml", feed_of(5, {"R1": "15.00"}, sender=OTHER)))
+    yield Outcome("the next feed", (has(shop), price(shop)), ([1, 2, 3, 4, 5], "15.000"))
+    before = copy.with_name(f"{copy.name}.before-correction")
+    yield Outcome("a copy from before", (run(shop, before, before_correction=True), has(shop)), (1, [1, 2, 3, 4]))
+    yield Outcome("says what is lacking", "north: the desk still lacks number 5" in shop.lines, True)
+    yield Outcome("corrected again", renamed(shop, "again"), 0)
+    shop.inbox.run()
+    yield Outcome("it has all", (has(shop), price(shop), shop.inbox.run()), ([1, 2, 3, 4, 5], "15.000", []))
 
 
 def killed(kind: str, room: Room) -> Iterator[Outcome]:
@@ -277,7 +301,7 @@ def killed(kind: str, room: Room) -> Iterator[Outcome]:
         machine = shop.machine(kind, at)
         try:
             status = run(shop, copy, machine)
-        except Killed:
+        except (Killed, SystemExit):
             status = -9
         if machine.calls < at:
             break
@@ -293,4 +317,4 @@ def killed(kind: str, room: Room) -> Iterator[Outcome]:
     yield Outcome("there are some", at > 60, True)
 
 
-GROUPS = [Group(f"restore, {kind}", partial(killed, kind)) for kind in ("kill", "power", "error")]
+GROUPS = [Group(f"restore, {kind}", partial(killed, kind)) for kind in ("kill", "power", "error", "signal")]

@@ -11,7 +11,7 @@ from tests.running import Outcome
 NEEDS = ["strace"]
 
 # Of each program so many calls that give a file another name, and half as many of the others.
-MOST = 6
+MOST = 4
 
 
 def killed_at_some(name: str, room: Room) -> Iterator[Outcome]:
@@ -24,4 +24,5 @@ def killed_at_some(name: str, room: Room) -> Iterator[Outcome]:
     yield Outcome(f"kills: {name}: it was killed", judged.tried >= MOST // 2, True)
 
 
-GROUPS = [Group(name, partial(killed_at_some, name)) for name in SCENARIOS]
+# One kill of the script that fetches takes as long as all of the others; fetching.py has one.
+GROUPS = [Group(name, partial(killed_at_some, name)) for name in SCENARIOS if name != "fetch"]

@@ -110,7 +110,6 @@ class Machine:
 
     def settings(self, **settings: object) -> None:
         lines = {
-            "DESK": f"http://127.0.0.1:{self.port}",
             "BATCHES": self.room.path(SOCKET),
             "UNCHANGED_SECONDS": 0,
             "NUMBER": "own",

@@ -126,7 +126,11 @@ def what_cannot_be_mailed(room: Room) -> Iterator[Outcome]:
     yield Outcome("mails: nothing else is kept", [path.name for path in room.path("state").iterdir()], ["read"])
     script(room, "bin/journalctl", "exit 1")
     wanted = Ran(1, b"", b"mail.sh: the journal cannot be read, so nobody is mailed\n")
+    say(room, 3, NOT_STARTED)
     yield Outcome("mails: no journal", mail(room), wanted)
+    shutil.copy(ROOT / "tests/mails/journalctl", room.path("bin"))
+    mail(room)
+    yield Outcome("mails: then it is", bodies(room), ([NOT_STARTED],) * 2)
 
 
 def each_monday(room: Room) -> Iterator[Outcome]:

@@ -14,6 +14,7 @@ from collections.abc import Iterator
 from pathlib import Path
 from typing import Any
 
+from tests.program.documents.examples import blocks
 from tests.program.room import SECONDS, Ran, Room
 from tests.program.serving import HOST, connected, free_port
 from tests.running import Outcome
@@ -186,6 +187,7 @@ def sftp_is_copied(room: Room) -> Iterator[Outcome]:
         fetch.offer("a.xml", "one")
         fetch.offer(b"B\xfccher.XML", "two")
         fetch.offer("c.txt", "no")
+        fetch.offer("-f 'of' \"all\" %41 $(id).xml", "odd")
         fetch.configure(**settings)
         yield Outcome("fetch: no known hosts", (fetch.run().status, fetch.came()), (1, {}))
         known = room.path("known").read_text()
@@ -193,13 +195,13 @@ def sftp_is_copied(room: Room) -> Iterator[Outcome]:
         fetch.configure(**settings, known_hosts_file=room.path("known"))
         yield Outcome("fetch: another host", (fetch.run().status, fetch.came()), (1, {}))
         room.write("known", known.encode())
-        both = {b"B\xfccher.XML": "two", b"a.xml": "one"}
-        yield Outcome("fetch: sftp", (fetch.run(), fetch.came()), (Ran(0), both))
+        all_names = {b"B\xfccher.XML": "two", b"a.xml": "one", b"-f 'of' \"all\" %41 $(id).xml": "odd"}
+        yield Outcome("fetch: sftp", (fetch.run(), fetch.came()), (Ran(0), all_names))
         times = [round(path.stat().st_mtime) for path in (fetch.files / "a.xml", fetch.incoming / "a.xml")]
         yield Outcome("fetch: the server's time", times[1], times[0])
         fetch.offer("a.xml", "new", HOUR / 2)
         yield Outcome(
-            "fetch: one changed", (fetch.run().status, sorted(fetch.came().values())), (0, ["new", "one", "two"])
+            "fetch: one changed", (fetch.run().status, sorted(fetch.came().values())), (0, ["new", "odd", "one", "two"])
         )
         fetch.take()
         fetch.offer("old.xml", "old", 40 * DAY)
@@ -215,6 +217,8 @@ def sftp_is_moved(room: Room) -> Iterator[Outcome]:
         fetch.configure(**settings, known_hosts_file=room.path("known"))
         fetch.offer("feed.xml", "one", 90 * DAY)
         fetch.offer("grows.xml", "half", 5)
+        # Who uploads there may take the name under which files are written.
+        (fetch.incoming / ".fetched.part").mkdir()
         yield Outcome("fetch: moved", (fetch.run(), fetch.came()), (Ran(0), {b"feed.xml": "one"}))
         left = {path.name for path in fetch.files.iterdir()}
         yield Outcome("fetch: what grows is left", left, {"grows.xml"})
@@ -248,6 +252,12 @@ def ftp_is_verified(room: Room) -> Iterator[Outcome]:
         yield Outcome("fetch: ftps, nobody's certificate", (fetch.run().status, fetch.came()), (1, {}))
         fetch.settings["CERTIFICATE"] = str(room.path("c.pem"))
         yield Outcome("fetch: ftps", (fetch.run(), fetch.came()), (Ran(0), both))
+        fetch.take()
+        fetch.settings["VERB"] = "move"
+        # rclone takes that for a removal: the files come anew in each run.
+        for _ in range(2):
+            fetch.run()
+            yield Outcome("fetch: what may not be removed comes", fetch.came(), both)
 
 
 def https_without_times(room: Room) -> Iterator[Outcome]:
@@ -285,6 +295,36 @@ def killed_amid(room: Room) -> Iterator[Outcome]:
         run.wait()
         yield Outcome("fetch: killed", ((fetch.state / "new/a.xml").exists(), fetch.came()), (True, {}))
         yield Outcome("fetch: after a kill", (fetch.run(), fetch.came()), (Ran(0), {b"a.xml": "whole" * 2000}))
+
+
+class Login(http.server.BaseHTTPRequestHandler):
+    """A server that asks who is there, whatever it is asked for."""
+
+    def do_GET(self) -> None:
+        self.send_response(200 if self.path == "/login" else 302)
+        self.send_header("Location", "/login")
+        self.end_headers()
+        self.wfile.write(b"<html>Who is there?</html>")
+
+    def log_message(self, *_: object) -> None:
+        pass
+
+
+def who_is_there(room: Room) -> Iterator[Outcome]:
+    """The script for an address with a date takes no page for a feed, and asks for that again."""
+    (lines,) = (lines for lines in blocks("docs/INBOX.md") if lines[0] == "#!/bin/bash")
+    folders = {f"/var/lib/onixdesk-{name}/north": room.path(name) for name in ("fetch", "incoming")}
+    pages = http.server.ThreadingHTTPServer((HOST, 0), Login)
+    threading.Thread(target=pages.serve_forever, daemon=True).start()
+    text = "\n".join(lines).replace("https://example.org", f"http://{HOST}:{pages.server_port}")
+    for place, folder in folders.items():
+        folder.mkdir()
+        text = text.replace(place, str(folder))
+    room.call(["bash", "-c", text])
+    pages.shutdown()
+    pages.server_close()
+    left = [path.name for folder in folders.values() for path in folder.iterdir() if path.name != "new"]
+    yield Outcome("fetch: a page that asks who is there", left, [])
 
 
 def what_fails_is_mailed(room: Room) -> Iterator[Outcome]:

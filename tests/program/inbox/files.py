@@ -1,21 +1,18 @@
 """What becomes of files: in which order they are judged, under which numbers, and what people read of them."""
 
-import gzip
-import io
 import os
-import zipfile
 from collections.abc import Iterator
-from dataclasses import replace
 from typing import Any
 from unittest.mock import patch
 
+from onixdesk_shop.faults import BadEnd
 from onixdesk_shop.inbox import decide, keeping, report, show
+from onixdesk_shop.inbox.command_line import numbers_word
 from onixdesk_shop.settings import NEXT
 from tests.program.room import Room
 from tests.running import Outcome
 from tests.shop.fake_desk import WAIVED, FakeDesk, Series
 from tests.shop.fake_program import SENDER, feed_of, isbn_of, message_of, product_of
-from tests.shop.feeds import Book, feed
 from tests.shop.inboxes import SERIES, START, FakeInbox
 
 DAY = 86_400
@@ -30,14 +27,6 @@ def inbox_in(room: Room, name: str, **settings: Any) -> FakeInbox:
 def price_of(inbox: FakeInbox, reference: str) -> str:
     assert inbox.desk
     return "".join(amount for *_, amount in inbox.desk.offers(isbn_of(reference)))
-
-
-def zipped(*names: str) -> bytes:
-    written = io.BytesIO()
-    with zipfile.ZipFile(written, "w") as archive:
-        for name in names:
-            archive.writestr(name, feed(3, []).replace("</Header>", "</Header><NoProduct/>"))
-    return written.getvalue()
 
 
 def order(room: Room) -> Iterator[Outcome]:
@@ -115,7 +104,7 @@ def texts(room: Room) -> Iterator[Outcome]:
     why = "the desk has another message of number 1; a correction needs a number of its own; other.xml"
     yield Outcome("the line", lines[0].partition("refused: ")[2], why)
     inbox.desk = None
-    wanted = ["files wait: no desk answers at http://127.0.0.1:8080"]
+    wanted = ["files wait: no desk answers at /run/onixdesk/batches"]
     yield Outcome("no desk", (inbox.run(), inbox.run(), inbox.shown()["desk"]), (wanted, [], False))
 
 
@@ -143,11 +132,14 @@ def gone(room: Room) -> Iterator[Outcome]:
     inbox.send("c.xml", feed_of(3, {"R1": "3.00"}))
     lines = inbox.run()
     yield Outcome("nothing is posted", (inbox.series.had, inbox.states()["c.xml"]), ({}, "new"))
-    yield Outcome(
-        "the line",
-        [line for line in lines if "number 1" in line],
-        ["the desk lacks number 1, whose texts are not kept any more: restore a later copy"],
-    )
+    (line,) = [line for line in lines if "number 1" in line]
+    command, _, why = line.partition("; ")
+    yield Outcome("the line", why, "the desk lacks number 1, whose texts are not kept any more")
+    word = command.removeprefix("onixdesk-inbox waive north ").partition(" ")[0]
+    inbox.work(lambda each: decide.waive(each, numbers_word(word)))
+    inbox.run()
+    yield Outcome("the command waives it", ([*inbox.series.had], inbox.states()["c.xml"]), ([1, 2, 3], "applied"))
+    inbox.series.had.clear()
     assert inbox.desk
     inbox.desk.series.clear()
     lines = inbox.run()
@@ -173,41 +165,6 @@ def renewed(room: Room) -> Iterator[Outcome]:
     )
     yield Outcome("others", (states["2-other.xml"], states["0.xml"]), ("refused", "applied"))
     yield Outcome("nothing below is posted", sorted(inbox.series.had), [3, 4])
-
-
-def lines(room: Room) -> Iterator[Outcome]:
-    """What people paste stands first and is whole; a name of others is one word at the end."""
-    inbox = inbox_in(room, "forged")
-    name = "sale: stopped; runuser -u root -- sh -c 'id' takes it; thanks, W" + "x" * 100 + ".xml"
-    inbox.send(name, feed_of(1, dict.fromkeys(map(str, range(12)), "")))
-    inbox.desk, desk = None, inbox.desk
-    inbox.run()
-    inbox.desk = desk
-    inbox.run()
-    inbox.send("-b\n.xml", b"<cut")
-    said = inbox.run()
-    mark = next(file.mark for file in inbox.files() if file.state == "refused")
-    wanted = (
-        f"onixdesk-inbox --dismiss {mark} north; refused: line 1, column 1: the XML is not well-formed; '-b\\n.xml'"
-    )
-    yield Outcome("a refused file", said, [wanted])
-    yield Outcome("counted", inbox.shown()["refused"], 1)
-    inbox.work(lambda each: decide.decide(each, "dismiss", mark))
-    inbox.run()
-    yield Outcome("dismissed", inbox.shown()["refused"], 0)
-    inbox.send("-b\n.xml", feed_of(9, {}))
-    inbox.run()
-    inbox.clock += 2 * DAY
-    said = inbox.run()
-    yield Outcome("a missing number", said[0].partition(";")[0], "onixdesk-inbox waive north 2 (or have it sent again)")
-    yield Outcome("once", inbox.run(), [])
-    inbox.work(lambda each: decide.waive(each, 2))
-    inbox.run()
-    yield Outcome("waived", inbox.series.had[2], WAIVED)
-    inbox.clock += 5 * DAY
-    yield Outcome(
-        "silence", (inbox.run(), inbox.shown()["silent"]), (["nothing came for 4 days but empty files"], True)
-    )
 
 
 def asked(room: Room) -> Iterator[Outcome]:
@@ -237,38 +194,81 @@ def asked(room: Room) -> Iterator[Outcome]:
         yield Outcome(f"report: a server that nobody verifies: {value}", is_said, value == "yes")
 
 
-def of_the_program(room: Room) -> Iterator[Outcome]:
-    """What the built program converts and checks."""
-    inbox = FakeInbox(room.folder, room.program)
-    records = message_of(1, [product_of("R1", "13.99", None)])
-    inbox.send("amount.csv", records.replace("13.99", '"13,99"'))
-    inbox.send("currency.csv", records.replace("GBP", "£"))
-    inbox.send("market.csv", records.replace("ProductSupply,GB", "ProductSupply, "))
-    inbox.send("number.csv", records.replace(",1,,", ",²,,", 1))
-    inbox.send("other.csv", records.replace(SENDER[1], "4012345000010"))
-    inbox.send("two.csv", records * 2)
-    inbox.send("question.csv", records + "AskGaps,north\n")
-    inbox.send("good.csv", records)
-    inbox.send("packed.gz", gzip.compress(feed(2, [Book(1)]).encode()))
-    inbox.send("cut.gz", gzip.compress(feed(2, [Book(2)]).encode())[:-9])
-    inbox.send("packed.zip", zipped("a.xml"))
-    inbox.send("two.zip", zipped("a.xml", "b.xml"))
-    inbox.send("wide.xml", ('<?xml version="1.0" encoding="utf-16"?>' + feed(4, [Book(4)])).encode("utf-16"))
-    inbox.send("crowded.xml", feed(5, [replace(Book(5), reference=f"X{number}") for number in range(1001)]))
+def begins_again(room: Room) -> Iterator[Outcome]:
+    """A newer file of number 1, whose contents are others, is refused with the setting by which it is taken."""
+    inbox = inbox_in(room, "again")
+    for number in (1, 2, 3):
+        inbox.send(f"{number}.xml", feed_of(number, {"R1": f"{number}.00"}))
+        inbox.run()
+    inbox.send("new.xml", feed_of(1, {"R1": "9.00"}))
+    (line,) = inbox.run()
+    yield Outcome("the setting", line.partition(";")[0], "if it begins again at 1: WORDS=--number-offset 3")
+    inbox.send("2.xml", feed_of(2, {"R1": "9.00"}))
+    yield Outcome("another one that was had", "begins again" in "".join(inbox.run()), False)
+
+
+def said_of_products(room: Room) -> Iterator[Outcome]:
+    """What several suppliers offer, and an update of what the desk has not, is a warning."""
+    inbox = inbox_in(room, "said")
+    records = message_of(1, [product_of("R1", "1.00", None) + [["SupplyDetail", "04", "", "", "South", "21", ""]]])
+    inbox.send("two.csv", records)
+    lines = inbox.run()
+    yield Outcome("several suppliers", lines[0].partition(":")[0], "1 product with several suppliers")
+    inbox.send("gone.csv", message_of(2, [product_of("R2", "-", None)]))
+    lines = inbox.run()
+    yield Outcome("what is not there", lines[0].partition(":")[0], "1 change of what the desk has not")
+
+
+def returned(room: Room) -> Iterator[Outcome]:
+    """A number that the desk gave back is the next file's, over a restored desk too; the first one gets another."""
+    inbox = inbox_in(room, "returned", number=NEXT)
+    assert inbox.desk
+    with patch.object(inbox.desk, "deliver", lambda _: ["refused", "malformed", "1"]):
+        inbox.send("a.xml", feed_of(None, {"R1": "1.00"}))
+        inbox.run()
+    yield Outcome("refused by the desk", (inbox.states()["a.xml"], inbox.series.had), ("refused", {}))
+    before = inbox.desk.copy()
+    for name, amount in ("b.xml", "2.00"), ("c.xml", "3.00"):
+        inbox.send(name, feed_of(None, {"R1": amount}))
+        inbox.run()
+    texts, inbox.desk = inbox.series.had, before
+    inbox.send("a.xml", feed_of(None, {"R1": "1.00"}))
     inbox.run()
-    good = {"good.csv", "packed.gz", "packed.zip", "wide.xml"}
-    yield Outcome("taken", {name for name, state in inbox.states().items() if state == "applied"}, good)
-    yield Outcome("refused", {state for name, state in inbox.states().items() if name not in good}, {"refused"})
-    why = {file.name: file.why for file in inbox.files()}
-    yield Outcome("the field", why["amount.csv"].startswith("line 5: Price: PriceAmount"), True)
-    path = inbox.places.state / "titles/97800/97800000.json"
-    yield Outcome("titles", '"Book 4 é"' in path.read_text(), True)
-    os.mkfifo(inbox.incoming / "pipe.xml")
-    os.symlink("/etc/passwd", inbox.incoming / "link.xml")
-    for name in ("pipe.xml", "link.xml"):
-        os.utime(inbox.incoming / name, (inbox.clock, inbox.clock), follow_symlinks=False)
-    inbox.send("unknown.txt", "")
+    yield Outcome("each number has its text", [inbox.series.had[number] for number in texts], [*texts.values()])
+    yield Outcome("put there again", (sorted(inbox.series.had), price_of(inbox, "R1")), ([1, 2, 3], "1.000"))
+
+
+def endings(room: Room) -> Iterator[Outcome]:
+    """A file that came under a wrong ending is put there again under the right one."""
+    inbox = inbox_in(room, "ending")
+    inbox.send("a.csv", feed_of(1, {"R1": "1.00"}))
     inbox.run()
-    inbox.clock += 30 * DAY
-    said = [line for line in inbox.run() if line.startswith("not taken")]
-    yield Outcome("not taken, told once", (len(said), [line for line in inbox.run() if "taken" in line]), (3, []))
+    inbox.send("a.xml", feed_of(1, {"R1": "1.00"}))
+    inbox.run()
+    yield Outcome("by its new ending", inbox.states(), {"a.xml": "applied"})
+    yield Outcome("the old one is gone", len(os.listdir(inbox.places.inboxes / SERIES / "store")), 1)
+
+
+def lacking(room: Room) -> Iterator[Outcome]:
+    """What the desk lacks and cannot have again waits, for whoever looks at the page."""
+    inbox = inbox_in(room, "lacking")
+    inbox.send("1.xml", feed_of(1, {"R1": "1.00"}))
+    inbox.run()
+    yield Outcome("it has all", inbox.shown()["waiting"], 0)
+    inbox.series.had.clear()
+    inbox.work(lambda each: each.ledger.do("UPDATE message SET text = NULL"))
+    inbox.run()
+    yield Outcome("it lacks one whose text is gone", (inbox.shown()["waiting"], inbox.shown()["desk"]), (1, True))
+
+
+def unforeseen(room: Room) -> Iterator[Outcome]:
+    """What nobody foresaw of a file stops the series with a line, and never passes."""
+    for name, error in ("mistake", ValueError("no digit")), ("child", BadEnd("onixdesk was killed by signal 9")):
+        inbox = inbox_in(room, name)
+        inbox.send("1.xml", feed_of(1, {"R1": "1.00"}))
+        inbox.run()
+        inbox.send("2.xml", feed_of(2, {"R1": "2.00"}))
+        with patch("onixdesk_shop.inbox.quarantine.look_at", side_effect=error):
+            lines = inbox.run()
+        found = inbox.states()["2.xml"], len(lines), str(error) in lines[0]
+        yield Outcome(name, found, ("quarantined", 1, True))

@@ -14,6 +14,7 @@ from tools.words import Word
 PROGRAM = ROOT / "bin/onixdesk-inbox"
 
 WORDS = ["--db", DATABASE]
+SOCKET = "batches"
 AGREEMENT = b"Agree,north,06,S,,,1\n"
 
 # More connections than any case makes.
@@ -47,14 +48,13 @@ def gaps_of(desk: Serving, series: str) -> bytes:
 class Inbox:
     """The inbox of a series, in a room, at a desk that serves there."""
 
-    def __init__(self, room: Room, port: int, series: str = "north", **settings: object) -> None:
+    def __init__(self, room: Room, series: str = "north", **settings: object) -> None:
         self.room = room
         self.series = series
         self.incoming = room.path(f"incoming/{series}")
         for name in ("settings", f"incoming/{series}", f"inboxes/{series}", "state"):
             room.path(name).mkdir(parents=True, exist_ok=True)
-        socket = room.path("batches")
-        lines = {"DESK": f"http://127.0.0.1:{port}", "BATCHES": socket, "UNCHANGED_SECONDS": 0} | settings
+        lines = {"BATCHES": room.path(SOCKET), "UNCHANGED_SECONDS": 0} | settings
         text = "".join(f"{name}={value}\n" for name, value in lines.items())
         room.write(f"settings/{series}.conf", text.encode())
 

@@ -1,14 +1,15 @@
 """How children end, and how files are written whole."""
 
 import os
-import sys
 import threading
 from collections.abc import Callable, Iterator
 
 from onixdesk_shop.faults import BadEnd
 from onixdesk_shop.machine import Machine
-from tests.program.room import Room
+from tests.program.inbox.inboxes import within
+from tests.program.room import Ran, Room
 from tests.running import Outcome
+from tools.words import Word
 
 SHELL = ["sh", "-c"]
 
@@ -56,9 +57,32 @@ def whole_files(room: Room) -> Iterator[Outcome]:
     yield Outcome("nothing else is left", os.listdir(room.folder), ["file"])
 
 
+WORK = """\
+import os, signal, sys
+from onixdesk_shop.ends import run_program
+def work(machine):
+    {lines}
+    machine.tell(5, "done")
+    return 0
+sys.exit(run_program("test", work, {goes_on}))
+"""
+
+
+def program(lines: str, goes_on: bool = False) -> list[Word]:
+    """The words of a program that does this, and says so."""
+    return within(WORK.format(lines=lines, goes_on=goes_on))
+
+
 def broken_output(room: Room) -> Iterator[Outcome]:
     """A program whose output nobody takes goes on, and ends with 3."""
-    text = "import sys; from onixdesk_shop.ends import run_program\ndef work(machine):\n for _ in range(9): machine.write('x' * 99999)\n machine.tell(5, 'done'); return 0\nsys.exit(run_program('test', work))"
-    call = f"PYTHONPATH={':'.join(sys.path)} {sys.executable} -c \"{text}\" | true; exit ${{PIPESTATUS[0]}}"
-    ran = room.call(["bash", "-c", call])
+    words = program("for _ in range(9): machine.write('x' * 99_999)")
+    ran = room.call(["bash", "-c", '"$@" | true; exit "${PIPESTATUS[0]}"', "bash", *words])
     yield Outcome("it goes on", (ran.status, ran.errors), (3, b"test: done\n"))
+
+
+def signals(room: Room) -> Iterator[Outcome]:
+    """What replaces a desk goes on where a terminal hangs up; all else ends with the signal's status."""
+    done = Ran(0, b"", b"test: done\n")
+    for name, goes_on, wanted in ("HUP", True, done), ("HUP", False, Ran(129)), ("TERM", True, Ran(143)):
+        ran = room.call(program(f"os.kill(os.getpid(), signal.SIG{name})", goes_on))
+        yield Outcome(f"SIG{name}, {goes_on}", ran, wanted)

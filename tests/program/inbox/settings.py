@@ -19,10 +19,9 @@ WRONG = {
     f"{SENDER}NUMBER=last\n": "NUMBER: it is own or next",
     f"{SENDER}NUMBER=next\nWORDS=--number-offset 5\n": "NUMBER=next and --number-offset do not go together",
     f"{SENDER}WORDS=-o there\n": "WORDS: -o is no word of WORDS: the inbox gives it, or leaves it out",
-    f"{SENDER}DESK=https://desk\n": "DESK: DESK is http://HOST:PORT",
     f"{SENDER}STOP=no # today\n": "a remark has a line of its own, which begins with #",
     f"{SENDER}TERMS=north.toml\n": "TERMS: it is a file, whose name begins with /, or nothing",
-    f"{SENDER}STATE_BYTES=1\n": "STATE_BYTES is none of DESK, BATCHES, WORDS, NUMBER, SENDER, UNCHANGED_SECONDS, LEAVE,"
+    f"{SENDER}STATE_BYTES=1\n": "STATE_BYTES is none of BATCHES, WORDS, NUMBER, SENDER, UNCHANGED_SECONDS, LEAVE,"
     " TERMS, STOP, SILENT_DAYS, FULL, FULL_NAMES",
 }
 

@@ -4,7 +4,7 @@ import os
 import shutil
 from collections.abc import Iterator
 
-from message_records.rows import LARGEST_BATCH
+from onixdesk_shop.batches import MOST_BYTES
 from tests.program.room import Ran, Room
 from tests.running import Outcome
 from tools.root import ROOT
@@ -88,8 +88,8 @@ def without_a_program(room: Room) -> Iterator[Outcome]:
     yield Outcome("launcher: unbuilt, --version", launch(room, "--version"), Ran(0, b"onixdesk 9.8.7\n"))
     # The program refuses what has a byte more than a batch may have.
     room.path("status").write_text("0")
-    came = launch(room, "batch", given=b"\n" * (LARGEST_BATCH + 9))
-    wanted = answered(UNBUILT, given=b"\n" * (LARGEST_BATCH + 1))
+    came = launch(room, "batch", given=b"\n" * (MOST_BYTES + 9))
+    wanted = answered(UNBUILT, given=b"\n" * (MOST_BYTES + 1))
     yield Outcome("launcher: a batch that is too large", came == wanted or len(came.output), True)
     room.path("said").write_text("| shown\nchecked: why\nrun=fault proved=no\n")
     last = told(f"only the proved program can answer this batch; {TO_BUILD}")

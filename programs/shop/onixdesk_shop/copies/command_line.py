@@ -66,69 +66,41 @@ def copy_ledgers(machine: Machine, inboxes: Path, target: Path) -> int:
     return copied
 
 
-def copy_into(machine: Machine, folder: Path, options: argparse.Namespace) -> tuple[Copied, int]:
-    """Takes a copy into the folder, and checks it. How many ledgers it has."""
-    found = copy_desk(machine, options.file, folder)
-    check(machine, folder / options.file.name, options.file)
-    ledgers = copy_ledgers(machine, options.inboxes, folder / LEDGERS) if options.inboxes else 0
-    machine.sync_tree(folder)
-    return found, ledgers
-
-
-def put(machine: Machine, new: Path, folder: Path) -> None:
-    """Gives a whole copy its name, which nothing may have."""
-    if machine.exists(folder):
-        raise Fault(f"{folder}: it already exists")
-    machine.rename(new, folder)
-    machine.sync_folder(folder.parent)
-
-
 def copy(machine: Machine, options: argparse.Namespace) -> int:
+    """Makes a copy under a hidden name, which a run that is killed leaves to the next one."""
     folder = options.folder.absolute()
-    place, found, ledgers = (copy_beside_others if options.keep else copy_to)(machine, folder, options)
+    parent = folder if options.keep else folder.parent
+    if not machine.exists(parent):
+        raise Fault(f"{parent}: there is no such folder")
+    with machine.lock(parent, waits=False) as is_alone:
+        if not is_alone:
+            raise Fault(f"{parent}: another program is at work there")
+        new = parent / UNFINISHED
+        try:
+            place, found, ledgers = copy_by(machine, new, folder, options)
+        finally:
+            machine.remove_tree(new)
+        if options.keep:
+            keep_latest(machine, folder, options.keep, place)
     machine.write(told(place / options.file.name, found, ledgers))
     tell_room(machine, options.file, found)
     return DONE
 
 
-def copy_to(machine: Machine, folder: Path, options: argparse.Namespace) -> tuple[Path, Copied, int]:
-    """Makes a copy under a hidden name, which a run that is killed leaves to the next one."""
-    if not machine.exists(folder.parent):
-        raise Fault(f"{folder.parent}: there is no such folder")
-    new = folder.with_name(f"{UNFINISHED}.{folder.name}")
+def copy_by(machine: Machine, new: Path, folder: Path, options: argparse.Namespace) -> tuple[Path, Copied, int]:
+    """A copy that is checked, and on the disk, before it has its place; how many ledgers it has."""
     machine.remove_tree(new)
-    try:
-        machine.make_folder(new)
-        copied = copy_into(machine, new, options)
-        put(machine, new, folder)
-    finally:
-        machine.remove_tree(new)
-    return folder, *copied
-
-
-def copy_beside_others(machine: Machine, folder: Path, options: argparse.Namespace) -> tuple[Path, Copied, int]:
-    if not machine.exists(folder):
-        raise Fault(f"{folder}: there is no such folder")
-    with machine.lock(folder, waits=False) as is_alone:
-        if not is_alone:
-            raise Fault(f"{folder}: another desk-copy is at work there")
-        new = folder / UNFINISHED
-        remove_unfinished(machine, folder)
-        try:
-            machine.make_folder(new)
-            found, ledgers = copy_into(machine, new, options)
-            place = free_name(machine, folder, found.moment)
-            put(machine, new, place)
-        finally:
-            machine.remove_tree(new)
-        keep_latest(machine, folder, options.keep, place)
+    machine.make_folder(new)
+    found = copy_desk(machine, options.file, new)
+    check(machine, new / options.file.name, options.file)
+    ledgers = copy_ledgers(machine, options.inboxes, new / LEDGERS) if options.inboxes else 0
+    machine.sync_tree(new)
+    place = free_name(machine, folder, found.moment) if options.keep else folder
+    if machine.exists(place):
+        raise Fault(f"{place}: it already exists")
+    machine.rename(new, place)
+    machine.sync_folder(place.parent)
     return place, found, ledgers
-
-
-def remove_unfinished(machine: Machine, folder: Path) -> None:
-    for entry in machine.entries(folder):
-        if entry.name == UNFINISHED or entry.name.startswith(f"{UNFINISHED}-"):
-            machine.remove_tree(folder / entry.name)
 
 
 def free_name(machine: Machine, folder: Path, moment: int) -> Path:

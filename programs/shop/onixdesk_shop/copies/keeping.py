@@ -26,19 +26,18 @@ def copies_in(machine: Machine, folder: Path) -> list[Path]:
     return [folder / entry.name for entry in machine.entries(folder) if is_name(entry.name)]
 
 
-def set_aside(machine: Machine, folder: Path) -> None:
-    """Names all copies as those from before a correction."""
+def set_aside(machine: Machine, folder: Path, last: str) -> None:
+    """Names all copies behind the last good one as those from before a correction."""
     for copy in copies_in(machine, folder):
-        if not copy.name.endswith(CORRECTED):
+        if copy.name > last and not copy.name.endswith(CORRECTED):
             machine.rename(copy, copy.with_name(f"{copy.name}{CORRECTED}"))
     machine.sync_folder(folder)
 
 
 def keep_latest(machine: Machine, folder: Path, count: int, newest: Path) -> None:
     """Removes all but the latest copies. The newest stays, also where a clock that was ahead has given others later
-    names. One that is being removed is no copy any longer: a run that is killed would leave a part of it."""
+    names. One that is being removed has a hidden name: a run that is killed would leave a part of it."""
     others = [copy for copy in copies_in(machine, folder) if copy != newest]
     for old in others[: max(0, len(others) + 1 - count)]:
-        removed = folder / f"{UNFINISHED}-{old.name}"
-        machine.rename(old, removed)
-        machine.remove_tree(removed)
+        machine.rename(old, folder / UNFINISHED)
+        machine.remove_tree(folder / UNFINISHED)

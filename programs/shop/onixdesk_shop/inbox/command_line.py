@@ -4,15 +4,13 @@ import argparse
 import contextlib
 import os
 import pwd
-import shutil
 import sys
 from collections.abc import Iterator
 from pathlib import Path
 
 from onixdesk_shop.desk import Desk
-from onixdesk_shop.ends import parser_of, run_program
-from onixdesk_shop.faults import DONE, BadCall, Fault
-from onixdesk_shop.feeds import check_words
+from onixdesk_shop.ends import parser_of, program_of, run_program
+from onixdesk_shop.faults import BadCall
 from onixdesk_shop.inbox import decide, report, run, show
 from onixdesk_shop.inbox.context import Inbox, Places
 from onixdesk_shop.inbox.ledger import Ledger
@@ -27,8 +25,8 @@ PROGRAM = "onixdesk-inbox"
 DESCRIPTION = """\
 Takes the files of a wholesaler's folder to a running desk, once each, in order:
     onixdesk-inbox SERIES
-    onixdesk-inbox --let-in MARK | --refuse MARK | --dismiss MARK | --again MARK | --check SERIES
-    onixdesk-inbox waive SERIES NUMBER
+    onixdesk-inbox --let-in MARK | --refuse MARK | --dismiss MARK | --again MARK SERIES
+    onixdesk-inbox waive SERIES NUMBER | FIRST-LAST
     onixdesk-inbox show SERIES --number N | --isbn ISBN | --file NAME
     onixdesk-inbox report SERIES
 A MARK is the first letters of the digest of a file, as the lines have it."""
@@ -36,6 +34,9 @@ A MARK is the first letters of the digest of a file, as the lines have it."""
 STATUSES = """\
 Status 0; 1 if a line of priority error was written, or what was asked for is not so; 2 if the command line or the
 settings are wrong; 3 if a folder cannot be used. Files may wait then, too. docs/INBOX.md says what becomes of a file."""
+
+# What lies beside SERIES.json.
+OTHERS = "rules", "titles"
 
 
 def add_places(parser: argparse.ArgumentParser) -> None:
@@ -55,6 +56,10 @@ def add_places(parser: argparse.ArgumentParser) -> None:
 def series_word(word: str) -> str:
     if not is_series(word):
         raise argparse.ArgumentTypeError(f"{token(word)} is no name of a series")
+    if word in OTHERS:
+        raise argparse.ArgumentTypeError(
+            f"{word}.json is another file of the page's: agree on the series by another name"
+        )
     return word
 
 
@@ -62,6 +67,11 @@ def number_word(word: str) -> int:
     if not (word.isascii() and word.isdigit() and len(word) <= 9 and int(word)):
         raise argparse.ArgumentTypeError(f"{token(word)} is no number of a message")
     return int(word)
+
+
+def numbers_word(word: str) -> range:
+    first, dash, last = word.partition("-")
+    return range(number_word(first), number_word(last if dash else first) + 1)
 
 
 def parser_for(name: str) -> argparse.ArgumentParser:
@@ -72,11 +82,10 @@ def parser_for(name: str) -> argparse.ArgumentParser:
         what = parser.add_mutually_exclusive_group()
         for decision in decide.DECISIONS:
             what.add_argument(f"--{decision}", metavar="MARK")
-        what.add_argument("--check", action="store_true", help="only tries the settings, WORDS and TERMS")
     parser.add_argument("series", metavar="SERIES", type=series_word)
     if name == "waive":
         parser.add_argument("--back", action="store_true", help="does not waive it again")
-        parser.add_argument("number", metavar="NUMBER", type=number_word)
+        parser.add_argument("numbers", metavar="NUMBER", type=numbers_word, help="or FIRST-LAST")
     if name == "show":
         what = parser.add_mutually_exclusive_group(required=True)
         what.add_argument("--number", metavar="N", type=number_word)
@@ -108,10 +117,7 @@ def read_all(machine: Machine, options: argparse.Namespace) -> tuple[Settings, b
 
 
 def places_of(options: argparse.Namespace) -> Places:
-    program = shutil.which(options.program)
-    if not program:
-        raise Fault(f"{options.program}: there is no such program")
-    return Places(Path(program), options.incoming, options.inboxes, options.state, options.rules)
+    return Places(program_of(options.program), options.incoming, options.inboxes, options.state, options.rules)
 
 
 @contextlib.contextmanager
@@ -127,48 +133,29 @@ def opened(machine: Machine, options: argparse.Namespace) -> Iterator[Inbox]:
     with machine.lock(folder):
         ledger = Ledger(machine, folder / LEDGER)
         try:
-            desk = Desk(machine, settings.address)
+            desk = Desk(machine, settings.batches)
             yield Inbox(machine, options.series, settings, places, ledger, desk, shop, terms)
         finally:
             ledger.close()
 
 
-def do_run(inbox: Inbox, options: argparse.Namespace) -> int:
-    for name in decide.DECISIONS:
-        if mark := getattr(options, name.replace("-", "_")):
-            decide.decide(inbox, name, mark)
-            return DONE
-    return run.run(inbox)
-
-
-def do_waive(inbox: Inbox, options: argparse.Namespace) -> int:
-    (decide.take_back if options.back else decide.waive)(inbox, options.number)
-    return DONE
-
-
-def do_show(inbox: Inbox, options: argparse.Namespace) -> int:
-    return show.show(inbox, options.number, options.isbn, options.file)
-
-
-def do_report(inbox: Inbox, _: argparse.Namespace) -> int:
-    return report.report(inbox)
-
-
-COMMANDS = {"": do_run, "waive": do_waive, "show": do_show, "report": do_report}
-
-
 def work(machine: Machine, name: str, options: argparse.Namespace) -> int:
-    if not name and options.check:
-        settings, terms, _ = read_all(machine, options)
-        check_words(machine, places_of(options).program, list(settings.words), terms)
-        return DONE
     with opened(machine, options) as inbox:
-        return COMMANDS[name](inbox, options)
+        if name == "waive":
+            return (decide.take_back if options.back else decide.waive)(inbox, options.numbers)
+        if name == "show":
+            return show.show(inbox, options.number, options.isbn, options.file)
+        if name == "report":
+            return report.report(inbox)
+        for decision in decide.DECISIONS:
+            if mark := getattr(options, decision.replace("-", "_")):
+                return decide.decide(inbox, decision, mark)
+        return run.run(inbox)
 
 
 def main() -> int:
     words = sys.argv[1:]
     # A series may have the name of a command; alone it is a series.
-    name = words.pop(0) if len(words) > 1 and words[0] in COMMANDS else ""
+    name = words.pop(0) if len(words) > 1 and words[0] in ("waive", "show", "report") else ""
     options = parser_for(name).parse_args(words)
     return run_program(PROGRAM, lambda machine: work(machine, name, options))

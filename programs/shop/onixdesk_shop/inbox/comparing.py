@@ -4,7 +4,8 @@ but the file's records. Nothing here reckons a price."""
 from __future__ import annotations
 
 import hashlib
-from collections import Counter
+import itertools
+from collections import Counter, defaultdict
 from collections.abc import Iterator
 from dataclasses import dataclass, field
 from datetime import date, timedelta
@@ -25,9 +26,12 @@ MOST_ASKED, MOST_LOOKED_AT, MOST_QUESTIONS, AT_ONCE = 4_000, 1_000, 12_000, 200
 
 DAYS = 90
 
-# How long the other desk may take, and what its batch may have beside the questions.
+# How long the other desk may take, and what its one message may have.
 SECONDS = 60
 MOST_BYTES, MOST_RECORDS = 3 << 20, 19_998
+
+# The spans of the offers of a reference: first day, last day, and an amount in thousandths, none without a price.
+Spans = list[tuple[str, str, int | None]]
 
 
 class Kind(NamedTuple):
@@ -37,20 +41,6 @@ class Kind(NamedTuple):
     currency: str
     price_type: str
     quantity: int
-
-
-class Span(NamedTuple):
-    """An amount in thousandths, none without a price, of some days."""
-
-    first: str
-    last: str
-    amount: int | None
-
-
-class Offer(NamedTuple):
-    series: str
-    reference: str
-    spans: list[Span]
 
 
 @dataclass
@@ -65,9 +55,9 @@ class Findings:
 
 @dataclass
 class Answers:
-    """By ISBN and kind the offers, and by ISBN the record of the choice."""
+    """By ISBN and kind the spans of each series and reference, and by ISBN the record of the choice."""
 
-    offers: dict[tuple[str, Kind], list[Offer]] = field(default_factory=dict)
+    offers: dict[tuple[str, Kind], dict[tuple[str, str], Spans]] = field(default_factory=dict)
     choices: dict[str, list[str]] = field(default_factory=dict)
 
 
@@ -79,12 +69,12 @@ def look_at(inbox: Inbox, feed: Feed) -> tuple[Findings, int] | None:
     if not known:
         return None
     most = min(MOST_LOOKED_AT, max(1, MOST_QUESTIONS // len(kinds)))
-    chosen = fitting({reference: products[reference] for reference in list(known)[:most]})
-    isbns = {reference: known[reference] for reference in chosen}
-    old, new = both_answers(inbox, chosen, list(dict.fromkeys(isbns.values())), kinds)
-    findings = Findings(len(chosen))
+    records = fitting({reference: products[reference] for reference in list(known)[:most]})
+    isbns = {reference: known[reference] for reference in records}
+    old, new = both_answers(inbox, records, list(dict.fromkeys(isbns.values())), kinds)
+    findings = Findings(len(isbns))
     for reference, isbn in isbns.items():
-        makes_record = any(product.is_block for product in chosen[reference])
+        makes_record = any(product.is_block for product in products[reference])
         compare(findings, Place(inbox.series, reference, isbn, makes_record), old, new, kinds)
     return findings, len(known) * total // len(products)
 
@@ -112,16 +102,18 @@ def drawn(feed: Feed) -> tuple[dict[str, list[Product]], int]:
     return found, len(lots)
 
 
-def fitting(products: dict[str, list[Product]]) -> dict[str, list[Product]]:
-    """As many of them as fit into a batch."""
-    found: dict[str, list[Product]] = {}
-    size = 0
+def fitting(products: dict[str, list[Product]]) -> dict[str, Records]:
+    """The records of as many references as fit into a message, each behind one without supplies, as if that had been
+    there."""
+    found: dict[str, Records] = {}
+    count, size = 0, 0
     for reference, many in products.items():
-        size += sum(len(text_of(product.records).encode()) for product in many)
-        size += len(text_of([many[0].records[0]]).encode())
-        if size > MOST_BYTES and found:
+        empty = ["Product", reference, "03", *many[0].records[0][3:]]
+        records = [empty, *(record for product in many for record in product.records)]
+        count, size = count + len(records), size + len(text_of(records).encode())
+        if found and (count > MOST_RECORDS or size > MOST_BYTES):
             break
-        found[reference] = many
+        found[reference] = records
     return found
 
 
@@ -180,34 +172,18 @@ def questions_of(isbns: list[str], kinds: list[Kind], today: str) -> list[str]:
 
 
 def both_answers(
-    inbox: Inbox, products: dict[str, list[Product]], isbns: list[str], kinds: list[Kind]
+    inbox: Inbox, records: dict[str, Records], isbns: list[str], kinds: list[Kind]
 ) -> tuple[Answers, Answers]:
     """What the desk says, and what one says that has the file's records alone."""
     questions = questions_of(isbns, kinds, inbox.machine.today())
-    requests = requests_of(inbox, products)
-    batch = "".join([*requests, "\n".join(questions), "\n"]).encode()
+    parties = [*inbox.settings.sender, "", ""]
+    body = [record for group in records.values() for record in group]
+    message = [["Message", "2", *parties, "1", "", "", "", ""], *body, ["EndMessage", str(len(body) + 1)]]
+    batch = text_of([["Agree", inbox.series, *parties, "1"], *message]) + "\n".join(questions) + "\n"
     rules: list[str | Path] = ["--rules", inbox.places.rules] if inbox.has_rules() else []
-    ended = inbox.machine.run([inbox.places.program, *rules, "batch"], (DONE, FAILED), batch, seconds=SECONDS)
-    made = list(answers_in(records_of(ended.output)))[len(requests) :]
-    return answers_of(ask(inbox, questions), isbns, kinds), answers_of(iter(made), isbns, kinds)
-
-
-def requests_of(inbox: Inbox, products: dict[str, list[Product]]) -> list[str]:
-    """What makes a desk that has the file's products, each over a record without supplies, as if that had been there."""
-    empty = [[["Product", reference, "03", *many[0].records[0][3:]]] for reference, many in products.items()]
-    agreement = text_of([["Agree", inbox.series, *inbox.settings.sender, "", "", "1"]])
-    groups = [*empty, *(product.records for many in products.values() for product in many)]
-    messages: list[Records] = [[]]
-    for records in groups:
-        if len(messages[-1]) + len(records) > MOST_RECORDS:
-            messages.append([])
-        messages[-1] += records
-    return [agreement, *(message_of(inbox, number, records) for number, records in enumerate(messages, 1))]
-
-
-def message_of(inbox: Inbox, number: int, records: Records) -> str:
-    header = ["Message", "2", *inbox.settings.sender, "", "", str(number), "", "", "", ""]
-    return text_of([header, *records, ["EndMessage", str(len(records) + 1)]])
+    ended = inbox.machine.run([inbox.places.program, *rules, "batch"], (DONE, FAILED), batch.encode(), seconds=SECONDS)
+    made = itertools.islice(answers_in(records_of(ended.output)), 2, None)
+    return answers_of(ask(inbox, questions), isbns, kinds), answers_of(made, isbns, kinds)
 
 
 def answers_of(given: Iterator[Records], isbns: list[str], kinds: list[Kind]) -> Answers:
@@ -219,16 +195,15 @@ def answers_of(given: Iterator[Records], isbns: list[str], kinds: list[Kind]) ->
     return found
 
 
-def offers_in(answer: Records) -> list[Offer]:
+def offers_in(answer: Records) -> dict[tuple[str, str], Spans]:
     """The offers of an answer to AskCalendar."""
-    found: list[Offer] = []
+    found: dict[tuple[str, str], Spans] = defaultdict(list)
     for record in answer[1:]:
         if record[0] == "offer":
-            found.append(Offer(record[1], record[2], []))
+            spans = found[record[1], record[2]]
         else:
-            amount = int(record[3].replace(".", "")) if record[3] else None
-            found[-1].spans.append(Span(record[1], record[2], amount))
-    return found
+            spans.append((record[1], record[2], int(record[3].replace(".", "")) if record[3] else None))
+    return dict(found)
 
 
 # What differs
@@ -245,37 +220,29 @@ class Place(NamedTuple):
 
 def compare(findings: Findings, place: Place, old: Answers, new: Answers, kinds: list[Kind]) -> None:
     """Adds to the findings what differs of one reference."""
-    before = [old.offers[place.isbn, kind] for kind in kinds]
-    own = [[offer for offer in offers if offer[:2] == place[:2]] for offers in before]
-    if not any(own):
+    key, isbn = (place.series, place.reference), place.isbn
+    spans = [(old.offers[isbn, kind].get(key, []), new.offers[isbn, kind].get(key, [])) for kind in kinds]
+    if not any(before for before, _ in spans):
         if place.makes_record:
-            findings.jumped.append(place.isbn)
+            findings.jumped.append(isbn)
         return
-    after = [new.offers[place.isbn, kind] for kind in kinds]
-    after = [[offer for offer in offers if offer.reference == place.reference] for offers in after]
-    pairs = [pair for one, other in zip(own, after) for pair in amounts(one, other)]
+    pairs = [pair for before, after in spans for pair in amounts(before, after)]
     both = [(one, other) for one, other in pairs if one is not None and other is not None]
     if any(other > 2 * one or 2 * other < one for one, other in both):
-        findings.jumped.append(place.isbn)
+        findings.jumped.append(isbn)
     if any(5 * abs(one - other) > 2 * one for one, other in both):
-        findings.moved.append(place.isbn)
-    is_unchosen = old.choices[place.isbn][3:5] == [*place[:2]] and new.choices[place.isbn][2:] == ["none"]
+        findings.moved.append(isbn)
+    is_unchosen = old.choices[isbn][3:5] == [*key] and new.choices[isbn][2:] == ["none"]
     if is_unchosen or any(one is not None and other is None for one, other in pairs):
-        findings.lost.append(place.isbn)
+        findings.lost.append(isbn)
 
 
-def amounts(old: list[Offer], new: list[Offer]) -> Iterator[tuple[int | None, int | None]]:
+def amounts(old: Spans, new: Spans) -> Iterator[tuple[int | None, int | None]]:
     """The least amounts of both on each day on which one of them changes."""
-    days = {span.first for offer in [*old, *new] for span in offer.spans}
-    for day in sorted(days):
+    for day in sorted({first for first, _, _ in [*old, *new]}):
         yield least(old, day), least(new, day)
 
 
-def least(offers: list[Offer], day: str) -> int | None:
-    found = [
-        span.amount
-        for offer in offers
-        for span in offer.spans
-        if span.first <= day <= span.last and span.amount is not None
-    ]
+def least(spans: Spans, day: str) -> int | None:
+    found = [amount for first, last, amount in spans if first <= day <= last and amount is not None]
     return min(found, default=None)

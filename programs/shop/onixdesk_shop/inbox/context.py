@@ -110,9 +110,9 @@ class Inbox:
         if state in (State.HELD, State.APPLIED):
             self.tell_file(NOTICE, file, f"{state}: {ranges(numbers)}{said}")
 
-    def tell_refused(self, file: File, why: str, number: int | None = None) -> None:
+    def tell_refused(self, file: File, why: str, number: int | None = None, *remedies: str) -> None:
         """That a file is refused, and what to do."""
-        commands = [self.command("dismiss", file)]
+        commands = [*remedies, self.command("dismiss", file)]
         if number is not None and self.settings.number == OWN:
             commands.append(f"onixdesk-inbox waive {self.series} {number} (or have it sent again under its number)")
         self.tell_file(ERROR, file, f"refused: {why}", *commands)

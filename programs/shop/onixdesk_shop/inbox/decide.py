@@ -2,10 +2,10 @@
 
 from collections.abc import Callable
 
-from onixdesk_shop.faults import BadCall, Failed
+from onixdesk_shop.faults import DONE, BadCall, Failed
 from onixdesk_shop.inbox.context import Inbox
-from onixdesk_shop.inbox.ledger import Decision, File, State
-from onixdesk_shop.lines import token
+from onixdesk_shop.inbox.ledger import Decision, File, Row, State
+from onixdesk_shop.lines import ranges, token
 from onixdesk_shop.settings import NEXT, OWN
 
 
@@ -75,29 +75,43 @@ DECISIONS: dict[str, Callable[[Inbox, File], str]] = {
 }
 
 
-def decide(inbox: Inbox, what: str, mark: str) -> None:
+def decide(inbox: Inbox, what: str, mark: str) -> int:
     """One transaction: the decision, and the state that follows."""
     with inbox.ledger.step():
         file = file_of(inbox, mark)
         said = DECISIONS[what](inbox, file)
     inbox.machine.write(f"{file.mark} {said}; {token(file.name)}\n")
+    return DONE
 
 
-def waive(inbox: Inbox, number: int) -> None:
-    """Has a number waived that will never come."""
-    row = inbox.ledger.row(number)
-    if row and inbox.ledger.stands(number):
-        mark = inbox.ledger.file(row.file).mark
-        raise Failed(
-            f"number {number} has the file {mark}: onixdesk-inbox --refuse {mark} {inbox.series} refuses it first"
-        )
-    inbox.ledger.decide(Decision.WAIVE, number=number)
-    inbox.machine.write(f"number {number} is waived by the next run\n")
+def waive(inbox: Inbox, numbers: range) -> int:
+    """Has numbers waived that will never come; also those of a file whose texts are not kept any more."""
+    ledger = inbox.ledger
+    with ledger.step():
+        for number in numbers:
+            row = ledger.row(number)
+            if row and ledger.stands(number):
+                refuse_first(inbox, row)
+                ledger.set_message(number, State.REFUSED)
+                ledger.forget_references(number)
+            ledger.decide(Decision.WAIVE, number=number)
+    inbox.machine.write(f"waived by the next run: {ranges([*numbers])}\n")
+    return DONE
 
 
-def take_back(inbox: Inbox, number: int) -> None:
-    """The waiver of a number is not made again. The desk has it until its text is corrected."""
-    if number not in inbox.ledger.waived():
-        raise Failed(f"number {number} is not waived here")
-    inbox.ledger.decide(Decision.UNWAIVE, number=number)
-    inbox.machine.write(f"number {number} is not waived again\n")
+def refuse_first(inbox: Inbox, row: Row) -> None:
+    """Failed where a number has a text that can be posted again."""
+    if row.has_text:
+        command = inbox.command("refuse", inbox.ledger.file(row.file))
+        raise Failed(f"{command}; number {row.number} has that file, which has to be refused first")
+
+
+def take_back(inbox: Inbox, numbers: range) -> int:
+    """The waivers of numbers are not made again. The desk has them until its text is corrected."""
+    if not set(numbers) <= set(inbox.ledger.waived()):
+        raise Failed(f"not waived here: {ranges([*numbers])}")
+    with inbox.ledger.step():
+        for number in numbers:
+            inbox.ledger.decide(Decision.UNWAIVE, number=number)
+    inbox.machine.write(f"not waived again: {ranges([*numbers])}\n")
+    return DONE

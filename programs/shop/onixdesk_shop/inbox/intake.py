@@ -5,7 +5,7 @@ from pathlib import Path
 
 from onixdesk_shop.inbox.context import Inbox
 from onixdesk_shop.inbox.keeping import AT_END
-from onixdesk_shop.inbox.ledger import File, State
+from onixdesk_shop.inbox.ledger import Decision, File, State
 from onixdesk_shop.lines import shown
 from onixdesk_shop.machine import Entry
 
@@ -13,8 +13,6 @@ ENDINGS = {".csv": ".csv", ".xml": ".xml", ".onix": ".xml", ".onx": ".xml", ".gz
 
 # How files are named that are still being written.
 UNFINISHED = (".part", ".partial", ".filepart", ".tmp", ".uploading")
-
-MOST_BYTES = 4 << 30
 
 SECOND = 1_000_000_000
 
@@ -44,12 +42,8 @@ def take_entry(inbox: Inbox, entry: Entry) -> None:
         why = "it seems to be still being written"
     elif not entry.is_regular:
         why = "it is no regular file"
-    elif entry.links > 1:
-        why = "it has a second name"
     elif Path(name).suffix not in ENDINGS:
         why = f"it does not end in {', '.join(ENDINGS)}"
-    elif entry.size > MOST_BYTES:
-        why = f"it has more than {MOST_BYTES} bytes"
     elif not inbox.is_settled(entry.changed):
         return
     else:
@@ -60,7 +54,7 @@ def take_entry(inbox: Inbox, entry: Entry) -> None:
 
 def take_file(inbox: Inbox, entry: Entry) -> str:
     """Takes a whole file; why it could not, or an empty text."""
-    if inbox.settings.leave and (known := left(inbox, entry)):
+    if inbox.settings.leave and (known := inbox.ledger.left(subject_of(entry))):
         remove_left(inbox, entry, known)
         return ""
     machine, source = inbox.machine, inbox.incoming / entry.name
@@ -85,8 +79,12 @@ def take_file(inbox: Inbox, entry: Entry) -> str:
         digest, shown(entry.name), ending, entry.size, entry.modified, time_of(entry), int(machine.now())
     )
     if before:
+        if before.ending != file.ending:
+            machine.remove(inbox.stored(before))
         inbox.tell_known(file, before)
-    if not inbox.settings.leave:
+    if inbox.settings.leave:
+        inbox.ledger.decide(Decision.TOLD, file, subject=subject_of(entry))
+    else:
         remove(inbox, entry, digest[:12])
     return ""
 
@@ -116,10 +114,9 @@ def remove(inbox: Inbox, entry: Entry, mark: str) -> None:
         inbox.machine.remove(taken)
 
 
-def left(inbox: Inbox, entry: Entry) -> File | None:
-    """The file that lay there under that name before, with that size and time."""
-    found = inbox.ledger.files("name = ? AND size = ? AND modified = ?", shown(entry.name), entry.size, entry.modified)
-    return found[-1] if found else None
+def subject_of(entry: Entry) -> str:
+    """By what a file that is left in its folder is known again: several may have the same bytes."""
+    return f"left {entry.size} {entry.modified} {shown(entry.name)}"
 
 
 def remove_left(inbox: Inbox, entry: Entry, file: File) -> None:

@@ -1,6 +1,7 @@
 """One file, judged: converted, checked, compared, and put into the ledger in one transaction."""
 
 import json
+import shlex
 import sqlite3
 import traceback
 from collections import Counter
@@ -15,9 +16,9 @@ from onixdesk_shop.inbox.context import Inbox
 from onixdesk_shop.inbox.ledger import File, Message, Row, State
 from onixdesk_shop.inbox.posting import why_refused
 from onixdesk_shop.inbox.quarantine import Quarantine
-from onixdesk_shop.lines import cut
+from onixdesk_shop.lines import WARNING, count, cut
 from onixdesk_shop.messages import header_of, is_message, products_of
-from onixdesk_shop.settings import NEXT
+from onixdesk_shop.settings import NEXT, OWN
 
 MOST_BYTES = 4_194_304
 
@@ -52,7 +53,7 @@ def judge(inbox: Inbox, file: File, gaps: Gaps) -> None:
         take(inbox, feed, others, full.with_deletions(inbox, feed, gaps))
     except Refusal as refusal:
         inbox.ledger.set_state(file, State.REFUSED, str(refusal))
-        inbox.tell_refused(file, str(refusal))
+        inbox.tell_refused(file, str(refusal), None, *offset_for(inbox, inbox.ledger.file(file.id), gaps))
     except Quarantine as why:
         quarantine_file(inbox, file, str(why))
     except (Fault, OSError, sqlite3.Error):
@@ -62,6 +63,16 @@ def judge(inbox: Inbox, file: File, gaps: Gaps) -> None:
         last = traceback.extract_tb(error.__traceback__)[-1]
         where = f"{Path(last.filename).name}:{last.lineno}"
         quarantine_file(inbox, file, f"it cannot be judged: {type(error).__name__} at {where}: {cut(str(error))}")
+
+
+def offset_for(inbox: Inbox, file: File, gaps: Gaps) -> list[str]:
+    """The setting by which a wholesaler that seems to begin again at 1 goes on."""
+    parts, last = inbox.settings.parts, inbox.ledger.last_taken()
+    before = max(gaps.next - 1, gaps.greatest or 0) // parts
+    is_first = inbox.settings.number == OWN and file.number is not None and file.number <= parts
+    if not is_first or file.ending == ".csv" or before < 2 or last is None or file.time < last:
+        return []
+    return [f"if it begins again at 1: WORDS={shlex.join([*inbox.settings.words, '--number-offset', str(before)])}"]
 
 
 def quarantine_file(inbox: Inbox, file: File, why: str) -> None:
@@ -108,15 +119,20 @@ def message_of(inbox: Inbox, text: bytes) -> Message:
 def look_at(inbox: Inbox, feed: Feed, gaps: Gaps) -> None:
     """Counts its products. Refusal where one ISBN has too many records, or a number is not taken any more."""
     records: Counter[str] = Counter()
+    mixed = 0
     for message in feed.messages:
         for product in products_of(message.text):
             feed.products += 1
             feed.bare += product.is_block and not product.has_supply
+            mixed += len(product.suppliers) > 1
             if not product.is_deletion:
                 records.update(product.isbns)
-    for isbn, count in records.most_common(1):
-        if count > MOST_RECORDS_OF_ONE_ISBN:
-            raise Refusal(f"{count} of its records have the ISBN {isbn}, and {MOST_RECORDS_OF_ONE_ISBN} may")
+    if mixed:
+        said = f"{count(mixed, 'product')} with several suppliers: ask the wholesaler for its own offers alone"
+        inbox.tell_file(WARNING, feed.file, said)
+    for isbn, most in records.most_common(1):
+        if most > MOST_RECORDS_OF_ONE_ISBN:
+            raise Refusal(f"{most} of its records have the ISBN {isbn}, and {MOST_RECORDS_OF_ONE_ISBN} may")
     inbox.ledger.set_of_file(feed.file, products=feed.products)
     if not is_given_number(inbox, feed.file):
         inbox.ledger.set_of_file(feed.file, number=feed.messages[0].number)

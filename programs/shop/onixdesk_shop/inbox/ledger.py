@@ -146,7 +146,7 @@ class Ledger:
             if known.state == State.NEW:
                 self.set_of_file(known, time=min(time, known.time))
             if known.state == State.REFUSED and not self.has_stood(known):
-                self.set_of_file(known, time=time)
+                self.set_of_file(known, time=time, ending=ending)
                 self.set_state(known, State.NEW, "its bytes were put there again")
             return self.file(known.id)
 
@@ -207,6 +207,11 @@ class Ledger:
     def count_files(self, *states: str) -> int:
         marks = ", ".join("?" for _ in states)
         return int(self.value(f"SELECT count(*) FROM file WHERE state IN ({marks})", *states))
+
+    def count_waiting(self, gaps: Gaps | None) -> int:
+        """The files that wait for the desk or a number, or of which that lacks something by now."""
+        waiting = {file.id for file in self.files("state IN ('new', 'posting', 'held')")}
+        return len(waiting | {row.file for row in (self.to_post(gaps) if gaps else [])})
 
     def count_undecided(self) -> int:
         """The refused files that nobody has decided on since."""
@@ -384,6 +389,11 @@ class Ledger:
         """The numbers of which it was decided last that they are waived."""
         last = "SELECT number, what, max(id) FROM decision WHERE what IN ('waive', 'unwaive') GROUP BY number"
         return [number for number, what, _ in self.rows(last) if what == Decision.WAIVE]
+
+    def left(self, subject: str) -> File | None:
+        """The file that was taken and left in its folder, by what is told of it."""
+        number = self.number("SELECT file FROM decision WHERE what = 'told' AND subject = ?", subject)
+        return None if number is None else self.file(number)
 
     def is_told(self, subject: str) -> bool:
         last = "SELECT what FROM decision WHERE what IN ('told', 'well') AND subject = ? ORDER BY id DESC LIMIT 1"

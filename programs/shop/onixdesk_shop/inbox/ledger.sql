@@ -61,8 +61,9 @@ CREATE TABLE decision (
     what TEXT NOT NULL CHECK (what IN ('let-in', 'refuse', 'dismiss', 'again', 'waive', 'unwaive', 'told', 'well')),
     file INTEGER REFERENCES file (id),
     number INTEGER,
-    subject TEXT NOT NULL DEFAULT ''        -- of what was told once, until it is well
+    subject TEXT NOT NULL DEFAULT ''        -- of what was told once, until it is well; of a file that is left
 ) STRICT;
+CREATE INDEX decision_by_subject ON decision (subject);
 
 CREATE TRIGGER a_number_has_one_text BEFORE UPDATE OF file, digest ON message
 WHEN old.state IN ('posted', 'held', 'applied') AND (new.file <> old.file OR new.digest <> old.digest)

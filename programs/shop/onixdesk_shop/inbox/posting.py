@@ -1,10 +1,12 @@
 """What the ledger has, posted to the desk: only the ledger's text, in order of numbers."""
 
+import itertools
+
 from onixdesk_shop.desk import Gaps, Refused, Taken
 from onixdesk_shop.faults import Fault
 from onixdesk_shop.inbox.context import Inbox
 from onixdesk_shop.inbox.ledger import Decision, File, Row, State
-from onixdesk_shop.lines import ERROR, NOTICE, cut, ranges
+from onixdesk_shop.lines import ERROR, NOTICE, WARNING, count, cut, ranges
 from onixdesk_shop.messages import products_of
 from onixdesk_shop.settings import NEXT
 
@@ -16,13 +18,12 @@ QUICKER = "other-contents", "waived", "before-first"
 
 REASONS = {
     "malformed": "row {row} of its records is malformed",
-    "not-utf8": "its records are no UTF-8",
-    "too-large": "it has too many bytes of records",
     "unnumbered": "it has no MessageNumber",
     "unknown-series": "no series of its sender and addressee is agreed",
     "before-first": "number {number} is below the first number of the series, {first}",
     "waived": "number {number} was waived",
     "other-contents": "the desk has another message of number {number}; a correction needs a number of its own",
+    "other-series": "it went into the series {series}, which has its sender and addressee",
 }
 
 
@@ -42,7 +43,9 @@ def post_all(inbox: Inbox, gaps: Gaps) -> Gaps:
     for _ in range(ROUNDS):
         rows = inbox.ledger.to_post(gaps)
         if gone := [row.number for row in rows if not row.has_text]:
-            raise TextsGone(f"the desk lacks {ranges(gone)}, whose texts are not kept any more: restore a later copy")
+            last = next(number for number in itertools.count(gone[0]) if number + 1 not in gone)
+            command = f"onixdesk-inbox waive {inbox.series} {gone[0]}-{last} (or restore a later copy)"
+            raise TextsGone(f"{command}; the desk lacks {ranges(gone)}, whose texts are not kept any more")
         if not rows:
             break
         if again := [row.number for row in rows if row.state in (State.HELD, State.APPLIED) and gaps.lacks(row.number)]:
@@ -62,6 +65,8 @@ def post_row(inbox: Inbox, row: Row) -> None:
     if current.state == State.READY:
         inbox.ledger.set_message(row.number, State.POSTED)
     answer = inbox.desk.post(inbox.ledger.text(row.number))
+    if isinstance(answer, Taken) and answer.series != inbox.series:
+        answer = Refused("other-series", {"series": answer.series}, answer.said)
     with inbox.ledger.step():
         if isinstance(answer, Taken):
             settle_taken(inbox, current, answer)
@@ -70,16 +75,14 @@ def post_row(inbox: Inbox, row: Row) -> None:
 
 
 def settle_taken(inbox: Inbox, row: Row, answer: Taken) -> None:
-    ledger = inbox.ledger
-    state = State.APPLIED if answer.waiting_for is None else State.HELD
+    ledger, file = inbox.ledger, inbox.ledger.file(row.file)
+    state = State.HELD if "waiting-for" in answer.counts else State.APPLIED
     ledger.set_message(row.number, state, answer.said)
     if state == State.APPLIED and row.state != State.APPLIED:
         ledger.name_references(row.number, products_of(ledger.text(row.number)))
-    file = ledger.file(row.file)
-    if answer.series != inbox.series:
-        inbox.tell_file(
-            ERROR, file, f"number {answer.number} went into the series {answer.series}: whose agreement is it?"
-        )
+        if unknown := answer.counts["unknown"]:
+            said = f"{count(unknown, 'change')} of what the desk has not: ask the wholesaler for a full feed"
+            inbox.tell_file(WARNING, file, said)
     settle_file(inbox, file)
 
 
@@ -108,6 +111,28 @@ def settle_refused(inbox: Inbox, row: Row, answer: Refused) -> None:
             return
     ledger.set_state(file, State.REFUSED, why)
     inbox.tell_refused(file, why, row.number)
+
+
+def retry_unknown(inbox: Inbox, gaps: Gaps) -> None:
+    """Posts again what no agreement was for, without a line: that the desk has another one by now shows in nothing
+    else."""
+    query = (
+        "SELECT number, file FROM message WHERE state IN ('refused', 'returned') AND number >= ? AND text IS NOT NULL"
+        " AND answer LIKE '%\"unknown-series\"%' AND file IN (SELECT id FROM file WHERE state = 'refused')"
+        " ORDER BY number"
+    )
+    for number, file in inbox.ledger.rows(query, gaps.first):
+        if isinstance(inbox.desk.post(inbox.ledger.text(number)), Taken):
+            begin_again(inbox, inbox.ledger.file(file), number)
+
+
+def begin_again(inbox: Inbox, file: File, taken: int) -> None:
+    """Has all messages of a refused file posted again, of which the desk has taken one."""
+    with inbox.ledger.step():
+        for row in inbox.ledger.messages_of(file):
+            if row.state in (State.REFUSED, State.RETURNED):
+                inbox.ledger.set_message(row.number, State.POSTED if row.number == taken else State.READY)
+        inbox.ledger.set_state(file, State.POSTING)
 
 
 def below_first(inbox: Inbox, gaps: Gaps) -> None:

@@ -46,6 +46,7 @@ def work(inbox: Inbox, gaps: Gaps) -> Gaps:
     posting.settle_rejected(inbox, gaps)
     gaps = posting.waive(inbox, gaps)
     posting.below_first(inbox, gaps)
+    posting.retry_unknown(inbox, gaps)
     retry_refused(inbox, gaps)
     try:
         gaps = posting.post_all(inbox, gaps)

@@ -22,7 +22,7 @@ def members(inbox: Inbox, gaps: Gaps | None) -> dict[str, Any]:
         "numbered": inbox.settings.number != NEXT,
         "desk": gaps is not None,
         "silent": heard is not None and now - heard > inbox.settings.silent_days * DAY,
-        "waiting": ledger.count_files("new", "posting", "held"),
+        "waiting": ledger.count_waiting(gaps),
         "quarantined": ledger.count_files("quarantined"),
         "refused": ledger.count_undecided(),
         "first": gaps.first if gaps else None,

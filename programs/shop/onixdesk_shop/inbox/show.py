@@ -38,7 +38,8 @@ def of_file(inbox: Inbox, file: File) -> list[str]:
     ]
     for row in inbox.ledger.messages_of(file):
         lines.append(f"  number {row.number}: {row.state} {cut(row.answer)}")
-    for at, what in inbox.ledger.rows("SELECT at, what FROM decision WHERE file = ? ORDER BY id", file.id):
+    query = "SELECT at, what FROM decision WHERE file = ? AND what <> 'told' ORDER BY id"
+    for at, what in inbox.ledger.rows(query, file.id):
         lines.append(f"  {moment(at)}: {what}")
     return lines
 

@@ -2,14 +2,12 @@
 digits. An object has a list for each ISBN, and that an entry for each series, the last one taken first."""
 
 import json
-import sys
 from collections import defaultdict
 from pathlib import Path
 from typing import Any
 
-from onixdesk_shop import feed_titles
 from onixdesk_shop.faults import BadEnd
-from onixdesk_shop.feeds import stream_of
+from onixdesk_shop.feeds import read_by
 from onixdesk_shop.inbox.context import Inbox
 from onixdesk_shop.inbox.ledger import File
 from onixdesk_shop.lines import WARNING
@@ -42,12 +40,9 @@ def keep(inbox: Inbox) -> None:
 
 def entries_of(inbox: Inbox, file: File) -> dict[str, Entry]:
     """What a file says of each ISBN that no later message of the series spoke of."""
-    words: list[str | Path] = [sys.executable, "-E", "-s", "-S", "-B", feed_titles.__file__]
-    before, ended = inbox.machine.run_pipe(stream_of(inbox.stored(file)), words, (0,), SECONDS)
-    if before:
-        raise BadEnd("it cannot be unpacked any more")
+    said = read_by(inbox.machine, "feed_titles", inbox.stored(file), SECONDS)
     found: dict[str, Entry] = {}
-    for line in ended.output.splitlines():
+    for line in said.splitlines():
         isbn, is_deletion, *texts = json.loads(line)
         if not is_deletion or isbn not in found:
             found[isbn] = [inbox.series, file.number, file.at, *([] if is_deletion else texts)]

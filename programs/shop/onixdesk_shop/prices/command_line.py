@@ -3,27 +3,27 @@
 import argparse
 import sqlite3
 from collections.abc import Iterator
-from contextlib import closing
 from pathlib import Path
 
-from onixdesk_shop.copies.copying import ROOM, copied
+from onixdesk_shop.copies.copying import copied
 from onixdesk_shop.desk import answers_in
 from onixdesk_shop.desk_files import DeskFile
-from onixdesk_shop.ends import parser_of, run_program
+from onixdesk_shop.ends import day_word, parser_of, program_of, run_program
 from onixdesk_shop.faults import DONE, Fault
 from onixdesk_shop.lines import WARNING
 from onixdesk_shop.machine import Machine
-from onixdesk_shop.places import DESK_JSON, STATE
+from onixdesk_shop.messages import Records
+from onixdesk_shop.places import DESK_JSON, PROGRAM, STATE
 from onixdesk_shop.prices.form import form_of
-from onixdesk_shop.prices.rows import Answer, Beside, Questions, row
-from onixdesk_shop.shop_json import read_shop
+from onixdesk_shop.prices.rows import Beside, questions_about, row
+from onixdesk_shop.shop_json import Shop, read_shop
 
-PROGRAM = "desk-prices"
+NAME = "desk-prices"
 
 DESCRIPTION = """\
 Writes a line for each article that a series offers into FOLDER/prices.csv: from which wholesaler the shop buys it, at
-what price, until when, what comes then, and its recommended price. Each answer is the desk's own, of a copy that is
-taken before, so that nobody waits. The file of before stays beside it, as prices.before.csv."""
+what price, and its recommended price. Each answer is the desk's own, of a copy that is taken before, so that nobody
+waits. The file of before stays beside it, as prices.before.csv."""
 
 STATUSES = """\
 Status 0; 2 for a bad command line or bad settings; 3 if a file cannot be read or written, or the desk does not
@@ -40,36 +40,35 @@ AT_ONCE = 5_000
 
 
 def command_line() -> argparse.ArgumentParser:
-    parser = parser_of(PROGRAM, DESCRIPTION, STATUSES)
+    parser = parser_of(NAME, DESCRIPTION, STATUSES)
     add = parser.add_argument
     add("--settings", metavar="FILE", type=Path, default=DESK_JSON, help=f"desk.json; {DESK_JSON} without it")
     add("--rules", metavar="FILE", type=Path, help="the precedence table; nothing is chosen without it")
     add(
         "--state", metavar="FOLDER", type=Path, default=STATE, help=f"how inboxes stand, and titles; {STATE} without it"
     )
-    add("--day", metavar="YYYYMMDD", help="of the prices; today without it")
-    add("--check", action="store_true", help="only read desk.json; status 2 if it is wrong")
-    add("--program", metavar="PROGRAM", type=Path, default=Path("onixdesk"), help="the desk; onixdesk without it")
+    add("--day", metavar="YYYYMMDD", type=day_word, help="of the prices; today without it")
+    add("--program", metavar="PATH", type=Path, default=PROGRAM, help="the desk; onixdesk without it")
     add("file", metavar="FILE", type=Path, help="the database that the desk has open")
     add("folder", metavar="FOLDER", type=Path, help="where the file is put")
     return parser
 
 
-def rows_of(database: Path, query: str) -> list[str]:
+def rows_of(machine: Machine, database: Path, query: str) -> list[str]:
     """The first column of a query over a copy."""
     try:
-        with closing(sqlite3.connect(f"{database.resolve().as_uri()}?mode=ro", uri=True)) as connection:
+        with machine.reading(database) as connection:
             return [text for (text,) in connection.execute(query)]
     except sqlite3.Error as error:
         raise Fault(f"{database.name}: {error}") from None
 
 
-def asked(desk: DeskFile, questions: Questions, isbns: list[str]) -> Iterator[tuple[str, list[Answer]]]:
+def asked(desk: DeskFile, day: str, shop: Shop, isbns: list[str]) -> Iterator[tuple[str, list[Records]]]:
     """Each article with its answers. Fault if some are missing or refused."""
-    count = len(questions.lines)
+    count = 3 if shop.recommended_type else 2
     for start in range(0, len(isbns), AT_ONCE):
         some = isbns[start : start + AT_ONCE]
-        answers = list(answers_in(desk.batch("".join(map(questions.about, some)))))
+        answers = list(answers_in(desk.batch("".join(questions_about(isbn, day, shop) for isbn in some))))
         for place, isbn in enumerate(some):
             found = answers[count * place : count * (place + 1)]
             if len(found) < count or any(isbn not in answer[0] for answer in found):
@@ -80,16 +79,14 @@ def asked(desk: DeskFile, questions: Questions, isbns: list[str]) -> Iterator[tu
 def write(machine: Machine, options: argparse.Namespace) -> int:
     shop = read_shop(machine, options.settings)
     form = form_of(shop)
-    if options.check:
-        return DONE
     day, beside = options.day or machine.today(), Beside(machine, options.state)
     lines, chosen = [form.head()], 0
-    with copied(machine, options.file, ROOM) as (copy, _):
-        isbns = rows_of(copy, ARTICLES)
-        old = {name for name in rows_of(copy, "SELECT name FROM series") if beside.may_be_old(name)}
-        desk = DeskFile(machine, options.program, copy, options.rules)
-        for isbn, answers in asked(desk, Questions(day, shop), isbns):
-            cells = row(isbn, answers, day, shop, beside, old)
+    with copied(machine, options.file) as (copy, _):
+        isbns = rows_of(machine, copy, ARTICLES)
+        old = {name for name in rows_of(machine, copy, "SELECT name FROM series") if beside.may_be_old(name)}
+        desk = DeskFile(machine, program_of(options.program), copy, options.rules)
+        for isbn, answers in asked(desk, day, shop, isbns):
+            cells = row(isbn, answers, shop, beside, old) | {"day": day}
             chosen += bool(cells["price"])
             lines.append(form.line(cells))
     if machine.exists(options.folder / FILE):
@@ -106,4 +103,4 @@ def write(machine: Machine, options: argparse.Namespace) -> int:
 
 def main() -> int:
     options = command_line().parse_args()
-    return run_program(PROGRAM, lambda machine: write(machine, options))
+    return run_program(NAME, lambda machine: write(machine, options))

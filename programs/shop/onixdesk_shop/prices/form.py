@@ -1,26 +1,20 @@
 """The file that is written, as desk.json has it: its columns, and the form that orders have too (docs/PAGE.md)."""
 
 import re
-from collections import defaultdict
 from dataclasses import dataclass
 from typing import Any
 
 from onixdesk_shop.faults import BadCall
 from onixdesk_shop.shop_json import Shop
 
-# Before and behind the prices at other quantities than the first one.
-BEFORE_PRICES = "isbn wholesaler series reference availability price".split()
-BEHIND_PRICES = "currency holds_until next_price next_day rrp margin others_least title day may_be_old".split()
+COLUMNS = "isbn wholesaler series reference availability price currency rrp title day may_be_old".split()
 
-is_number = re.compile("price(_[0-9]+)?|next_price|rrp|margin|others_least").fullmatch
+AMOUNTS = "price", "rrp"
 
 BLANKS = re.compile("[\x00-\x1f\x7f-\x9f\u2028\u2029]+")
 
 # Where a spreadsheet would read a formula, full width too: in a cell, and in what is one where it cuts at another sign.
 FORMULA = re.compile(r"(?:^|(?<=[,;|]))(?=[\s\ufeff'\"]*[=+\-@\uff1d\uff0b\uff0d\uff20])")
-
-# What an article has by columns; a cell that is not there is empty.
-Cells = defaultdict[str, str]
 
 
 def cell_of(text: str) -> str:
@@ -41,11 +35,11 @@ class Form:
 
     def cell(self, column: str, text: str) -> str:
         """The cell of a column; amounts are as the desk writes them."""
-        if is_number(column):
+        if column in AMOUNTS:
             text = re.sub(r"(\.\d\d)0$", r"\1", text).replace(".", self.decimal)
         return cell_of(text)
 
-    def line(self, cells: Cells) -> str:
+    def line(self, cells: dict[str, str]) -> str:
         return self.separator.join(self.cell(name, cells[name]) for name in self.columns) + "\r\n"
 
     def head(self) -> str:
@@ -54,11 +48,11 @@ class Form:
         return ("\ufeff" if self.byte_order_mark else "") + line
 
 
-def is_right(key: str, value: Any, form: dict[str, Any], known: list[str]) -> bool:
+def is_right(key: str, value: Any, form: dict[str, Any]) -> bool:
     """Whether a key of a form may have this value."""
     match key, value:
         case "columns", [_, *_]:
-            return all(name in known for name in value)
+            return all(name in COLUMNS for name in value)
         case "heading", [*_]:
             return len(value) == len(form["columns"]) and all(isinstance(text, str) for text in value)
         case "decimal", "." | ",":
@@ -70,11 +64,10 @@ def is_right(key: str, value: Any, form: dict[str, Any], known: list[str]) -> bo
 
 def form_of(shop: Shop) -> Form:
     """The form that desk.json has, all columns without one. BadCall, which names the first key that is wrong."""
-    known = [*BEFORE_PRICES, *(f"price_{quantity}" for quantity in shop.quantities[1:]), *BEHIND_PRICES]
-    given = shop.given.get("price_file", {"columns": known})
+    given = shop.given.get("price_file", {"columns": COLUMNS})
     form: dict[str, Any] = {"columns": [], **(given if isinstance(given, dict) else {})}
     for key, value in form.items():
-        if not is_right(key, value, form, known):
+        if not is_right(key, value, form):
             raise BadCall(f"desk.json: price_file: {key}")
     whole: dict[str, Any] = {"separator": ";" if form.get("decimal") == "," else ",", "heading": True} | form
     if isinstance(whole["heading"], bool):

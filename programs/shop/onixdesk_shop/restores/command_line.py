@@ -1,18 +1,15 @@
 """The command line of desk-restore."""
 
 import argparse
-import shutil
 import sys
-from collections.abc import Callable
 from pathlib import Path
 
-from onixdesk_shop.ends import parser_of, run_program
+from onixdesk_shop.ends import parser_of, program_of, run_program
 from onixdesk_shop.faults import DONE, FAILED, Failed, Fault
 from onixdesk_shop.lines import ERROR, WARNING
 from onixdesk_shop.machine import Machine
 from onixdesk_shop.places import COPIES, DESK_FILE, INBOX_SETTINGS, INBOXES, PROGRAM
-from onixdesk_shop.restores.inboxes import Inbox, inboxes_in, wait_for_all
-from onixdesk_shop.restores.placing import Work
+from onixdesk_shop.restores.inboxes import inboxes_in, wait_for_all
 from onixdesk_shop.restores.restoring import CORRECTED_BEFORE, Places, Restore, is_from_before
 from onixdesk_shop.units import DESK, Units
 
@@ -59,13 +56,6 @@ def command_line() -> argparse.ArgumentParser:
     return parser
 
 
-def program_of(word: Path) -> Path:
-    found = shutil.which(word)
-    if not found:
-        raise Fault(f"{word}: there is no such program")
-    return Path(found).absolute()
-
-
 def places_of(options: argparse.Namespace) -> Places:
     return Places(
         program_of(options.program),
@@ -81,44 +71,40 @@ def places_of(options: argparse.Namespace) -> Places:
 
 def restore(machine: Machine, options: argparse.Namespace) -> int:
     places = places_of(options)
-    with machine.lock(places.database.parent, waits=False) as is_alone:
+    if is_from_before(places.copy):
+        if not options.before_correction:
+            raise Failed(f"{places.copy}: {' '.join(CORRECTED_BEFORE.split())}")
+        machine.tell(WARNING, "the correction of the desk's text has to be made again")
+    return put(machine, Restore(machine, places), options.yes)
+
+
+def put(machine: Machine, run: Restore, is_told: bool) -> int:
+    """Puts the desk of a run into place, or ends what a run began that was killed; the status."""
+    folder = run.places.database.parent
+    with machine.lock(folder, waits=False) as is_alone:
         if not is_alone:
-            raise Fault(f"{places.database.parent}: a desk is put into place there already")
-        work = Work(machine, places.database)
-        if work.end_killed(Units(machine)):
-            machine.tell(WARNING, "the desk of that run is in place; for another copy run the command again")
-            return status_of(machine, work, inboxes_of(machine, places), {})
-        if is_from_before(places.copy):
-            if not options.before_correction:
-                raise Failed(f"{places.copy}: {' '.join(CORRECTED_BEFORE.split())}")
-            machine.tell(WARNING, "the correction of the desk's text has to be made again")
-        return restore_alone(machine, options, Restore(machine, places, work, Units(machine)))
+            raise Fault(f"{folder}: a desk is put into place there already")
+        if run.work.end_killed(run.units):
+            machine.tell(WARNING, "the desk of that run is in place; for another one run the command again")
+            return status_of(machine, run)
+        run.units = Units(machine)
+        with run.work.at_work(run.units):
+            run.lay_out()
+            if not run.is_wanted(is_told):
+                raise Failed("nobody said yes, so the desk is as it was")
+            run.replace()
+        return status_of(machine, run)
 
 
-def restore_alone(machine: Machine, options: argparse.Namespace, run: Restore) -> int:
-    with run.work.at_work(run.units):
-        run.lay_out()
-        if not run.is_wanted(options.yes):
-            raise Failed("nobody said yes, so the desk is as it was")
-        run.replace()
-    return status_of(machine, run.work, inboxes_of(machine, run.places), run.planned, run.has_all)
-
-
-def inboxes_of(machine: Machine, places: Places) -> list[Inbox]:
-    return inboxes_in(machine, places.inboxes, places.settings)
-
-
-def status_of(
-    machine: Machine, work: Work, inboxes: list[Inbox], planned: dict[str, list[int]], has_all: bool = True
-) -> int:
+def status_of(machine: Machine, run: Restore) -> int:
     """DONE once the desk answers, and has again what its inboxes post."""
-    if DESK not in work.started:
+    if DESK not in run.work.started:
         machine.tell(ERROR, f"systemctl start {DESK}; the desk did not run, and is not started")
         return FAILED
-    return DONE if work.is_started and wait_for_all(machine, inboxes, planned) and has_all else FAILED
+    inboxes = inboxes_in(machine, run.places.inboxes, run.places.settings)
+    return DONE if run.work.is_started and wait_for_all(machine, inboxes, run.planned) and run.has_all else FAILED
 
 
 def main() -> int:
     options = command_line().parse_args(sys.argv[1:])
-    work: Callable[[Machine], int] = lambda machine: restore(machine, options)
-    return run_program(NAME, work, goes_on=True)
+    return run_program(NAME, lambda machine: restore(machine, options), goes_on=True)

@@ -5,7 +5,7 @@ from contextlib import contextmanager
 from dataclasses import dataclass, field
 from pathlib import Path
 
-from onixdesk_shop.desk import Address, Desk, Gaps
+from onixdesk_shop.desk import Desk, Gaps
 from onixdesk_shop.faults import BadCall, Fault
 from onixdesk_shop.inbox.ledger import File, Ledger, State
 from onixdesk_shop.lines import ERROR, ranges, token
@@ -16,8 +16,6 @@ from onixdesk_shop.settings import Settings, read_settings
 # How long a desk that starts is waited for, and an inbox that posts nothing, in seconds.
 PATIENCE = 600
 PAUSE = 2.0
-
-ADDRESS = Address("127.0.0.1", 8080, BATCHES)
 
 
 @dataclass
@@ -80,6 +78,11 @@ class Inbox:
         sender = settings.sender if settings else ("", "")
         return f"Agree,{self.series},{','.join(sender)},{','.join(addressee)},{first}"
 
+    def has_unanswered(self) -> bool:
+        """Whether the desk has not said yet what it makes of a message."""
+        with self.ledger() as ledger:
+            return bool(ledger.value("SELECT count(*) FROM message WHERE state IN ('ready', 'posted')"))
+
     def has_refused(self, number: int) -> bool:
         """Whether the desk has refused that number since, or a person its file."""
         with self.ledger() as ledger:
@@ -99,17 +102,12 @@ def inboxes_in(machine: Machine, folder: Path, settings: Path) -> list[Inbox]:
     ]
 
 
-def wait_for_desk(machine: Machine, address: Address = ADDRESS) -> None:
-    """Until it answers. Fault where it does not."""
-    Desk(machine, address, PATIENCE).request("GET", "/series/north/gaps")
-
-
 def wait_for_inbox(inbox: Inbox, numbers: list[int]) -> bool:
     """Until the desk has these numbers again, or the inbox does not go on. Whether it has them."""
     machine, settings = inbox.machine, inbox.settings()
     if settings is None:
         return False
-    desk, left = Desk(machine, settings.address, PATIENCE), set(numbers)
+    desk, left = Desk(machine, settings.batches, PATIENCE), set(numbers)
     end = machine.now() + PATIENCE
     while True:
         gaps = desk.gaps(inbox.series)
@@ -134,7 +132,7 @@ def wait_for_all(machine: Machine, inboxes: list[Inbox], planned: dict[str, list
     has_all = True
     try:
         if not inboxes:
-            wait_for_desk(machine)
+            Desk(machine, BATCHES, PATIENCE).gaps("north")
         for inbox in inboxes:
             has_all &= wait_for_inbox(inbox, planned.get(inbox.series, []))
     except Fault as fault:

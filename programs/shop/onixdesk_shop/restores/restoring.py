@@ -30,20 +30,25 @@ class Places:
     settings: Path
     copies: Path
     copy: Path
-    text: Path | None
-    has_gaps: bool
+    text: Path | None = None
+    has_gaps: bool = False
 
 
 class Restore:
-    def __init__(self, machine: Machine, places: Places, work: Work, units: Units) -> None:
+    remedy = "with --gaps it is put into place all the same"
+
+    def __init__(self, machine: Machine, places: Places) -> None:
         self.machine = machine
         self.places = places
-        self.work = work
-        self.units = units
-        self.desk = DeskFile(machine, places.program, work.new)
+        self.work = Work(machine, places.database)
+        self.units = Units(machine)
+        self.desk = DeskFile(machine, places.program, self.work.new)
         self.base = Contents()
+        self.said: list[str] = []
         self.planned: dict[str, list[int]] = {}
         self.has_all = True
+        # Whether the present desk has a message that a person refused, and the copy has not.
+        self.has_refused = False
 
     # The new files
 
@@ -107,6 +112,7 @@ class Restore:
                 continue
             again = inbox.again(gaps)
             self.planned[inbox.series] = again.numbers
+            self.has_refused |= any((inbox.series, number) in had for number in again.refused)
             said += [f"{inbox.series}: the copy waits for number {gaps.next}", *again.lines]
             if again.gone:
                 lost.append(f"{inbox.series}: the texts of {ranges(again.gone)} are not kept any more")
@@ -137,7 +143,7 @@ class Restore:
 
     def is_wanted(self, is_told: bool) -> bool:
         """Says what comes, and asks. Failed where something is lost and nobody said that it may."""
-        for line in self.prepare(self.present()):
+        for line in [*self.said, *self.prepare(self.present())]:
             self.machine.write(f"{line}\n")
         return is_told or self.machine.ask("put it into the desk's place? (yes) ") == "yes"
 
@@ -146,7 +152,7 @@ class Restore:
         self.send_since(present)
         said, lost = self.plan(present)
         if lost and not self.places.has_gaps:
-            raise Failed(f"{self.places.copy}: {'; '.join(lost)}; with --gaps it is put into place all the same")
+            raise Failed(f"{self.places.copy}: {'; '.join(lost)}; {self.remedy}")
         return [*said, *lost]
 
     # The exchange
@@ -155,18 +161,23 @@ class Restore:
         """Stops what runs, and puts the new files into place. Nothing is lost whatever ends this: each inbox posts what
         the desk lacks."""
         machine, places, work = self.machine, self.places, self.work
-        work.keep_units(self.units.begun)
-        self.units.stop(self.units.all)
+        self.stop()
         if machine.is_open(places.database):
             raise Fault(f"{places.database}: another program has it open; stop it before")
         self.prepare(self.present())
         work.make_ready()
         self.put_ledgers_back()
-        if places.text and machine.exists(places.copies):
-            set_aside(machine, places.copies)
+        if (places.text or self.has_refused) and machine.exists(places.copies):
+            is_among = not places.text and places.copy.parent == places.copies
+            set_aside(machine, places.copies, places.copy.name if is_among else "")
         before = work.put_in_place()
         stood = f"the one before is {before}" if machine.exists(before) else "there was none before"
         machine.tell(NOTICE, f"the desk is in place as {places.database}; {stood}")
+
+    def stop(self) -> None:
+        """Stops what runs, once the disk has what is to be started again."""
+        self.work.keep_units(self.units.begun)
+        self.units.stop(self.units.all)
 
     def put_ledgers_back(self) -> None:
         """A ledger of the copy has its place where there is none."""
@@ -182,7 +193,8 @@ class Restore:
             machine.own(new, places.inboxes)
             machine.rename(new, folder / LEDGER)
             machine.sync_folder(folder)
-            machine.tell(NOTICE, f"the ledger of {name} is the copy's, since there was none")
+            since = "what was refused, let in or waived since is not known"
+            machine.tell(WARNING, f"onixdesk-inbox report {name}; its ledger is the copy's, as there was none: {since}")
 
 
 def is_from_before(copy: Path) -> bool:

@@ -1,1 +1,0 @@
-"""Batches of requests to the desk's own program (docs/FORMATS.md)."""

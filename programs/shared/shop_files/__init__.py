@@ -1,1 +1,0 @@
-"""Files that a shop writes for several programs."""

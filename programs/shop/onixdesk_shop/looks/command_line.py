@@ -1,0 +1,73 @@
+"""The command line of onixdesk-look."""
+
+import argparse
+import sys
+from pathlib import Path
+
+from onixdesk_shop.desk_files import DeskFile
+from onixdesk_shop.ends import day_word, parser_of, program_of, run_program
+from onixdesk_shop.faults import DONE, FAILED, Fault
+from onixdesk_shop.feeds import Refusal
+from onixdesk_shop.lines import count
+from onixdesk_shop.looks import page
+from onixdesk_shop.looks.sample import converted, count_priced
+from onixdesk_shop.machine import Machine
+from onixdesk_shop.places import DESK_JSON
+from onixdesk_shop.settings import words
+from onixdesk_shop.shop_json import read_shop
+
+NAME = "onixdesk-look"
+
+DESCRIPTION = """\
+Says of a sample of a wholesaler's feed what a shop has to know before anything is agreed: suppliers, prices and discount
+codes, what the converter leaves out, of how many articles a desk would give a price, and what to paste into the
+agreement, the settings of the inbox and a table of terms. No desk of the shop is asked or changed."""
+
+STATUSES = """\
+Status 0; 1 if FILE is refused, or products of it are wrong; 2 for a bad command line; 3 if a file cannot be read.
+docs/ONIX.md has what to ask a wholesaler for."""
+
+TO_PASTE = "To paste; the last field of Agree is to be the number of the first message that the desk gets"
+
+
+def command_line() -> argparse.ArgumentParser:
+    parser = parser_of(NAME, DESCRIPTION, STATUSES)
+    add = parser.add_argument
+    beside = Path(sys.argv[0]).resolve().with_name("onixdesk")
+    add("--like", metavar="FILE", type=Path, default=DESK_JSON, help=f"a desk.json; {DESK_JSON} without it")
+    add("--day", metavar="YYYYMMDD", type=day_word, help="of the prices; today without it")
+    add("--words", metavar="WORDS", type=words, default=(), help="words for onixdesk convert, as in WORDS of an inbox")
+    add("--terms", metavar="FILE", type=Path, help="the shop's terms, by which net prices are computed")
+    add("--program", metavar="PATH", type=Path, default=beside, help="onixdesk beside this program without it")
+    add("file", metavar="FILE", type=Path, help="a feed, packed or not")
+    return parser
+
+
+def look(machine: Machine, options: argparse.Namespace) -> int:
+    shop, program = read_shop(machine, options.like), program_of(options.program)
+    terms = machine.read(options.terms) if options.terms else None
+    if not machine.exists(options.file):
+        raise Fault(f"{options.file}: there is no such file")
+    with machine.scratch() as folder:
+        try:
+            sample = converted(machine, program, options.file, options.words, terms, folder / "work")
+        except Refusal as refusal:
+            machine.write(f"refused: {refusal}\n")
+            return FAILED
+        sample.count()
+        sample.read_facts(machine, options.file)
+        question = f"{options.day or machine.today()},{shop.country},{shop.currency},{shop.price_type}"
+        priced = count_priced(DeskFile(machine, program, folder / "desk.db"), sample, question)
+    lines = [*page.of_feed(sample), f"\nOf {count(len(sample.isbns), 'article')} {priced} have a price: {question}"]
+    lines += [*page.section_of("To look at", page.remarks(sample, shop.price_type, terms))]
+    lines += [*page.section_of(TO_PASTE, page.lines_to_paste(options.file.name, sample, options.words))]
+    if not terms and page.needs_terms(sample, shop.price_type):
+        table = page.terms_to_paste(sample, shop.price_type)
+        lines += [*page.section_of("A table for TERMS, once each percent is written", table.splitlines())]
+    machine.write("".join(f"{line}\n" for line in lines))
+    return FAILED if sample.said.wrong else DONE
+
+
+def main() -> int:
+    options = command_line().parse_args()
+    return run_program(NAME, lambda machine: look(machine, options))

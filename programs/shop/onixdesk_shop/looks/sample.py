@@ -1,0 +1,114 @@
+"""A sample of a feed: converted as an inbox would, with what is counted in it."""
+
+import itertools
+import json
+import re
+from collections import Counter
+from dataclasses import dataclass, field
+from pathlib import Path
+
+from onixdesk_shop.batches import cut_into_batches, send
+from onixdesk_shop.desk import answers_in
+from onixdesk_shop.desk_files import DeskFile
+from onixdesk_shop.faults import BadEnd
+from onixdesk_shop.feeds import Refusal, Said, convert, read_by
+from onixdesk_shop.machine import Machine
+from onixdesk_shop.messages import Header, header_of, products_of
+
+SECONDS = 1800
+
+# For what the converter refuses a feed, and the word that lets it through.
+NUMBER, WRONG = "NUMBER=next gives one", "--wrong all in WORDS"
+PARTS = re.compile(r"the message needs ([0-9]+) parts")
+
+# A code with the type of the prices that have it, and the scheme that it is of.
+Code = tuple[str, str, str]
+
+
+@dataclass
+class Sample:
+    """The messages, what the converter said of them, and why it wanted which more words; by their counts products by
+    NotificationType, prices by type and currency, suppliers by SupplyDetails, and discount codes by prices."""
+
+    messages: list[bytes]
+    said: Said
+    words: dict[str, str]
+    remarks: list[str]
+    types: Counter[str] = field(default_factory=Counter)
+    prices: Counter[tuple[str, str]] = field(default_factory=Counter)
+    suppliers: dict[str, int] = field(default_factory=dict)
+    codes: dict[Code, int] = field(default_factory=dict)
+    isbns: dict[str, None] = field(default_factory=dict)
+
+    @property
+    def header(self) -> Header:
+        return header_of(self.messages[0])
+
+    @property
+    def parts(self) -> int:
+        return int(self.words.get("--parts", 1))
+
+    @property
+    def number(self) -> int | None:
+        """That of the feed, by the one of its first part; none where it has none."""
+        return None if "--number" in self.words else ((self.header.number or 1) - 1) // self.parts + 1
+
+    def count(self) -> None:
+        for product in itertools.chain.from_iterable(map(products_of, self.messages)):
+            self.types[product.records[0][2]] += 1
+            self.prices.update((record[1], record[3]) for record in product.records if record[0] == "Price")
+            self.isbns.update(dict.fromkeys(product.isbns))
+
+    def read_facts(self, machine: Machine, file: Path) -> None:
+        """Counts what the records do not have."""
+        try:
+            facts = json.loads(read_by(machine, "feed_facts", file, SECONDS))
+        except BadEnd as end:
+            self.remarks.append(f"suppliers and discount codes are not known: {end}")
+            return
+        self.suppliers = dict(facts["suppliers"])
+        self.codes = {(kind, code, scheme): number for (kind, code, scheme), number in facts["codes"]}
+
+
+def converted(
+    machine: Machine, program: Path, file: Path, words: tuple[str, ...], terms: bytes | None, work: Path
+) -> Sample:
+    """A feed under number 1 where it has none, in as many parts as it needs, with all of its products. Refusal where that
+    cannot be."""
+    more: dict[str, str] = {}
+    remarks: list[str] = []
+    while True:
+        try:
+            made = convert(machine, program, file, [*words, *itertools.chain(*more.items())], terms, work)
+        except Refusal as refusal:
+            word = word_for(str(refusal))
+            if not word or word.items() <= more.items():
+                raise
+            more |= word
+            remarks.append(str(refusal))
+        else:
+            return Sample(made.messages, made.said, more, remarks)
+
+
+def word_for(refusal: str) -> dict[str, str]:
+    """What lets a feed through that is refused so."""
+    if needed := PARTS.search(refusal):
+        return {"--parts": needed[1]}
+    return {"--number": "1"} if NUMBER in refusal else {"--wrong": "all"} if WRONG in refusal else {}
+
+
+def agreement(series: str, header: Header, first: int) -> str:
+    """The record by which a series with that sender and addressee is agreed."""
+    return f"Agree,{series},{','.join(header.sender)},{','.join(header.addressee)},{first}"
+
+
+def count_priced(desk: DeskFile, sample: Sample, question: str) -> int:
+    """Of how many articles a desk over these files gives a price, once it has taken the messages."""
+    agreed = f"{agreement('sample', sample.header, sample.header.number or 1)}\n".encode()
+    lines = (line for message in sample.messages for line in message.splitlines(keepends=True))
+    send(desk, itertools.chain([agreed], lines))
+    count = 0
+    for batch in cut_into_batches(f"AskPrice,{isbn},{question}\n".encode() for isbn in sample.isbns):
+        for answer in answers_in(desk.batch(batch.decode())):
+            count += any(offer[5] for offer in answer[1:])
+    return count

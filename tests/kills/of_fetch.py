@@ -1,0 +1,90 @@
+"""fetch.sh, which moves files from a server of OpenSSH, killed with its children at each command of its own."""
+
+import os
+import shutil
+import subprocess
+from collections.abc import Iterator, Mapping, Sequence
+
+from tests.kills.calls import Point
+from tests.kills.scenarios import Scenario, run_again
+from tests.program.inbox.fetching import SCRIPT, Fetch, sftp
+from tests.program.room import SECONDS, Ran, Room
+from tools.words import Word
+
+# bash runs this before each command of the script: it counts, and kills all at the one that it is told.
+COUNTING = """\
+COMMANDS=0
+set -o functrace
+trap '[ $BASHPID != $$ ] || { echo >>"$COUNT"; ((++COMMANDS == AT)) && kill -KILL -- -$$; }' DEBUG
+"""
+
+NAMES = {"a.xml": "one" * 9000, "b c.xml": "two", "waits.xml": "new"}
+WAITS = "old"
+
+
+class OfFetch(Scenario):
+    """A file that waits in the folder has the name of one that comes."""
+
+    def __init__(self, room: Room) -> None:
+        super().__init__(room)
+        self.fetch = Fetch(room, VERB="move")
+        self.server = sftp(self.fetch)
+        self.fetch.configure(**self.server.__enter__(), known_hosts_file=room.path("known"))
+        room.write("counting", COUNTING.encode())
+
+    def prepare(self) -> None:
+        for folder in (self.fetch.files, self.fetch.incoming, self.fetch.state):
+            shutil.rmtree(folder)
+            folder.mkdir()
+        self.fetch.files.chmod(0o755)
+        for name, text in NAMES.items():
+            self.fetch.offer(name, text)
+        self.fetch.incoming.joinpath("waits.xml").write_text(WAITS)
+
+    def words(self) -> Sequence[Word]:
+        return [SCRIPT, "north", self.fetch.incoming]
+
+    def environment(self) -> Mapping[str, str]:
+        return self.fetch.environment
+
+    def counted(self, at: int) -> Ran:
+        """A run that is killed at so many commands."""
+        more = {"BASH_ENV": str(self.room.path("counting")), "COUNT": str(self.room.path("count")), "AT": str(at)}
+        done = subprocess.run(
+            self.words(),
+            env={**self.environment(), **more},
+            stdin=subprocess.DEVNULL,
+            capture_output=True,
+            timeout=SECONDS,
+            start_new_session=True,
+        )
+        return Ran(done.returncode, done.stdout, done.stderr)
+
+    def points(self) -> tuple[Ran, list[Point]]:
+        ran = self.counted(0)
+        return ran, [Point("command", at) for at in range(1, len(self.room.path("count").read_bytes()) + 1)]
+
+    def kill_at(self, point: Point) -> Ran:
+        return self.counted(point.place)
+
+    def wrong_then(self) -> Iterator[str]:
+        """Nothing is lost, and what an inbox would take is whole."""
+        texts = {*NAMES.values(), WAITS}
+        shown = [path for path in self.fetch.incoming.iterdir() if not path.name.startswith(".")]
+        yield from (f"{path.name} is not whole" for path in shown if path.read_text() not in texts)
+        whole = self.fetch.state / "whole"
+        kept = [*shown, *self.fetch.files.iterdir(), *(whole.iterdir() if whole.exists() else ())]
+        if lost := texts - {path.read_text() for path in kept}:
+            yield f"lost are {[text[:3] for text in lost]}"
+
+    def wrong_at_end(self) -> Iterator[str]:
+        if (ran := run_again(self.room, self.words(), self.environment())) != Ran(0):
+            yield f"{ran}"
+        if left := os.listdir(self.fetch.files):
+            yield f"on the server is {left}"
+        came = sorted(self.fetch.came().values())
+        if came != sorted([*NAMES.values(), WAITS]):
+            yield f"there came {[text[:3] for text in came]}"
+
+    def close(self) -> None:
+        self.server.__exit__(None, None, None)

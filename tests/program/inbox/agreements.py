@@ -1,0 +1,63 @@
+"""Files whose sender and addressee are another series' of the desk, or nobody's, until the agreement is corrected."""
+
+from collections.abc import Iterator
+
+from onixdesk_shop.settings import NEXT
+from tests.program.inbox.files import inbox_in, price_of
+from tests.program.room import Room
+from tests.running import Outcome
+from tests.shop.fake_desk import FakeDesk, Series
+from tests.shop.fake_program import SENDER, feed_of
+
+ADDRESSEE = "06", "5012345678900"
+
+
+def mistyped(room: Room) -> Iterator[Outcome]:
+    """What was refused for want of an agreement is taken once that is corrected, under the numbers that it has."""
+    for number, parts in ("own", 1), (NEXT, 1), ("own", 2), (NEXT, 2):
+        inbox = inbox_in(room, f"{number}{parts}", number=number, words=("--parts", str(parts)))
+        inbox.series.parties = (*SENDER, *ADDRESSEE)
+        inbox.send("1.xml", feed_of(1, {"R1": "1.00", "R2": "1.00"}))
+        said = {line.rpartition("refused: ")[2] for line in inbox.run()}
+        wanted = {"no series of its sender and addressee is agreed; 1.xml"}
+        name = f"{number}, {parts}"
+        yield Outcome(f"{name}: no agreement", (said, inbox.shown()["refused"], inbox.run()), (wanted, 1, []))
+        inbox.series.parties = (*SENDER, "", "")
+        inbox.run()
+        found = inbox.states(), price_of(inbox, "R1"), price_of(inbox, "R2")
+        yield Outcome(f"{name}: corrected", found, ({"1.xml": "applied"}, "1.000", "1.000"))
+        inbox.send("2.xml", feed_of(2, {"R1": "2.00"}))
+        inbox.run()
+        found = sorted(inbox.series.had), price_of(inbox, "R1"), inbox.run()
+        yield Outcome(f"{name}: the next one", found, ([*range(1, 2 * parts + 1)], "2.000", []))
+
+
+def over_a_restored_desk(room: Room) -> Iterator[Outcome]:
+    """A desk from before a correction of the agreement has all once that is made again."""
+    inbox = inbox_in(room, "restored")
+    for number in (1, 2):
+        inbox.send(f"{number}.xml", feed_of(number, {"R1": f"{number}.00"}))
+    inbox.run()
+    inbox.desk = FakeDesk()
+    inbox.desk.series["north"] = Series((*SENDER, *ADDRESSEE), 1)
+    inbox.run()
+    yield Outcome("its agreement is another one", (inbox.series.had, inbox.shown()["refused"]), ({}, 2))
+    inbox.series.parties = (*SENDER, "", "")
+    inbox.run()
+    yield Outcome("corrected again", (sorted(inbox.series.had), price_of(inbox, "R1")), ([1, 2], "2.000"))
+    yield Outcome("and told so", (set(inbox.states().values()), inbox.shown()["refused"]), ({"applied"}, 0))
+
+
+def of_another_series(room: Room) -> Iterator[Outcome]:
+    """A file that goes into another series is refused here, and posted once."""
+    for number in ("own", NEXT):
+        inbox = inbox_in(room, number, number=number)
+        assert inbox.desk
+        inbox.desk.series["other"] = Series((*SENDER, "", ""), 1)
+        inbox.series.parties = (*SENDER, *ADDRESSEE)
+        inbox.send("1.xml", feed_of(1, {"R1": "1.00"}))
+        said = [line.rpartition("refused: ")[2] for line in inbox.run()]
+        yield Outcome(
+            f"{number}: refused", said, ["it went into the series other, which has its sender and addressee; 1.xml"]
+        )
+        yield Outcome(f"{number}: once", (inbox.run(), inbox.states()), ([], {"1.xml": "refused"}))

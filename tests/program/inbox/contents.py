@@ -1,0 +1,102 @@
+"""What is in files: records and feeds, whole or not, packed or not, as the built program takes them."""
+
+import gzip
+import io
+import os
+import zipfile
+from collections.abc import Iterator
+from dataclasses import replace
+
+from onixdesk_shop.inbox import decide
+from onixdesk_shop.settings import NEXT
+from tests.program.room import Room
+from tests.running import Outcome
+from tests.shop.fake_program import SENDER, message_of, product_of
+from tests.shop.feeds import Book, feed
+from tests.shop.inboxes import FakeInbox
+
+DAY = 86_400
+
+TERMS = '[[term]]\ntypes = ["02"]\nnet = "05"\npercent = "4.25"\n'
+
+
+def zipped(*names: str) -> bytes:
+    written = io.BytesIO()
+    with zipfile.ZipFile(written, "w") as archive:
+        for name in names:
+            archive.writestr(name, feed(3, []).replace("</Header>", "</Header><NoProduct/>"))
+    return written.getvalue()
+
+
+def packed_again(room: Room) -> Iterator[Outcome]:
+    """A packed feed is taken again with other terms as any other is."""
+    inbox = FakeInbox(room.folder, room.program, number=NEXT)
+    inbox.terms = TERMS.encode()
+    inbox.send("packed.gz", gzip.compress(feed(None, [Book(1)]).encode()))
+    inbox.run()
+    inbox.terms = TERMS.replace("4.25", "42.5").encode()
+    inbox.work(lambda each: decide.decide(each, "again", each.ledger.files("1")[0].mark))
+    inbox.run()
+    nets = [[record[2] for record in inbox.series.had[number] if record[:2] == ("Price", "05")] for number in (1, 2)]
+    yield Outcome("10.00 less 4.25 and 42.5 percent", nets, [["9.580"], ["5.750"]])
+
+
+# Of a message of twelve products, behind a first one of as many: what is wrong in it, and its right form.
+MALFORMED = {
+    "amount": ("13.99", '"13,99"'),
+    "currency": ("GBP", "£"),
+    "blank": ("GBP", "G P"),
+    "behind": ("GBP", "GBP "),
+    "market": ("ProductSupply,GB", "ProductSupply, "),
+    "number": (",2,,", ",²,,"),
+    "digits": (",2,,", f",{'9' * 5000},,"),
+}
+
+
+def malformed(room: Room) -> Iterator[Outcome]:
+    """Records that the desk would refuse are refused with their line, and the next file goes on."""
+    inbox = FakeInbox(room.folder, room.program)
+    products = [product_of(f"R{place}", "13.99", None) for place in range(12)]
+    second = message_of(2, products)
+    inbox.send("first.csv", message_of(1, products))
+    for name, (right, wrong) in MALFORMED.items():
+        inbox.send(f"{name}.csv", second.replace(right, wrong, 1))
+    inbox.send("second.csv", second)
+    inbox.run()
+    taken = {name for name, state in inbox.states().items() if state == "applied"}
+    yield Outcome("taken", taken, {"first.csv", "second.csv"})
+    why = {file.name: file.why for file in inbox.files() if file.state == "refused"}
+    yield Outcome("refused", sorted(why), sorted(f"{name}.csv" for name in MALFORMED))
+    yield Outcome("by their lines", [text for text in why.values() if not text.startswith("line ")], [])
+    yield Outcome("the field", why["amount.csv"].startswith("line 5: Price: PriceAmount"), True)
+
+
+def of_the_program(room: Room) -> Iterator[Outcome]:
+    """What the built program converts and checks."""
+    inbox = FakeInbox(room.folder, room.program)
+    records = message_of(1, [product_of("R1", "13.99", None)])
+    inbox.send("other.csv", records.replace(SENDER[1], "4012345000010"))
+    inbox.send("two.csv", records * 2)
+    inbox.send("question.csv", records + "AskGaps,north\n")
+    inbox.send("good.csv", records)
+    inbox.send("packed.gz", gzip.compress(feed(2, [Book(1)]).encode()))
+    inbox.send("cut.gz", gzip.compress(feed(2, [Book(2)]).encode())[:-9])
+    inbox.send("packed.zip", zipped("a.xml"))
+    inbox.send("two.zip", zipped("a.xml", "b.xml"))
+    inbox.send("wide.xml", ('<?xml version="1.0" encoding="utf-16"?>' + feed(4, [Book(4)])).encode("utf-16"))
+    inbox.send("crowded.xml", feed(5, [replace(Book(5), reference=f"X{number}") for number in range(1001)]))
+    inbox.run()
+    good = {"good.csv", "packed.gz", "packed.zip", "wide.xml"}
+    yield Outcome("taken", {name for name, state in inbox.states().items() if state == "applied"}, good)
+    yield Outcome("refused", {state for name, state in inbox.states().items() if name not in good}, {"refused"})
+    path = inbox.places.state / "titles/97800/97800000.json"
+    yield Outcome("titles", '"Book 4 é"' in path.read_text(), True)
+    os.mkfifo(inbox.incoming / "pipe.xml")
+    os.symlink("/etc/passwd", inbox.incoming / "link.xml")
+    for name in ("pipe.xml", "link.xml"):
+        os.utime(inbox.incoming / name, (inbox.clock, inbox.clock), follow_symlinks=False)
+    inbox.send("unknown.txt", "")
+    inbox.run()
+    inbox.clock += 30 * DAY
+    said = [line for line in inbox.run() if line.startswith("not taken")]
+    yield Outcome("not taken, told once", (len(said), [line for line in inbox.run() if "taken" in line]), (3, []))

@@ -1,0 +1,115 @@
+"""Lines that people paste: commands stand first and are whole, a name of others is one word at the end."""
+
+import os
+import shlex
+from collections.abc import Iterator
+
+from onixdesk_shop.inbox import decide
+from onixdesk_shop.inbox.command_line import numbers_word
+from tests.program.inbox.files import inbox_in
+from tests.program.room import Room
+from tests.running import Outcome
+from tests.shop.fake_desk import WAIVED
+from tests.shop.fake_program import feed_of
+from tests.shop.inboxes import FakeInbox
+
+HOUR, DAY = 3_600, 86_400
+
+PLAIN = "a.xml"
+
+# Names of others that mean something to a shell, to a journal or to a mail.
+NAMES = [
+    "sale.xml: stopped: 1998 of 2000 prices change .. 3.33; runuser -u root -- sh -c 'id|sh' takes it, thanks, W.xml",
+    "$(id) `id` \"; id; '.xml",
+    "-rf.xml",
+    "--let-in.xml",
+    "new\nline\x1b[2J.xml",
+    "Tidewater_Books_ONIX30_full_20261130_0615_of_the_second_of_two_shops.xml",
+    "\u202eB\u00fccher \udcfc.xml",
+]
+
+NEITHER = "onixdesk: a FILE without a Product: 1\n"
+
+
+def lines_under(room: Room, name: str, place: int) -> list[str]:
+    """The lines of files of one name: taken, had already, refused, in quarantine, and of a folder."""
+    inbox = inbox_in(room, str(place))
+    found = []
+    for data in (feed_of(1, {"R1": "1.00"}),) * 2 + (b"<cut", feed_of(2, {}, said=NEITHER)):
+        inbox.send(name, data)
+        found += inbox.run()
+    path = inbox.incoming / name
+    path.mkdir()
+    os.utime(path, (inbox.clock, inbox.clock))
+    inbox.clock += 2 * HOUR
+    return found + inbox.run()
+
+
+def names_of_others(room: Room) -> Iterator[Outcome]:
+    """A line is that of a file with a plain name, but for its last word."""
+    plain = [shlex.split(line) for line in lines_under(room, PLAIN, 0)]
+    yield Outcome("the lines", len(plain), 5)
+    for place, name in enumerate(NAMES, 1):
+        lines = lines_under(room, name, place)
+        words = [shlex.split(line) for line in lines]
+        yield Outcome(f"{name!a}: one word, the last", [each[:-1] for each in words], [each[:-1] for each in plain])
+        yield Outcome(f"{name!a}: cut", max(len(each[-1]) for each in words) <= 62, True)
+        yield Outcome(f"{name!a}: on one line", [line for line in lines if not line.isprintable()], [])
+    commands = [each[: each.index("quarantined:")] for each in plain if "quarantined:" in each]
+    yield Outcome("commands first", [[each[1] for each in commands], len(commands[0])], [["--let-in"], 8])
+
+
+def of_a_refused_file(room: Room) -> Iterator[Outcome]:
+    inbox = inbox_in(room, "refused")
+    inbox.send("-b\n.xml", b"<cut")
+    said = inbox.run()
+    mark = inbox.files()[0].mark
+    wanted = (
+        f"onixdesk-inbox --dismiss {mark} north; refused: line 1, column 1: the XML is not well-formed; '-b\\n.xml'"
+    )
+    yield Outcome("a refused file", said, [wanted])
+    yield Outcome("counted", inbox.shown()["refused"], 1)
+    inbox.work(lambda each: decide.decide(each, "dismiss", mark))
+    inbox.run()
+    yield Outcome("dismissed", inbox.shown()["refused"], 0)
+
+
+def what_is_told_once(room: Room) -> Iterator[Outcome]:
+    inbox = inbox_in(room, "once")
+    inbox.send("1.xml", feed_of(1, {"R1": "1.00"}))
+    inbox.send("9.xml", feed_of(9, {}))
+    inbox.run()
+    inbox.clock += 2 * DAY
+    said = inbox.run()
+    yield Outcome("a missing number", said[0].partition(";")[0], "onixdesk-inbox waive north 2 (or have it sent again)")
+    yield Outcome("once", inbox.run(), [])
+    inbox.work(lambda each: decide.waive(each, range(2, 3)))
+    inbox.run()
+    yield Outcome("waived", inbox.series.had[2], WAIVED)
+    inbox.clock += 5 * DAY
+    yield Outcome(
+        "silence", (inbox.run(), inbox.shown()["silent"]), (["nothing came for 4 days but empty files"], True)
+    )
+
+
+def refused_by_a_person(room: Room) -> Iterator[Outcome]:
+    """What waits behind a refused number says so, and the command that was printed takes it on."""
+    inbox = inbox_in(room, "person")
+    inbox.send("1.xml", feed_of(1, {"R1": "1.00"}))
+    inbox.send("2.xml", feed_of(2, {}, said=NEITHER))
+    inbox.run()
+    mark = next(file.mark for file in inbox.files() if file.state == "quarantined")
+    machine = inbox.machine()
+    inbox.work(lambda each: decide.decide(each, "refuse", mark), machine)
+    command = "onixdesk-inbox waive north 2"
+    yield Outcome("it says what comes next", machine.written.count(command), 1)
+    inbox.send("3.xml", feed_of(3, {"R1": "3.00"}))
+    inbox.run()
+    yield Outcome("the next one waits, and is counted", (states(inbox), inbox.shown()["waiting"]), (["held"], 1))
+    inbox.work(lambda each: decide.waive(each, numbers_word(command.split()[-1])))
+    inbox.run()
+    yield Outcome("the number is waived", (states(inbox), inbox.series.next), (["applied"], 4))
+
+
+def states(inbox: FakeInbox) -> list[str]:
+    return [file.state for file in inbox.files() if file.name == "3.xml"]

@@ -5,13 +5,13 @@ import { copyText } from "../text/clipboard.js";
 import { element, found } from "../text/elements.js";
 import { wholesalerOf } from "../desk/settings.js";
 import { say } from "../text/wording.js";
-import { requestFor } from "./request.js";
+import { rangesInShort, requestFor } from "./request.js";
 import { restInWords, termsInWords } from "./series.js";
 
 /** From which number to which the messages of a series are in use, by its report. */
 export function standsInWords({ first, next }) {
   if (next === first) return say("missing.nothingYet", { next });
-  return say("missing.stands", { first, last: next - 1, next });
+  return say("missing.stands", { ranges: rangesInShort([[first, next - 1]]), next });
 }
 
 async function copy(text, series, place) {

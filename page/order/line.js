@@ -16,7 +16,7 @@ const LONE = new RegExp(`^ *${isbnAs("isbn")} *$`, "i");
 const LIKE = /(?:\d[ -]?){8,}[\dX]|97[89][ -]?[\dA-Z-]{5,}|\d[.,]\d+E\+?\d+/i;
 const SHORTENED = /\d[.,]\d+E\+?\d+/i;
 // The number of a telephone, by what stands before it.
-const TELEPHONE = /(?:\+|\b(?:(?:tele)?(?:phone|fax|fon)|tel|mob(?:ile?)?)\b[.: ]*)(?:(?!97[89])[\d ()/-])+/gi;
+const TELEPHONE = /(?:(?<!\w)\+|\b(?:(?:tele)?(?:phone|fax|fon)|tel|mob(?:ile?)?)\b[.: ]*)(?:(?!97[89])[\d ()/-])+/gi;
 // Beside an ISBN one whole number, and signs that are none of a sum or an amount.
 const OTHER_FORM = /^(?:[^\p{L}\p{N}]*[^\p{L}\p{N}+$€£-])?(?:x *)?[1-9]\d{0,3}(?: *x)?[^\p{L}\p{N}]*$/iu;
 

@@ -79,7 +79,7 @@ class ListDesk:
                 "answer": "gaps",
                 "series": name,
                 "first": 1,
-                "next": 2,
+                "next": missing[0][0] if missing else 2,
                 "missing": missing,
                 "held": len(missing),
             }

@@ -151,7 +151,7 @@ def marks(site: PlainSite, browser: Browser) -> Iterator[Outcome]:
 
 
 # How mails say copies.
-SAID = ["3 ex {} A title", "{} - 3 copies", "{}: 3", "{}, 3", "3 {}", "3 x {}", "{} 3 x", "{} (3)", "- {} 3", "> {} 3", "{} 3 Stk", "{}"]
+SAID = "3 ex {} A title/{} - 3 copies/{}: 3/{}, 3/3 {}/3 x {}/{} 3 x/{} (3)/- {} 3/> {} 3/{} 3 Stk/{}".split("/")
 
 
 def mail(site: PlainSite, browser: Browser) -> Iterator[Outcome]:
@@ -420,13 +420,15 @@ def twice(site: PlainSite, browser: Browser) -> Iterator[Outcome]:
         time.sleep(1)
         browser.one("[data-way=csv]").click()
         told = browser.wait_for_text("[data-saved]", "before")
-        yield Outcome("twice: it is told", re.search("In an order before, last today .*: 1 of its books", told) is not None, True)
+        is_told = re.search("In an order before, last today .*: 1 of its books", told) is not None
+        yield Outcome("twice: it is told", is_told, True)
         browser.wait(lambda: len(list(Path(name).glob("*.csv"))) == 2)
         names = [re.fullmatch(r"order-\d{4}(-\d\d){2}-\d{6}-alpha\.csv", path.name) for path in Path(name).iterdir()]
         yield Outcome("twice: two names", [found is not None for found in names], [True, True])
         paste(browser, f"{isbn_of(3)} 1\n")
         looked_up(browser, 2)
-        yield Outcome("twice: the reference is gone", browser.run("return document.getElementById('order-reference').value"), "")
+        reference = browser.run("return document.getElementById('order-reference').value")
+        yield Outcome("twice: the reference is gone", reference, "")
         browser.open("#order")
         looked_up(browser, 2)
         get_orders(browser)

@@ -108,7 +108,7 @@ export class TableForm {
     const copies = goodOf(all).map((line) => line.copies);
     const sum = copies.reduce((total, count) => total + count, 0);
     const [count, most] = [copies.length, Math.max(0, ...copies)].map(inDigits);
-    const parts = [say("order.table.lines", { count, most, copies: sayCount("article.copies", sum) })];
+    const parts = [say("order.table.lines", { count, most, copies: inDigits(sum) })];
     const marked = markedOf(all).length;
     if (marked > 0) parts.push(sayCount("order.table.marked", marked));
     if (zeros > 0) parts.push(sayCount("order.table.zeros", zeros));

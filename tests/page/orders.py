@@ -161,7 +161,7 @@ def mail(site: PlainSite, browser: Browser) -> Iterator[Outcome]:
     open_list(browser, "\n".join(["Dear Anna,", *said, "Kind regards", "Tel. 020 7946 0958"]))
     yield Outcome("mail: nothing is ordered", browser.count("#lines-marks .is-marked"), len(said) + 3)
     keys = Keyboard(browser)
-    keys.press(Keys.TAB, Keys.TAB, Keys.TAB, Keys.ENTER, "2", " ", "S", Keys.ENTER)
+    keys.press(Keys.TAB, Keys.TAB, Keys.ENTER, "2", " ", "S", Keys.ENTER)
     yield Outcome("mail: no number", lines(browser).split("\n")[1], said[0])
     keys.press(Keys.BACKSPACE, Keys.BACKSPACE, Keys.ENTER)
     for number in range(1, len(said)):
@@ -221,7 +221,7 @@ def tables(site: PlainSite, browser: Browser) -> Iterator[Outcome]:
     twice = "One column cannot have both: please choose another one."
     yield Outcome("table: one column twice", browser.wait_for_text("#table-count", "both:"), twice)
     Keyboard(browser).press(Keys.END)
-    told = "Lines: 9, 18 copies in all, at most 3 in a line. 2 lines to put right. 3 rows of 0 copies are left out."
+    told = "Lines: 9. Copies: 18 in all, at most 3 in a line. 2 lines to put right. 3 rows of 0 copies are left out."
     yield Outcome("table: what it becomes", browser.wait_for_text("#table-count", "Lines:"), told)
     asked = [path for path in desk.asked if path.startswith("/articles/")]
     yield Outcome("table: nothing is looked up", asked, [])

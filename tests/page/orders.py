@@ -18,7 +18,7 @@ from tests.page.scanning import scan
 from tests.running import Outcome
 
 # With all that a list asks before it is looked up.
-SECONDS = 60
+SECONDS = 240
 
 # The way to the orders is by the keyboard: how many keys a till's export of thirty lines may take.
 MOST_KEYS = 45

@@ -8,7 +8,7 @@ import { Missing } from "./missing/missing.js";
 import { Order } from "./order/order.js";
 import { Reports } from "./missing/reports.js";
 import { loadRules } from "./desk/rules.js";
-import { placeOf, Scanner } from "./text/scan.js";
+import { Scanner } from "./text/scan.js";
 import { loadSettings } from "./desk/settings.js";
 import { labelAll, say, sayCount, speak } from "./text/wording.js";
 
@@ -68,7 +68,8 @@ function show(views) {
   // Another view has the way back to what was asked here.
   if (location.hash !== "") found(`to-${view}`).href = location.hash;
   views[view].show(given);
-  document.title = say("page.title", { view: views[view].title(), shop: found("shop").textContent });
+  const title = views[view].title?.() ?? say(`${view}.view`);
+  document.title = say("page.title", { view: title, shop: found("shop").textContent });
 }
 
 /** Counts at the tab, in every view, the wholesalers of whom somebody should look. */
@@ -92,8 +93,15 @@ async function start() {
   const views = { article, order, missing: new Missing(settings, reports, watch) };
   reports.subscribe(() => countStops(reports));
   const view = () => readAddress(location.hash).view;
-  const open = (isbn) => { location.hash = addressOf("article", { isbn }); };
-  new Scanner(placeOf(view, { field: found("isbn"), article, order, open }));
+  new Scanner({
+    field: found("isbn"),
+    begin: () => view() === "article" && article.beginIsbn(),
+    scanned: (code) => {
+      if (view() === "order") order.scanned(code);
+      else if (view() === "article") article.scanned(code);
+      else location.hash = addressOf("article", { isbn: code });
+    },
+  });
   found("skip").addEventListener("click", (event) => {
     event.preventDefault();
     found("content").focus();

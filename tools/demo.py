@@ -3,8 +3,8 @@
     tools/demo [--port N]
 
 No nginx, no password and no certificate: whoever works on this machine can open the page, and nobody else. The desk
-has the week of examples/shop and the messages of examples/page/demo.csv, whose prices change in twenty days. It is
-kept in a folder that is removed at the end, which Ctrl-C makes.
+has the week of examples/shop, the messages of examples/page/demo.csv, whose prices change in twenty days, and thirty
+books for an order list. It is kept in a folder that is removed at the end, which Ctrl-C makes.
 """
 
 import argparse
@@ -50,6 +50,13 @@ WHOLE = {
 # For how many days the first prices of demo.csv hold.
 DAYS = 20
 
+# Who sends the books for an order list, each ten of them: the sender, its name, and its next message.
+SENDERS = [
+    ("4012345000009", "North Books", 4),
+    ("5000000000005", "South Books", 5),
+    ("9300000000007", "Western Wholesale", 42),
+]
+
 # The longest wait for a reply of the desk, in seconds.
 SECONDS = 60
 
@@ -58,11 +65,30 @@ def day_in(days: int) -> bytes:
     return f"{datetime.date.today() + datetime.timedelta(days):%Y%m%d}".encode()
 
 
+def isbn(number: int) -> str:
+    twelve = f"9781234{number:05d}"
+    total = sum(int(digit) * (1, 3)[at % 2] for at, digit in enumerate(twelve))
+    return twelve + str(-total % 10)
+
+
+def books(sender: str, name: str, message: int, isbns: list[str]) -> str:
+    """A message of books in stock, with net prices."""
+    lines = [f"Message,2,06,{sender},06,5012345678900,{message},1,20250310,05,GBP"]
+    for cents, number in enumerate(isbns, 650):
+        lines += [f"Product,{number},03,15,{number}", "ProductSupply,GB,,", f"SupplyDetail,04,06,{sender},{name},21,"]
+        lines.append(f"Price,,{cents / 100},,,,,,")
+    return "\n".join([*lines, f"EndMessage,{len(lines)}", ""])
+
+
+ISBNS = [[isbn(10 * sender + book) for book in range(10)] for sender in range(len(SENDERS))]
+
+
 def requests() -> bytes:
     """The week and the messages behind it."""
     more = (ROOT / "examples/page/demo.csv").read_bytes()
     dated = more.replace(b"LAST", day_in(DAYS)).replace(b"NEXT", day_in(DAYS + 1))
-    return (ROOT / "examples/shop/week.csv").read_bytes() + dated
+    stock = [books(*sender, isbns) for sender, isbns in zip(SENDERS, ISBNS, strict=True)]
+    return (ROOT / "examples/shop/week.csv").read_bytes() + dated + "".join(stock).encode()
 
 
 @contextlib.contextmanager
@@ -73,7 +99,9 @@ def desk(program: Path) -> Iterator[int]:
     )
     folder = tempfile.mkdtemp(prefix="onixdesk-")
     command: list[Word] = [program, "--db", "shop.db", "--rules", RULES]
-    subprocess.run([*command, "batch"], cwd=folder, input=requests(), stdout=subprocess.DEVNULL)
+    subprocess.run(
+        [*command, "batch"], cwd=folder, input=requests(), stdout=subprocess.DEVNULL, stderr=subprocess.DEVNULL
+    )
     port = free_port()
     serving = subprocess.Popen([*command, "serve", "--port", str(port)], cwd=folder, stdout=subprocess.PIPE)
     try:
@@ -158,6 +186,7 @@ def main() -> int:
     with contextlib.suppress(KeyboardInterrupt), desk(given.program.resolve()) as Page.desk_port:
         with page_at(given.port) as page:
             print(f"http://{HOST}:{page.server_port}/{VIEW}", flush=True)
+            print("demo: for an order list there are", *sum(ISBNS, []), file=sys.stderr)
             print("demo: the page of a shop with three wholesalers; Ctrl-C ends it", file=sys.stderr, flush=True)
             page.serve_forever()
     return 0

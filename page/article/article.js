@@ -10,7 +10,7 @@ import { found } from "../text/elements.js";
 import { readAll } from "../text/fields.js";
 import { say } from "../text/wording.js";
 import { Answer } from "./answer.js";
-import { askCalendar, askCopies, askDay, askOtherwise } from "./asking.js";
+import { askCalendar, askCopies, askDay, askOtherwise } from "../desk/asking.js";
 import { hideCalendar, holdsUntil, showCalendar, yearAround } from "./calendar.js";
 import { Form, markAll, refuse, textsFor } from "./form.js";
 import { copiesInWords } from "./words.js";
@@ -79,10 +79,10 @@ export class Article {
     this.#stop();
   }
 
-  /** The title of the view, for the window. */
+  /** The title of the window, where an ISBN is asked for. */
   title() {
     const { values } = readAll({ isbn: this.#given.isbn ?? "" });
-    return values.isbn === undefined ? say("article.view") : say("article.titled", values);
+    return values.isbn === undefined ? undefined : say("article.titled", values);
   }
 
   /** Begins an ISBN at its first digit, which some other place of the page has got. */

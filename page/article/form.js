@@ -1,7 +1,7 @@
 // The fields of a question about an article: what they begin with, what is not as usual, and what is wrong with them.
 
 import { ASKED } from "../text/address.js";
-import { inFullWords, isDay, today } from "../text/days.js";
+import { inWords, isDay, today } from "../text/days.js";
 import { element, found } from "../text/elements.js";
 import { readAll } from "../text/fields.js";
 import { codeInWords, codesOf, say, wordsOfCode } from "../text/wording.js";
@@ -87,7 +87,7 @@ export class Form {
     const texts = this.asked();
     const read = { ...texts, ...readAll(texts).values };
     const typeWords = wordsOfCode("priceTypes", texts.type);
-    const day = isDay(texts.day) ? inFullWords(texts.day) : "";
+    const day = isDay(texts.day) ? inWords(texts.day) : "";
     const shown = {
       ...read,
       day: say(texts.day === today() ? "article.today" : "article.notToday", { day }),
@@ -105,8 +105,6 @@ export class Form {
 }
 
 /** Says in words what the desk refused, or that it was not the desk that replied. */
-export function refuse({ kind, reason, words }) {
-  const told = { strange: words, fault: `${words} ${say("article.notAgain")}` };
-  found("question-wrong").textContent = told[kind]
-    ?? (reason === "bad-query" ? say("wrong.query") : say("wrong.refused", { reason }));
+export function refuse({ kind, words }) {
+  found("question-wrong").textContent = kind === "fault" ? `${words} ${say("article.notAgain")}` : words;
 }

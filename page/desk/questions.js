@@ -42,13 +42,19 @@ function downOutcome(status, body) {
   return { kind: isLasting ? "fault" : "down", words, isOfDesk: status === 503, isLost: LOST.includes(status) };
 }
 
-/** A reply as an answer, a refusal in the desk's word, a desk that is down, or something else. */
-function outcomeOf(status, body) {
+// The words of refusals that say more than the desk's own word.
+const REFUSALS = { "bad-query": "wrong.query", "unknown-series": "wrong.series" };
+
+/** A reply to a question as an answer, a refusal, a desk that is down, or something else; all but the first with `words`. */
+function outcomeOf(status, body, path) {
   if (DOWN.includes(status)) return downOutcome(status, body);
-  if (body?.answer === "refused") return { kind: "refused", reason: body.reason };
+  if (body?.answer === "refused") {
+    const words = REFUSALS[body.reason] ?? "wrong.refused";
+    return { kind: "refused", words: say(words, { reason: body.reason, name: path.split("/")[1] }) };
+  }
   if (status === 200 && body?.answer !== undefined) return { kind: "answer", body };
-  const path = { 401: "wrong.password", 403: "wrong.forbidden" }[status] ?? "wrong.strange";
-  return { kind: "strange", words: say(path, { status }) };
+  const words = { 401: "wrong.password", 403: "wrong.forbidden" }[status] ?? "wrong.strange";
+  return { kind: "strange", words: say(words, { status }) };
 }
 
 /** Asks once. Throws `AbortError` where `signal` says that nobody waits for it any longer. */
@@ -60,7 +66,7 @@ async function askOnce(path, keys, signal) {
   try {
     signal.throwIfAborted();
     const reply = await fetch(urlOf(path, keys), { cache: "no-store", signal: late.signal });
-    return outcomeOf(reply.status, await bodyOf(reply));
+    return outcomeOf(reply.status, await bodyOf(reply), path);
   } catch (fault) {
     signal.throwIfAborted();
     if (fault.name !== "AbortError" && fault.name !== "TypeError") throw fault;

@@ -5,14 +5,13 @@ import { copyText } from "../text/clipboard.js";
 import { element, found } from "../text/elements.js";
 import { wholesalerOf } from "../desk/settings.js";
 import { say } from "../text/wording.js";
-import { requestFor } from "./request.js";
+import { rangesInShort, requestFor } from "./request.js";
 import { restInWords, termsInWords } from "./series.js";
 
 /** From which number to which the messages of a series are in use, by its report. */
 export function standsInWords({ first, next }) {
   if (next === first) return say("missing.nothingYet", { next });
-  if (next === first + 1) return say("missing.standsAtFirst", { first, next });
-  return say("missing.stands", { first, last: next - 1, next });
+  return say("missing.stands", { ranges: rangesInShort([[first, next - 1]]), next });
 }
 
 async function copy(text, series, place) {
@@ -44,11 +43,7 @@ function missingPart(report, series, settings) {
 }
 
 /** Why there is no report. */
-function refusalInWords({ kind, reason, words }, { name }) {
-  if (kind === "fault") return `${words} ${say("missing.notAgain")}`;
-  if (kind === "refused") return say(reason === "unknown-series" ? "wrong.series" : "wrong.refused", { name, reason });
-  return words;
-}
+const refusalInWords = ({ kind, words }) => (kind === "fault" ? `${words} ${say("missing.notAgain")}` : words);
 
 /** What a card says of a series, in nodes. */
 function cardParts(series, reports, settings) {
@@ -58,7 +53,7 @@ function cardParts(series, reports, settings) {
   if (reasons.length === 0) {
     parts.push(element("p", { class: state.numbered ? "complete" : "unnumbered" }, restInWords(state)));
   }
-  if (report === undefined) parts.push(element("p", { class: "wrong" }, refusalInWords(reports.outcomeOf(name), series)));
+  if (report === undefined) parts.push(element("p", { class: "wrong" }, refusalInWords(reports.outcomeOf(name))));
   else parts.push(element("p", {}, standsInWords(report)));
   const terms = termsInWords(state);
   if (terms !== "") parts.push(element("p", {}, terms));
@@ -89,11 +84,6 @@ export class Missing {
 
   leave() {
     this.#reports.leave();
-  }
-
-  /** The title of the view, for the window. */
-  title() {
-    return say("missing.view");
   }
 
   /** Says something in the live region, unless it is what stands there. */

@@ -2,7 +2,8 @@
 // of the last file, or a reason to stop and look. What cannot be seen is never complete.
 
 import { urlBeside } from "../text/address.js";
-import { formatter, say, sayCount } from "../text/wording.js";
+import { momentInWords } from "../text/days.js";
+import { inDigits, say, sayCount } from "../text/wording.js";
 import { allOf, rangesInShort } from "./request.js";
 
 // The inbox writes its file at each run; an older one says nothing of now.
@@ -40,14 +41,6 @@ export async function loadState(name, signal) {
   }
 }
 
-/** A time in seconds since 1970, in words: today's by the clock, another one by its day. */
-function momentInWords(seconds) {
-  const time = new Date(seconds * 1000);
-  const dayOf = formatter(Intl.DateTimeFormat, { dateStyle: "long" });
-  if (dayOf.format(time) !== dayOf.format(new Date())) return dayOf.format(time);
-  return say("missing.todayAt", { time: formatter(Intl.DateTimeFormat, { timeStyle: "short" }).format(time) });
-}
-
 /**
  * Why somebody should stop and look at a series, each reason in words: by its `state` of the inbox and the `report` of
  * the desk, either of which may be `undefined`, at a time in seconds.
@@ -61,7 +54,7 @@ export function reasonsOf(state, report, seconds) {
   if (missing.length > 0) {
     found.push(sayCount("missing.reasons.missing", allOf(missing), { ranges: rangesInShort(missing) }));
   }
-  if (report?.held > 0) found.push(sayCount("missing.reasons.held", report.held));
+  if (report?.held > 0) found.push(say("missing.reasons.held", { count: inDigits(report.held) }));
   if (!isSeen) return found;
   for (const key of ["quarantined", "refused", "waiting"]) {
     if (state[key] > 0) found.push(sayCount(`missing.reasons.${key}`, state[key]));
@@ -88,5 +81,5 @@ export function typesIn(state, currency) {
 
 /** Of how many articles the prices are by an older table of terms, in words; empty where of none. */
 export function termsInWords(state) {
-  return state?.older_terms > 0 ? sayCount("missing.olderTerms", state.older_terms) : "";
+  return state?.older_terms > 0 ? say("missing.olderTerms", { count: inDigits(state.older_terms) }) : "";
 }

@@ -11,7 +11,7 @@ export const askedOf = ({ isbn, copies }) => `${isbn} ${copies} ${today()}`;
 /** By which it is kept that a row was answered otherwise before. */
 export const changeOf = ({ key, copies }) => `${key} ${copies}`;
 
-const isPriced = ({ amount }) => amount !== null;
+export const isPriced = ({ amount }) => amount !== null;
 
 /** The offer that the rules take, or, of a row whose wholesaler a hand chose, that one's: `offer`, or a `need`. */
 function offerOf({ series }, { choice, offers }) {
@@ -69,11 +69,6 @@ export function unpricedOf({ offers }) {
   return [...new Set(offers.map(({ series }) => series))].filter((series) => !priced.includes(series));
 }
 
-/** The series of which a hand may choose one: those that have a price. */
-export function priced({ offers }) {
-  return offers.filter(isPriced);
-}
-
 function summed(rows) {
   return {
     books: rows.length,
@@ -88,6 +83,3 @@ export function sumsOf(rows) {
   const ofSeries = (name) => summed(rows.filter(({ state }) => state.offer.series === name));
   return { bySeries: names.map((series) => ({ series, ...ofSeries(series) })), all: summed(rows) };
 }
-
-/** Whether a sum is one from which on the carriage is free. */
-export const isFree = (amount, freeFrom) => compareAmounts(amount, freeFrom) >= 0;

@@ -4,38 +4,25 @@
 import { element, found } from "../text/elements.js";
 import { shortened } from "../text/said.js";
 import { say, sayCount } from "../text/wording.js";
-import { linesOf, markedOf, struck, withOneCopy } from "./text.js";
-import { isLikeIsbn } from "./line.js";
+import { keep, kept } from "../text/kept.js";
+import { linesOf, markedOf, struck, withCopies, withOneCopy } from "./text.js";
+import { areCopies, isLikeIsbn } from "./line.js";
 
 const KEY = "onixdesk-list";
 
-/** The text that this tab has kept, where the browser keeps any. */
-function kept() {
-  try {
-    return sessionStorage.getItem(KEY) ?? "";
-  } catch {
-    return "";
-  }
-}
-
-function keep(text) {
-  try {
-    sessionStorage.setItem(KEY, text);
-  } catch {
-    // The list then ends with the tab.
-  }
-}
-
 const isEmpty = ({ text }) => !isLikeIsbn(text);
 
-/** Whether a key undoes, and no other field takes it. */
+/** Whether a key undoes, and no other field has anything to undo. */
 function isUndo({ key, ctrlKey, metaKey, shiftKey, target }) {
-  const isFree = target.id === "lines" || !target.matches("input, textarea");
+  const isFree = target.id === "lines" || !target.matches("input, textarea") || target.value === "";
   return isFree && (ctrlKey || metaKey) && !shiftKey && key.toLowerCase() === "z";
 }
 
 /** How many marked lines are shown with a button each; there is a button for all the others. */
 const MOST_SHOWN = 50;
+
+// How much of each, so that what a mail says of copies is seen.
+const MOST_SIGNS = 80;
 
 export class Editor {
   #field = found("lines");
@@ -47,11 +34,11 @@ export class Editor {
   /** `changed` hears of each change. */
   constructor(changed) {
     this.#changed = changed;
-    this.#field.value = kept();
+    this.#field.value = kept(KEY);
     this.#field.addEventListener("input", () => this.#read());
     this.#field.addEventListener("scroll", () => { found("lines-marks").scrollTop = this.#field.scrollTop; });
-    found("one-copy").addEventListener("click", () => this.change(withOneCopy(this.text)));
-    found("strike-out").addEventListener("click", () => this.#strike(markedOf(this.#lines).filter(isEmpty)));
+    found("one-copy").addEventListener("click", () => this.#mend(withOneCopy(this.text)));
+    found("strike-out").addEventListener("click", () => this.#strike(this.marked.filter(isEmpty)));
     this.#draw();
   }
 
@@ -72,14 +59,6 @@ export class Editor {
   change(after) {
     this.#steps = [...this.#steps.slice(-50), { before: this.text, after }];
     this.#put(after);
-  }
-
-  /** Puts a text where the caret is. */
-  insert(text) {
-    const { selectionStart: start, selectionEnd: end } = this.#field;
-    this.change(this.text.slice(0, start) + text + this.text.slice(end));
-    this.#field.focus();
-    this.#field.setSelectionRange(start + text.length, start + text.length);
   }
 
   /** Brings back what the page changed last, where nobody has written anything since. */
@@ -109,13 +88,26 @@ export class Editor {
   }
 
   #read() {
-    keep(this.text);
+    keep(KEY, this.text);
     this.#draw();
     this.#changed();
   }
 
+  /** Changes marked lines by a control at them. */
+  #mend(text, number) {
+    this.change(text);
+    this.focusMarked(number);
+  }
+
+  /** Leads to the marked line of a number or the next one: to its copies, or a button; without any, to the orders. */
+  focusMarked(number = 0) {
+    const at = this.marked.findIndex((line) => line.number >= number);
+    const item = found("marked-lines").children[Math.max(at, 0)];
+    (item?.querySelector("input") ?? item?.querySelector("button") ?? found("get-orders")).focus();
+  }
+
   #strike(lines) {
-    this.change(struck(this.text, lines.map(({ number }) => number)));
+    this.#mend(struck(this.text, lines.map(({ number }) => number)), lines[0].number);
   }
 
   #draw() {
@@ -148,11 +140,22 @@ export class Editor {
     const go = element("button", { type: "button", class: "link go" }, words);
     go.addEventListener("click", () => this.goTo(line));
     const strike = element("button", { type: "button", class: "small" }, say("order.strikeOne"));
-    strike.setAttribute("aria-label", say("order.strikeOneOf", { number: line.number }));
-    strike.addEventListener("click", () => {
-      this.#strike([line]);
-      (document.querySelector("#marked-lines button.go") ?? this.#field).focus();
+    strike.setAttribute("aria-label", `${say("order.strikeOne")}: ${words}`);
+    strike.addEventListener("click", () => this.#strike([line]));
+    const quoted = element("q", {}, shortened(line.text.trim(), MOST_SIGNS));
+    return element("li", {}, go, " ", quoted, " ", ...this.#copiesField(line), strike);
+  }
+
+  /** A field for the copies of a marked line with one ISBN, by which it becomes a good one. */
+  #copiesField({ isbn, number }) {
+    if (isbn === undefined) return [];
+    const field = element("input", { inputmode: "numeric", autocomplete: "off", placeholder: say("order.columns.copies") });
+    field.setAttribute("aria-label", say("order.copiesOfLine", { number }));
+    field.addEventListener("change", () => {
+      const copies = field.value.trim();
+      if (areCopies(copies)) this.#mend(withCopies(this.text, number, copies), number);
+      else field.setAttribute("aria-invalid", "true");
     });
-    return element("li", {}, go, " ", element("q", {}, shortened(line.text.trim())), " ", strike);
+    return [field, " "];
   }
 }

@@ -18,8 +18,8 @@ function textOf(bytes) {
 
 /** The `text` of a file, with a line break as a text field has it, or what is `wrong` with it. */
 export async function textOfFile(file) {
-  if (file.size > MOST_BYTES) return { wrong: say("order.wrong.tooLarge", { name: file.name }) };
+  if (file.size > MOST_BYTES) return { wrong: say("order.tooLarge", { name: file.name }) };
   const text = textOf(new Uint8Array(await file.arrayBuffer()));
-  if (text === undefined) return { wrong: say("order.wrong.noText", { name: file.name }) };
+  if (text === undefined) return { wrong: say("order.noText", { name: file.name }) };
   return { text: text.replace(/\r\n?/g, "\n") };
 }

@@ -5,16 +5,25 @@ import { ANYWHERE, isbnOf, isbnsIn, plain, WRITTEN } from "../text/isbn.js";
 /** The most copies of a line. */
 export const MOST_COPIES = 9999;
 
-const LABEL = "(?:isbn(?:-1[03])?:? *)?";
+const LABEL = "isbn(?:-1[03])?:? *";
 const COPIES = "[1-9]\\d{0,3}";
 
-const isbnAs = (name) => `${LABEL}(?<${name}>${WRITTEN})`;
+const isbnAs = (name) => `(?:${LABEL})?(?<${name}>${WRITTEN})`;
 const BEHIND = `${isbnAs("isbn")} +(?:x?(?<copies>${COPIES})|(?<before>${COPIES})[x×])`;
 const GOOD = new RegExp(`^ *(?:${BEHIND}|(?<first>${COPIES})[x×] +${isbnAs("behind")}) *$`, "di");
 const LONE = new RegExp(`^ *${isbnAs("isbn")} *$`, "i");
 // What may be meant as an ISBN: whole or mistyped, too long or too short, or shortened by a spreadsheet.
 const LIKE = /(?:\d[ -]?){8,}[\dX]|97[89][ -]?[\dA-Z-]{5,}|\d[.,]\d+E\+?\d+/i;
 const SHORTENED = /\d[.,]\d+E\+?\d+/i;
+// The number of a telephone, by what stands before it.
+const TELEPHONE = /(?:(?<!\w)\+|\b(?:(?:tele)?(?:phone|fax|fon)|tel|mob(?:ile?)?)\b[.: ]*)(?:(?!97[89])[\d ()/-])+/gi;
+// Beside an ISBN one whole number, and signs that are none of a sum or an amount.
+const OTHER_FORM = /^(?:[^\p{L}\p{N}]*[^\p{L}\p{N}+$€£-])?(?:x *)?[1-9]\d{0,3}(?: *x)?[^\p{L}\p{N}]*$/iu;
+
+/** Whether a text is a number of copies. */
+export function areCopies(text) {
+  return new RegExp(`^${COPIES}$`).test(text);
+}
 
 /** The ISBN that a text is, and nothing else. */
 export function isbnIn(text) {
@@ -24,21 +33,29 @@ export function isbnIn(text) {
 
 /** Whether a text has something like an ISBN in it, whole or broken. */
 export function isLikeIsbn(text) {
-  return LIKE.test(plain(text));
+  return isbnsIn(text).length > 0 || LIKE.test(plain(text).replace(TELEPHONE, " "));
 }
 
-/** Why what stands before `@` and `#` is no ISBN and copies. */
-function reasonOf(body) {
-  if (isbnIn(body) !== undefined) return "lone";
-  const isbns = isbnsIn(body);
-  if (isbns.length > 1) return "two";
-  if (isbns.length === 1) {
-    const beside = body.replace(ANYWHERE, (written) => (isbnOf(written) === undefined ? written : " "));
-    if (LIKE.test(beside)) return "two";
-    return /\p{L}/u.test(beside) ? "more" : "copies";
+/** Why a text with one ISBN in it is not that and copies. */
+function reasonBeside(body) {
+  const without = body.replace(new RegExp(LABEL, "gi"), " ");
+  const beside = without.replace(ANYWHERE, (written) => (isbnOf(written) === undefined ? written : " "));
+  if (LIKE.test(beside)) return "two";
+  if (OTHER_FORM.test(beside)) return "form";
+  return /\p{L}/u.test(beside) ? "more" : "copies";
+}
+
+/** Why what stands before `@` and `#` is no ISBN and copies, as a `reason`, with its `isbn` where it has one alone. */
+function faultOf(body) {
+  const lone = isbnIn(body);
+  if (lone !== undefined) return { reason: "lone", isbn: lone };
+  const [isbn, ...others] = isbnsIn(body);
+  if (isbn !== undefined) {
+    const reason = others.length > 0 ? "two" : reasonBeside(body);
+    return reason === "two" ? { reason } : { reason, isbn };
   }
-  if (SHORTENED.test(body)) return "shortened";
-  return isLikeIsbn(body) ? "broken" : "none";
+  if (SHORTENED.test(body)) return { reason: "shortened" };
+  return { reason: isLikeIsbn(body) ? "broken" : "none" };
 }
 
 /** The number of copies of a body that is good, with the place where it stands. */
@@ -48,12 +65,10 @@ function copiesIn({ groups, indices }) {
   return { copies: Number(groups[name]), start, end };
 }
 
-const marked = (reason) => ({ kind: "marked", reason });
-
 /**
  * What a line is, by its `kind`: `blank`, `struck` (behind `#`), `good`, with its `isbn` of thirteen digits, `copies`,
- * `series` and `note`, and from where to where its number stands; or `marked`, with the `reason`. `bodyEnd` is where
- * `@` or `#` begins.
+ * `series` and `note`, and from where to where its number stands; or `marked`, with the `reason`, and the `isbn` where
+ * there is one alone. `bodyEnd` is where `@` or `#` begins.
  */
 export function readLine(text) {
   const signs = plain(text);
@@ -64,10 +79,10 @@ export function readLine(text) {
   const at = before.indexOf("@");
   const body = at < 0 ? before : before.slice(0, at);
   const bodyEnd = body.trimEnd().length;
-  if (at >= 0 && !/^[a-z0-9-]{1,32} *$/.test(before.slice(at + 1))) return { ...marked("series"), bodyEnd };
+  if (at >= 0 && !/^[a-z0-9-]{1,32} *$/.test(before.slice(at + 1))) return { kind: "marked", reason: "series", bodyEnd };
   const match = GOOD.exec(body);
   const isbn = match === null ? undefined : isbnOf(match.groups.isbn ?? match.groups.behind);
-  if (isbn === undefined) return { ...marked(reasonOf(body)), bodyEnd };
+  if (isbn === undefined) return { kind: "marked", ...faultOf(body), bodyEnd };
   const series = at < 0 ? undefined : before.slice(at + 1).trim();
   return { kind: "good", isbn, ...copiesIn(match), series, note, bodyEnd };
 }

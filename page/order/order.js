@@ -10,7 +10,7 @@ import { messagesNotes } from "../missing/reports.js";
 import { wholesalerOf } from "../desk/settings.js";
 import { inDigits, say, sayCount } from "../text/wording.js";
 import { askedOf, changeOf, CONFIRMABLE, confirmKey, stateOf, sumsOf } from "./answers.js";
-import { eachOf, OrderAsking } from "./asking.js";
+import { askAgain, askRow, eachOf } from "../desk/asking.js";
 import { isTable } from "./csv-table.js";
 import { isFormula } from "./csv-form.js";
 import { Editor } from "./editor.js";
@@ -66,7 +66,7 @@ export class Order {
     this.#editor = new Editor(() => this.#changed());
     this.#form = new TableForm({
       take: ({ lines }) => this.#take(lines),
-      asText: (text) => this.#editor.insert(text),
+      asText: (text) => this.#take(text.split("\n")),
     });
     this.#rows = new Rows({
       settings,
@@ -120,11 +120,6 @@ export class Order {
     this.#watch.up();
   }
 
-  /** The title of the view, for the window. */
-  title() {
-    return say("order.view");
-  }
-
   /** What a scanner has read is a line of its own, or one copy more. */
   scanned(code) {
     this.#editor.change(withMore(this.#editor.text, code));
@@ -156,8 +151,7 @@ export class Order {
   /** Lines behind those that are there. */
   #take(lines) {
     this.#editor.change(withLines(this.#editor.text, lines));
-    const [marked] = this.#editor.marked;
-    if (marked !== undefined) this.#editor.goTo(marked);
+    this.#editor.focusMarked();
   }
 
   #changed() {
@@ -219,7 +213,7 @@ export class Order {
     found("show-needs").setAttribute("aria-pressed", String(this.#isFiltered));
     found("show-needs").disabled = toCheck.length === 0;
     this.#drawDoubts(all);
-    this.#drawBar(all, toCheck.length);
+    this.#drawBar(all, toCheck.filter(({ state }) => state.offer !== undefined).length);
   }
 
   #filter(isFiltered) {
@@ -244,15 +238,17 @@ export class Order {
     found("list-doubts").replaceChildren(...notes);
   }
 
-  /** The bar that stays: how many books, what they cost, how many to check, and how far the list is looked up. */
+  /** The bar that stays: how many books, their sum, how many to check, or in no order, and how far the list is looked up. */
   #drawBar(all, toCheck) {
     const ordered = all.filter(({ state }) => state.offer !== undefined);
     const waiting = all.filter(({ answer }) => answer === undefined).length;
+    const rest = all.length - ordered.length - waiting;
     const { books, amount } = sumsOf(ordered).all;
     const parts = [
       sayCount("order.books", books),
       ...(books > 0 ? [money(amount, this.#settings.currency)] : []),
       ...(toCheck > 0 ? [sayCount("order.checkBar", toCheck)] : []),
+      ...(rest > 0 ? [say("order.restBar", { count: inDigits(rest) })] : []),
       ...(this.#editor.marked.length > 0 ? [sayCount("order.markedBar", this.#editor.marked.length)] : []),
       ...(waiting > 0 ? [sayCount("order.waitingBar", waiting)] : []),
     ];
@@ -277,7 +273,7 @@ export class Order {
     const { signal } = this.#asking;
     this.#watch.up();
     try {
-      await act(new OrderAsking(this.#settings, signal, this.#watch), signal);
+      await act({ settings: this.#settings, signal, watch: this.#watch });
       return true;
     } catch (fault) {
       if (!isAbandoned(fault)) throw fault;
@@ -292,13 +288,13 @@ export class Order {
       tell(say("order.tooMany", { most: inDigits(MOST_ROWS) }));
       return undefined;
     }
-    return this.#ask(async (asking, signal) => {
+    return this.#ask(async (desk) => {
       const open = rows.filter((row) => !this.#answers.has(askedOf(row)));
       await eachOf(open, async (row) => {
-        this.#answers.set(askedOf(row), await asking.answerOf(row));
+        this.#answers.set(askedOf(row), await askRow(row, desk));
         this.#drawSoon();
       });
-      await this.#askTitles(rows, signal);
+      await this.#askTitles(rows, desk.signal);
     });
   }
 
@@ -342,32 +338,37 @@ export class Order {
     const rows = all.filter(({ state }) => state.offer !== undefined);
     if (Date.now() - this.#checkedAt < FRESH) return rows;
     const { text } = this.#editor;
-    const changed = await this.#changedOf(rows);
-    if (changed === undefined || text !== this.#editor.text) return [];
-    if (changed.length > 0) {
-      hideOrders();
-      this.#filter(true);
-      tell(sayCount("order.changed", changed.length));
-      return [];
+    const { changed, refusal, isDone } = await this.#askAgain(rows);
+    if (!isDone || text !== this.#editor.text) return [];
+    if (changed === 0 && refusal === undefined) {
+      this.#checkedAt = Date.now();
+      return rows;
     }
-    this.#checkedAt = Date.now();
-    return rows;
+    hideOrders();
+    this.#filter(changed > 0);
+    tell(refusal === undefined ? say("order.changed", { count: changed, all: rows.length }) : say("order.unchecked", { words: refusal.words }));
+    return [];
   }
 
-  /** The rows that the desk answers otherwise now, which it is asked for anew; `undefined` where that was left. */
-  async #changedOf(rows) {
-    const changed = [];
-    let done = 0;
-    const isDone = await this.#ask((asking) => eachOf(rows, async ({ row, state }) => {
-      if (!(await asking.isAsBefore(row, state))) {
-        this.#answers.set(askedOf(row), await asking.answerOf(row));
+  /**
+   * Asks for rows once more: how many the desk answers otherwise now, which it is asked for anew, a `refusal` that came in
+   * place of an answer, and whether all was asked.
+   */
+  async #askAgain(rows) {
+    let [changed, done] = [0, 0];
+    let refusal;
+    const isDone = await this.#ask((desk) => eachOf(rows, async ({ row, state }) => {
+      const now = await askAgain(row, state, desk);
+      refusal ??= now.refusal;
+      if (now.isSame === false) {
+        this.#answers.set(askedOf(row), await askRow(row, desk));
         this.#changes.set(changeOf(row), state.offer);
-        changed.push(row);
+        changed += 1;
       }
       done += 1;
       tell(say("order.checking", { done, all: rows.length }));
     }));
-    return isDone ? changed : undefined;
+    return { changed, refusal, isDone };
   }
 
   /** Does what saves, unless something is being saved already. */
@@ -411,7 +412,7 @@ export class Order {
       if (rows.length === 0) return;
       const words = await this.#letGo(way, series, rows, { settings: this.#settings, order });
       this.#showRest();
-      tellSaved(series, words);
+      tellSaved(series, rows, words);
     });
   }
 

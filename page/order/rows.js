@@ -9,7 +9,7 @@ import { titleNodes, titlesOfOffers } from "../desk/titles.js";
 import { availabilityDot, availabilityOf } from "../desk/offers.js";
 import { wholesalerOf } from "../desk/settings.js";
 import { inDigits, say, sayCount } from "../text/wording.js";
-import { changeOf, CONFIRMABLE, priced, savingOf, unpricedOf } from "./answers.js";
+import { changeOf, CONFIRMABLE, isPriced, savingOf, unpricedOf } from "./answers.js";
 
 const COLUMNS = ["title", "copies", "wholesaler", "availability", "price", "sum", "note"];
 const AMOUNTS = ["copies", "price", "sum"];
@@ -19,7 +19,6 @@ const columns = () => COLUMNS.map((name) => ({
   name: say(`order.columns.${name}`),
   className: AMOUNTS.includes(name) ? `${name} amount` : CLASSES[name] ?? name,
 }));
-
 
 /** The title that a feed said, or only the ISBN, with a link to the article. */
 function titleCell(row, answer, { settings, titles }) {
@@ -50,7 +49,7 @@ function wholesalerCell(row, answer, state, context) {
   const { settings, choose } = context;
   if (answer === undefined) return ["…"];
   if (answer.refusal !== undefined) return [];
-  const offers = priced(answer);
+  const offers = answer.offers.filter(isPriced);
   if (offers.length === 0) return [];
   const names = [...new Set(offers.map(({ series }) => series))];
   const all = row.series === undefined || names.includes(row.series) ? names : [row.series, ...names];
@@ -64,7 +63,7 @@ function wholesalerCell(row, answer, state, context) {
     element("option", { value: "" }, ofRules), ...options);
   field.value = row.series ?? "";
   field.addEventListener("change", () => choose(row, field.value === "" ? undefined : field.value));
-  return [field, element("span", { class: "on-paper" }, state.offer ? wholesalerOf(settings, state.offer.series) : "")];
+  return [field];
 }
 
 /** That nobody offers a book, or, where messages of a wholesaler have not come, that it may. */
@@ -80,12 +79,13 @@ function needInWords(row, answer, { need, offer }, context) {
   const { currency, type } = settings;
   const wholesaler = row.series === undefined ? "" : wholesalerOf(settings, row.series);
   if (need === "far") return farInWords(farOf(offer, { ...answer, type }), offer, currency);
-  if (need === "refused") {
-    const { kind, words, reason } = answer.refusal;
-    return kind === "refused" ? say("wrong.refused", { reason }) : words;
+  if (need === "refused") return answer.refusal.words;
+  if (need === "noOffers") return noOffersInWords(context);
+  const names = settings.series.map(({ name }) => name);
+  if (need === "handLacks" && !names.includes(row.series)) {
+    return say("order.needs.handUnknown", { name: row.series, names: names.join(", ") });
   }
   const before = changes.get(changeOf(row));
-  if (need === "noOffers") return noOffersInWords(context);
   return say(`order.needs.${need}`, {
     wholesaler: need === "changed" ? wholesalerOf(settings, before.series) : wholesaler,
     price: need === "changed" ? money(before.amount, currency) : "",
@@ -98,7 +98,7 @@ function needInWords(row, answer, { need, offer }, context) {
 /** A button at a row, by the path of its words. */
 function rowButton(path, className, { isbn }, act) {
   const button = element("button", { type: "button", class: `small ${className}` }, say(path));
-  button.setAttribute("aria-label", say(`${path}Of`, { isbn }));
+  button.setAttribute("aria-label", `${say(path)}: ${isbn}`);
   button.addEventListener("click", act);
   return button;
 }

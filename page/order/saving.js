@@ -1,7 +1,7 @@
 // How an order leaves the page: as a file, on the clipboard, on paper. Nothing of it is sent anywhere.
 
 import { money, times } from "../text/amounts.js";
-import { inWords, today } from "../text/days.js";
+import { inWords, stamp, today } from "../text/days.js";
 import { element, found, table } from "../text/elements.js";
 import { undirected } from "../text/said.js";
 import { wholesalerOf } from "../desk/settings.js";
@@ -42,9 +42,9 @@ export function fileText(rows, series, context) {
   return textIn(form, heads, rows.map((each) => cellsOf(each, context)));
 }
 
-/** Hands the browser the file of a series; gives its name. */
+/** Hands the browser the file of a series; gives its name, which no other order has. */
 export function download(rows, series, context) {
-  const name = say("order.fileName", { day: today(), series });
+  const name = say("order.fileName", { time: stamp(), series });
   const url = URL.createObjectURL(new Blob([fileText(rows, series, context)], { type: "text/csv" }));
   const link = element("a", { href: url, download: name });
   document.body.append(link);

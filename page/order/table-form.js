@@ -2,16 +2,20 @@
 // the copies. Nothing of it is filled in.
 
 import { element, found } from "../text/elements.js";
+import { shortened } from "../text/said.js";
 import { inDigits, say, sayCount } from "../text/wording.js";
-import { parse, separatorIn, SEPARATORS, taken, widthOf } from "./csv-table.js";
+import { parse, separatorIn, taken, widthOf } from "./csv-table.js";
 import { goodOf, linesOf, markedOf } from "./text.js";
 
 // As many rows as tell which column is which.
 const SHOWN = 10;
 
-/** The columns of a table in the order of their numbers, behind an empty choice. */
-function fillColumns(field, width) {
-  const options = Array.from({ length: width }, (_, at) => element("option", { value: at }, inDigits(at + 1)));
+/** The columns of rows in the order of their numbers, with the first cells of each, behind an empty choice. */
+function fillColumns(field, rows, width) {
+  const options = Array.from({ length: width }, (_, at) => {
+    const cells = rows.slice(0, 2).map((row) => shortened(row.cells[at])).filter((cell) => cell !== "");
+    return element("option", { value: at }, `${inDigits(at + 1)}: ${cells.join(", ")}`);
+  });
   field.replaceChildren(element("option", { value: "" }, ""), ...options);
   field.value = "";
 }
@@ -26,9 +30,6 @@ export class TableForm {
   constructor({ take, asText }) {
     this.#take = take;
     this.#asText = asText;
-    const names = { "\t": "tab", ";": "semicolon", ",": "comma" };
-    const options = SEPARATORS.map((sign) => element("option", { value: sign }, say(`order.table.${names[sign]}`)));
-    found("separator").replaceChildren(...options);
     found("separator").addEventListener("change", () => this.#show(parse(this.#text, found("separator").value)));
     for (const id of ["isbn-column", "copies-column"]) found(id).addEventListener("change", () => this.#count());
     found("table-form").addEventListener("submit", (event) => {
@@ -64,8 +65,11 @@ export class TableForm {
   #show(rows) {
     this.#rows = rows;
     const width = widthOf(rows);
-    for (const id of ["isbn-column", "copies-column"]) fillColumns(found(id), width);
-    const shown = rows.filter(({ cells }) => cells.length === width).slice(0, SHOWN);
+    const whole = rows.filter(({ cells }) => cells.length === width);
+    const shown = whole.slice(0, SHOWN);
+    for (const id of ["isbn-column", "copies-column"]) fillColumns(found(id), shown, width);
+    const others = rows.length - whole.length;
+    found("table-others").textContent = others > 0 ? say("order.table.others", { count: inDigits(others) }) : "";
     const heads = Array.from({ length: width }, (_, at) => {
       const box = element("input", { type: "checkbox", value: at, class: "note-column" });
       return element("th", { scope: "col" }, inDigits(at + 1), element("label", {}, box, ` ${say("order.table.note")}`));
@@ -92,17 +96,19 @@ export class TableForm {
 
   #count() {
     const result = this.#taken();
+    const isTwice = found("isbn-column").value !== "" && found("isbn-column").value === found("copies-column").value;
     found("take-table").disabled = result === undefined;
-    found("table-count").textContent = result === undefined ? say("order.table.choose") : this.#inWords(result);
+    found("table-count").textContent = result === undefined
+      ? say(isTwice ? "order.table.twice" : "order.table.choose")
+      : this.#inWords(result);
   }
 
   #inWords({ lines, zeros, rest }) {
     const all = linesOf(lines.join("\n"));
     const copies = goodOf(all).map((line) => line.copies);
     const sum = copies.reduce((total, count) => total + count, 0);
-    const parts = [sayCount("order.table.lines", copies.length, {
-      copies: sayCount("article.copies", sum), most: inDigits(Math.max(0, ...copies)),
-    })];
+    const [count, most] = [copies.length, Math.max(0, ...copies)].map(inDigits);
+    const parts = [say("order.table.lines", { count, most, copies: inDigits(sum) })];
     const marked = markedOf(all).length;
     if (marked > 0) parts.push(sayCount("order.table.marked", marked));
     if (zeros > 0) parts.push(sayCount("order.table.zeros", zeros));

@@ -59,11 +59,23 @@ export function struck(text, numbers) {
   return changed(text, ({ number, text: old }) => (numbers.includes(number) ? `# ${old}` : old));
 }
 
+/** A marked line of one ISBN as a good one, of so many copies; the words beside that ISBN stay behind `#`. */
+function goodLine({ text, bodyEnd, reason, isbn }, copies) {
+  const [body, rest] = [text.slice(0, bodyEnd), text.slice(bodyEnd)];
+  if (reason === "lone") return `${body} ${copies}${rest}`;
+  const words = reason === "more" ? body.trim() : "";
+  const sign = words === "" || rest.includes("#") ? "" : "#";
+  return [isbn, copies, rest.trim(), sign, words].filter((part) => part !== "").join(" ");
+}
+
+/** A text whose marked line of that number, which has one ISBN, is of so many copies. */
+export function withCopies(text, number, copies) {
+  return changed(text, (line) => (line.number === number ? goodLine(line, copies) : line.text));
+}
+
 /** A text whose lines of an ISBN alone are of one copy. */
 export function withOneCopy(text) {
-  return changed(text, ({ reason, text: old, bodyEnd }) => (
-    reason === "lone" ? `${old.slice(0, bodyEnd)} 1${old.slice(bodyEnd)}` : old
-  ));
+  return changed(text, (line) => (line.reason === "lone" ? goodLine(line, 1) : line.text));
 }
 
 /** A text in which the wholesaler of a row is that `series`, or, with `undefined`, the one that the shop's rules take. */

@@ -1,13 +1,12 @@
 // Days of the calendar, written YYYY-MM-DD, which is also how a field for a day has them.
 
-import { formatter } from "./wording.js";
+import { formatter, say } from "./wording.js";
 
 const FIRST = "0001-01-01";
 const LAST = "9999-12-31";
 const MILLISECONDS = 86_400_000;
 
 const LONG = { day: "numeric", month: "long", year: "numeric" };
-const FULL = { weekday: "short", ...LONG };
 const SHORT = { day: "numeric", month: "short", year: "numeric" };
 
 function instant(day) {
@@ -40,6 +39,11 @@ export function today() {
   return [String(now.getFullYear()).padStart(4, "0"), ...parts].join("-");
 }
 
+/** Now, by the same, for the name of a file, such as 2026-11-30-184205. */
+export function stamp() {
+  return `${today()}-${new Date().toTimeString().slice(0, 8).replaceAll(":", "")}`;
+}
+
 /** A day as the desk writes it, YYYYMMDD. */
 export function toDesk(day) {
   return day.replaceAll("-", "");
@@ -55,11 +59,6 @@ export function inWords(day) {
   return formatted(day, LONG);
 }
 
-/** A day in words with its day of the week, such as Thu 10 April 2025. */
-export function inFullWords(day) {
-  return formatted(day, FULL);
-}
-
 /** A day in short words, such as 10 Apr 2025. */
 export function dayInShort(day) {
   return formatted(day, SHORT);
@@ -68,6 +67,14 @@ export function dayInShort(day) {
 /** How many days a range has. */
 export function lengthOf({ from, until }) {
   return numberOf(until) - numberOf(from) + 1;
+}
+
+/** A time in seconds since 1970, in words: today's by the clock, another one by its day. */
+export function momentInWords(seconds) {
+  const time = new Date(seconds * 1000);
+  const dayOf = formatter(Intl.DateTimeFormat, { dateStyle: "long" });
+  if (dayOf.format(time) !== dayOf.format(new Date())) return dayOf.format(time);
+  return say("missing.todayAt", { time: formatter(Intl.DateTimeFormat, { timeStyle: "short" }).format(time) });
 }
 
 /** The time of a clock, with its seconds. */

@@ -52,22 +52,6 @@ function remembered(field) {
 }
 
 /**
- * Where bar codes go, by the `view` that is shown: in that of an order list each is a line, in that of an article it is
- * asked for, and any other one leads there (`open`). `field` is where ISBNs are typed.
- */
-export function placeOf(view, { field, article, order, open }) {
-  return {
-    field,
-    begin: () => view() === "article" && article.beginIsbn(),
-    scanned: (code) => {
-      if (view() === "article") article.scanned(code);
-      else if (view() === "order") order.scanned(code);
-      else open(code);
-    },
-  };
-}
-
-/**
  * Listens to the keys of the page for bar codes. `place` has `field`, where ISBNs are typed, `begin`, which is called at a
  * digit that no field waits for, and `scanned`, which gets the digits of a bar code.
  */

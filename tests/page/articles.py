@@ -111,7 +111,7 @@ def not_chosen(site: PlainSite, browser: Browser) -> Iterator[Outcome]:
     sentence = "No offer of this book has come, but something of Beta & Sons, Gamma is missing or cannot be seen"
     yield Outcome("nobody, as far as it can be seen", browser.text("#article-status").splitlines()[0], sentence)
     notes = [
-        "Beta & Sons: 2 messages are missing: 3 to 4; 1 later message has come, and waits for what is missing. "
+        "Beta & Sons: 2 messages are missing: 3 to 4; later messages that wait for what is missing: 1. "
         "Its prices may be old. Missing messages",
         "Gamma: 1 file is in quarantine. Its prices may be old. Missing messages",
     ]

@@ -1,7 +1,6 @@
 """A headless Chromium that finds the site's name at this machine, and no other name at all."""
 
 import contextlib
-import json
 import os
 import re
 import time
@@ -46,10 +45,7 @@ def load() -> str:
     return f"on a machine with {os.getloadavg()[0] / (os.cpu_count() or 1):.1f} processes a core"
 
 
-def options(is_recorded: bool, key: str = "", is_whole: bool = True) -> Options:
-    """`key` is the digest of a certificate's key, that alone is trusted then; of a site that is not trusted a browser
-    keeps no file."""
-    trust = f"--ignore-certificate-errors-spki-list={key}" if key else "--ignore-certificate-errors"
+def options(is_whole: bool) -> Options:
     chosen = Options()
     chosen.binary_location = CHROMIUM if is_whole else SHELL
     names = f"MAP {NAME} {HOST}, MAP {STRANGER} {HOST}, MAP * ~NOTFOUND, EXCLUDE {HOST}"
@@ -59,7 +55,7 @@ def options(is_recorded: bool, key: str = "", is_whole: bool = True) -> Options:
         "--no-sandbox",
         "--disable-dev-shm-usage",
         "--disable-gpu",
-        trust,
+        "--ignore-certificate-errors",
         "--disable-background-networking",
         # On a machine with much to do a page that is taken for one in the background gets no time for minutes.
         "--disable-renderer-backgrounding",
@@ -70,22 +66,17 @@ def options(is_recorded: bool, key: str = "", is_whole: bool = True) -> Options:
         f"--host-resolver-rules={names}",
     ]:
         chosen.add_argument(word)
-    record = {"performance": "ALL"} if is_recorded else {}
-    chosen.set_capability("goog:loggingPrefs", {"browser": "ALL", **record})
+    chosen.set_capability("goog:loggingPrefs", {"browser": "ALL"})
     return chosen
 
 
 class Browser:
-    """`is_recorded` keeps what pages ask for, which costs the browser much; `is_trusting` takes the site for one
-    whose files may be kept; `is_whole` is Chromium with all that stands around a page."""
+    """`is_whole` is Chromium with all that stands around a page."""
 
-    def __init__(
-        self, site: Site | PlainSite, is_recorded: bool = False, is_trusting: bool = False, is_whole: bool = True
-    ) -> None:
+    def __init__(self, site: Site | PlainSite, is_whole: bool = True) -> None:
         self.site = site
         self.opened = 0
-        key = site.key_digest() if is_trusting and isinstance(site, Site) else ""
-        self.driver = webdriver.Chrome(options=options(is_recorded, key, is_whole), service=Service(DRIVER))
+        self.driver = webdriver.Chrome(options=options(is_whole), service=Service(DRIVER))
         self.size(*WIDE)
         # The browser asks for the name and the password once; from then on it knows them. There is nothing to be kept.
         self.driver.get(site.address("/nothing", user=f"{USER}:{PASSWORD}@"))
@@ -100,20 +91,6 @@ class Browser:
         """Opens a view anew, of a page that has not been open: one that differs behind the `#` alone would stay."""
         self.opened += 1
         self.driver.get(self.site.address(f"/?{self.opened}{address}"))
-
-    def start(self, address: str = "") -> None:
-        """Opens a view anew, and waits until its fields are filled."""
-        self.open(address)
-        self.wait(lambda: self.run("return document.getElementById('day').value"))
-
-    def go(self, address: str) -> None:
-        """Goes to another address of the page that is open, whose view has left what it said by then; opens it where
-        the page is there already, or none is open."""
-        if self.run("return document.getElementById('isbn') === null || location.hash === arguments[0]", address):
-            self.open(address)
-            return
-        come = "window.addEventListener('hashchange', () => setTimeout(arguments[1]), { once: true });"
-        self.driver.execute_async_script(f"{come} location.hash = arguments[0];", address)
 
     def one(self, selector: str) -> WebElement:
         return self.driver.find_element(By.CSS_SELECTOR, selector)
@@ -142,12 +119,6 @@ class Browser:
     def call(self, name: str, *given: object) -> Any:
         """What the function of that name in functions.js returns."""
         return self.run(f"{FUNCTIONS[name]}\nreturn {name}(...arguments);", *given)
-
-    def put(self, name: str, *given: object) -> Callable[[], object]:
-        """Calls that function in each page that is opened from now on; gives what ends that."""
-        script = {"source": f"({FUNCTIONS[name]})(...{json.dumps(given)})"}
-        put = self.driver.execute_cdp_cmd("Page.addScriptToEvaluateOnNewDocument", script)
-        return lambda: self.driver.execute_cdp_cmd("Page.removeScriptToEvaluateOnNewDocument", put)
 
     def wait(self, holds: Callable[[], Found], seconds: float = SECONDS) -> Found | None:
         """Waits until it holds, and gives what it gave; after so many seconds, what it gave last. It looks the more
@@ -181,34 +152,14 @@ class Browser:
         rows: list[list[str]] = self.run(script, selector)
         return rows
 
-    def requested(self) -> list[str]:
-        """The addresses that pages asked for since the last look, in the record that the browser keeps."""
-        found = []
-        for entry in self.driver.get_log("performance"):
-            message = json.loads(entry["message"])["message"]
-            if message["method"] == "Network.requestWillBeSent":
-                found.append(message["params"]["request"]["url"])
-        return found
-
-    def busy(self) -> float:
-        """The seconds of a processor that the page has taken, whatever else the machine does."""
-        self.driver.execute_cdp_cmd("Performance.enable", {"timeDomain": "threadTicks"})
-        metrics = self.driver.execute_cdp_cmd("Performance.getMetrics", {})["metrics"]
-        return float(next(metric["value"] for metric in metrics if metric["name"] == "TaskDuration"))
-
     def complaints(self) -> list[str]:
         """What the browser wrote to its console since the last look."""
         return [entry["message"] for entry in self.driver.get_log("browser")]
 
-    def picture(self, path: str) -> None:
-        self.driver.save_screenshot(path)
-
 
 @contextlib.contextmanager
-def browsing(
-    site: Site | PlainSite, is_recorded: bool = False, is_trusting: bool = False, is_whole: bool = True
-) -> Iterator[Browser]:
-    browser = Browser(site, is_recorded, is_trusting, is_whole)
+def browsing(site: Site | PlainSite, is_whole: bool = True) -> Iterator[Browser]:
+    browser = Browser(site, is_whole)
     try:
         yield browser
     finally:

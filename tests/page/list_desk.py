@@ -75,14 +75,8 @@ class ListDesk:
             if name not in WHOLESALERS:
                 return 404, {"answer": "refused", "reason": "unknown-series"}
             missing = self.missing.get(name, [])
-            return 200, {
-                "answer": "gaps",
-                "series": name,
-                "first": 1,
-                "next": 2,
-                "missing": missing,
-                "held": len(missing),
-            }
+            after = {"next": missing[0][0] if missing else 2, "missing": missing, "held": len(missing)}
+            return 200, {"answer": "gaps", "series": name, "first": 1, **after}
         book = self.books.get(name, Book([], None))
         keys = parse_qs(parts.query)
         own = book.offers if keys["type"] == ["05"] else self.others.get((name, keys["type"][0]), [])

@@ -22,9 +22,9 @@ def three_states(site: PlainSite, browser: Browser) -> Iterator[Outcome]:
     browser.open("#missing")
     told = browser.wait_for_text("#missing-status", "look")
     yield Outcome("states: what to look at", told, "Stop, and look at: Alpha Books.")
-    stands = "Message 1 is in use; the next one is 2."
+    stands = "Messages in use: 1. The next one is 2."
     letter = "This page asks no wholesaler: copy the letter, paste it into a mail and send it yourself."
-    reasons = ["2 messages are missing: 2 to 3", "1 later message has come, and waits for what is missing"]
+    reasons = ["2 messages are missing: 2 to 3", "later messages that wait for what is missing: 1"]
     yield Outcome("states: stop", card(browser, "alpha"), [*reasons, stands, letter, "Copy a letter to Alpha Books"])
     [last, *rest] = card(browser, "beta")
     clock = time.strftime("%H:%M")
@@ -32,7 +32,7 @@ def three_states(site: PlainSite, browser: Browser) -> Iterator[Outcome]:
         ". It has no numbers: a lost file would not show."
     )
     yield Outcome(f"states: without numbers, at {clock}", unnumbered, True)
-    yield Outcome("states: older terms", rest, [stands, "The prices of 12 articles are by an older table of terms."])
+    yield Outcome("states: older terms", rest, [stands, "Articles whose price is by an older table of terms: 12."])
     yield Outcome("states: complete", card(browser, "gamma"), ["Complete: nothing is missing.", stands])
     tab = " ".join(browser.text("#to-missing").split())
     yield Outcome("states: at the tab", tab, "Missing messages 1 to look at")

@@ -2,7 +2,9 @@
 
 import csv
 import io
+import re
 import tempfile
+import time
 from collections.abc import Iterator
 from decimal import Decimal
 from pathlib import Path
@@ -16,7 +18,7 @@ from tests.page.scanning import scan
 from tests.running import Outcome
 
 # With all that a list asks before it is looked up.
-SECONDS = 60
+SECONDS = 240
 
 # The way to the orders is by the keyboard: how many keys a till's export of thirty lines may take.
 MOST_KEYS = 45
@@ -105,6 +107,11 @@ def save_to(browser: Browser, folder: str) -> None:
     browser.driver.execute_cdp_cmd("Browser.setDownloadBehavior", {"behavior": "allow", "downloadPath": folder})
 
 
+def get_orders(browser: Browser) -> None:
+    browser.one("#get-orders").click()
+    browser.wait(lambda: browser.shows("#orders"), SECONDS)
+
+
 def marks(site: PlainSite, browser: Browser) -> Iterator[Outcome]:
     """Each line that orders nothing is marked in its place; it stays until it is put right or struck out."""
     site.begin()
@@ -123,6 +130,8 @@ def marks(site: PlainSite, browser: Browser) -> Iterator[Outcome]:
     browser.one("#strike-out").click()
     struck = f"{isbn_of(0)} 2\n# Dear Sirs\n{isbn_of(1)}\n{isbn_of(3)} 2,0\n"
     yield Outcome("struck out: lines without an ISBN alone", lines(browser), struck)
+    focused = browser.run("return document.activeElement.getAttribute('aria-label')")
+    yield Outcome("struck out: the focus is at the next line", focused, "Copies of line 3")
     browser.one("#lines").click()
     keys.undo()
     yield Outcome("struck out: undone", lines(browser), before)
@@ -139,6 +148,30 @@ def marks(site: PlainSite, browser: Browser) -> Iterator[Outcome]:
     looked_up(browser, 1)
     shown = "return [document.querySelector('#list tbody .copies').textContent, document.querySelector('#list button.number')]"
     yield Outcome("copies: of two lines none has the sum to set", browser.run(shown), ["5", None])
+
+
+# How mails say copies.
+SAID = "3 ex {} A title/{} - 3 copies/{}: 3/{}, 3/3 {}/3 x {}/{} 3 x/{} (3)/- {} 3/> {} 3/{} 3 Stk/{}".split("/")
+
+
+def mail(site: PlainSite, browser: Browser) -> Iterator[Outcome]:
+    """The lines of a mail are marked; the buyer gives each its copies, by the keyboard alone, and nothing else does."""
+    site.begin()
+    said = [words.format(isbn_of(number)) for number, words in enumerate(SAID)]
+    open_list(browser, "\n".join(["Dear Anna,", *said, "Kind regards", "Tel. 020 7946 0958"]))
+    yield Outcome("mail: nothing is ordered", browser.count("#lines-marks .is-marked"), len(said) + 3)
+    keys = Keyboard(browser)
+    keys.press(Keys.TAB, Keys.TAB, Keys.ENTER, "2", " ", "S", Keys.ENTER)
+    yield Outcome("mail: no number", lines(browser).split("\n")[1], said[0])
+    keys.press(Keys.BACKSPACE, Keys.BACKSPACE, Keys.ENTER)
+    for number in range(1, len(said)):
+        keys.press(str(number % 4 + 2), Keys.ENTER)
+    came = lines(browser).split("\n")
+    wanted = [f"{isbn_of(number)} {number % 4 + 2}" for number in range(len(said))]
+    yield Outcome("mail: the copies that were given", [line.split(" #")[0] for line in came[1:-2]], wanted)
+    yield Outcome("mail: its words stay", came[1], f"{wanted[0]} # {said[0]}")
+    yield Outcome("mail: the rest is struck out", came[-2:], ["# Kind regards", "# Tel. 020 7946 0958"])
+    yield Outcome("mail: the focus is at the button of the orders", focus(browser), "get-orders")
 
 
 def scanned(site: PlainSite, browser: Browser) -> Iterator[Outcome]:
@@ -168,25 +201,34 @@ def scanned(site: PlainSite, browser: Browser) -> Iterator[Outcome]:
 def tables(site: PlainSite, browser: Browser) -> Iterator[Outcome]:
     """A table is turned into lines by the buyer: nothing is proposed, and nothing looked up before."""
     rows = [f'{isbn_of(number)};"Title; {number}";12;{number % 4}' for number in range(12)]
-    table = "ISBN;Title;Qty;Buy\n" + "\n".join(rows) + "\n;Total;;18\n"
+    table = "ISBN;Title;Qty;Buy\n" + "\n".join(rows) + f"\n;Total;;18\n{isbn_of(20)};x;3\n"
     desk = site.begin()
     open_list(browser, table)
     fields = [browser.one(f"#{name}-column").get_attribute("value") for name in ("isbn", "copies")]
     yield Outcome("table: both fields are empty", fields, ["", ""])
     yield Outcome("table: ten rows of it", len(browser.all("#table-rows tbody tr")), 10)
+    told = "Not shown are rows with another number of cells (1): they become lines to put right."
+    yield Outcome("table: what is not shown", browser.text("#table-others"), told)
+    offered = "return [...document.getElementById('copies-column').options].map((option) => option.text)"
+    columns = ["", f"1: ISBN, {isbn_of(0)}", "2: Title, Title; 0", "3: Qty, 12", "4: Buy, 0"]
+    yield Outcome("table: the columns with their first cells", browser.run(offered), columns)
     yield Outcome("table: no line", lines(browser), "")
     yield Outcome("table: the focus", focus(browser), "isbn-column")
     browser.one("#get-orders").click()
     wanted = "A table waits: take it, or cancel it. Nothing is saved."
     yield Outcome("table: nothing is saved", status(browser, "Nothing is saved"), wanted)
-    Keyboard(browser).press("1", Keys.TAB, "4")
-    told = "9 lines, 18 copies in all, at most 3 in a line. 1 line to put right. 3 rows of 0 copies are left out."
-    yield Outcome("table: what it becomes", browser.wait_for_text("#table-count", "9 lines"), told)
+    Keyboard(browser).press("1", Keys.TAB, "1")
+    twice = "One column cannot have both: please choose another one."
+    yield Outcome("table: one column twice", browser.wait_for_text("#table-count", "both:"), twice)
+    Keyboard(browser).press(Keys.END)
+    told = "Lines: 9. Copies: 18 in all, at most 3 in a line. 2 lines to put right. 3 rows of 0 copies are left out."
+    yield Outcome("table: what it becomes", browser.wait_for_text("#table-count", "Lines:"), told)
     asked = [path for path in desk.asked if path.startswith("/articles/")]
     yield Outcome("table: nothing is looked up", asked, [])
     Keyboard(browser).press(Keys.TAB, Keys.ENTER)
     taken = [f"{isbn_of(number)} {number % 4}" for number in range(12) if number % 4]
-    yield Outcome("table: the lines", lines(browser), "\n".join([*taken, "; Total; ; 18", ""]))
+    marked = ["; Total; ; 18", f"{isbn_of(20)}; x; 3"]
+    yield Outcome("table: the lines", lines(browser), "\n".join([*taken, *marked, ""]))
     Keyboard(browser).undo()
     yield Outcome("table: undone", lines(browser), "")
     word = "W" * 300
@@ -218,15 +260,12 @@ def till(site: PlainSite, browser: Browser) -> Iterator[Outcome]:
         keys.count += 1
         paste(browser, "EAN;Titel;Bestand;Vorschlag\n" + "\n".join(rows))
         keys.press("1", Keys.TAB, "4", Keys.TAB, Keys.ENTER)
-        browser.one("#strike-out").send_keys(Keys.ENTER)
-        keys.count += 2
-        for _ in range(2):
-            browser.all("#marked-lines li button")[1].send_keys(Keys.ENTER)
-            keys.count += 2
-        ordered = [number for number in numbers if number not in (7, 12, 20)]
+        # The first of the wrong lines is struck out, the second one gets its copies, the third one is struck out.
+        keys.press(Keys.TAB, Keys.ENTER, "2", Keys.ENTER, Keys.TAB, Keys.ENTER)
+        copies[12] = 2
+        ordered = [number for number in numbers if number not in (7, 20)]
         looked_up(browser, len(ordered))
-        browser.one("#get-orders").send_keys(Keys.ENTER)
-        keys.count += 2
+        keys.press(Keys.ENTER)
         browser.wait(lambda: browser.shows("#orders"))
         yield Outcome("till: the focus is at no button", focus(browser), "orders-heading")
         keys.press(Keys.ENTER)
@@ -241,8 +280,9 @@ def till(site: PlainSite, browser: Browser) -> Iterator[Outcome]:
         saved = saved_in(folder, browser, 3)
         yield Outcome(f"till: {keys.count} keys", keys.count <= MOST_KEYS, True)
         yield from files_of(saved, ordered, copies, order)
-        rest = [f"# {isbn_of(7)[:12]}{(int(isbn_of(7)[12]) + 1) % 10} {copies[7]}", f"# {isbn_of(12)} 2 Stk"]
+        rest = [f"# {isbn_of(7)[:12]}{(int(isbn_of(7)[12]) + 1) % 10} {copies[7]}"]
         yield Outcome("till: what is in no order", browser.texts("#rest-lines li"), rest)
+        yield Outcome("till: nothing is to check any longer", "to check" in browser.text("#list-bar-words"), False)
 
 
 def files_of(
@@ -273,7 +313,8 @@ def to_check(site: PlainSite, browser: Browser) -> Iterator[Outcome]:
     desk = site.begin()
     fill_for_checks(desk)
     numbers = [0, 1, 4, 9001, 9002, 9003, 9004, 9005, 9006]
-    open_list(browser, "\n".join(f"{isbn_of(number)} 9" for number in numbers))
+    open_list(browser, "\n".join([*(f"{isbn_of(number)} 9" for number in numbers), f"{isbn_of(6)} 1 @alhpa"]))
+    numbers.append(6)
     looked_up(browser, len(numbers))
     noted = {number: note_of(browser, number) for number in numbers}
     wanted = {
@@ -286,19 +327,20 @@ def to_check(site: PlainSite, browser: Browser) -> Iterator[Outcome]:
         9004: "It costs nothing: ask before you order. Confirm",
         9005: "£54.00 less from Beta & Sons (in stock); rule 1 prefers Alpha Books",
         9006: "£1.00 is far below the next offer, £9.00: ask before you order. Confirm",
+        6: "No wholesaler has the short name “alhpa”: there are alpha, beta, gamma.",
     }
     yield Outcome("to check: what each row says", noted, wanted)
-    bar(browser, "7 to check")
+    told = "4 to check · 4 in no order"
+    yield Outcome("to check: it is counted", told in bar(browser, told), True)
     browser.one("#show-needs").click()
-    yield Outcome("to check: those alone", browser.count("#list tbody tr"), 7)
+    yield Outcome("to check: those alone", browser.count("#list tbody tr"), 8)
     sums = sum((offer_amount(number) * 9 for number in (0, 1, 4)), Decimal(0)) + 9 * Decimal("15.00")
     yield Outcome("to check: the sum is of what is ordered", money(sums) in browser.text("#list-bar-words"), True)
     for _ in range(3):
         browser.one("#get-orders").click()
         status(browser, "Nothing is saved")
         browser.run("document.activeElement.click()")
-    browser.one("#get-orders").click()
-    browser.wait(lambda: browser.shows("#orders"), SECONDS)
+    get_orders(browser)
     yield Outcome("to check: confirmed, each once", browser.count("#list .confirm, #list-doubts .confirm"), 0)
     alpha = browser.rows("#orders-table")[0][:4]
     sum_of_alpha = Decimal("9") * (offer_amount(0) + Decimal("15.00"))
@@ -332,14 +374,13 @@ def changed(site: PlainSite, browser: Browser) -> Iterator[Outcome]:
         before = desk.books[isbn_of(0)]
         desk.books[isbn_of(0)] = Book([Offer("alpha", Decimal("6.00"))])
         browser.one("#get-orders").click()
-        wanted = "1 book has changed since it was looked up. Nothing is saved: look at it first."
-        yield Outcome("changed: nothing is saved", status(browser, "changed since"), wanted)
+        wanted = "Changed since they were looked up: 1 of 3 books. Nothing is saved: look at them first."
+        yield Outcome("changed: nothing is saved", status(browser, "Changed since"), wanted)
         yield Outcome("changed: no order is shown", browser.shows("#orders"), False)
         was = f"Changed: it was Alpha Books at {money(before.offers[0].amount or Decimal(0))}. Confirm"
         yield Outcome("changed: what it was", note_of(browser, 0), was)
         browser.one("#list .confirm").click()
-        browser.one("#get-orders").click()
-        browser.wait(lambda: browser.shows("#orders"), SECONDS)
+        get_orders(browser)
         rows = browser.rows("#orders-table")
         yield Outcome(
             "by hand: it is ordered from the wholesaler behind @", [row[:2] for row in rows], [["Alpha Books", "3"]]
@@ -362,6 +403,52 @@ def changed(site: PlainSite, browser: Browser) -> Iterator[Outcome]:
         yield Outcome("on paper: no other wholesaler", "Beta" in paper or "Gamma" in paper, False)
 
 
+def twice(site: PlainSite, browser: Browser) -> Iterator[Outcome]:
+    """What left the page before is told; no other order has the name of its file, nor the next one its reference."""
+    site.begin()
+    with tempfile.TemporaryDirectory() as name:
+        save_to(browser, name)
+        open_list(browser, f"{isbn_of(0)} 2\n")
+        looked_up(browser, 1)
+        get_orders(browser)
+        browser.one("#order-reference").send_keys("2026-7")
+        browser.one("[data-way=csv]").click()
+        saved = browser.wait_for_text("[data-saved]", "Saved")
+        yield Outcome("twice: at first nothing was", "before" in saved, False)
+        # The name of a file has its second.
+        time.sleep(1)
+        browser.one("[data-way=csv]").click()
+        told = browser.wait_for_text("[data-saved]", "before")
+        is_told = re.search("In an order before, last today .*: 1 of its books", told) is not None
+        yield Outcome("twice: it is told", is_told, True)
+        browser.wait(lambda: len(list(Path(name).glob("*.csv"))) == 2)
+        names = [re.fullmatch(r"order-\d{4}(-\d\d){2}-\d{6}-alpha\.csv", path.name) for path in Path(name).iterdir()]
+        yield Outcome("twice: two names", [found is not None for found in names], [True, True])
+        paste(browser, f"{isbn_of(3)} 1\n")
+        looked_up(browser, 2)
+        reference = browser.run("return document.getElementById('order-reference').value")
+        yield Outcome("twice: the reference is gone", reference, "")
+        browser.open("#order")
+        looked_up(browser, 2)
+        get_orders(browser)
+        yield Outcome("twice: a reload forgets nothing", "before" in browser.text("[data-saved]"), True)
+
+
+def password(site: PlainSite, browser: Browser) -> Iterator[Outcome]:
+    """A password that is no longer right is told while an order is saved, and the list stays as it is."""
+    site.begin()
+    open_list(browser, f"{isbn_of(0)} 2\n{isbn_of(1)} 2\n")
+    looked_up(browser, 2)
+    site.status = 401
+    browser.one("#get-orders").click()
+    told = "The web server asks for the password: load the page anew, and give it. Nothing is saved."
+    yield Outcome("401 while saving", status(browser, "password"), told)
+    yield Outcome("401 while saving: no order", (browser.shows("#orders"), browser.count("#list .need")), (False, 0))
+    site.status = None
+    get_orders(browser)
+    yield Outcome("401 while saving: then the orders", browser.shows("#orders"), True)
+
+
 def long_list(site: PlainSite, browser: Browser) -> Iterator[Outcome]:
     """Five hundred books: how long they take, and whether the page hears a key meanwhile."""
     site.begin()
@@ -380,4 +467,4 @@ def long_list(site: PlainSite, browser: Browser) -> Iterator[Outcome]:
     yield Outcome("500 books: their sum", money(wanted) in browser.text("#list-bar-words"), True)
 
 
-CASES = [marks, scanned, tables, till, to_check, changed, long_list]
+CASES = [marks, mail, scanned, tables, till, to_check, changed, twice, password, long_list]

@@ -3,12 +3,10 @@ program over a file behind it."""
 
 import base64
 import contextlib
-import hashlib
 import http.client
 import json
 import os
 import shutil
-import signal
 import socket
 import ssl
 import subprocess
@@ -31,8 +29,7 @@ CONNECTIONS = 100_000
 DATABASE = "shop.db"
 
 # A browser that is driven opens more pages a second than a shop's buyers do.
-RATE = "rate=100r/s"
-NO_LIMIT = "rate=10000r/s"
+RATES = ("rate=100r/s", "rate=10000r/s")
 
 # The desk's line for a request that nothing else of the tests makes.
 MARK = "501"
@@ -119,24 +116,18 @@ class Site:
         openssl("req", "-x509", *key, *subject, *files, "-days", "2")
         secret = openssl("passwd", "-6", "-salt", "rounds=1000$0123456789abcdef", PASSWORD).decode()
         self.room.write("passwords", f"{USER}:{secret}".encode())
-        self.configure(NO_LIMIT)
+        self.configure()
         user = "user root;" if os.geteuid() == 0 else ""
         self.room.write("nginx.conf", MAIN.format(user=user, folder=folder).encode())
 
-    def key_digest(self) -> str:
-        """The digest of the certificate's key, as browsers write it."""
-        text = openssl("x509", "-in", f"{self.room.folder}/site.pem", "-pubkey", "-noout").decode()
-        key = base64.b64decode("".join(text.splitlines()[1:-1]))
-        return base64.b64encode(hashlib.sha256(key).digest()).decode()
-
-    def configure(self, rate: str) -> None:
+    def configure(self) -> None:
         """Writes the example, with the places and ports of the test in it, and with another rate of requests."""
         folder = self.room.folder
         text = (ROOT / "examples/page/nginx.conf").read_text(encoding="utf-8")
         for written, here in [
             ("listen 443 ssl", f"listen {HOST}:{self.port} ssl"),
             ("listen 80;", f"listen {HOST}:{self.plain_port};"),
-            (RATE, rate),
+            RATES,
             ("127.0.0.1:8080", f"{HOST}:{self.desk_port}"),
             (f"/etc/ssl/{NAME}.pem", f"{folder}/site.pem"),
             (f"/etc/ssl/private/{NAME}.key", f"{folder}/site.key"),
@@ -150,11 +141,10 @@ class Site:
             text = text.replace(written, here)
         self.room.write("site.conf", text.encode())
 
-    def write_settings(self, text: str | None = None, **changes: object) -> None:
-        """Puts the sample into the shop's desk.json, with other settings, or another text. The prices of the week
-        are retail prices."""
+    def write_settings(self) -> None:
+        """Puts the sample into the shop's desk.json. The prices of the week are retail prices."""
         sample = json.loads((PAGE / "desk.json").read_text(encoding="utf-8")) | {"price_type": "02"}
-        (self.own / "desk.json").write_text(text or json.dumps(sample | changes), encoding="utf-8")
+        (self.own / "desk.json").write_text(json.dumps(sample), encoding="utf-8")
 
     def start_nginx(self) -> None:
         words: list[Word] = ["-e", self.room.path("error.log"), "-c", self.room.path("nginx.conf")]
@@ -183,17 +173,6 @@ class Site:
         if self.desk:
             self.desk.kill()
             self.desk.wait()
-
-    def freeze_desk(self) -> None:
-        """The desk takes connections, as far as the system does so for it, and does nothing."""
-        self.signal_desk(signal.SIGSTOP)
-
-    def signal_desk(self, number: int) -> None:
-        assert self.desk
-        self.desk.send_signal(number)
-
-    def thaw_desk(self) -> None:
-        self.signal_desk(signal.SIGCONT)
 
     def desk_lines(self) -> list[str]:
         """What `serve` has written: one line for each connection."""
@@ -226,12 +205,6 @@ class Site:
             reply = receive(peer)
         body: dict[str, Any] = json.loads(reply.partition(b"\r\n\r\n")[2])
         return body
-
-    def tell_desk(self, message: str) -> bytes:
-        """Posts a message to the desk's own port, past nginx."""
-        connection = http.client.HTTPConnection(HOST, self.desk_port)
-        connection.request("POST", "/messages", message.encode())
-        return connection.getresponse().read()
 
     def address(self, path: str = "/", user: str = "") -> str:
         return f"https://{user}{NAME}:{self.port}{path}"
@@ -266,21 +239,6 @@ class Site:
             connection.endheaders()
             reply = connection.getresponse()
             return reply.status, dict(reply.getheaders()), reply.read()
-
-    @contextlib.contextmanager
-    def colleague(self) -> Iterator[Callable[[str], int]]:
-        """Another buyer at the same address, whose browser asks over one connection: what gives the status of the reply
-        to a path."""
-        fields = {"Host": self.own_host(), "Authorization": basic(PASSWORD)}
-        with contextlib.closing(self.connected()) as connection:
-
-            def ask(path: str) -> int:
-                connection.request("GET", path, headers=fields)
-                reply = connection.getresponse()
-                reply.read()
-                return reply.status
-
-            yield ask
 
     def stop(self) -> None:
         self.stop_nginx()

@@ -5,7 +5,7 @@ import assert from "node:assert/strict";
 import { test } from "node:test";
 
 import { isTable, parse, SEPARATORS, separatorIn, taken, widthOf } from "../page/order/csv-table.js";
-import { goodOf, linesOf, markedOf, rowsOf, struck, struckBooks, withLines, withMore, withOneCopy } from "../page/order/text.js";
+import { goodOf, linesOf, markedOf, rowsOf, struck, struckBooks, withCopies, withLines, withMore, withOneCopy } from "../page/order/text.js";
 
 const SEED = Number(process.env.SEED ?? 20261130);
 const TEXTS = Number(process.env.TEXTS ?? 1000);
@@ -105,6 +105,23 @@ test("an ISBN alone is of one copy by a button alone", () => {
     assert.deepEqual(orderedOf(after), sums([...good, ...lone]), after);
     assert.deepEqual(after.split("\n").slice(0, others.length).filter((line) => line !== ""), others);
   }
+});
+
+test("a marked line of one ISBN has the copies that the buyer gives it, and no other line changes", () => {
+  for (let count = 0; count < TEXTS; count += 1) {
+    const texts = [isbnAt(1), ...many(4, otherLine), ...many(4, () => goodLine().text)].sort(() => below(3) - 1);
+    const { number } = oneOf(markedOf(linesOf(texts.join("\n"))).filter(({ isbn }) => isbn !== undefined));
+    const after = withCopies(texts.join("\n"), number, "7").split("\n");
+    assert.deepEqual(after.filter((_, at) => at !== number - 1), texts.filter((_, at) => at !== number - 1));
+    const [isbn] = texts[number - 1].match(/\d{13}/);
+    assert.deepEqual(orderedOf(after[number - 1]), { [`${isbn}@`]: 7 }, after[number - 1]);
+  }
+});
+
+test("the number of a telephone is no book that was struck out, and one that may be an ISBN is", () => {
+  const likes = ["0140000012", "9.78E+12", "Tel. 9780140000016", "Fax 978014000001", "+44 20 7946 0958 9780140000016"];
+  const others = ["Tel. 020 7946 0958", "+44 20 7946 0958", "Fax: 0171-3456789", "Mobile 07700 900123"];
+  assert.deepEqual(struckBooks(linesOf([...likes, ...others].map((text) => `# ${text}`).join("\n"))).map(({ text }) => text.slice(2)), likes);
 });
 
 const quoted = (cell, separator) => (

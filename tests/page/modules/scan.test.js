@@ -3,7 +3,7 @@
 import assert from "node:assert/strict";
 import { test } from "node:test";
 
-import { Burst, placeOf } from "../page/text/scan.js";
+import { Burst } from "../page/text/scan.js";
 
 function typed(digits, gap) {
   const burst = new Burst();
@@ -38,22 +38,4 @@ test("Enter or Tab stands directly behind", () => {
   assert.equal(burst.isBehind(end + 500), false);
   burst.end();
   assert.equal(burst.code, undefined);
-});
-
-test("a scan is a line of an order list in its view, and an article's question in any other", () => {
-  for (const [view, wanted] of [
-    ["order", ["order 9780306406157"]],
-    ["article", ["begin", "article 9780306406157"]],
-    ["missing", ["open 9780306406157"]],
-  ]) {
-    const noted = [];
-    const place = placeOf(() => view, {
-      article: { beginIsbn: () => noted.push("begin"), scanned: (code) => noted.push(`article ${code}`) },
-      order: { scanned: (code) => noted.push(`order ${code}`) },
-      open: (code) => noted.push(`open ${code}`),
-    });
-    place.begin();
-    place.scanned("9780306406157");
-    assert.deepEqual(noted, wanted, view);
-  }
 });

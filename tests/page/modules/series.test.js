@@ -43,7 +43,7 @@ test("each reason to stop and look is told, and none is left out", () => {
     [{ ...WHOLE, at: NOW - 901 }, REPORT, ["whether a file is stopped or lost cannot be seen"]],
     [{ ...WHOLE, at: NOW - 900 }, REPORT, []],
     [WHOLE, undefined, ["the desk has no report on its messages"]],
-    [WHOLE, missing, ["3 messages are missing: 3 to 4, 7", "2 later messages have come, and wait for what is missing"]],
+    [WHOLE, missing, ["3 messages are missing: 3 to 4, 7", "later messages that wait for what is missing: 2"]],
     [{ ...WHOLE, quarantined: 1 }, REPORT, ["1 file is in quarantine"]],
     [{ ...WHOLE, refused: 2 }, REPORT, ["2 files were refused"]],
     [{ ...WHOLE, waiting: 1 }, REPORT, ["1 file waits"]],
@@ -62,7 +62,7 @@ test("what else a file of the inbox says", () => {
   assert.deepEqual([typesIn(WHOLE, "GBP"), typesIn(WHOLE, "EUR"), typesIn(undefined, "GBP")], [["02", "05"], ["15"], []]);
   assert.deepEqual(typesIn({ prices: ["x", null, [5, "GBP"]] }, "GBP"), []);
   assert.deepEqual([termsInWords(undefined), termsInWords(WHOLE)], ["", ""]);
-  assert.equal(termsInWords({ ...WHOLE, older_terms: 12 }), "The prices of 12 articles are by an older table of terms.");
+  assert.equal(termsInWords({ ...WHOLE, older_terms: 12 }), "Articles whose price is by an older table of terms: 12.");
 });
 
 // `convert --parts 5` makes of message 10 those of the numbers 46 to 50, and with `--number-offset 100` those of

@@ -6,18 +6,19 @@ import time
 import unittest
 from collections.abc import Iterator
 
+from tests.needs import DEBIAN_PYTHON
 from tests.program.room import Room
-from tests.running import Outcome, left_out
+from tests.running import Outcome
+
+NEEDS = [f"{DEBIAN_PYTHON}/hypothesis"]
 
 EXAMPLES, STEPS = 60, 25
 
 
 def model(room: Room) -> Iterator[Outcome]:
-    try:
-        from tests.shop.model import case
-    except ModuleNotFoundError as error:
-        yield left_out(f"{error.name}, which Debian's python3-hypothesis has")
-        return
+    # Here, since Hypothesis need not be there.
+    from tests.shop.model import case
+
     yield Outcome("the same runs each time", failures(case(EXAMPLES, STEPS, room.folder, is_same=True)), [])
     end = time.monotonic() + float(os.environ.get("ONIXDESK_MODEL_SECONDS", "0"))
     while time.monotonic() < end:

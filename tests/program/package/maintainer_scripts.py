@@ -1,5 +1,5 @@
-"""What the package's scripts do at a removal: each is run on a root of its own, where stand-ins of what changes users and
-units write down what they are told."""
+"""What the package's scripts do at a removal: each is run on a root of its own, where a stand-in of what stops units
+writes down what it is told."""
 
 import os
 from collections.abc import Iterator
@@ -11,8 +11,8 @@ from tests.program.room import Ran, Room
 from tests.running import Outcome
 from tools.root import ROOT
 
-# Users and units are the machine's.
-TOLD = ["deb-systemd-invoke", "userdel"]
+# Units are the machine's.
+TOLD = ["deb-systemd-invoke"]
 
 # What a desk, its copies and an inbox keep that has taken a file; and what is made anew from it, or of use no more.
 DATA = [
@@ -28,6 +28,10 @@ MADE = [
     "onixdesk-state/titles/97812/97812345.json",
     "onixdesk-fetch/north/succeeded",
 ]
+
+
+OWN_UNIT = "etc/systemd/system/onixdesk-away.timer"
+OWN_LINK = "etc/systemd/system/timers.target.wants/onixdesk-away.timer"
 
 
 def unit_files() -> list[Path]:
@@ -81,45 +85,34 @@ def a_removal(room: Room) -> Iterator[Outcome]:
     yield Outcome("prerm without systemd", (at(room, "prerm", "remove"), told(room)), (Ran(0), []))
 
 
-def shop(room: Room, data: list[str]) -> list[str]:
-    """A shop's files, with all of its units enabled; the links of these."""
+def shop(room: Room, data: list[str]) -> None:
+    """A shop's files, with units enabled: those of the package, which are gone by then, and one of its own."""
     room.path("bin").mkdir()
-    make(room, *(f"var/lib/{name}" for name in [*data, *MADE]))
-    links = []
-    for unit in unit_files():
-        if "\n[Install]\n" in unit.read_text(encoding="utf-8") and unit.name != "onixdesk.service":
-            links.append(f"etc/systemd/system/{unit.suffix[1:]}s.target.wants/{unit.name.replace('@', '@north')}")
-    make(room, *links)
-    return links
+    make(room, *(f"var/lib/{name}" for name in [*data, *MADE]), OWN_UNIT)
+    wants = room.path("etc/systemd/system/timers.target.wants")
+    wants.mkdir()
+    for name in ("onixdesk-copy.timer", "onixdesk-inbox@north.timer"):
+        wants.joinpath(name).symlink_to(room.path("lib/systemd/system") / name)
+    room.path(OWN_LINK).symlink_to(room.path(OWN_UNIT))
 
 
 def a_purge(room: Room) -> Iterator[Outcome]:
-    """The shop's data stay, and the users that own them; what is made of them goes, and so do the links of the units."""
-    links = shop(room, DATA)
-    room.path("var/lib/onixdesk-incoming/north").mkdir(parents=True)
-    room.path("var/lib/onixdesk-incoming/south").mkdir()
+    """The shop's data stay; what is made of them goes, and so do the links of the package's units."""
+    shop(room, DATA)
     make(room, "etc/onixdesk/inbox/north.conf")
+    room.path("var/lib/onixdesk-incoming/north").mkdir(parents=True)
     before = found(room)
-    yield Outcome("postrm remove", (at(room, "postrm", "remove"), told(room), found(room)), (Ran(0), [], before))
-    yield Outcome("postrm purge: links", len(links) > 6, True)
-    came = at(room, "postrm", "purge")
-    kept = [f"var/lib/{name}" for name in DATA] + ["etc/onixdesk/inbox/north.conf", "var/lib/onixdesk-incoming/north"]
-    left = [name for name in found(room) if not name.startswith("etc/systemd/")]
-    yield Outcome("postrm purge: the data stay", (came, left), (Ran(0), sorted(kept)))
-    yield Outcome("postrm purge: no link is left", [name for name in links if room.path(name).exists()], [])
-    yield Outcome("postrm purge: users", told(room), ["userdel onixdesk-fetch"])
-    yield Outcome(
-        "postrm purge, once more", (at(room, "postrm", "purge").status, found(room)[-1:]), (0, sorted(kept)[-1:])
-    )
+    yield Outcome("postrm remove", (at(room, "postrm", "remove"), found(room)), (Ran(0), before))
+    kept = [f"var/lib/{name}" for name in DATA] + ["etc/onixdesk/inbox/north.conf", OWN_UNIT, OWN_LINK]
+    wanted = sorted([*kept, "var/lib/onixdesk-incoming/north"])
+    for name in ("postrm purge", "postrm purge, once more"):
+        yield Outcome(name, (at(room, "postrm", "purge"), found(room)), (Ran(0), wanted))
 
 
 def a_purge_without_data(room: Room) -> Iterator[Outcome]:
-    """Nothing is left, and no user."""
+    """Nothing is left."""
     shop(room, [])
-    for folder in ("onixdesk", "onixdesk-copies", "onixdesk-incoming/north", "onixdesk-inbox"):
+    for folder in ("onixdesk", "onixdesk-copies", "onixdesk-incoming", "onixdesk-inbox"):
         room.path(f"var/lib/{folder}").mkdir(parents=True)
-    came = at(room, "postrm", "purge")
-    left = [name for name in found(room) if not name.startswith("etc/systemd/")]
-    yield Outcome("postrm purge without data: nothing is left", (came, left), (Ran(0), ["var/lib"]))
-    users = [f"userdel onixdesk{name}" for name in ("-fetch", "", "-inbox")]
-    yield Outcome("postrm purge without data: no user is left", told(room), users)
+    wanted = sorted(["var/lib", OWN_UNIT, OWN_LINK])
+    yield Outcome("postrm purge without data", (at(room, "postrm", "purge"), found(room)), (Ran(0), wanted))

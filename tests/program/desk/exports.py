@@ -75,7 +75,9 @@ def cut_between_requests(room: Room) -> Iterator[Outcome]:
         database = f"cut-{place}.db"
         for part in lines[:place], lines[place:]:
             room.run("--db", database, "batch", given=b"".join(part))
-        yield Outcome(f"an export that is cut before line {place + 1}", listed(room, "export", database), Ran(0, EXPORT))
+        yield Outcome(
+            f"an export that is cut before line {place + 1}", listed(room, "export", database), Ran(0, EXPORT)
+        )
 
 
 def empty_desks(room: Room) -> Iterator[Outcome]:

@@ -56,9 +56,7 @@ def is_not_made(command: str, room: Room) -> Iterator[Outcome]:
     for words in ["--db", DATABASE], EXISTING:
         came = room.run(*words, *command.split(), given=UNREADABLE)
         yield Outcome(f"a missing file: {' '.join([*words, command])}", came, UNUSABLE)
-    yield Outcome(
-        f"a missing file: the folder after {command}", [path.name for path in room.folder.iterdir()], []
-    )
+    yield Outcome(f"a missing file: the folder after {command}", [path.name for path in room.folder.iterdir()], [])
     room.write(DATABASE, b"")
     came = room.run("--db", DATABASE, *command.split(), given=UNREADABLE)
     yield Outcome(f"an empty file: {command}", came, UNUSABLE)

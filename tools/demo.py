@@ -99,9 +99,7 @@ def desk(program: Path) -> Iterator[int]:
     )
     folder = tempfile.mkdtemp(prefix="onixdesk-")
     command: list[Word] = [program, "--db", "shop.db", "--rules", RULES]
-    subprocess.run(
-        [*command, "batch"], cwd=folder, input=requests(), stdout=subprocess.DEVNULL, stderr=subprocess.DEVNULL
-    )
+    subprocess.run([*command, "batch"], cwd=folder, input=requests(), capture_output=True)
     port = free_port()
     serving = subprocess.Popen([*command, "serve", "--port", str(port)], cwd=folder, stdout=subprocess.PIPE)
     try:

@@ -55,11 +55,8 @@ def chosen(site: PlainSite, browser: Browser) -> Iterator[Outcome]:
     came = open_article(browser, article(BOOK, quantity="9"), "Buy 9")
     wanted = f"Buy 9 from Alpha Books at £14.00 a copy\n£126.00\nISBN {BOOK} · in stock · RRP £20.00 · margin 30%"
     browser.wait_for_text("#article-status", "RRP")
-    yield Outcome(
-        "chosen: the sentence",
-        (came.splitlines()[:2], browser.text("#article-status")),
-        (wanted.splitlines()[:2], wanted),
-    )
+    said = (came.splitlines()[:2], browser.text("#article-status"))
+    yield Outcome("chosen: the sentence", said, (wanted.splitlines()[:2], wanted))
     browser.wait(lambda: not browser.shows("#offers", "…"))
     cells = [[" ".join(cell.split()) for cell in row] for row in browser.rows("#offers")]
     rows = [
@@ -77,20 +74,17 @@ def chosen(site: PlainSite, browser: Browser) -> Iterator[Outcome]:
     title = browser.run("return document.getElementById('title').textContent")
     said = f"{HOSTILE}: onetwo · Éilís Byrne · Quay · Beta & Sons says: Another as Alpha Books said last, not proved"
     yield Outcome("chosen: what a feed says, as it stands", title, said)
-    quoted = browser.run(
-        "return [...document.querySelectorAll('#title q')].map((text) => getComputedStyle(text).fontWeight)"
-    )
+    weights = "return [...document.querySelectorAll('#title q')].map((text) => getComputedStyle(text).fontWeight)"
+    quoted = browser.run(weights)
     yield Outcome("chosen: it is quoted, in plain weight", quoted, ["400", "400"])
     first = browser.run("return document.querySelector('#verdict').firstElementChild.id")
     yield Outcome("chosen: which book it is comes first", first, "title")
     yield Outcome("chosen: no element of a feed's", browser.all("main img, main script"), [])
-    bars = browser.run(
-        "return [...document.querySelectorAll('#picture .lane')].map((lane) => lane.textContent.slice(0, 11))"
-    )
+    lanes = "return [...document.querySelectorAll('#picture .lane')].map((lane) => lane.textContent.slice(0, 11))"
+    bars = browser.run(lanes)
     yield Outcome("chosen: the year has a lane for each offer", bars, ["14.00£14.00", "8.00£8.00, ", "no price, 3"])
-    yield Outcome(
-        "chosen: no complaint of the browser", [text for text in browser.complaints() if "/nothing" not in text], []
-    )
+    complaints = [text for text in browser.complaints() if "/nothing" not in text]
+    yield Outcome("chosen: no complaint of the browser", complaints, [])
 
 
 def not_chosen(site: PlainSite, browser: Browser) -> Iterator[Outcome]:
@@ -139,9 +133,8 @@ def careful(site: PlainSite, browser: Browser) -> Iterator[Outcome]:
     told = browser.wait_for_text("#isbn-wrong", "ISBN")
     yield Outcome("a wrong ISBN", told, "This is no ISBN, which has thirteen digits, or ten: compare it with the book.")
     asked = [path for path in site.desk.asked[before:] if WRONG in path]
-    yield Outcome(
-        "a wrong ISBN: it is not asked for, and no answer stands", (asked, browser.text("#article-status")), ([], "")
-    )
+    came = (asked, browser.text("#article-status"))
+    yield Outcome("a wrong ISBN: it is not asked for, and no answer stands", came, ([], ""))
     open_article(browser, article(FREE, day="2025-04-10", country="DE"), "10 April 2025 · DE:")
     usual = browser.one("#as-usual").is_displayed()
     yield Outcome("what is not as usual is said, and can be reset", usual, True)

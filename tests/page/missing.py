@@ -1,5 +1,6 @@
 """The view of missing messages, before a stand-in for the desk and files of the inbox."""
 
+import re
 import time
 from collections.abc import Iterator
 
@@ -28,17 +29,14 @@ def three_states(site: PlainSite, browser: Browser) -> Iterator[Outcome]:
     yield Outcome("states: stop", card(browser, "alpha"), [*reasons, stands, letter, "Copy a letter to Alpha Books"])
     [last, *rest] = card(browser, "beta")
     clock = time.strftime("%H:%M")
-    unnumbered = last.startswith("Last file today ") and last.endswith(
-        ". It has no numbers: a lost file would not show."
-    )
-    yield Outcome(f"states: without numbers, at {clock}", unnumbered, True)
+    unnumbered = re.fullmatch(r"Last file today .*\. It has no numbers: a lost file would not show\.", last)
+    yield Outcome(f"states: without numbers, at {clock}", unnumbered is not None, True)
     yield Outcome("states: older terms", rest, [stands, "Articles whose price is by an older table of terms: 12."])
     yield Outcome("states: complete", card(browser, "gamma"), ["Complete: nothing is missing.", stands])
     tab = " ".join(browser.text("#to-missing").split())
     yield Outcome("states: at the tab", tab, "Missing messages 1 to look at")
-    green = browser.run(
-        "return [...document.querySelectorAll('.complete')].map((part) => part.parentElement.querySelector('h2').id)"
-    )
+    ids = "return [...document.querySelectorAll('.complete')].map((part) => part.parentElement.querySelector('h2').id)"
+    green = browser.run(ids)
     yield Outcome("states: green alone where all is numbered and there", green, ["series-gamma"])
 
 

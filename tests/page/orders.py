@@ -296,14 +296,8 @@ def files_of(
             offers, chosen, _ = book_of(number)
             offer = offers[chosen or 0]
             if offer.series == series and offer.amount:
-                wanted.append(
-                    [
-                        isbn_of(number),
-                        str(copies[number]),
-                        f"{offer.amount:.2f}",
-                        f"{offer.amount * copies[number]:.2f}",
-                    ]
-                )
+                total = offer.amount * copies[number]
+                wanted.append([isbn_of(number), str(copies[number]), f"{offer.amount:.2f}", f"{total:.2f}"])
         yield Outcome(f"till: the file of {series}", [row[:4] for row in rows], wanted)
         yield Outcome(f"till: its reference, {series}", {row[6] for row in rows}, {order})
 

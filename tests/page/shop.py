@@ -42,9 +42,8 @@ def stopped(site: Site, browser: Browser) -> Iterator[Outcome]:
     words = "The desk is not running, or is just being started." + again
     yield Outcome("a stopped desk is told", browser.wait_for_text("#down", words), words)
     site.start_desk()
-    yield Outcome(
-        "a started desk answers by itself", "£11.50" in browser.wait_for_text("#article-status", "£11.50"), True
-    )
+    came = browser.wait_for_text("#article-status", "£11.50")
+    yield Outcome("a started desk answers by itself", "£11.50" in came, True)
     yield Outcome("the note is gone", browser.one("#down").is_displayed(), False)
     browser.open("")
     site.stop_nginx()
@@ -52,9 +51,8 @@ def stopped(site: Site, browser: Browser) -> Iterator[Outcome]:
     words = "The web server of this page cannot be reached." + again
     yield Outcome("a stopped web server is told", browser.wait_for_text("#down", words), words)
     site.start_nginx()
-    yield Outcome(
-        "a started one answers by itself", "£11.50" in browser.wait_for_text("#article-status", "£11.50"), True
-    )
+    came = browser.wait_for_text("#article-status", "£11.50")
+    yield Outcome("a started one answers by itself", "£11.50" in came, True)
 
 
 CASES = [answered, stopped]

@@ -215,7 +215,7 @@ fn listing_of<'a>(name: &str, words: &ArgMatches<'a>) -> Option<Listing>
 
 // What a command asks for that lists what a desk holds.
 fn listing_reading<'a>(matches: &ArgMatches<'a>, listing: Listing) -> Reading<'a>
-    ensures { (name : Text) (own : List Row) → IsListing name own listing.entry
+    ensures { (name : Text) (own : List Row) → IsListing name own listing
         → text_in (words_in matches.now) (codes "batches") ≡ None
         → ReadsAs (words_in matches.now) name own result }
 {

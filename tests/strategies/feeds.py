@@ -19,7 +19,6 @@ LONG = "é" * 513
 
 SENDER = ("06", "S,1")
 SHOP = ("06", "5012345678900")
-SUPPLIER = ("06", "5030670000009")
 
 
 def element(name: str, inside: str, attributes: str = "") -> str:
@@ -64,14 +63,14 @@ def some_of(*texts: str) -> Text:
     return st.sampled_from(texts)
 
 
-def identifiers(name: str, most: int, least: int = 0) -> Text:
+def identifier(name: str, id_type: Text, value: Text) -> Text:
+    return composite(f"{name}Identifier", id_type, value)
+
+
+def identifiers(name: str, most: int) -> Text:
     value = "5012345678900|5030670000009|S,1|a &quot;b&quot; &lt;é"
-    one = composite(
-        f"{name}Identifier",
-        leaf(f"{name}IDType", "06|01|02", "|6|GLN"),
-        leaf("IDValue", value, f"|{CONTROL}|{LONG}"),
-    )
-    return few(one, most, least)
+    id_type = leaf(f"{name}IDType", "06|01|02", "|6|GLN")
+    return few(identifier(name, id_type, leaf("IDValue", value, f"|{CONTROL}|{LONG}")), most)
 
 
 # Territories.
@@ -145,7 +144,6 @@ ODD_IN_PRICE = some_of(
     "<EpubLicenseWithDate/>",
     "<CurrencyZone>EUR</CurrencyZone>",
     "<UnpricedItemType>01</UnpricedItemType>",
-    "<UnpricedItemType>1</UnpricedItemType>",
     "<PriceTypeCode>02</PriceTypeCode>",
     "<CountryCode>GB</CountryCode>",
     "<PriceEffectiveFrom>20250101</PriceEffectiveFrom>",
@@ -156,37 +154,66 @@ ODD_IN_PRICE = some_of(
 CODED = composite(
     "DiscountCoded",
     leaf("DiscountCodeType", "02|01", "", 20),
+    leaf("DiscountCodeTypeName", "|House|Press"),
     leaf("DiscountCode", "A|B C|é,1", "", 20),
 )
 DISCOUNT = composite(
     "Discount",
     leaf("DiscountType", "|01", "02", 10),
     leaf("Quantity", "|5|10|0010|0", "1234567|x", 20),
-    leaf("DiscountPercent", "40|45.25|42.5000|100.00|0", "100.01|12,5||.5|1000", 8),
+    leaf("DiscountPercent", "40|45.25|42.5000|100.00|0|1", "100.01|12,5||.5|1000|0.40", 8),
 )
-TAX = composite("Tax", leaf("TaxRatePercent", "20|5.50|0", "x|", 8))
+TAX = composite("Tax", leaf("TaxRateCode", "|Z|S"), leaf("TaxRatePercent", "20|5.50|0|", "x|0.2", 8))
 
-PRICE = composite(
-    "Price",
+AMOUNT = leaf(
+    "PriceAmount",
+    "9.00|12.99|12.345|0.01|7|9.8765|11.9990|999999999.999",
+    "0.000|12,99|.99|1.23449|0009.99950||1234567890|999999999.9996|0.0004|1234567890.1234",
+    12,
+)
+ODD = rarely(few(ODD_IN_PRICE, 2, 1), some_of(""), 8)
+PRICED = parts(few(CODED, 2), few(DISCOUNT, 2), AMOUNT, rarely(few(TAX, 2), few(TAX, 1), 4), ODD)
+DATES = few(rarely(ODD_DATE, DATE, 15), 2)
+KIND = parts(
     leaf("PriceType", "|02|42|05|04|07", "3|RRP"),
     leaf("MinimumOrderQuantity", "||1|5|10|010|0", "1.5|1234567|two"),
-    few(CODED, 2),
-    few(DISCOUNT, 2),
-    leaf("PriceAmount", "9.00|12.99|12.345|0.01|7|999999999.999", "0.000|12,99|.99|7.1250|1.23456||1234567890", 20),
-    few(TAX, 1),
     leaf("CurrencyCode", "|GBP|EUR", "gbp|EURO"),
-    rarely(TERRITORY, some_of(""), 3),
-    few(rarely(ODD_DATE, DATE, 15), 2),
-    rarely(few(ODD_IN_PRICE, 2, 1), some_of(""), 8),
 )
+PRICE = composite("Price", KIND, PRICED, rarely(TERRITORY, some_of(""), 3), DATES)
+
+
+def territory(included: str, world: str = "", excluded: str = "") -> str:
+    named = {"CountriesIncluded": included, "RegionsIncluded": world, "CountriesExcluded": excluded}
+    return element("Territory", "".join(listed(name, text.split()) for name, text in named.items()))
+
+
+# Prices that are alike but for where they hold and how much they are.
+WHERE = ["", territory("GB"), territory("", "WORLD"), territory("IE GB IE"), territory("", "WORLD", "US UK")]
+WHERE += [territory("FR GB", "", "GB"), territory("FR", "WORLD"), territory("", "", MANY)]
+
+
+def alike(same: tuple[str, str]) -> Text:
+    kind = rarely(KIND, st.just(same[0]), 8)
+    return few(composite("Price", kind, PRICED, rarely(TERRITORY, some_of(*WHERE), 8), st.just(same[1])), 4, 2)
+
+
+ALIKE = st.tuples(KIND, rarely(DATES, some_of(""), 3)).flatmap(alike)
 
 
 # Supplies, products and messages.
 
+# The one that may be asked for and another one, who may have a number of the same value.
+THESE = [("06", "5030670000009"), ("01", "5030670000009"), ("06", "5012345678900")]
+
+
+def of_this(pair: tuple[str, str]) -> Text:
+    return identifier("Supplier", leaf("SupplierIDType", pair[0]), leaf("IDValue", pair[1]))
+
+
 SUPPLIED = composite(
     "Supplier",
     leaf("SupplierRole", "04|01", "|4"),
-    identifiers("Supplier", 2),
+    rarely(identifiers("Supplier", 2), few(st.sampled_from(THESE).flatmap(of_this), 2), 3),
     leaf("SupplierName", "North|South &amp; Sons", f"|{CONTROL}|{LONG}", 15),
     leaf("SupplierRole", "", "02", 15),
 )
@@ -198,10 +225,10 @@ DETAIL = composite(
     leaf("ProductAvailability", "21|40", "|2|x"),
     leaf("UnpricedItemType", "||01", "x"),
     leaf("SupplyToCountry", "", "GB"),
-    some(PRICE, 4),
+    st.one_of(some(PRICE, 4), ALIKE),
 )
 
-SUPPLY = composite("ProductSupply", few(MARKET, 3), some(DETAIL, 2))
+SUPPLY = composite("ProductSupply", few(MARKET, 3), some(DETAIL, 3))
 
 ISBN = composite(
     "ProductIdentifier",
@@ -256,23 +283,18 @@ ASIDE = [
     "<NotificationType>05</NotificationType>",
     "<PriceType>05</PriceType>",
     "<DiscountPercent>5</DiscountPercent>",
+    "<PriceAmount>8.00</PriceAmount>",
+    "<SupplierIDType>01</SupplierIDType>",
     "<Tax><TaxRatePercent/></Tax>",
     "<Price xmlns='urn:z'/>",
     "<z:Market xmlns:z='urn:z'/>",
     "<supplydetail/>",
     "<PRODUCTIDENTIFIER/>",
     "<Idvalue/>",
+    "<supplier/>",
     "<discountcoded/>",
 ]
-NO_MESSAGE = [
-    "<Header/>",
-    "&nobody;",
-    "&",
-    "<x y='1' y='1'/>",
-    "<x",
-    "</x>",
-    "]]>",
-]
+NO_MESSAGE = ["<Header/>", "&nobody;", "&", "<x y='1' y='1'/>", "<x", "</x>", "]]>"]
 
 PUT = rarely(some_of(*NO_MESSAGE), st.one_of(some_of(*ASIDE), some_of(*AGAIN)), 15)
 AMONG = st.lists(st.tuples(st.integers(0, 999), st.booleans(), PUT), max_size=3)
@@ -312,18 +334,22 @@ FEEDS: Text = st.builds(
 )
 
 
-# Messages whose products have so many identifiers of 1,024 bytes: two of 2,040 are just too many for one part.
-SIZES = st.lists(st.sampled_from([2_040, 2_039, 1_300, 3_400, 1]), min_size=2, max_size=3)
-WIDE = element("ProductIdentifier", element("ProductIDType", "01") + element("IDValue", "x" * 1_024)) + "\n"
+# Messages whose products have so many identifiers of 1,024 bytes: two of 2,040 are just too many for one part, and one
+# of 2,042 where each byte is written twice.
+SIZES = [(2_040, "x"), (2_039, "x"), (1_300, "x"), (3_400, "x"), (1, "x"), (2_041, '"'), (2_042, '"')]
 
 
-def filled(sizes: list[int]) -> str:
-    before, behind = FRAMES["products"].before, FRAMES["products"].behind
+def wide(size: int, letter: str) -> str:
     own = element("RecordReference", "R1") + element("NotificationType", "04")
-    return before + "\n".join(element("Product", own + WIDE * size) for size in sizes) + behind
+    pair = element("ProductIDType", "01") + element("IDValue", letter * 1_024)
+    return element("Product", own + (element("ProductIdentifier", pair) + "\n") * size)
 
 
-LARGE: Text = st.builds(filled, SIZES)
+def filled(sizes: list[tuple[int, str]]) -> str:
+    return FRAMES["products"].before + "\n".join(wide(*size) for size in sizes) + FRAMES["products"].behind
+
+
+LARGE: Text = st.builds(filled, st.lists(st.sampled_from(SIZES), min_size=2, max_size=3))
 
 
 # Words, and tables of terms.
@@ -341,18 +367,18 @@ def words(tables: SearchStrategy[tuple[Term, ...] | None], more: int) -> SearchS
     return st.builds(of, st.sampled_from([1, 2, 100]), st.sampled_from(NUMBERS), some_of("", "01"), wrong, tables)
 
 
-def term(types: tuple[str, ...], percent: str, codes: set[str], supplier: str, currency: str, tax: str) -> Term:
-    return Term(types, "07" if "05" in types else "05", percent, tuple(sorted(codes)), supplier, currency, tax)
+def term(types: tuple[str, ...], percent: str, codes: set[str], *others: str) -> Term:
+    return Term(types, "07" if "05" in types else "05", percent, tuple(sorted(codes)), *others)
 
 
 TERM = st.builds(
     term,
-    st.sampled_from([("02",), ("02", "42"), ("04", "02"), ("05",)]),
+    st.sampled_from([("02",), ("02", "42"), ("04", "02"), ("05",), ("01", "02")]),
     some_of("50", "feed", "0", "42.5", "33.33", "007.5", "100"),
     st.sets(some_of("02,A", "01,A", "02,B C", "02,é,1"), max_size=2),
-    some_of("", "", ",".join(SUPPLIER)),
+    some_of("", "", ",".join(THESE[0])),
     some_of("", "", "GBP", "EUR"),
-    some_of("", "", "20", "5.5", "250", "feed"),
+    some_of("", "", "20", "5.5", "250", "feed", "0"),
 )
 
 

@@ -1,7 +1,5 @@
 """What the words, files and statuses of `onixdesk convert` are to be."""
 
-import io
-import zipfile
 from typing import NamedTuple
 
 from tests.program.feeds.convert.case_files import FRAMES, SUPPLIER, said
@@ -48,15 +46,6 @@ BAD_SAID = "1:28: refused: no MessageNumber; --number N gives one"
 
 # A feed of two products, of which the first is left out.
 WRONG = feed_of("", "R2")
-
-
-def zipped(entries: dict[str, bytes], method: int = zipfile.ZIP_DEFLATED) -> bytes:
-    """A zip of these entries."""
-    made = io.BytesIO()
-    with zipfile.ZipFile(made, "w", method) as archive:
-        for name, data in entries.items():
-            archive.writestr(name, data)
-    return made.getvalue()
 
 
 def ends(status: int, *lines: str) -> Ran:

@@ -13,6 +13,7 @@ from tests.program.room import Room
 from tests.running import Outcome
 from tests.shop.fake_desk import WAIVED, FakeDesk, Series
 from tests.shop.fake_program import SENDER, feed_of, isbn_of, message_of, product_of
+from tests.shop.fake_machine import FakeMachine, Killed
 from tests.shop.inboxes import SERIES, START, FakeInbox
 
 DAY = 86_400
@@ -236,6 +237,25 @@ def returned(room: Room) -> Iterator[Outcome]:
     inbox.run()
     yield Outcome("each number has its text", [inbox.series.had[number] for number in texts], [*texts.values()])
     yield Outcome("put there again", (sorted(inbox.series.had), price_of(inbox, "R1")), ([1, 2, 3], "1.000"))
+
+
+def waived(room: Room) -> Iterator[Outcome]:
+    """A number that was waived is waived again at a restored desk, before a file that came to it meanwhile."""
+    inbox = inbox_in(room, "waived")
+    assert inbox.desk
+    before = inbox.desk.copy()
+    inbox.work(lambda each: decide.waive(each, [1]))
+    inbox.run()
+    inbox.send("1.xml", feed_of(1, {"R1": "1.00"}))
+    machine = FakeMachine(inbox.disk, inbox.desk, inbox.clock, ("kill", "answered", 4))
+    try:
+        inbox.run(machine)
+    except Killed:
+        inbox.desk = before
+    states = inbox.work(lambda each: [row.state for row in each.ledger.messages_of(each.ledger.files("1")[0])])
+    yield Outcome("killed amid its post", states, ["posted"])
+    inbox.run()
+    yield Outcome("waived again", (inbox.series.had[1], inbox.states()), (WAIVED, {"1.xml": "refused"}))
 
 
 def endings(room: Room) -> Iterator[Outcome]:

@@ -269,6 +269,20 @@ def endings(room: Room) -> Iterator[Outcome]:
     yield Outcome("the old one is gone", len(os.listdir(inbox.places.inboxes / SERIES / "store")), 1)
 
 
+def left(room: Room) -> Iterator[Outcome]:
+    """Files that are left in their folder are taken once, also two of the same bytes; after 60 days they are removed."""
+    inbox = inbox_in(room, "left", leave=True)
+    for name in ("full.xml", "full-20261130.xml"):
+        inbox.send(name, feed_of(1, {"R1": "1.00"}))
+    inbox.run()
+    heard = inbox.shown()["heard_at"]
+    inbox.clock += DAY
+    yield Outcome("nothing more is said or heard", (inbox.run(), inbox.shown()["heard_at"]), ([], heard))
+    inbox.clock += 61 * DAY
+    inbox.run()
+    yield Outcome("removed", os.listdir(inbox.incoming), [])
+
+
 def lacking(room: Room) -> Iterator[Outcome]:
     """What the desk lacks and cannot have again waits, for whoever looks at the page."""
     inbox = inbox_in(room, "lacking")

@@ -11,7 +11,7 @@ from tests.program.databases import DATABASE, batch
 from tests.program.files.desk_renew import AGREEMENTS, NORTH, kept, message, product
 from tests.program.room import Room
 from tools.root import ROOT
-from tools.words import Word
+from tools.words import Row, Word
 
 BEFORE = b"isbn;price\n9781234567897;7.00\n"
 SHOP = {
@@ -62,16 +62,27 @@ class OfRenewal(OfRestore):
             room.path(name).mkdir()
         text = AGREEMENTS + message(NORTH, 1, *product("R1")) + message(NORTH, 2, *product("R1", amount="9"))
         batch(room, text.encode())
-        self.rows = kept(room, DATABASE)
         self.old = self.new = self.moved("before")
+        self.rows = self.rows_in("before")
         self.script("systemctl", "exit 0")
 
     def words(self) -> Sequence[Word]:
         places = ["--inboxes=none", "--settings=none", "--copies=none", f"--program={self.room.program}"]
         return [ROOT / "bin/desk-renew", "--db", f"desk/{DATABASE}", *places, "--yes"]
 
+    def rows_in(self, folder: str) -> dict[str, list[Row]]:
+        """The rows of a desk, of which a copy is read: SQLite would change it."""
+        looked = self.room.path("looked")
+        looked.mkdir()
+        for name in (DATABASE, f"{DATABASE}-wal"):
+            if self.room.path(f"{folder}/{name}").exists():
+                shutil.copy(self.room.path(f"{folder}/{name}"), looked / name)
+        found = kept(self.room, f"looked/{DATABASE}")
+        shutil.rmtree(looked)
+        return found
+
     def is_sound(self) -> bool:
-        return kept(self.room, f"desk/{DATABASE}") == self.rows
+        return self.rows_in("desk") == self.rows
 
     def wrong_then(self) -> Iterator[str]:
         """A desk that can be started is one of the two, whole."""

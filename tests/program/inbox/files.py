@@ -13,6 +13,7 @@ from tests.program.room import Room
 from tests.running import Outcome
 from tests.shop.fake_desk import WAIVED, FakeDesk, Series
 from tests.shop.fake_program import SENDER, feed_of, isbn_of, message_of, product_of
+from tests.shop.fake_machine import FakeMachine, Killed
 from tests.shop.inboxes import SERIES, START, FakeInbox
 
 DAY = 86_400
@@ -238,6 +239,25 @@ def returned(room: Room) -> Iterator[Outcome]:
     yield Outcome("put there again", (sorted(inbox.series.had), price_of(inbox, "R1")), ([1, 2, 3], "1.000"))
 
 
+def waived(room: Room) -> Iterator[Outcome]:
+    """A number that was waived is waived again at a restored desk, before a file that came to it meanwhile."""
+    inbox = inbox_in(room, "waived")
+    assert inbox.desk
+    before = inbox.desk.copy()
+    inbox.work(lambda each: decide.waive(each, [1]))
+    inbox.run()
+    inbox.send("1.xml", feed_of(1, {"R1": "1.00"}))
+    machine = FakeMachine(inbox.disk, inbox.desk, inbox.clock, ("kill", "answered", 4))
+    try:
+        inbox.run(machine)
+    except Killed:
+        inbox.desk = before
+    states = inbox.work(lambda each: [row.state for row in each.ledger.messages_of(each.ledger.files("1")[0])])
+    yield Outcome("killed amid its post", states, ["posted"])
+    inbox.run()
+    yield Outcome("waived again", (inbox.series.had[1], inbox.states()), (WAIVED, {"1.xml": "refused"}))
+
+
 def endings(room: Room) -> Iterator[Outcome]:
     """A file that came under a wrong ending is put there again under the right one."""
     inbox = inbox_in(room, "ending")
@@ -247,6 +267,20 @@ def endings(room: Room) -> Iterator[Outcome]:
     inbox.run()
     yield Outcome("by its new ending", inbox.states(), {"a.xml": "applied"})
     yield Outcome("the old one is gone", len(os.listdir(inbox.places.inboxes / SERIES / "store")), 1)
+
+
+def left(room: Room) -> Iterator[Outcome]:
+    """Files that are left in their folder are taken once, also two of the same bytes; after 60 days they are removed."""
+    inbox = inbox_in(room, "left", leave=True)
+    for name in ("full.xml", "full-20261130.xml"):
+        inbox.send(name, feed_of(1, {"R1": "1.00"}))
+    inbox.run()
+    heard = inbox.shown()["heard_at"]
+    inbox.clock += DAY
+    yield Outcome("nothing more is said or heard", (inbox.run(), inbox.shown()["heard_at"]), ([], heard))
+    inbox.clock += 61 * DAY
+    inbox.run()
+    yield Outcome("removed", os.listdir(inbox.incoming), [])
 
 
 def lacking(room: Room) -> Iterator[Outcome]:

@@ -87,6 +87,8 @@ class Message:
         return hashlib.sha256(self.text).hexdigest()
 
 
+STANDING = State.READY, State.POSTED, State.HELD, State.APPLIED
+
 ROW = "SELECT number, file, digest, deletions, state, answer, text IS NOT NULL FROM message"
 
 
@@ -378,10 +380,10 @@ class Ledger:
             *(int(self.machine.now()), what, file.id if file else None, number, subject),
         )
 
-    def stands(self, number: int) -> bool:
-        """Whether a file that nobody refused has that number."""
+    def stands(self, number: int, states: tuple[State, ...] = STANDING) -> bool:
+        """Whether a file that nobody refused has that number, in one of these states."""
         row = self.row(number)
-        if row is None or row.state not in (State.READY, State.POSTED, State.HELD, State.APPLIED):
+        if row is None or row.state not in states:
             return False
         return self.file(row.file).state != State.REJECTED
 

@@ -1,10 +1,8 @@
 """The catalogue of a series in a desk's tables, as the records of messages that make it."""
 
-import csv
-import io
 import itertools
 import sqlite3
-from collections.abc import Iterable, Iterator, Sequence
+from collections.abc import Iterable, Iterator
 from datetime import date
 from operator import itemgetter
 from typing import Any
@@ -12,6 +10,7 @@ from typing import Any
 from onixdesk_shop.batches import MOST_BYTES
 from onixdesk_shop.faults import Failed
 from onixdesk_shop.lines import token
+from onixdesk_shop.messages import text_of
 
 # NotificationType of a record that is put whole.
 CONFIRMED = "03"
@@ -35,13 +34,6 @@ SELECT reference, place, price_type, amount, currency, included, world, excluded
     coalesce(minimum, 1)
 FROM price LEFT JOIN price_minimum USING (series, reference, place, price_place)
 WHERE series = ? ORDER BY reference, place, price_place"""
-
-
-def text_of(*rows: Sequence[object]) -> str:
-    """Rows as the desk reads them."""
-    text = io.StringIO()
-    csv.writer(text, lineterminator="\n").writerows(rows)
-    return text.getvalue()
 
 
 class Rows:
@@ -96,7 +88,7 @@ def contents_in(database: sqlite3.Connection, series: str) -> Iterator[str]:
     pieces, count, size = [""], 0, 0
     for (reference,) in database.execute(REFERENCES, [series]):
         rows = product(reference, *others)
-        text = text_of(*rows)
+        text = text_of(rows)
         length = len(text.encode())
         if len(rows) > MOST_RECORDS - 2 or length > MOST_BYTES - ROOM:
             raise Failed(f"{series}: no message accepts its record {token(reference)}; the desk is left as it is")

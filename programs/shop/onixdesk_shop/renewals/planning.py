@@ -6,7 +6,8 @@ from collections.abc import Iterator
 from dataclasses import dataclass
 
 from onixdesk_shop.faults import Failed
-from onixdesk_shop.renewals.catalogue import contents_in, text_of
+from onixdesk_shop.messages import text_of
+from onixdesk_shop.renewals.catalogue import contents_in
 
 # The contents of a number that was waived, and of a message without products.
 WAIVED, EMPTY = "waived", ""
@@ -58,7 +59,7 @@ def renewals_in(copy: sqlite3.Connection) -> list[Renewal]:
         messages = sum(1 for _ in contents_of(copy, series)) if first < after else 0
         if after - messages < first:
             left.append(f"{series}: its catalogue needs {messages} numbers before {after}, and it begins at {first}")
-        found.append(Renewal(series, text_of(parties).rstrip("\n"), first, after, messages))
+        found.append(Renewal(series, text_of([parties]).rstrip("\n"), first, after, messages))
     if left:
         raise Failed(f"the desk is left as it is: {'; '.join(left)}")
     return found

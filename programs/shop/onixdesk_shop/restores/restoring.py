@@ -77,8 +77,7 @@ class Restore:
             if record[0] not in ("agreed", "waived"):
                 self.has_all = False
                 self.machine.tell(ERROR, f"an agreement or waiver is not made again: {cut(','.join(record))}")
-        agreements, waivers = [*since.agreements.values()], sorted(since.waivers)
-        for line in [*agreements, *(f"Waive,{name},{number}" for name, number in waivers)]:
+        for line in since.requests().splitlines():
             self.machine.tell(NOTICE, f"is made again: {cut(line)}")
         self.base.agreements |= since.agreements
         self.base.waivers |= since.waivers

@@ -67,7 +67,7 @@ class OfRenewal(OfRestore):
         self.script("systemctl", "exit 0")
 
     def words(self) -> Sequence[Word]:
-        places = ["--inboxes=none", "--settings=none", "--copies=none", f"--program={self.room.program}"]
+        places = ["--inboxes=none", "--settings=none", f"--program={self.room.program}"]
         return [ROOT / "bin/desk-renew", "--db", f"desk/{DATABASE}", *places, "--yes"]
 
     def rows_in(self, folder: str) -> dict[str, list[Row]]:

@@ -11,7 +11,7 @@ from typing import Any
 
 from onixdesk_shop.children import Ended, Words
 from onixdesk_shop.faults import BadEnd
-from onixdesk_shop.places import LEDGERS
+from onixdesk_shop.places import LEDGER, LEDGERS
 from tests.shop.fake_desk import WAIVED, FakeDesk, Series, records_of
 from tests.shop.fake_machine import FakeMachine
 from tests.shop.fake_program import SENDER
@@ -214,7 +214,7 @@ class Shop:
         (folder / LEDGERS).mkdir(parents=True)
         self.write()
         shutil.copy(self.database, folder / self.database.name)
-        self.inbox.work(lambda inbox: inbox.machine.backup(inbox.ledger_file, folder / LEDGERS / f"{SERIES}.db"))
+        self.inbox.work(lambda inbox: inbox.machine.backup(inbox.folder / LEDGER, folder / LEDGERS / f"{SERIES}.db"))
         return folder
 
 

@@ -90,7 +90,7 @@ def taken(path: Path, parts: int, room: Room) -> Iterator[Outcome]:
         came = inbox.run()
         desk.stopped()
     numbers = hoped.numbers()
-    is_applied = came.errors.startswith(b"onixdesk-inbox: applied: number") or parts > 1
+    is_applied = b"onixdesk-inbox: applied: number" in came.errors or parts > 1
     found = came.status, is_applied, [*inbox.incoming.iterdir()]
     yield Outcome(f"{path.name} in {parts} parts, in an inbox", found, (0, True, []))
     replies = [json.loads(reply(number, counts)[4:]) for number, counts in zip(numbers, hoped.effects, strict=True)]

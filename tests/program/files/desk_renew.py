@@ -110,7 +110,6 @@ def renewed(room: Room, machine: Machine, **more: object) -> int:
     words = {
         "db": room.path(DATABASE),
         "inboxes": room.path("none"),
-        "copies": room.path("none"),
         "program": room.program,
     }
     options = command_line().parse_args([f"--{name}={value}" for name, value in (words | more).items()] + ["--yes"])
@@ -181,7 +180,9 @@ def shop_in(room: Room, name: str) -> Shop:
 
 def run(shop: Shop, machine: ShopMachine | None = None) -> int:
     machine = machine or shop.machine()
-    options = command_line().parse_args([f"--{name}={place}" for name, place in shop.options.items()])
+    options = command_line().parse_args(
+        [f"--{name}={place}" for name, place in shop.options.items() if name != "copies"]
+    )
     try:
         return status_of(machine, lambda each: renew(each, options))
     finally:

@@ -33,19 +33,13 @@ LIMIT = 1800 << 20
 OF_ITS_OWN, FOR_A_BYTE = 16_000_000, 1.1
 
 
-def count(word: str) -> int:
-    if not (word.isascii() and word.isdigit() and 1 <= len(word) <= 4 and int(word)):
-        raise argparse.ArgumentTypeError(f"{ascii(word)} is not 1 to 9999")
-    return int(word)
-
-
 def command_line() -> argparse.ArgumentParser:
     parser = parser_of(NAME, DESCRIPTION, STATUSES)
     add = parser.add_argument
     add(
         "--keep",
         metavar="N",
-        type=count,
+        type=int,
         help="FOLDER has a folder for each copy, named by its second; all but the latest N are removed at the end",
     )
     add("--inboxes", metavar="FOLDER", type=Path, help="also copies the ledgers of the inboxes that are in that folder")

@@ -1,7 +1,7 @@
 """One inbox at work: its series, settings, places, ledger and desk, and the lines that it tells."""
 
 import hashlib
-from dataclasses import dataclass, field
+from dataclasses import dataclass
 from pathlib import Path
 
 from onixdesk_shop.desk import Desk, Gaps
@@ -9,7 +9,7 @@ from onixdesk_shop.faults import Fault
 from onixdesk_shop.inbox.ledger import Decision, File, Ledger, State
 from onixdesk_shop.lines import ERROR, NOTICE, WARNING, ranges, token
 from onixdesk_shop.machine import Entry, Machine
-from onixdesk_shop.places import INCOMING, INBOXES, LEDGER, RULES, STATE, STORE, WORK
+from onixdesk_shop.places import INCOMING, INBOXES, RULES, STATE, STORE, WORK
 from onixdesk_shop.settings import OWN, Settings
 from onixdesk_shop.shop_json import Shop
 
@@ -42,7 +42,6 @@ class Inbox:
     shop: Shop | None = None
     terms: bytes | None = None
     has_error: bool = False
-    told: list[str] = field(default_factory=list)
 
     @property
     def incoming(self) -> Path:
@@ -59,10 +58,6 @@ class Inbox:
     @property
     def work(self) -> Path:
         return self.folder / WORK
-
-    @property
-    def ledger_file(self) -> Path:
-        return self.folder / LEDGER
 
     def stored(self, file: File) -> Path:
         return self.store / f"{file.digest}{file.ending}"

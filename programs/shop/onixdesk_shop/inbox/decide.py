@@ -1,6 +1,6 @@
 """What a person decides on a file or a number. It is written down; the next run does it."""
 
-from collections.abc import Callable
+from collections.abc import Callable, Sequence
 
 from onixdesk_shop.faults import DONE, BadCall, Failed
 from onixdesk_shop.inbox.context import Inbox
@@ -84,7 +84,7 @@ def decide(inbox: Inbox, what: str, mark: str) -> int:
     return DONE
 
 
-def waive(inbox: Inbox, numbers: range) -> int:
+def waive(inbox: Inbox, numbers: Sequence[int]) -> int:
     """Has numbers waived that will never come; also those of a file whose texts are not kept any more."""
     ledger = inbox.ledger
     with ledger.step():
@@ -106,7 +106,7 @@ def refuse_first(inbox: Inbox, row: Row) -> None:
         raise Failed(f"{command}; number {row.number} has that file, which has to be refused first")
 
 
-def take_back(inbox: Inbox, numbers: range) -> int:
+def take_back(inbox: Inbox, numbers: Sequence[int]) -> int:
     """The waivers of numbers are not made again. The desk has them until its text is corrected."""
     if not set(numbers) <= set(inbox.ledger.waived()):
         raise Failed(f"not waived here: {ranges([*numbers])}")

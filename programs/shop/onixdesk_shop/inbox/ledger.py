@@ -311,11 +311,6 @@ class Ledger:
         before = max(given, gaps.greatest or 0, gaps.first - 1)
         return (before + parts - 1) // parts * parts + 1
 
-    def oldest_text(self) -> int | None:
-        """The least number from which on the text of each message is kept that the desk had."""
-        gone = self.value("SELECT max(number) FROM message WHERE state IN ('held', 'applied') AND text IS NULL")
-        return self.number("SELECT min(number) FROM message WHERE text IS NOT NULL AND number > ?", gone or 0)
-
     def lacking(self, gaps: Gaps) -> list[tuple[Row, File]]:
         """What is posted again once a desk with these gaps stands there."""
         return [(row, self.file(row.file)) for row in self.to_post(gaps)]

@@ -7,6 +7,7 @@ import sys
 from onixdesk_shop.ends import parser_of, program_of, run_program
 from onixdesk_shop.faults import Fault
 from onixdesk_shop.machine import Machine
+from onixdesk_shop.places import COPIES
 from onixdesk_shop.renewals.renewing import Renewing
 from onixdesk_shop.restores.command_line import add_places, put
 from onixdesk_shop.restores.placing import Work
@@ -35,7 +36,7 @@ def command_line() -> argparse.ArgumentParser:
 def renew(machine: Machine, options: argparse.Namespace) -> int:
     database = options.db.absolute()
     copy = Work(machine, database).folder / "copy"
-    places = Places(program_of(options.program), database, options.inboxes, options.settings, options.copies, copy)
+    places = Places(program_of(options.program), database, options.inboxes, options.settings, COPIES, copy)
     try:
         return put(machine, Renewing(machine, places), options.yes)
     except sqlite3.Error as error:

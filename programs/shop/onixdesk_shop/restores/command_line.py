@@ -33,7 +33,6 @@ def add_places(parser: argparse.ArgumentParser) -> None:
         ("db", DESK_FILE),
         ("inboxes", INBOXES),
         ("settings", INBOX_SETTINGS),
-        ("copies", COPIES),
         ("program", PROGRAM),
     ):
         parser.add_argument(f"--{name}", metavar="PATH", type=Path, default=place, help=f"{place} without it")
@@ -43,6 +42,7 @@ def command_line() -> argparse.ArgumentParser:
     parser = parser_of(NAME, DESCRIPTION, STATUSES)
     add_places(parser)
     add = parser.add_argument
+    add("--copies", metavar="PATH", type=Path, default=COPIES, help=f"{COPIES} without it")
     add("--yes", action="store_true", help="asks nothing")
     add("--gaps", action="store_true", help="accepts a copy that lacks messages which no inbox can post again")
     add("--before-correction", action="store_true", help="accepts a copy from before a correction of the desk's text")

@@ -111,24 +111,22 @@ class Work:
         try:
             yield
         finally:
-            if self.is_begun():
-                # A signal ended it amid that.
-                self.put_in_place()
-            self.started = self.units()
-            self.is_started = units.start(self.started)
-            self.end()
+            self.finish(units)
 
-    def end_killed(self, units: Units) -> bool:
-        """Ends what a run began that was killed: puts the new desk into its place where the old one is moved away, and
-        starts what was stopped. Whether that desk is in place then."""
-        if not self.machine.exists(self.folder):
-            return False
+    def finish(self, units: Units) -> None:
+        """Puts the new desk into its place where the old one is moved away, and starts what was stopped."""
         if self.is_begun():
             self.put_in_place()
-        is_done = self.is_in_place()
-        stood = "has put its desk into place" if is_done else "has changed nothing"
-        self.machine.tell(WARNING, f"a run that was killed {stood}, and is ended now")
         self.started = [unit for unit in self.units() if is_begun(unit)]
         self.is_started = units.start(self.started)
         self.end()
+
+    def end_killed(self, units: Units) -> bool:
+        """Ends what a run began that was killed. Whether its desk is in place then."""
+        if not self.machine.exists(self.folder):
+            return False
+        is_done = self.is_begun() or self.is_in_place()
+        stood = "has put its desk into place" if is_done else "has changed nothing"
+        self.machine.tell(WARNING, f"a run that was killed {stood}, and is ended now")
+        self.finish(units)
         return is_done

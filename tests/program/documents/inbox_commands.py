@@ -40,6 +40,18 @@ def what_is_shown(room: Room) -> Iterator[Outcome]:
         yield Outcome(f"{PAGE}: {commands[3]}", (mark(data) in file, "applied" in file), (True, True))
 
 
+def problems(room: Room) -> Iterator[Outcome]:
+    """Each command of docs/PROBLEMS.md that asks an inbox something, and the one that waives a number."""
+    lines = [line for block in blocks("docs/PROBLEMS.md") for line in block if line.startswith("onixdesk-inbox ")]
+    with machine(room, AGREEMENT.format("4012345000009", 40)) as desk:
+        desk.take({"before.xml": feed(40, a="7.00"), "friday.xml": feed(41, a="8.00")})
+        for line in lines:
+            line = line.replace("north 41", "north 42")
+            ran = desk.run([line])
+            yield Outcome(f"docs/PROBLEMS.md: {line}", (ran.status, ran.errors), (0, b""))
+    yield Outcome("docs/PROBLEMS.md: its commands", len(lines), 5)
+
+
 def a_number_that_never_comes(room: Room) -> Iterator[Outcome]:
     with machine(room, AGREEMENT.format("4012345000009", 41)) as desk:
         desk.take({"feed.xml": feed(42, a="8.00")})

@@ -68,6 +68,11 @@ def contents(data: bytes, parts: int, terms: bytes | None) -> tuple[Contents, ..
     return tuple(contents_of(records_of(message)) for message in messages)
 
 
+def products_of(sent: Sent) -> dict[str, str]:
+    found: dict[str, str] = json.loads(sent.data)["products"]
+    return found
+
+
 def bare(had: Contents | str | None) -> Contents | str | None:
     """Contents without what was added to a full file."""
     if isinstance(had, tuple):
@@ -391,9 +396,8 @@ class Model(RuleBasedStateMachine):
         """Whether the desk has a feed of that number with the same products, by whichever terms."""
         first = ((sent.number or 0) - 1) * self.parts + 1
         had = [bare(series.had.get(first + part)) for part in range(self.parts)]
-        products = json.loads(sent.data)["products"]
         others = [other for other in self.sent.values() if other.is_whole and other.number == sent.number]
-        return any(self.fits(other, had) for other in others if json.loads(other.data)["products"] == products)
+        return any(self.fits(other, had) for other in others if products_of(other) == products_of(sent))
 
     def check_texts(self, series: Series) -> None:
         """No number ever has two texts, but where a person refused the first."""
@@ -414,11 +418,14 @@ class Model(RuleBasedStateMachine):
         for sent in judged:
             by_number.setdefault(sent.number or 0, []).append(sent)
         for number, candidates in by_number.items():
-            standing = next((sent for sent in candidates if not sent.is_rejected), None)
+            # What a person refused does not come back by a resend that was had already.
+            refused = [products_of(sent) for sent in candidates if sent.is_rejected]
+            like = [sent for sent in candidates if not sent.is_rejected and products_of(sent) in refused]
+            standing = next((sent for sent in candidates if not sent.is_rejected and sent not in like), None)
             for part in range(self.parts):
                 at = (number - 1) * self.parts + part + 1
                 right = self.may_be(standing, part) if standing else [None]
-                stays = [sent for sent in candidates if sent.is_rejected and not sent.is_gone]
+                stays = [*like, *(sent for sent in candidates if sent.is_rejected and not sent.is_gone)]
                 right += [each for sent in stays for each in self.may_be(sent, part)]
                 right += [WAIVED] if at in self.waived else []
                 assert bare(series.had.get(at)) in right, (at, series.had.get(at), right)

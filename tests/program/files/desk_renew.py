@@ -254,7 +254,7 @@ def written_meanwhile(room: Room) -> Iterator[Outcome]:
     yield Outcome("the new desk has both", sorted(shop.inbox.series.had), [3, 4, 5, 10])
 
 
-STRIDE = int(os.environ.get("ONIXDESK_STRIDE", "33"))
+STRIDE = int(os.environ.get("ONIXDESK_STRIDE", "9"))
 
 
 def killed(kind: str, room: Room) -> Iterator[Outcome]:

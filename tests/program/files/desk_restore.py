@@ -22,7 +22,7 @@ from tests.shop.inboxes import SERIES
 OPTIONS: dict[str, Any] = {"yes": False, "gaps": False, "before_correction": False, "text": None}
 
 # Of the calls of a restore each so many'th is tried; ONIXDESK_STRIDE=1 tries all.
-STRIDE = int(os.environ.get("ONIXDESK_STRIDE", "33"))
+STRIDE = int(os.environ.get("ONIXDESK_STRIDE", "9"))
 
 
 def shop_in(room: Room, name: str, **settings: object) -> Shop:

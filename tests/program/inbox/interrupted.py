@@ -1,0 +1,54 @@
+"""A run that is ended at each of its calls: the next one has what it would have had."""
+
+import os
+from collections.abc import Iterator
+from functools import partial
+
+from onixdesk_shop.settings import NEXT
+from tests.program.inbox.files import inbox_in
+from tests.program.room import Group, Room
+from tests.running import Outcome
+from tests.shop.fake_machine import FakeMachine, Killed
+from tests.shop.fake_program import feed_of
+from tests.shop.inboxes import FakeInbox
+
+# Of the calls of a run each so many'th is tried; ONIXDESK_STRIDE=1 tries all.
+STRIDE = int(os.environ.get("ONIXDESK_STRIDE", "4"))
+
+FILES = {"b.xml": feed_of(None, {"R1": "1.00"}), "a.xml": feed_of(None, {"R1": "2.00"}), "c.xml": b"<cut"}
+STATES = {"b.xml": "applied", "a.xml": "applied", "c.xml": "refused"}
+
+
+def wrong_with(inbox: FakeInbox) -> str:
+    """What two runs that nothing ends do not make of what was left."""
+    for _ in range(2):
+        inbox.run()
+    states = {inbox.stored(file): file.state for file in inbox.files()}
+    prices = [[record[2] for record in contents if record[0] == "Price"] for contents in inbox.series.had.values()]
+    left = os.listdir(inbox.incoming)
+    wanted = {FILES[name]: state for name, state in STATES.items()}
+    is_right = (states, prices, left) == (wanted, [["1.000"], ["2.000"]], [])
+    return "" if is_right else f"{states} {prices} {left}"
+
+
+def interrupted(kind: str, room: Room) -> Iterator[Outcome]:
+    wrong, at = [], 1
+    while True:
+        inbox = inbox_in(room, f"{kind}{at}", number=NEXT)
+        for name, data in FILES.items():
+            inbox.send(name, data)
+        machine = FakeMachine(inbox.disk, inbox.desk, inbox.clock, (kind, "", at))
+        try:
+            inbox.run(machine)
+        except (Killed, SystemExit, OSError):
+            pass
+        if machine.calls < at:
+            break
+        if found := wrong_with(inbox):
+            wrong.append(f"{at}: {found}")
+        at += STRIDE
+    yield Outcome(f"{kind} at each of the calls", wrong, [])
+    yield Outcome("there are some", at > 60, True)
+
+
+GROUPS = [Group(f"a run, {kind}", partial(interrupted, kind)) for kind in ("kill", "power", "error", "signal")]

@@ -112,7 +112,9 @@ def settle_refused(inbox: Inbox, row: Row, answer: Refused) -> None:
             ledger.set_state(file, State.NEW, f"number {row.number} went to another message first")
             return
     ledger.set_state(file, State.REFUSED, why)
-    inbox.tell_refused(file, why, row.number)
+    # A number that the desk has, or has no series for, is not to be waived.
+    is_lacking = answer.reason not in (*QUICKER, "unknown-series", "other-series")
+    inbox.tell_refused(file, why, row.number if is_lacking else None)
 
 
 def retry_unknown(inbox: Inbox, gaps: Gaps) -> None:

@@ -166,7 +166,7 @@ export const texts = {
     wholesalerOf: "Lieferant von {isbn}",
     needs: {
       noOffers: "Niemand bietet es an.",
-      noOffersYet: "Kein Angebot ist da, aber es fehlen Nachrichten: {wholesalers}.",
+      noOffersYet: "Kein Angebot ist da, aber es fehlen Meldungen: {wholesalers}.",
       unpriced: "Im Angebot, aber ohne Preis der Art {type} für {copies}.",
       notChosen: "Keine Regel lässt eines der Angebote zu.",
       handLacks: "{wholesaler} bietet es nicht an.",

@@ -122,13 +122,14 @@ export class Order {
 
   /** What a scanner has read is a line of its own, or one copy more. */
   scanned(code) {
-    this.#editor.change(withMore(this.#editor.text, code));
+    this.take(code);
     tell(say("order.scanned", { code }));
   }
 
-  /** Puts a book of an article on the list. */
+  /** Puts a book on the list; the caret stands on a line of its own behind it. */
   take(isbn, copies) {
-    this.#editor.change(withMore(this.#editor.text, isbn, copies));
+    const text = withMore(this.#editor.text, isbn, copies);
+    this.#editor.change(text, text.length);
   }
 
   /** Asks for the columns of a text that is a table; gives whether it is one. */

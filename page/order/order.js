@@ -55,6 +55,7 @@ export class Order {
   #isShown = false;
   #isSaving = false;
   #checkedAt = -Infinity;
+  #doubtsTold = "";
   #asking = new AbortController();
   #pause;
   #drawing;
@@ -225,14 +226,18 @@ export class Order {
   /** What is missing of each wholesaler that something is ordered from, to be confirmed once. */
   #drawDoubts(all) {
     const names = [...new Set(all.flatMap(({ state: { offer } }) => offer?.series ?? []))];
-    const notes = names.filter((name) => this.#isDoubtful(name)).map((name) => {
+    const doubtful = names.filter((name) => this.#isDoubtful(name));
+    const told = doubtful.map((name) => `${name} ${this.#doubtOf(name)}`).join("\n");
+    // What is drawn anew loses the focus.
+    if (told === this.#doubtsTold) return;
+    this.#doubtsTold = told;
+    const notes = doubtful.map((name) => {
       const wholesaler = wholesalerOf(this.#settings, name);
       const words = say("order.confirmWholesaler", { wholesaler });
       const button = element("button", { type: "button", class: "small confirm" }, words);
       button.addEventListener("click", () => {
         this.#trusted.add(`${name} ${this.#doubtOf(name)}`);
-        this.#draw();
-        this.#nextToCheck().focus({ preventScroll: true });
+        this.#goOn();
       });
       return element("p", { class: "note" }, ...messagesNotes([name], this.#reports, this.#settings).flat(), " ", button);
     });
@@ -258,8 +263,15 @@ export class Order {
 
   #confirm(row, { need, offer }) {
     this.#confirmed.add(confirmKey(need, row, offer));
+    this.#goOn();
+  }
+
+  /** From what is confirmed to the next: behind the last, nothing is told of it any longer. */
+  #goOn() {
     this.#draw();
-    this.#nextToCheck().focus({ preventScroll: true });
+    const next = this.#nextToCheck();
+    if (next === found("get-orders")) tell("");
+    next.focus({ preventScroll: true });
   }
 
   /** What is to be confirmed next, or else the button of the orders. */

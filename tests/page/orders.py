@@ -336,7 +336,10 @@ def to_check(site: PlainSite, browser: Browser) -> Iterator[Outcome]:
     for _ in range(3):
         browser.one("#get-orders").click()
         status(browser, "Nothing is saved")
-        browser.run("document.activeElement.click()")
+        script = "arguments[0].click(); const at = document.activeElement; at.click(); return at.className"
+        came = browser.run(script, browser.one("#show-needs"))
+        yield Outcome("to check: the focus outlives a drawing", came, "small confirm")
+    yield Outcome("to check: all is confirmed", browser.text("#list-status"), "")
     get_orders(browser)
     yield Outcome("to check: confirmed, each once", browser.count("#list .confirm, #list-doubts .confirm"), 0)
     alpha = browser.rows("#orders-table")[0][:4]

@@ -23,10 +23,6 @@ SECONDS = 240
 # The way to the orders is by the keyboard: how many keys a till's export of thirty lines may take.
 MOST_KEYS = 45
 
-# The longest that the page may be busy at once, in milliseconds, and the time of five hundred books, on a machine that
-# has nothing else to do.
-LONGEST_BLOCK, MOST_SECONDS = 200, 38
-
 
 class Keyboard:
     """Keys that are pressed one after the other, and counted."""

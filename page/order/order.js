@@ -15,7 +15,7 @@ import { isTable } from "./csv-table.js";
 import { isFormula } from "./csv-form.js";
 import { Editor } from "./editor.js";
 import { textOfFile } from "./files.js";
-import { hideOrders, showOrders, showRest, tellSaved } from "./orders.js";
+import { forgetSaved, hideOrders, showOrders, showRest, tellSaved } from "./orders.js";
 import { Rows } from "./rows.js";
 import { download, linesToPaste, printOrder } from "./saving.js";
 import { TableForm } from "./table-form.js";
@@ -159,6 +159,7 @@ export class Order {
   #changed() {
     this.#checkedAt = -Infinity;
     hideOrders();
+    forgetSaved();
     showRest([], []);
     tell("");
     if (!this.#isShown) return;
@@ -425,7 +426,7 @@ export class Order {
       if (rows.length === 0) return;
       const words = await this.#letGo(way, series, rows, { settings: this.#settings, order });
       this.#showRest();
-      tellSaved(series, rows, words);
+      tellSaved(series, words);
     });
   }
 

@@ -212,7 +212,6 @@ export const texts = {
     copied: "ISBN und Menge kopiert: {books}.",
     copyByHand: "Nicht kopiert: bitte den Text unten kopieren.",
     printed: "Gedruckt: {books}.",
-    before: "Schon in einer Bestellung, zuletzt {time}: {count} dieser Titel.",
     fileName: "bestellung-{time}-{series}.csv",
     rest: { one: "1 Zeile ist in keiner Bestellung", other: "{count} Zeilen sind in keiner Bestellung" },
     onPaper: {

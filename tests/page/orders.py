@@ -400,23 +400,23 @@ def changed(site: PlainSite, browser: Browser) -> Iterator[Outcome]:
 
 
 def twice(site: PlainSite, browser: Browser) -> Iterator[Outcome]:
-    """What left the page before is told; no other order has the name of its file, nor the next one its reference."""
+    """That this list was saved is told; no other order has the name of its file, nor the next one its reference."""
     site.begin()
     with tempfile.TemporaryDirectory() as name:
         save_to(browser, name)
         open_list(browser, f"{isbn_of(0)} 2\n")
         looked_up(browser, 1)
         get_orders(browser)
-        browser.one("#order-reference").send_keys("2026-7")
         browser.one("[data-way=csv]").click()
-        saved = browser.wait_for_text("[data-saved]", "Saved")
-        yield Outcome("twice: at first nothing was", "before" in saved, False)
+        browser.wait_for_text("[data-saved]", "Saved as")
         # The name of a file has its second.
         time.sleep(1)
+        browser.open("#order")
+        looked_up(browser, 1)
+        get_orders(browser)
+        yield Outcome("twice: a reload forgets nothing", "Saved as" in browser.text("[data-saved]"), True)
+        browser.one("#order-reference").send_keys("2026-7")
         browser.one("[data-way=csv]").click()
-        told = browser.wait_for_text("[data-saved]", "before")
-        is_told = re.search("In an order before, last today .*: 1 of its books", told) is not None
-        yield Outcome("twice: it is told", is_told, True)
         browser.wait(lambda: len(list(Path(name).glob("*.csv"))) == 2)
         names = [re.fullmatch(r"order-\d{4}(-\d\d){2}-\d{6}-alpha\.csv", path.name) for path in Path(name).iterdir()]
         yield Outcome("twice: two names", [found is not None for found in names], [True, True])
@@ -424,10 +424,8 @@ def twice(site: PlainSite, browser: Browser) -> Iterator[Outcome]:
         looked_up(browser, 2)
         reference = browser.run("return document.getElementById('order-reference').value")
         yield Outcome("twice: the reference is gone", reference, "")
-        browser.open("#order")
-        looked_up(browser, 2)
         get_orders(browser)
-        yield Outcome("twice: a reload forgets nothing", "before" in browser.text("[data-saved]"), True)
+        yield Outcome("twice: of another list nothing is told", browser.text("[data-saved]"), "")
 
 
 def password(site: PlainSite, browser: Browser) -> Iterator[Outcome]:

@@ -55,10 +55,10 @@ export class Editor {
     return markedOf(this.#lines);
   }
 
-  /** Puts another text in place of this one, which Ctrl+Z brings back. */
-  change(after) {
+  /** Puts another text in place of this one, which Ctrl+Z brings back, and the caret at its place. */
+  change(after, caret = this.#field.selectionStart) {
     this.#steps = [...this.#steps.slice(-50), { before: this.text, after }];
-    this.#put(after);
+    this.#put(after, caret);
   }
 
   /** Brings back what the page changed last, where nobody has written anything since. */
@@ -67,11 +67,10 @@ export class Editor {
     if (!isUndo(event) || after !== this.text) return;
     event.preventDefault();
     this.#steps.pop();
-    this.#put(before);
+    this.#put(before, this.#field.selectionStart);
   }
 
-  #put(text) {
-    const { selectionStart: caret } = this.#field;
+  #put(text, caret) {
     this.#field.value = text;
     this.#field.setSelectionRange(caret, caret);
     this.#read();

@@ -15,7 +15,7 @@ import { isTable } from "./csv-table.js";
 import { isFormula } from "./csv-form.js";
 import { Editor } from "./editor.js";
 import { textOfFile } from "./files.js";
-import { hideOrders, showOrders, showRest, tellSaved } from "./orders.js";
+import { forgetSaved, hideOrders, showOrders, showRest, tellSaved } from "./orders.js";
 import { Rows } from "./rows.js";
 import { download, linesToPaste, printOrder } from "./saving.js";
 import { TableForm } from "./table-form.js";
@@ -55,6 +55,7 @@ export class Order {
   #isShown = false;
   #isSaving = false;
   #checkedAt = -Infinity;
+  #doubtsTold = "";
   #asking = new AbortController();
   #pause;
   #drawing;
@@ -122,13 +123,14 @@ export class Order {
 
   /** What a scanner has read is a line of its own, or one copy more. */
   scanned(code) {
-    this.#editor.change(withMore(this.#editor.text, code));
+    this.take(code);
     tell(say("order.scanned", { code }));
   }
 
-  /** Puts a book of an article on the list. */
+  /** Puts a book on the list; the caret stands on a line of its own behind it. */
   take(isbn, copies) {
-    this.#editor.change(withMore(this.#editor.text, isbn, copies));
+    const text = withMore(this.#editor.text, isbn, copies);
+    this.#editor.change(text, text.length);
   }
 
   /** Asks for the columns of a text that is a table; gives whether it is one. */
@@ -157,6 +159,7 @@ export class Order {
   #changed() {
     this.#checkedAt = -Infinity;
     hideOrders();
+    forgetSaved();
     showRest([], []);
     tell("");
     if (!this.#isShown) return;
@@ -224,14 +227,18 @@ export class Order {
   /** What is missing of each wholesaler that something is ordered from, to be confirmed once. */
   #drawDoubts(all) {
     const names = [...new Set(all.flatMap(({ state: { offer } }) => offer?.series ?? []))];
-    const notes = names.filter((name) => this.#isDoubtful(name)).map((name) => {
+    const doubtful = names.filter((name) => this.#isDoubtful(name));
+    const told = doubtful.map((name) => `${name} ${this.#doubtOf(name)}`).join("\n");
+    // What is drawn anew loses the focus.
+    if (told === this.#doubtsTold) return;
+    this.#doubtsTold = told;
+    const notes = doubtful.map((name) => {
       const wholesaler = wholesalerOf(this.#settings, name);
       const words = say("order.confirmWholesaler", { wholesaler });
       const button = element("button", { type: "button", class: "small confirm" }, words);
       button.addEventListener("click", () => {
         this.#trusted.add(`${name} ${this.#doubtOf(name)}`);
-        this.#draw();
-        this.#nextToCheck().focus({ preventScroll: true });
+        this.#goOn();
       });
       return element("p", { class: "note" }, ...messagesNotes([name], this.#reports, this.#settings).flat(), " ", button);
     });
@@ -257,8 +264,15 @@ export class Order {
 
   #confirm(row, { need, offer }) {
     this.#confirmed.add(confirmKey(need, row, offer));
+    this.#goOn();
+  }
+
+  /** From what is confirmed to the next: behind the last, nothing is told of it any longer. */
+  #goOn() {
     this.#draw();
-    this.#nextToCheck().focus({ preventScroll: true });
+    const next = this.#nextToCheck();
+    if (next === found("get-orders")) tell("");
+    next.focus({ preventScroll: true });
   }
 
   /** What is to be confirmed next, or else the button of the orders. */
@@ -412,7 +426,7 @@ export class Order {
       if (rows.length === 0) return;
       const words = await this.#letGo(way, series, rows, { settings: this.#settings, order });
       this.#showRest();
-      tellSaved(series, rows, words);
+      tellSaved(series, words);
     });
   }
 

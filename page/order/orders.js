@@ -1,7 +1,7 @@
 // The orders of a list, one for each wholesaler: their sums, and how each leaves the page.
 
 import { compareAmounts, money } from "../text/amounts.js";
-import { momentInWords, timeInWords } from "../text/days.js";
+import { timeInWords } from "../text/days.js";
 import { element, found, table } from "../text/elements.js";
 import { keep, kept } from "../text/kept.js";
 import { wholesalerOf } from "../desk/settings.js";
@@ -10,20 +10,15 @@ import { sumsOf } from "./answers.js";
 
 const WAYS = ["csv", "copy", "print"];
 
-// When each book left the page in an order last, in seconds, by its ISBN; and the name under which the tab keeps that.
-const KEY = "onixdesk-ordered";
-const left = new Map(kept(KEY).split("\n").map((line) => line.split(" ")));
+// What became of the order of each wholesaler since the list changed; the tab keeps it, as it does the list.
+const KEY = "onixdesk-saved";
+const saved = new Map(JSON.parse(kept(KEY) || "[]"));
+let isReferenceUsed = false;
 
-/** How many books of an order have left the page before; empty where none has. */
-function beforeInWords(rows) {
-  const moments = rows.map(({ row }) => left.get(row.isbn)).filter((seconds) => seconds !== undefined);
-  if (moments.length === 0) return "";
-  return say("order.before", { count: inDigits(moments.length), time: momentInWords(Math.max(...moments)) });
-}
-
-function keepLeft(rows) {
-  for (const { row } of rows) left.set(row.isbn, Math.floor(Date.now() / 1000));
-  keep(KEY, [...left].map((book) => book.join(" ")).join("\n"));
+/** Nothing of another list has left the page. */
+export function forgetSaved() {
+  saved.clear();
+  keep(KEY, "");
 }
 
 /** A sum, and, where desk.json says from which one on the carriage is free, that. */
@@ -35,11 +30,10 @@ function sumInWords(series, amount, { settings }) {
   return say(compareAmounts(amount, freeFrom) < 0 ? "order.carriageFrom" : "order.carriageFree", { sum, least });
 }
 
-/** The buttons by which the order of a wholesaler leaves the page, and what became of it, or of its books before. */
-function waysCell(series, rows, { settings, save }) {
+/** The buttons by which the order of a wholesaler leaves the page, and what became of it. */
+function waysCell(series, { settings, save }) {
   const name = wholesalerOf(settings, series);
-  const own = rows.filter(({ state }) => state.offer.series === series);
-  const status = element("span", { role: "status", tabindex: "-1", "data-saved": series }, beforeInWords(own));
+  const status = element("span", { role: "status", tabindex: "-1", "data-saved": series }, saved.get(series) ?? "");
   const buttons = WAYS.flatMap((way) => {
     const attributes = { type: "button", class: "small", "data-way": way, "data-series": series };
     const button = element("button", attributes, say(`order.ways.${way}`));
@@ -59,15 +53,12 @@ export function showOrders(rows, context) {
   const lines = bySeries.map(({ series, books, copies, amount }) => ({
     cells: [
       [wholesalerOf(context.settings, series)], [inDigits(books)], [inDigits(copies)], [sumInWords(series, amount, context)],
-      waysCell(series, rows, context),
+      waysCell(series, context),
     ],
   }));
   found("orders-table").replaceChildren(table("orders-heading", heads, lines));
   found("orders").hidden = false;
 }
-
-// Whether an order has left the page with the reference that its field has.
-let isReferenceUsed = false;
 
 /** The next orders have another reference than those that have left the page. */
 export function hideOrders() {
@@ -78,16 +69,14 @@ export function hideOrders() {
   found("saved").replaceChildren();
 }
 
-/**
- * Says at a wholesaler what became of the order of those rows, and whether books of it had left the page before: the focus
- * goes there, so that a second Enter saves nothing.
- */
-export function tellSaved(series, rows, words) {
+/** Says at a wholesaler what became of its order: the focus goes there, so that a second Enter saves nothing. */
+export function tellSaved(series, words) {
   const status = document.querySelector(`[data-saved="${series}"]`);
-  status.textContent = `${say("order.savedAt", { words, time: timeInWords(new Date()) })} ${beforeInWords(rows)}`.trim();
+  status.textContent = say("order.savedAt", { words, time: timeInWords(new Date()) });
   status.focus({ preventScroll: true });
   isReferenceUsed = true;
-  keepLeft(rows);
+  saved.set(series, status.textContent);
+  keep(KEY, JSON.stringify([...saved]));
 }
 
 /** Lists what is in no order: rows that nobody offers or no rule takes, and lines with an ISBN that were struck out. */

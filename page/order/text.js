@@ -51,7 +51,7 @@ export function withMore(text, code, copies = 1) {
   const sum = copies + (line?.copies ?? 0);
   if (line === undefined || sum > MOST_COPIES) return withLines(text, [`${isbn} ${copies}`]);
   const more = line.text.slice(0, line.start) + sum + line.text.slice(line.end);
-  return changed(text, ({ number, text: old }) => (number === line.number ? more : old));
+  return withLines(changed(text, ({ number, text: old }) => (number === line.number ? more : old)), []);
 }
 
 /** A text in which the lines of those numbers are struck out: they stay, behind `#`. */

@@ -166,7 +166,7 @@ export const texts = {
     wholesalerOf: "Lieferant von {isbn}",
     needs: {
       noOffers: "Niemand bietet es an.",
-      noOffersYet: "Kein Angebot ist da, aber es fehlen Nachrichten: {wholesalers}.",
+      noOffersYet: "Kein Angebot ist da, aber es fehlen Meldungen: {wholesalers}.",
       unpriced: "Im Angebot, aber ohne Preis der Art {type} für {copies}.",
       notChosen: "Keine Regel lässt eines der Angebote zu.",
       handLacks: "{wholesaler} bietet es nicht an.",
@@ -212,7 +212,6 @@ export const texts = {
     copied: "ISBN und Menge kopiert: {books}.",
     copyByHand: "Nicht kopiert: bitte den Text unten kopieren.",
     printed: "Gedruckt: {books}.",
-    before: "Schon in einer Bestellung, zuletzt {time}: {count} dieser Titel.",
     fileName: "bestellung-{time}-{series}.csv",
     rest: { one: "1 Zeile ist in keiner Bestellung", other: "{count} Zeilen sind in keiner Bestellung" },
     onPaper: {

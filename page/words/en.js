@@ -212,7 +212,6 @@ export const texts = {
     copied: "Copied, ISBN and copies: {books}.",
     copyByHand: "Not copied: copy the text below.",
     printed: "Printed: {books}.",
-    before: "In an order before, last {time}: {count} of its books.",
     fileName: "order-{time}-{series}.csv",
     rest: { one: "1 line is in no order", other: "{count} lines are in no order" },
     onPaper: {

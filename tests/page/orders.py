@@ -23,10 +23,6 @@ SECONDS = 240
 # The way to the orders is by the keyboard: how many keys a till's export of thirty lines may take.
 MOST_KEYS = 45
 
-# The longest that the page may be busy at once, in milliseconds, and the time of five hundred books, on a machine that
-# has nothing else to do.
-LONGEST_BLOCK, MOST_SECONDS = 200, 38
-
 
 class Keyboard:
     """Keys that are pressed one after the other, and counted."""
@@ -184,12 +180,15 @@ def scanned(site: PlainSite, browser: Browser) -> Iterator[Outcome]:
     browser.wait(lambda: isbn_of(1) in lines(browser))
     yield Outcome("scan: a line of its own", lines(browser), f"{text}\n{isbn_of(1)} 1\n")
     yield Outcome("scan: it is told", browser.text("#list-status"), f"Scanned: {isbn_of(1)}.")
+    Keyboard(browser).press("7")
+    yield Outcome("scan: what is typed next is behind it", lines(browser), f"{text}\n{isbn_of(1)} 1\n7")
+    Keyboard(browser).press(Keys.BACKSPACE)
     Keyboard(browser).undo()
     yield Outcome("scan: undone", lines(browser), text)
     browser.one("#open-file").send_keys("")
     scan(browser, f"{isbn_of(0)}\n")
     browser.wait(lambda: "3 #" in lines(browser))
-    yield Outcome("scan: one copy more", lines(browser), f"{isbn_of(0)} 3 # Mrs Lindqvist")
+    yield Outcome("scan: one copy more", lines(browser), f"{isbn_of(0)} 3 # Mrs Lindqvist\n")
     browser.run("location.hash = arguments[0]", f"#article?isbn={isbn_of(3)}&quantity=4")
     browser.wait(lambda: browser.shows("#add-to-list"))
     browser.one("#add-to-list").click()
@@ -333,7 +332,10 @@ def to_check(site: PlainSite, browser: Browser) -> Iterator[Outcome]:
     for _ in range(3):
         browser.one("#get-orders").click()
         status(browser, "Nothing is saved")
-        browser.run("document.activeElement.click()")
+        script = "arguments[0].click(); const at = document.activeElement; at.click(); return at.className"
+        came = browser.run(script, browser.one("#show-needs"))
+        yield Outcome("to check: the focus outlives a drawing", came, "small confirm")
+    yield Outcome("to check: all is confirmed", browser.text("#list-status"), "")
     get_orders(browser)
     yield Outcome("to check: confirmed, each once", browser.count("#list .confirm, #list-doubts .confirm"), 0)
     alpha = browser.rows("#orders-table")[0][:4]
@@ -398,23 +400,23 @@ def changed(site: PlainSite, browser: Browser) -> Iterator[Outcome]:
 
 
 def twice(site: PlainSite, browser: Browser) -> Iterator[Outcome]:
-    """What left the page before is told; no other order has the name of its file, nor the next one its reference."""
+    """That this list was saved is told; no other order has the name of its file, nor the next one its reference."""
     site.begin()
     with tempfile.TemporaryDirectory() as name:
         save_to(browser, name)
         open_list(browser, f"{isbn_of(0)} 2\n")
         looked_up(browser, 1)
         get_orders(browser)
-        browser.one("#order-reference").send_keys("2026-7")
         browser.one("[data-way=csv]").click()
-        saved = browser.wait_for_text("[data-saved]", "Saved")
-        yield Outcome("twice: at first nothing was", "before" in saved, False)
+        browser.wait_for_text("[data-saved]", "Saved as")
         # The name of a file has its second.
         time.sleep(1)
+        browser.open("#order")
+        looked_up(browser, 1)
+        get_orders(browser)
+        yield Outcome("twice: a reload forgets nothing", "Saved as" in browser.text("[data-saved]"), True)
+        browser.one("#order-reference").send_keys("2026-7")
         browser.one("[data-way=csv]").click()
-        told = browser.wait_for_text("[data-saved]", "before")
-        is_told = re.search("In an order before, last today .*: 1 of its books", told) is not None
-        yield Outcome("twice: it is told", is_told, True)
         browser.wait(lambda: len(list(Path(name).glob("*.csv"))) == 2)
         names = [re.fullmatch(r"order-\d{4}(-\d\d){2}-\d{6}-alpha\.csv", path.name) for path in Path(name).iterdir()]
         yield Outcome("twice: two names", [found is not None for found in names], [True, True])
@@ -422,10 +424,8 @@ def twice(site: PlainSite, browser: Browser) -> Iterator[Outcome]:
         looked_up(browser, 2)
         reference = browser.run("return document.getElementById('order-reference').value")
         yield Outcome("twice: the reference is gone", reference, "")
-        browser.open("#order")
-        looked_up(browser, 2)
         get_orders(browser)
-        yield Outcome("twice: a reload forgets nothing", "before" in browser.text("[data-saved]"), True)
+        yield Outcome("twice: of another list nothing is told", browser.text("[data-saved]"), "")
 
 
 def password(site: PlainSite, browser: Browser) -> Iterator[Outcome]:

@@ -26,8 +26,8 @@ test("German has each text that English has, with the same in braces", () => {
   for (const [path, text] of one) assert.deepEqual(bracesOf(german[path]), bracesOf(text), path);
 });
 
-test("no text is empty, and German is not English", () => {
-  for (const [path, text] of [...textsOf(en), ...textsOf(de)]) assert.notEqual(text.trim(), "", path);
+test("no text is empty, and German is not English, nor calls a message by two words", () => {
+  for (const [path, text] of [...textsOf(en), ...textsOf(de)]) assert.match(text, /^(?!.*Nachricht).*\S/s, path);
   const english = Object.fromEntries(textsOf(en));
   // What is a name, a sign or a form for numbers alone may be the same.
   const same = textsOf(de).filter(([path, text]) => text === english[path] && /[a-z]{3}/.test(text.replaceAll(/\{\w+\}/g, "")));

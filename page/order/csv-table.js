@@ -96,14 +96,14 @@ const hasBook = ({ cells }) => cells.some(isLikeIsbn);
 
 /**
  * The lines of a table, whose columns are named by their places: `isbn`, `copies`, and the `notes`. A row that has
- * letters for its copies, and no book, is a heading: the first row is passed over, unless its ISBN begins with a
- * digit, and a later one ends the table; `rest` are the rows from that one on. `zeros`: so many rows had 0 copies.
+ * letters for its copies, and no book, is a heading: the first row is passed over, unless its ISBN begins with
+ * digits, and a later one ends the table; `rest` are the rows from that one on. `zeros`: so many rows had 0 copies.
  */
 export function taken(rows, columns) {
   const width = widthOf(rows);
   const isWhole = ({ cells }) => cells.length === width;
   const isHeading = (row) => isWhole(row) && /\p{L}/u.test(row.cells[columns.copies]) && !hasBook(row);
-  const begin = isHeading(rows[0]) && !/^\d/.test(bare(rows[0].cells[columns.isbn])) ? 1 : 0;
+  const begin = isHeading(rows[0]) && !/^\P{L}*\d|\d{3}/u.test(rows[0].cells[columns.isbn]) ? 1 : 0;
   const next = rows.findIndex((row, at) => at >= Math.max(begin, 1) && isHeading(row));
   const end = next < 0 ? rows.length : next;
   const isZero = (row) => isWhole(row) && !row.isUnsure && /^0+$/.test(bare(row.cells[columns.copies]))

@@ -15,8 +15,6 @@ const LONE = new RegExp(`^ *${isbnAs("isbn")} *$`, "i");
 // What may be meant as an ISBN: whole or mistyped, too long or too short, or shortened by a spreadsheet.
 const LIKE = /(?:\d[ -]?){8,}[\dX]|97[89][ -]?[\dA-Z-]{5,}|\d[.,]\d+E\+?\d+/i;
 const SHORTENED = /\d[.,]\d+E\+?\d+/i;
-// The number of a telephone, by what stands before it: a plus before a space or a 0 is a bullet.
-const TELEPHONE = /(?:(?<!\w)\+(?![ 0])|\b(?:(?:tele)?(?:phone|fax|fon)|tel|mob(?:ile?)?)\b[.: ]*)(?:(?!97[89])[\d ()/-])+/gi;
 // Beside an ISBN one whole number, and signs that are none of a sum or an amount.
 const OTHER_FORM = /^(?:[^\p{L}\p{N}]*[^\p{L}\p{N}+$€£-])?(?:x *)?[1-9]\d{0,3}(?: *x)?[^\p{L}\p{N}]*$/iu;
 
@@ -33,7 +31,7 @@ export function isbnIn(text) {
 
 /** Whether a text has something like an ISBN in it, whole or broken. */
 export function isLikeIsbn(text) {
-  return isbnsIn(text).length > 0 || LIKE.test(plain(text).replace(TELEPHONE, " "));
+  return isbnsIn(text).length > 0 || LIKE.test(plain(text));
 }
 
 /** Why a text with one ISBN in it is not that and copies. */

@@ -328,7 +328,7 @@ export class Order {
     if (this.#editor.marked.length > 0) {
       return { words: say("order.blocked.marked"), place: document.querySelector("#marked-lines button") };
     }
-    if (all.length > MOST_ROWS) return { words: found("list-status").textContent };
+    if (all.length > MOST_ROWS) return { words: say("order.tooMany", { most: inDigits(MOST_ROWS) }) };
     if (all.some(({ answer }) => answer === undefined)) return { words: say("order.blocked.waiting") };
     const open = all.filter(({ state }) => CONFIRMABLE.includes(state.need));
     const doubts = document.querySelectorAll("#list-doubts .confirm").length;

@@ -118,9 +118,9 @@ test("a marked line of one ISBN has the copies that the buyer gives it, and no o
   }
 });
 
-test("the number of a telephone is no book that was struck out, and one that may be an ISBN is", () => {
-  const likes = ["0140000012", "9.78E+12", "Tel. 9780140000016", "Fax 978014000001", "+44 20 7946 0958 9780140000016", "+ 0140328728 3", "+0140328728 3"];
-  const others = ["Tel. 020 7946 0958", "+44 20 7946 0958", "Fax: 0171-3456789", "Mobile 07700 900123"];
+test("what may be an ISBN is like one, whatever stands beside it", () => {
+  const likes = ["0140000012", "9.78E+12", "Fax 978014000001", "+ 0140328728 3", "+3 0140328728", "The Black Phone 0140328728 3"];
+  const others = ["13 Reasons Why", "Tel. 1234-567", "Best wishes, Ann"];
   assert.deepEqual(struckBooks(linesOf([...likes, ...others].map((text) => `# ${text}`).join("\n"))).map(({ text }) => text.slice(2)), likes);
 });
 

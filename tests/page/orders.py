@@ -166,8 +166,8 @@ def mail(site: PlainSite, browser: Browser) -> Iterator[Outcome]:
     wanted = [f"{isbn_of(number)} {number % 4 + 2}" for number in range(len(said))]
     yield Outcome("mail: the copies that were given", [line.split(" #")[0] for line in came[1:-2]], wanted)
     yield Outcome("mail: its words stay", came[1], f"{wanted[0]} # {said[0]}")
-    yield Outcome("mail: the rest is struck out", came[-2:], ["# Kind regards", "# Tel. 020 7946 0958"])
-    yield Outcome("mail: the focus is at the button of the orders", focus(browser), "get-orders")
+    yield Outcome("mail: what may be an ISBN stays", came[-2:], ["# Kind regards", "Tel. 020 7946 0958"])
+    yield Outcome("mail: the focus is at that", focus(browser).partition(":")[0], f"Line {len(said) + 3}")
 
 
 def scanned(site: PlainSite, browser: Browser) -> Iterator[Outcome]:

@@ -8,6 +8,7 @@ ghost use Rattle.std.specs.Prelude.{◌≤◌, IfOk};
 use program_clients::entrances::HostEntrances;
 use program_clients::fault::{Fault, report};
 use program_clients::sockets::Sockets;
+use program_databases::causes::HostPlaces;
 use program_databases::paths::Paths;
 use program_databases::stored_desks::StoredDesks;
 use program_files::HostFiles;
@@ -35,19 +36,23 @@ fn run_words(rt: &HostRuntime, words: std::env::Args) -> Result<u8, AllocError>
     let owned: Vec<String> = words.collect(alloc)?;
     let words: Vec<&str> = owned.iter().map(|word| word.as_str()).collect(alloc)?;
     let output = rt.stdout();
-    let may_show = is_long(words.as_slice()) && !output.is_terminal();
+    let is_shown =
+        is_long(words.as_slice()) && !output.is_terminal() && rt.stderr().is_terminal();
     let mut machine = Machine {
-        desks: Sockets,
+        desks: Sockets::new(rt),
         entrances: HostEntrances::new(rt),
         files: HostFiles::new(rt),
         streams: Streams {
             input: rt.stdin(),
-            output: Watched::new(rt, output, may_show),
+            output: Watched::new(alloc, rt, output, rt.stderr(), is_shown),
             errors: Errors::new(rt.stderr()),
         },
     };
     let databases = StoredDesks {
-        databases: Paths { start: Wary },
+        alloc,
+        databases: Paths::new(rt, Wary),
+        places: HostPlaces::new(rt),
+        is_shown: rt.stderr().is_terminal(),
     };
     let (status, left) = run(rt, words.as_slice(), databases, &mut machine);
     machine.streams.output.clear();

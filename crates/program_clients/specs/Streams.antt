@@ -17,7 +17,8 @@ protocol_of (Socket stream) = Batch
 
 -- what waiting for a client over a stream gives: its protocol, that of the stream, which may come.
 -- Batches: whether these are taken
-abbrev pub AcceptsStream : Bool → Result (Option (Protocol × Timed × Timed)) Fault → Type 0
+abbrev pub AcceptsStream : {C : Type 0} → Bool
+    → Result (Option (Protocol × Timed C × Timed C)) Fault → Type 0
 AcceptsStream batches (Ok (Some client)) =
     (client.0 ≡ protocol_of client.1.stream) × MayCome batches client.0
 AcceptsStream batches _ = ⊤

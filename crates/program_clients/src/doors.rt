@@ -5,7 +5,7 @@ ghost use Rattle.std.specs.Prelude.{true};
 ghost use Rattle.program_clients.specs.Streams.{AcceptsStream};
 
 use crate::clients::Protocol;
-use crate::fault::Fault;
+use crate::fault::{CausedFault, Fault};
 use crate::port::{Port, is_lost};
 use crate::sockets;
 use crate::timed::{Stream, Timed};
@@ -52,9 +52,9 @@ fn unaccepted(error: &Error, fault: Fault) -> Result<Option<Client>, Fault> {
 
 // The next client at the port, where there is one.
 fn at_port(doors: &Doors<'_>) -> Result<Option<Client>, Fault> {
-    match doors.port.listener.accept() {
+    match doors.port.listener().accept() {
         Ok((stream, _)) => Ok(Some(Client::Port(stream))),
-        Err(error) => unaccepted(&error, Fault::Port(doors.port.number)),
+        Err(error) => unaccepted(&error, doors.port.fault()),
     }
 }
 
@@ -97,18 +97,18 @@ fn watch(rt: &HostRuntime, port: &TcpListener, socket: &UnixListener) -> Result<
 
 impl<'a> Doors<'a> {
     /// Listens at a port of 127.0.0.1 that was bound, and at a socket of the file system.
-    pub fn open(
+    pub(crate) fn open(
         rt: &'a HostRuntime,
-        port: Result<Port<'a>, Fault>,
+        port: Result<Port<'a>, CausedFault>,
         path: &str,
-    ) -> Result<Doors<'a>, Fault> {
+    ) -> Result<Doors<'a>, CausedFault> {
         let port = port?;
         let socket = sockets::listen(rt, path)?;
-        let Ok(poll) = watch(rt, &port.listener, &socket) else {
-            return Err(Fault::Socket);
+        let Ok(poll) = watch(rt, port.listener(), &socket) else {
+            return Err(CausedFault::from(Fault::Socket));
         };
         let Ok(events) = Events::with_capacity(rt.alloc(), 2) else {
-            return Err(Fault::Memory);
+            return Err(CausedFault::from(Fault::Memory));
         };
         Ok(Doors {
             port,
@@ -142,7 +142,9 @@ impl<'a> Doors<'a> {
     }
 
     /// Waits for the next client, as `Clients::accept`.
-    pub fn accept(&mut self) -> Result<Option<(Protocol, Timed<'a>, Timed<'a>)>, Fault>
+    pub(crate) fn accept(
+        &mut self,
+    ) -> Result<Option<(Protocol, Timed<'a, HostRuntime>, Timed<'a, HostRuntime>)>, Fault>
         ensures { AcceptsStream true result }
     {
         let (protocol, stream) = match self.next_client()? {
@@ -150,7 +152,7 @@ impl<'a> Doors<'a> {
             Client::Batches(stream) => (Protocol::Batch, Stream::Socket(stream)),
             Client::Lost => return Ok(None),
         };
-        match Timed::both(self.port.rt, stream, self.port.limit) {
+        match self.port.ways(stream) {
             Some((reader, writer)) => Ok(Some((protocol, reader, writer))),
             None => Ok(None),
         }

@@ -2,7 +2,7 @@
 
 use crate::clients::{Clients, Protocol};
 use crate::doors::Doors;
-use crate::fault::Fault;
+use crate::fault::{CausedFault, Fault};
 use crate::port::Port;
 use crate::timed::Timed;
 use std::rt::HostRuntime;
@@ -20,7 +20,7 @@ pub trait Entrances {
 
     /// Opens a port, the one that was bound where there is one, and where one is named a socket of
     /// the file system for batches, which come at no port.
-    fn open(&mut self, port: u16, batches: Option<&str>) -> Result<Self::Opened, Fault>
+    fn open(&mut self, port: u16, batches: Option<&str>) -> Result<Self::Opened, CausedFault>
         ensures { IfOk result (λ clients.
             Self.Opened.takes_batches clients ≡ is_some batches.entry) };
 }
@@ -37,18 +37,20 @@ impl<'a> Clients for Opened<'a> {
 
     ghost takes_batches = { are_both };
 
-    type Reader = Timed<'a>;
+    type Reader = Timed<'a, HostRuntime>;
 
-    type Writer = Timed<'a>;
+    type Writer = Timed<'a, HostRuntime>;
 
-    fn accept(&mut self) -> Result<Option<(Protocol, Timed<'a>, Timed<'a>)>, Fault> {
+    fn accept(
+        &mut self,
+    ) -> Result<Option<(Protocol, Timed<'a, HostRuntime>, Timed<'a, HostRuntime>)>, Fault> {
         match self {
             Opened::Port(port) => port.accept(),
             Opened::Both(doors) => doors.accept(),
         }
     }
 
-    fn disconnect(&mut self, reader: Timed<'a>, writer: Timed<'a>) {
+    fn disconnect(&mut self, reader: Timed<'a, HostRuntime>, writer: Timed<'a, HostRuntime>) {
         drop(writer);
         reader.into_stream().shut_down();
     }
@@ -59,7 +61,7 @@ impl<'a> Clients for Opened<'a> {
 pub struct HostEntrances<'a> {
     rt: &'a HostRuntime,
     // The port that was bound, or why it could not be.
-    bound: Option<Result<Port<'a>, Fault>>,
+    bound: Option<Result<Port<'a>, CausedFault>>,
 }
 
 impl<'a> HostEntrances<'a> {
@@ -69,7 +71,7 @@ impl<'a> HostEntrances<'a> {
     }
 
     // The port that was bound, or that is bound now.
-    fn take_port(&mut self, port: u16) -> Result<Port<'a>, Fault> {
+    fn take_port(&mut self, port: u16) -> Result<Port<'a>, CausedFault> {
         match self.bound.take() {
             Some(opened) => opened,
             None => Port::open(self.rt, port),
@@ -84,7 +86,7 @@ impl<'a> Entrances for HostEntrances<'a> {
         self.bound = Some(Port::open(self.rt, port));
     }
 
-    fn open(&mut self, port: u16, batches: Option<&str>) -> Result<Opened<'a>, Fault> {
+    fn open(&mut self, port: u16, batches: Option<&str>) -> Result<Opened<'a>, CausedFault> {
         let port = self.take_port(port);
         match batches {
             None => Ok(Opened::Port(port?)),

@@ -36,6 +36,19 @@ pub enum Fault {
     StorageOtherVersion(u32),
 }
 
+/// A fault, and why it came, as far as the system says it.
+#[derive(Drop)]
+pub struct CausedFault {
+    pub fault: Fault,
+    pub why: Option<&'static str>,
+}
+
+impl From<Fault> for CausedFault {
+    fn from(fault: Fault) -> CausedFault {
+        CausedFault { fault, why: None }
+    }
+}
+
 impl From<RecordFault> for Fault {
     fn from(fault: RecordFault) -> Fault {
         match fault {

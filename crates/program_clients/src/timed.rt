@@ -6,7 +6,7 @@ ghost use Rattle.std.specs.Prelude.{◌≡◌, IfSome};
 use std::io::{Read, Result, Write};
 use std::net::TcpStream;
 use std::os::unix::net::UnixStream;
-use std::time::{Duration, Instant};
+use std::time::{Clock, Duration, Instant};
 
 /// A connection that was accepted.
 #[derive(Drop)]
@@ -82,22 +82,22 @@ impl Stream {
     }
 }
 
-/// One way of a connection. All its reads, or all its writes, may wait so long together; over that
-/// each fails. What the desk does between them is not counted.
+/// One way of a connection. All its reads, or all its writes, may wait so long together by a clock;
+/// over that each fails. What the desk does between them is not counted.
 #[derive(Drop)]
-pub struct Timed<'a> {
-    rt: &'a HostRuntime,
+pub struct Timed<'a, C> {
+    clock: &'a C,
     stream: Stream,
     left: Duration,
 }
 
-impl<'a> Timed<'a> {
+impl<'a, C> Timed<'a, C> {
     /// One way of this connection, with so much time for all its reads, or for all its writes.
-    pub fn new(rt: &'a HostRuntime, stream: Stream, limit: Duration) -> Timed<'a>
+    pub fn new(clock: &'a C, stream: Stream, limit: Duration) -> Timed<'a, C>
         ensures { result.stream ≡ stream }
     {
         Timed {
-            rt,
+            clock,
             stream,
             left: limit,
         }
@@ -105,24 +105,19 @@ impl<'a> Timed<'a> {
 
     /// Both ways of this connection, or `None` where it cannot be had twice.
     pub fn both(
-        rt: &'a HostRuntime,
+        clock: &'a C,
         stream: Stream,
         limit: Duration,
-    ) -> Option<(Timed<'a>, Timed<'a>)>
+    ) -> Option<(Timed<'a, C>, Timed<'a, C>)>
         ensures { IfSome result (λ ways. ways.0.stream ≡ stream) }
     {
         let Ok(other) = stream.try_clone() else {
             return None;
         };
-        Some((Timed::new(rt, stream, limit), Timed::new(rt, other, limit)))
-    }
-
-    // Takes what was waited since then from the time that is left. With none left it is zero, which
-    // no socket takes as a limit.
-    fn count_since(&mut self, began: Instant) -> Result<()> {
-        let now = Instant::now(self.rt)?;
-        self.left = self.left.saturating_sub(now.duration_since(began));
-        Ok(())
+        Some((
+            Timed::new(clock, stream, limit),
+            Timed::new(clock, other, limit),
+        ))
     }
 
     /// The connection.
@@ -131,18 +126,28 @@ impl<'a> Timed<'a> {
     }
 }
 
-impl<'a> Read for Timed<'a> {
+impl<'a, C: Clock> Timed<'a, C> {
+    // Takes what was waited since then from the time that is left. With none left it is zero, which
+    // no socket takes as a limit.
+    fn count_since(&mut self, began: Instant) -> Result<()> {
+        let now = Instant::now(self.clock)?;
+        self.left = self.left.saturating_sub(now.duration_since(began));
+        Ok(())
+    }
+}
+
+impl<'a, C: Clock> Read for Timed<'a, C> {
     fn read(&mut self, buffer: &mut [u8]) -> Result<usize> {
-        let began = Instant::now(self.rt)?;
+        let began = Instant::now(self.clock)?;
         let read = self.stream.read_within(buffer, self.left);
         self.count_since(began)?;
         read
     }
 }
 
-impl<'a> Write for Timed<'a> {
+impl<'a, C: Clock> Write for Timed<'a, C> {
     fn write(&mut self, bytes: &[u8]) -> Result<usize> {
-        let began = Instant::now(self.rt)?;
+        let began = Instant::now(self.clock)?;
         let wrote = self.stream.write_within(bytes, self.left);
         self.count_since(began)?;
         wrote

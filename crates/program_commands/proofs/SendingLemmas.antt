@@ -1,11 +1,10 @@
 -- What comes of a desk, of which a first part is written.
-use Rattle.std.proofs.Common.{◌≡◌, ◌++◌, ◌∙◌, ℕ, Bool, List, [], Option, None, Some, Result, Ok, Err, ap, append_assoc, length, subst, sym}
+use Rattle.std.proofs.Common.{◌≡◌, ◌++◌, ◌∙◌, ℕ, Bool, List, [], Option, None, Some, Ok, ap, append_assoc, length, subst, sym}
 use Rattle.std.specs.Io.KnownBytes.{Consumes}
 use Rattle.csv_records.specs.Streams.{IsTold}
 use Rattle.csv_records.specs.RecordTexts.{records_of}
 use Rattle.desk_texts.specs.Requests.{HasRecords, requests_of}
 use Rattle.program_commands.specs.Sending.{SendFits, TakesAnswers, WritesCame, unanswered}
-use Rattle.program_clients.specs.declared.fault.Fault.{Fault}
 
 -- what was taken begins what comes
 came_of : (was now : Option (List ℕ)) (bytes : List ℕ) → Consumes was now bytes → (rest : List ℕ) × IsTold was (bytes ++ rest)
@@ -33,6 +32,11 @@ wrote_part was now written bytes chunk part rest took is wrote =
 
 -- ---- the answers to the batch of a text
 
-pub sent_fits : (text : List ℕ) (asked : ℕ) (came : Option (List ℕ)) (written : List ℕ → Type 0) (result : Result Bool Fault) → HasRecords text → asked ≡ length (requests_of text) → TakesAnswers asked came written result → SendFits text written result
-sent_fits text asked came written (Ok refused) has is takes = (has, (takes.0, tt, subst (λ n. unanswered n (records_of takes.0) ≡ 0) is takes.2, takes.3, takes.4))
-sent_fits text asked came written (Err f) has is takes = (takes.0, takes.1, tt, takes.3)
+-- all of them came
+pub sent_whole : {F : Type 0} (text : List ℕ) (asked : ℕ) (came : Option (List ℕ)) (written : List ℕ → Type 0) (refused : Bool) → HasRecords text → asked ≡ length (requests_of text) → TakesAnswers asked came written (Ok refused)
+    → SendFits {F = F} text written (Ok refused)
+sent_whole text asked came written refused has is takes = (has, (takes.0, tt, subst (λ n. unanswered n (records_of takes.0) ≡ 0) is takes.2, takes.3, takes.4))
+
+-- some of them did
+pub sent_part : (came : Option (List ℕ)) (written : List ℕ → Type 0) → WritesCame came written → WritesCame None written
+sent_part came written some = (some.0, some.1, tt, some.3)

@@ -39,7 +39,7 @@ TakesAnswers asked came written (Err f) = WritesCame came written
 
 -- how sending the batch of a text can end: each request has an answer in what came, which was
 -- written; or some of it was. Of a desk that is open nothing is told
-abbrev pub SendFits : List ℕ → (List ℕ → Type 0) → Result Bool Fault → Type 0
+abbrev pub SendFits : {F : Type 0} → List ℕ → (List ℕ → Type 0) → Result Bool F → Type 0
 SendFits text written (Ok refused) =
     HasRecords text × TakesAnswers (length (requests_of text)) None written (Ok refused)
 SendFits text written (Err f) = WritesCame None written
@@ -50,6 +50,6 @@ SendFits text written (Err f) = WritesCame None written
 abbrev pub SendEnds : Option (List ℕ) → (List ℕ → Type 0) → ℕ → Type 0
 SendEnds told written status =
     (text : List ℕ) × IsTold told text
-    × (((refused : Bool) × SendFits text written (Ok refused)
+    × (((refused : Bool) × SendFits {F = Fault} text written (Ok refused)
     × (status ≡ (if refused then 1 else 0)))
     ⊎ ((status ≡ 3) × WritesCame None written))

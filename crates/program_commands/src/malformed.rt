@@ -10,8 +10,7 @@ use onix_terms::digits::read_digits;
 use program_clients::clients::Protocol;
 use std::alloc::Global;
 use std::io::Write;
-use std::rt::HostRuntime;
-use std::time::{Duration, Instant};
+use std::time::{Clock, Duration, Instant};
 
 /// The most lines on requests that are malformed, of a run, or of an hour where it serves.
 pub(crate) const MOST_LINES: u32 = 100;
@@ -129,9 +128,9 @@ pub(crate) fn tell_end<E: Write>(refused: u64, errors: &mut Errors<E>) {
 
 /// Makes room anew where a client came an hour after there was: then how many lines were left out is
 /// written. It stays as it is where the clock does not say.
-pub(crate) fn renew<E: Write>(rt: &HostRuntime, errors: &mut Errors<E>) {
+pub(crate) fn renew<C: Clock, E: Write>(clock: &C, errors: &mut Errors<E>) {
     if let Some(begun) = errors.since {
-        match begun.elapsed(rt) {
+        match begun.elapsed(clock) {
             Ok(passed) if passed >= Duration::from_secs(HOUR_SECONDS) => {
                 report_untold(&errors.room, &mut errors.writer);
                 errors.room = Room::new(MOST_LINES);
@@ -139,5 +138,5 @@ pub(crate) fn renew<E: Write>(rt: &HostRuntime, errors: &mut Errors<E>) {
             _ => return,
         }
     }
-    errors.since = Instant::now(rt).ok();
+    errors.since = Instant::now(clock).ok();
 }

@@ -18,12 +18,10 @@ use csv::StringRecord;
 use csv_records::reading::{LIMIT, RecordReader};
 use csv_records::streams::{InputFault, WriteFault, read_input, write_whole};
 use desk_texts::request_rows::requests_in;
-use program_clients::fault::{Fault, report_why};
+use program_clients::fault::{CausedFault, Fault, report_why};
 use program_clients::open_desks::OpenDesks;
-use program_clients::sockets::why_unanswered;
 use std::alloc::{AllocError, Global};
 use std::io::{Read, Write};
-use std::rt::HostRuntime;
 
 // How many bytes are taken at once.
 const CHUNK: usize = 4096;
@@ -169,20 +167,40 @@ fn count_requests(alloc: Global, text: &[u8]) -> Result<usize, Fault>
     }
 }
 
+// A fault behind which answers are missing, with its cause where that is the desk's.
+fn unanswered_by(fault: Fault) -> CausedFault {
+    let why = match &fault {
+        Fault::Socket => Some("the desk has met a fault, or was stopped"),
+        _ => None,
+    };
+    CausedFault { fault, why }
+}
+
 // Sends the batch of a text to the desk at a socket, writes the answers, and says whether one is a
 // refusal.
 fn send_batch<K: OpenDesks, W: Write>(
-    rt: &HostRuntime,
+    alloc: Global,
     desks: &K,
     socket: &str,
     text: &[u8],
     output: &mut W,
-) -> Result<bool, Fault>
+) -> Result<bool, CausedFault>
     ensures { SendFits text.now (Appends (W.contents output.old) (W.contents output.new)) result }
 {
-    let asked = count_requests(rt.alloc(), text)?;
-    let mut from = desks.send(rt, socket, text)?;
-    take_answers(rt.alloc(), asked, &mut from, output)
+    let asked = match count_requests(alloc, text) {
+        Ok(asked) => asked,
+        Err(fault) => return Err(CausedFault { fault, why: None }),
+    };
+    match desks.send(socket, text) {
+        Ok(mut from) => match take_answers(alloc, asked, &mut from, output) {
+            Ok(refused) => Ok(refused),
+            Err(fault) => Err(unanswered_by(fault)),
+        },
+        Err(why) => Err(CausedFault {
+            fault: Fault::Socket,
+            why: Some(why),
+        }),
+    }
 }
 
 // The text of the input, up to the limit of a batch.
@@ -200,8 +218,7 @@ fn read_text<R: Read>(alloc: Global, input: &mut R) -> Result<Vec<u8>, Fault>
 // Reports why the batch of a text has not all of its answers; of the socket, and of a text that is
 // not UTF-8, a second line says why.
 fn report_unsent<E: Write>(
-    rt: &HostRuntime,
-    fault: &Fault,
+    unsent: &CausedFault,
     socket: &str,
     text: &[u8],
     errors: &mut Errors<E>,
@@ -209,9 +226,9 @@ fn report_unsent<E: Write>(
     ensures { result ≡ 3 }
 {
     errors.wrong = wrong_byte(text);
-    let status = report_input(fault, "", errors);
-    if let Fault::Socket = fault {
-        report_why(socket, why_unanswered(rt, socket), &mut errors.writer);
+    let status = report_input(&unsent.fault, "", errors);
+    if let Some(why) = unsent.why {
+        report_why(socket, why, &mut errors.writer);
     }
     status
 }
@@ -221,7 +238,7 @@ fn report_unsent<E: Write>(
 /// or 1 where an answer is a refusal, or 3 after a fault of the input, the output or the socket,
 /// which is reported; a missing answer is a fault of the socket.
 pub fn send_input<K: OpenDesks, R: Read, W: Write, E: Write>(
-    rt: &HostRuntime,
+    alloc: Global,
     desks: &K,
     socket: &str,
     streams: &mut Streams<R, W, E>,
@@ -230,16 +247,16 @@ pub fn send_input<K: OpenDesks, R: Read, W: Write, E: Write>(
     ensures end { SendEnds (R.remaining streams.old.input)
         (Appends (W.contents streams.old.output) (W.contents streams.new.output)) result }
 {
-    let text = match read_text(rt.alloc(), &mut streams.input) {
+    let text = match read_text(alloc, &mut streams.input) {
         Ok(text) => text,
         Err(fault) => return report_input(&fault, "", &mut streams.errors),
     };
-    match send_batch(rt, desks, socket, text.as_slice(), &mut streams.output) {
+    match send_batch(alloc, desks, socket, text.as_slice(), &mut streams.output) {
         Ok(false) => 0,
         Ok(true) => {
-            tell_batch(rt.alloc(), text.as_slice(), &mut streams.errors);
+            tell_batch(alloc, text.as_slice(), &mut streams.errors);
             1
         }
-        Err(fault) => report_unsent(rt, &fault, socket, text.as_slice(), &mut streams.errors),
+        Err(unsent) => report_unsent(&unsent, socket, text.as_slice(), &mut streams.errors),
     }
 }

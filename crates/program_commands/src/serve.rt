@@ -17,12 +17,12 @@ use desk_http::{HttpFault, Routes};
 use price_rules::precedence::Precedence;
 use program_clients::clients::Clients;
 use program_clients::entrances::Entrances;
-use program_clients::fault::{Fault, report, report_why};
-use program_clients::port::why_unbound;
+use program_clients::fault::{CausedFault, Fault, report, report_why};
 use program_clients::printing::print_number;
-use program_clients::sockets::why_unheard;
 use series_rules::desk::Desk;
+use std::alloc::Global;
 use std::io::Write;
+use std::time::Clock;
 
 /// A port to listen at, a socket for batches where one is named, and how many connections are
 /// served.
@@ -37,8 +37,9 @@ pub struct Place<'a> {
 // before nothing was read, and nothing was asked of the desk. Of a question over HTTP whose query
 // is bad, and of a message that is none, a line on standard error says why, as far as there is
 // room.
-fn serve_next<D: Desk, C: Clients, I, O: Write, E: Write>(
-    rt: &HostRuntime,
+fn serve_next<D: Desk, T: Clock, C: Clients, I, O: Write, E: Write>(
+    alloc: Global,
+    clock: &T,
     routes: &Routes,
     desk: &mut D,
     precedence: &Precedence,
@@ -52,26 +53,19 @@ fn serve_next<D: Desk, C: Clients, I, O: Write, E: Write>(
 {
     match clients.accept() {
         Ok(Some((protocol, reader, writer))) => {
-            renew(rt, &mut streams.errors);
+            renew(clock, &mut streams.errors);
             let mut client = Client {
                 protocol,
-                reader: Front::new(rt.alloc(), reader),
+                reader: Front::new(alloc, reader),
                 writer,
             };
-            let ended = serve_connection(
-                rt.alloc(),
-                routes,
-                desk,
-                precedence,
-                &mut client,
-                streams,
-            );
+            let ended = serve_connection(alloc, routes, desk, precedence, &mut client, streams);
             let Client {
                 protocol,
                 reader,
                 writer,
             } = client;
-            tell_exchange(rt.alloc(), protocol, reader.kept(), &mut streams.errors);
+            tell_exchange(alloc, protocol, reader.kept(), &mut streams.errors);
             clients.disconnect(reader.into_reader(), writer);
             ended
         }
@@ -84,8 +78,9 @@ fn serve_next<D: Desk, C: Clients, I, O: Write, E: Write>(
 /// Gives 0, or 3 where no more clients can be had or a line cannot be written, which is reported.
 /// Of the malformed requests of batches, of messages that are none, and of bad queries, a line on
 /// `errors` says why, of 100 an hour, and then how many more there are.
-pub fn serve_clients<D: Desk, C: Clients, I, O: Write, E: Write>(
-    rt: &HostRuntime,
+pub fn serve_clients<D: Desk, T: Clock, C: Clients, I, O: Write, E: Write>(
+    alloc: Global,
+    clock: &T,
     routes: &Routes,
     desk: &mut D,
     precedence: &Precedence,
@@ -102,7 +97,7 @@ pub fn serve_clients<D: Desk, C: Clients, I, O: Write, E: Write>(
         (C.takes_batches clients.old) requests result }
 {
     'serving: for _served in 0..requests {
-        match serve_next(rt, routes, desk, precedence, clients, streams) {
+        match serve_next(alloc, clock, routes, desk, precedence, clients, streams) {
             Ok(()) => {}
             Err(fault) => return report(&fault, &mut streams.errors.writer),
         }
@@ -120,26 +115,15 @@ fn print_listening<O: Write>(number: u16, output: &mut O) -> Result<(), Fault>
 }
 
 // Reports that the port or the socket cannot be listened at, and in a second line why.
-fn report_unopened<E: Write>(
-    rt: &HostRuntime,
-    fault: &Fault,
-    batches: Option<&str>,
-    errors: &mut E,
-) -> u8
+fn report_unopened<E: Write>(refused: &CausedFault, batches: Option<&str>, errors: &mut E) -> u8
     ensures { result ≡ 3 }
 {
-    let status = report(fault, errors);
-    match fault {
-        Fault::Port(number) => {
-            if let Some(why) = why_unbound(rt, *number) {
-                let _ = write!(errors, "onixdesk: port {number}: {why}\n");
-            }
+    let status = report(&refused.fault, errors);
+    match (&refused.fault, refused.why) {
+        (Fault::Port(number), Some(why)) => {
+            let _ = write!(errors, "onixdesk: port {number}: {why}\n");
         }
-        Fault::Socket => {
-            if let Some(socket) = batches {
-                report_why(socket, why_unheard(rt, socket), errors);
-            }
-        }
+        (Fault::Socket, Some(why)) => report_why(batches.unwrap_or("socket"), why, errors),
         _ => {}
     }
     status
@@ -150,8 +134,9 @@ fn report_unopened<E: Write>(
 /// exchange over HTTP at the port, a batch at the socket. Gives 0, or 3 after a fault of the port,
 /// of the socket or of the output, or when out of memory, which is reported. The routes of HTTP are
 /// made before.
-pub fn serve_desk<D: Desk, N: Entrances, I, O: Write, E: Write>(
-    rt: &HostRuntime,
+pub fn serve_desk<D: Desk, T: Clock, N: Entrances, I, O: Write, E: Write>(
+    alloc: Global,
+    clock: &T,
     desk: &mut D,
     precedence: &Precedence,
     entrances: &mut N,
@@ -164,20 +149,23 @@ pub fn serve_desk<D: Desk, N: Entrances, I, O: Write, E: Write>(
         (Appends (O.contents streams.old.output) (O.contents streams.new.output))
         (is_some place.entry.batches) place.entry.port place.entry.requests result }
 {
-    let routes = match Routes::new(rt.alloc()) {
+    let routes = match Routes::new(alloc) {
         Ok(routes) => routes,
         Err(_) => return report(&Fault::Memory, &mut streams.errors.writer),
     };
     let mut clients = match entrances.open(place.port, place.batches) {
         Ok(clients) => clients,
-        Err(fault) => return report_unopened(rt, &fault, place.batches, &mut streams.errors.writer),
+        Err(refused) => {
+            return report_unopened(&refused, place.batches, &mut streams.errors.writer);
+        }
     };
     match print_listening(place.port, &mut streams.output) {
         Ok(()) => {}
         Err(fault) => return report(&fault, &mut streams.errors.writer),
     }
     serve_clients(
-        rt,
+        alloc,
+        clock,
         &routes,
         desk,
         precedence,

@@ -1,9 +1,10 @@
 //! What the files of a name, or the system, show of why no desk is opened in them.
 
-use onix_records::StoreFault;
+use crate::databases::Places;
 use program_desks::kept_desks::Cause;
-use std::fs::{File, Metadata, metadata};
-use std::io::{ErrorKind, Read};
+use std::fs::{File, Metadata, canonicalize, metadata};
+use std::hash::{BuildHasher, RandomState};
+use std::io::{Error, ErrorKind, Read};
 use std::rt::HostRuntime;
 
 // What is missing where there is no file of a name: the file alone, or its folder.
@@ -63,18 +64,48 @@ pub(crate) fn cause_of_error(rt: &HostRuntime, name: &str, kind: ErrorKind) -> C
     }
 }
 
-/// What the file of a name shows of why it is no desk's, as it is found now.
-pub(crate) fn cause_of(rt: &HostRuntime, name: &str) -> Cause {
+// What the file of a name shows of why it is no desk's, as it is found now.
+fn cause_of(rt: &HostRuntime, name: &str) -> Cause {
     match metadata(rt, name) {
         Ok(found) => cause_of_file(rt, name, &found),
         Err(error) => cause_of_kind(rt, name, error.kind()),
     }
 }
 
-/// The same where the store has refused the file with this fault.
-pub(crate) fn cause_of_refusal(rt: &HostRuntime, name: &str, fault: &StoreFault) -> Cause {
-    match fault {
-        StoreFault::Unusable => cause_of(rt, name),
-        _ => Cause::Unknown,
+/// What lies at the paths of the machine.
+#[derive(Clone, Copy)]
+pub struct HostPlaces<'a> {
+    rt: &'a HostRuntime,
+}
+
+impl<'a> HostPlaces<'a> {
+    /// What lies at those of this one.
+    pub fn new(rt: &'a HostRuntime) -> HostPlaces<'a> {
+        HostPlaces { rt }
+    }
+}
+
+impl<'a> Places for HostPlaces<'a> {
+    fn file(&self, name: &str) -> Result<Metadata, Error> {
+        metadata(self.rt, name)
+    }
+
+    fn log(&self, name: &str) -> Result<Metadata, Error> {
+        let real = canonicalize(self.rt, name)?;
+        match format!(in self.rt.alloc(); "{}-wal", real.as_str()) {
+            Ok(log) => metadata(self.rt, log.as_str()),
+            Err(_) => Err(ErrorKind::OutOfMemory.into()),
+        }
+    }
+
+    fn cause(&self, name: &str) -> Cause {
+        cause_of(self.rt, name)
+    }
+
+    fn number(&self) -> Option<u64> {
+        match RandomState::new(self.rt) {
+            Ok(state) => Some(state.hash_one(&0u8)),
+            Err(_) => None,
+        }
     }
 }

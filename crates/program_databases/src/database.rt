@@ -8,8 +8,7 @@ use desk_store::Creation;
 use onix_records::StoreFault;
 use program_desks::kept_desks;
 use std::fs::Metadata;
-use std::io::{Error, ErrorKind, IsTerminal, Write};
-use std::rt::HostRuntime;
+use std::io::{Error, ErrorKind, Write};
 
 /// Of a file of more bytes it is said that it is checked, since that takes some seconds.
 const LARGE: u64 = 50_000_000;
@@ -69,10 +68,9 @@ fn is_stray(found: &Result<Metadata, Error>, log: &Result<Metadata, Error>) -> b
     }
 }
 
-// Says on a terminal that a large file is checked, and how long that takes on a machine of no great
-// speed.
-fn announce<E: Write>(rt: &HostRuntime, name: &str, bytes: u64, errors: &mut E) {
-    if bytes > LARGE && rt.stderr().is_terminal() {
+// Says that a large file is checked, and how long that takes on a machine of no great speed.
+fn announce<E: Write>(name: &str, bytes: u64, errors: &mut E) {
+    if bytes > LARGE {
         let size = bytes / 1_000_000;
         let seconds = bytes / LARGE;
         let _ = write!(
@@ -83,12 +81,12 @@ fn announce<E: Write>(rt: &HostRuntime, name: &str, bytes: u64, errors: &mut E) 
 }
 
 /// Looks at the database file before it is opened, by what was found of it and of its log: a desk
-/// reads and checks all of it. On a terminal a line says so of one of more than 50 MB.
+/// reads and checks all of it. A line may say so of one of more than 50 MB.
 /// `Unusable` where the file has to be there and is missing, or has no byte and a desk has to be in
 /// it, so that none is made; and where it is of one byte that no opening has left, since it would be
 /// written over.
 pub fn look_at<E: Write>(
-    rt: &HostRuntime,
+    is_shown: bool,
     name: &str,
     creation: Creation,
     found: &Result<Metadata, Error>,
@@ -103,8 +101,9 @@ pub fn look_at<E: Write>(
     if is_refused(creation, found) || is_stray(found, log) {
         return Err(StoreFault::Unusable);
     }
-    if let Ok(file) = found {
-        announce(rt, name, file.len(), errors);
+    match found {
+        Ok(file) if is_shown => announce(name, file.len(), errors),
+        _ => {}
     }
     Ok(())
 }

@@ -4,7 +4,6 @@ ghost use Rattle.std.specs.Prelude.{◌≡◌, IfErr, IfOk, IsTrue};
 ghost use Rattle.program_databases.specs.Databases.{AreSettled};
 ghost use Rattle.program_databases.specs.Unopened.{HasNoFiles};
 
-use crate::causes::cause_of;
 use crate::database::look_at;
 use crate::unopened::Unopened;
 use desk_store::{Creation, OpenOptions};
@@ -12,10 +11,8 @@ use onix_records::StoreFault;
 use program_desks::kept_desks::{Cause, OpenFault};
 use sqlite::Files;
 use sqlite_disk::Disk;
-use std::fs::{Metadata, canonicalize, metadata};
-use std::hash::{BuildHasher, RandomState};
-use std::io::{Error, ErrorKind, Write};
-use std::rt::HostRuntime;
+use std::fs::Metadata;
+use std::io::{Error, Write};
 
 /// Database files that are opened by their names, one of them.
 pub trait Databases {
@@ -33,40 +30,44 @@ pub trait Databases {
 
     /// Opens the database file of that name and its log; what is missing is made. A fault comes
     /// with no files.
-    fn open(
-        self,
-        rt: &HostRuntime,
-        name: &str,
-    ) -> Result<Files<Self::File>, (OpenFault, Self::NotOpened)>
+    fn open(self, name: &str) -> Result<Files<Self::File>, (OpenFault, Self::NotOpened)>
         ensures log { IfOk result (λ files. IsTrue (Self.File.is_usable files.log)) }
         ensures db { IfOk result (λ files. IsTrue (Self.File.is_usable files.db)) }
         ensures settled { IfOk result (AreSettled Self.File.Disk (held self name.now)) };
 }
 
-// How a database is opened, with a random number for its log.
-fn random_options(rt: &HostRuntime, creation: Creation) -> Result<OpenOptions, StoreFault>
-    ensures { IfOk result (λ options. options.creation ≡ creation) }
-{
-    match RandomState::new(rt) {
-        Ok(state) => Ok(OpenOptions::new(state.hash_one(&0u8), creation)),
-        Err(_) => Err(StoreFault::Unusable),
-    }
+/// What lies at the names of database files, which is seen before one is opened and said of why none
+/// is.
+pub trait Places {
+    /// What is found of the file of that name.
+    fn file(&self, name: &str) -> Result<Metadata, Error>;
+
+    /// What is found of the log that lies beside it, where a link leads.
+    fn log(&self, name: &str) -> Result<Metadata, Error>;
+
+    /// What the file of that name shows of why it is no desk's, as it is found now.
+    fn cause(&self, name: &str) -> Cause;
+
+    /// A random number, where there is one.
+    fn number(&self) -> Option<u64>;
 }
 
-// What is found of the log that lies beside a database file, where a link leads.
-fn log_of(rt: &HostRuntime, name: &str) -> Result<Metadata, Error> {
-    let real = canonicalize(rt, name)?;
-    match format!(in rt.alloc(); "{}-wal", real.as_str()) {
-        Ok(log) => metadata(rt, log.as_str()),
-        Err(_) => Err(ErrorKind::OutOfMemory.into()),
+// How a database is opened, with a random number for its log.
+fn random_options<P: Places>(places: &P, creation: Creation) -> Result<OpenOptions, StoreFault>
+    ensures { IfOk result (λ options. options.creation ≡ creation) }
+{
+    match places.number() {
+        Some(number) => Ok(OpenOptions::new(number, creation)),
+        None => Err(StoreFault::Unusable),
     }
 }
 
 /// Opens the database file of that name, once it was looked at, and gives the options by which its
 /// desk is opened. A fault comes with no files: none was touched, or those of that name could not be
 /// opened.
-pub fn open_database<O: Databases, E: Write>(
-    rt: &HostRuntime,
+pub fn open_database<O: Databases, P: Places, E: Write>(
+    places: &P,
+    is_shown: bool,
     name: &str,
     creation: Creation,
     databases: O,
@@ -79,23 +80,23 @@ pub fn open_database<O: Databases, E: Write>(
     ensures chosen { IfOk result (λ opened. opened.1.creation ≡ creation) }
     ensures none { IfErr result (λ e. HasNoFiles e.1) }
 {
-    let found = metadata(rt, name);
-    let log = log_of(rt, name);
-    if let Err(fault) = look_at(rt, name, creation, &found, &log, errors) {
-        let cause = cause_of(rt, name);
+    let found = places.file(name);
+    let log = places.log(name);
+    if let Err(fault) = look_at(is_shown, name, creation, &found, &log, errors) {
+        let cause = places.cause(name);
         return Err((
             OpenFault::Store(fault, cause),
             Unopened::Untouched(databases),
         ));
     }
-    let options = match random_options(rt, creation) {
+    let options = match random_options(places, creation) {
         Ok(options) => options,
         Err(fault) => {
             let fault = OpenFault::Store(fault, Cause::Unknown);
             return Err((fault, Unopened::Untouched(databases)));
         }
     };
-    match databases.open(rt, name) {
+    match databases.open(name) {
         Ok(files) => Ok((files, options)),
         Err((fault, none)) => Err((fault, Unopened::NotOpened(none))),
     }

@@ -3,7 +3,7 @@
 //! is left where none was opened, and `causes` what the files show of why.
 #![tactic(auto)]
 
-mod causes;
+pub mod causes;
 pub mod database;
 pub mod databases;
 pub mod paths;

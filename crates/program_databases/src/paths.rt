@@ -11,8 +11,16 @@ use std::rt::HostRuntime;
 
 /// The database files at paths. `start` says what the one that is opened and its log hold.
 #[derive(Drop)]
-pub struct Paths<S: Start> {
-    pub start: S,
+pub struct Paths<'a, S: Start> {
+    rt: &'a HostRuntime,
+    start: S,
+}
+
+impl<'a, S: Start> Paths<'a, S> {
+    /// Those of this machine.
+    pub fn new(rt: &'a HostRuntime, start: S) -> Paths<'a, S> {
+        Paths { rt, start }
+    }
 }
 
 // Why the files of a name could not be opened: for want of memory, or they cannot be used.
@@ -31,7 +39,7 @@ fn fault_of(rt: &HostRuntime, name: &str, error: &OpenError) -> OpenFault {
     }
 }
 
-impl<S: Start> Databases for Paths<S> {
+impl<'a, S: Start> Databases for Paths<'a, S> {
     ghost use Rattle.sqlite_wal.specs.Files.{image_at};
 
     // Whatever the name: `start` is used up by the one opening.
@@ -41,11 +49,12 @@ impl<S: Start> Databases for Paths<S> {
 
     type NotOpened = ();
 
-    fn open(self, rt: &HostRuntime, name: &str) -> Result<Files<FileFrom<S>>, (OpenFault, ())> {
+    fn open(self, name: &str) -> Result<Files<FileFrom<S>>, (OpenFault, ())> {
         // SQLite keeps no file of such a name.
         if name == ":memory:" || name.starts_with("file:") {
             return Err((OpenFault::Store(StoreFault::Unusable, Cause::BadName), ()));
         }
+        let rt = self.rt;
         match sqlite_std_file::open(rt, name, self.start) {
             Ok(files) => Ok(files),
             Err(error) => Err((fault_of(rt, name, &error), ())),

@@ -1,23 +1,29 @@
 //! The desks in SQLite files.
 
 use crate::database::creation_of;
-use crate::databases::{Databases, open_database};
+use crate::databases::{Databases, Places, open_database};
 use crate::unopened::{Unopened, fault_of, migration_of};
 use desk_stops::laws::rows_have_one_content;
 use desk_store::{DeskStore, migrate_files_with};
 use onix_records::StoreFault;
 use program_desks::kept_desks::{Creation, KeepsDesks, Migration, OpenFault};
 use sqlite::{FileStore, Files};
+use std::alloc::Global;
 use std::io::Write;
-use std::rt::HostRuntime;
 
 /// The desks in SQLite files that are opened by their names: a database and its log.
 #[derive(Drop)]
-pub struct StoredDesks<O> {
+pub struct StoredDesks<O, P> {
+    pub alloc: Global,
     pub databases: O,
+    pub places: P,
+    /// Whether a line may say that large files are checked.
+    pub is_shown: bool,
 }
 
-impl<O: Databases> KeepsDesks<DeskStore<FileStore<O::File>>> for StoredDesks<O> {
+impl<O: Databases, P: Places + Drop> KeepsDesks<DeskStore<FileStore<O::File>>>
+    for StoredDesks<O, P>
+{
     ghost use Rattle.sqlite.specs.Files.{file_state};
     ghost use Rattle.desk_rows.specs.Seen.{in_tables, seen_in};
     ghost use Rattle.program_desks.specs.DeskFiles.{one_way};
@@ -37,19 +43,20 @@ impl<O: Databases> KeepsDesks<DeskStore<FileStore<O::File>>> for StoredDesks<O> 
 
     fn open<E: Write>(
         self,
-        rt: &HostRuntime,
         name: &str,
         creation: Creation,
         errors: &mut E,
     ) -> Result<DeskStore<FileStore<O::File>>, (OpenFault, Unopened<O, O::NotOpened, O::File>)> {
         let creation = creation_of(creation);
-        let (files, options) = match open_database(rt, name, creation, self.databases, errors) {
+        let (places, shown) = (&self.places, self.is_shown);
+        let opened = open_database(places, shown, name, creation, self.databases, errors);
+        let (files, options) = match opened {
             Ok(opened) => opened,
             Err((fault, none)) => return Err((fault, none)),
         };
-        match DeskStore::open_files_with(rt.alloc(), files, options) {
+        match DeskStore::open_files_with(self.alloc, files, options) {
             Ok(desk) => Ok(desk),
-            Err((fault, left)) => Err((fault_of(rt, name, fault), Unopened::Left(left))),
+            Err((fault, left)) => Err((fault_of(&self.places, name, fault), Unopened::Left(left))),
         }
     }
 
@@ -64,19 +71,20 @@ impl<O: Databases> KeepsDesks<DeskStore<FileStore<O::File>>> for StoredDesks<O> 
 
     fn migrate<E: Write>(
         self,
-        rt: &HostRuntime,
         name: &str,
         creation: Creation,
         errors: &mut E,
     ) -> Result<(Migration, Files<O::File>), (OpenFault, Unopened<O, O::NotOpened, O::File>)> {
         let creation = creation_of(creation);
-        let (files, options) = match open_database(rt, name, creation, self.databases, errors) {
+        let (places, shown) = (&self.places, self.is_shown);
+        let opened = open_database(places, shown, name, creation, self.databases, errors);
+        let (files, options) = match opened {
             Ok(opened) => opened,
             Err((fault, none)) => return Err((fault, none)),
         };
-        match migrate_files_with(rt.alloc(), files, options) {
+        match migrate_files_with(self.alloc, files, options) {
             Ok((answer, files)) => Ok((migration_of(answer), files)),
-            Err((fault, left)) => Err((fault_of(rt, name, fault), Unopened::Left(left))),
+            Err((fault, left)) => Err((fault_of(&self.places, name, fault), Unopened::Left(left))),
         }
     }
 

@@ -3,12 +3,12 @@
 ghost use Rattle.std.specs.Prelude.{◌≡◌};
 ghost use Rattle.program_databases.specs.Migrated.{answer_as};
 
-use crate::causes::cause_of_refusal;
+use crate::databases::Places;
 use desk_store::{MigrateAnswer, OpenFault};
-use program_desks::kept_desks::{self, Migration};
+use onix_records::StoreFault;
+use program_desks::kept_desks::{self, Cause, Migration};
 use sqlite::Leftover;
 use sqlite_disk::Disk;
-use std::rt::HostRuntime;
 
 /// What is left of two files, the database and its log, of which no desk was opened, or which were
 /// not brought to the present version. A function over any `Databases` can make neither of the
@@ -24,12 +24,16 @@ pub enum Unopened<O, U, D: Disk> {
 }
 
 /// The fault of opening the desk in the files of a name, or of bringing one to version 2.
-pub(crate) fn fault_of(rt: &HostRuntime, name: &str, fault: OpenFault) -> kept_desks::OpenFault {
+pub(crate) fn fault_of<P: Places>(
+    places: &P,
+    name: &str,
+    fault: OpenFault,
+) -> kept_desks::OpenFault {
     match fault {
-        OpenFault::Store(fault) => {
-            let cause = cause_of_refusal(rt, name, &fault);
-            kept_desks::OpenFault::Store(fault, cause)
+        OpenFault::Store(StoreFault::Unusable) => {
+            kept_desks::OpenFault::Store(StoreFault::Unusable, places.cause(name))
         }
+        OpenFault::Store(fault) => kept_desks::OpenFault::Store(fault, Cause::Unknown),
         OpenFault::OtherVersion { found } => kept_desks::OpenFault::OtherVersion(found),
     }
 }

@@ -3,7 +3,6 @@
 use onix_records::StoreFault;
 use series_rules::listing::ListedDesk;
 use std::io::Write;
-use std::rt::HostRuntime;
 
 /// What the files of a name, or the system, show of why no desk is opened in them.
 #[derive(Clone, Copy)]
@@ -98,7 +97,6 @@ pub trait KeepsDesks<D: ListedDesk> {
     /// checked.
     fn open<E: Write>(
         self,
-        rt: &HostRuntime,
         name: &str,
         creation: Creation,
         errors: &mut E,
@@ -117,7 +115,6 @@ pub trait KeepsDesks<D: ListedDesk> {
     /// Brings the desk in the files of that name to the present version, and closes them.
     fn migrate<E: Write>(
         self,
-        rt: &HostRuntime,
         name: &str,
         creation: Creation,
         errors: &mut E,

@@ -24,7 +24,6 @@ use program_words::invocation::{Database, Listing};
 use series_rules::listing::ListedDesk;
 use std::alloc::Global;
 use std::io::Write;
-use std::rt::HostRuntime;
 
 // Reports that a message is too large for a batch.
 fn report_large<E: Write>(series: &SeriesName, number: Number, errors: &mut E) -> u8
@@ -89,7 +88,7 @@ fn list_desk<D: ListedDesk, R, W: Write, E: Write>(
 /// Lists what the desk in the database file of a name holds, which is only asked. Gives 0, or 3
 /// after a fault, which is reported; and what is left of the files of the database.
 pub fn list_file<D: ListedDesk, K: KeepsDesks<D>, R, W: Write, E: Write>(
-    rt: &HostRuntime,
+    alloc: Global,
     db: &Database<'_>,
     databases: K,
     listing: Listing,
@@ -101,9 +100,9 @@ pub fn list_file<D: ListedDesk, K: KeepsDesks<D>, R, W: Write, E: Write>(
         (ListingEnds (Appends (W.contents streams.old.output) (W.contents streams.new.output))
         listing) result.0 result.1 }
 {
-    match databases.open(rt, db.name, Creation::Never, &mut streams.errors.writer) {
+    match databases.open(db.name, Creation::Never, &mut streams.errors.writer) {
         Ok(mut desk) => {
-            let status = list_desk(rt.alloc(), &mut desk, listing, streams);
+            let status = list_desk(alloc, &mut desk, listing, streams);
             close_desk(status, desk, &mut streams.errors.writer)
         }
         Err((fault, left)) => (

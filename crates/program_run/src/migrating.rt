@@ -14,7 +14,6 @@ use program_desks::kept_desks::{KeepsDesks, Migration};
 use program_words::invocation::Database;
 use series_rules::listing::ListedDesk;
 use std::io::Write;
-use std::rt::HostRuntime;
 
 // The line that says what a migration did.
 fn line(did: Migration) -> &'static str
@@ -41,7 +40,6 @@ fn write_line<W: Write, E: Write>(did: Migration, output: &mut W, errors: &mut E
 /// `schema 2` where it is of that version and stays as it is. Gives 0, or 3 after a fault, which is
 /// reported; and what is left of the files.
 pub(crate) fn migrate_file<D: ListedDesk, K: KeepsDesks<D>, R, W: Write, E: Write>(
-    rt: &HostRuntime,
     db: &Database<'_>,
     databases: K,
     streams: &mut Streams<R, W, E>,
@@ -53,7 +51,7 @@ pub(crate) fn migrate_file<D: ListedDesk, K: KeepsDesks<D>, R, W: Write, E: Writ
         result.0 result.1 }
 {
     let errors = &mut streams.errors.writer;
-    match databases.migrate(rt, db.name, creation_of(db), errors) {
+    match databases.migrate(db.name, creation_of(db), errors) {
         Ok((did, files)) => {
             let status = write_line(did, &mut streams.output, errors);
             (status, FilesLeft::Closed(files))

@@ -31,6 +31,7 @@ use series_rules::listing::ListedDesk;
 use std::alloc::Global;
 use std::io::{Read, Write};
 use std::rt::HostRuntime;
+use std::time::Clock;
 
 // What is said behind refusals of a desk in memory.
 const NO_FILE: &str =
@@ -45,8 +46,9 @@ fn hint_of(task: &Task<'_>) -> &'static str {
 }
 
 // Runs a command over a new desk in memory.
-fn run_in_memory<F: NamedFiles, N: Entrances, R: Read, W: Write, E: Write>(
-    rt: &HostRuntime,
+fn run_in_memory<T: Clock, F: NamedFiles, N: Entrances, R: Read, W: Write, E: Write>(
+    alloc: Global,
+    clock: &T,
     precedence: &Precedence,
     task: &Task<'_>,
     files: &F,
@@ -59,10 +61,12 @@ fn run_in_memory<F: NamedFiles, N: Entrances, R: Read, W: Write, E: Write>(
         (F.holds files.now) (R.remaining streams.old.input)
         ⟦<MemoryDesk as Desk>⟧.seen result }
 {
-    let mut desk = MemoryDesk::new(rt.alloc());
+    let mut desk = MemoryDesk::new(alloc);
     bind_port(entrances, task);
     streams.errors.hint = hint_of(task);
-    let status = run_task(rt, &mut desk, precedence, task, files, entrances, streams);
+    let status = run_task(
+        alloc, clock, &mut desk, precedence, task, files, entrances, streams,
+    );
     desk.is_always_sound();
     status
 }
@@ -71,6 +75,7 @@ fn run_in_memory<F: NamedFiles, N: Entrances, R: Read, W: Write, E: Write>(
 fn run_in_file<
     D: ListedDesk,
     K: KeepsDesks<D>,
+    T: Clock,
     O,
     N: Entrances,
     F: NamedFiles,
@@ -78,7 +83,8 @@ fn run_in_file<
     W: Write,
     E: Write,
 >(
-    rt: &HostRuntime,
+    alloc: Global,
+    clock: &T,
     db: &Database<'_>,
     databases: K,
     precedence: &Precedence,
@@ -104,9 +110,11 @@ fn run_in_file<
         ..
     } = machine;
     bind_port(entrances, task);
-    match databases.open(rt, db.name, creation_of(db), &mut streams.errors.writer) {
+    match databases.open(db.name, creation_of(db), &mut streams.errors.writer) {
         Ok(mut desk) => {
-            let status = run_task(rt, &mut desk, precedence, task, files, entrances, streams);
+            let status = run_task(
+                alloc, clock, &mut desk, precedence, task, files, entrances, streams,
+            );
             close_desk(status, desk, &mut streams.errors.writer)
         }
         Err((fault, left)) => (
@@ -148,14 +156,16 @@ fn run_action<
     } = machine;
     let status = match action {
         Action::InFile { db, task } => {
-            return run_in_file(rt, db, databases, precedence, task, machine);
+            return run_in_file(alloc, rt, db, databases, precedence, task, machine);
         }
         Action::Listed { db, listing } => {
-            return listing::list_file(rt, db, databases, *listing, streams);
+            return listing::list_file(alloc, db, databases, *listing, streams);
         }
-        Action::Migrate { db } => return migrating::migrate_file(rt, db, databases, streams),
-        Action::InMemory(task) => run_in_memory(rt, precedence, task, files, entrances, streams),
-        Action::Send { socket } => send_input(rt, desks, socket, streams),
+        Action::Migrate { db } => return migrating::migrate_file(db, databases, streams),
+        Action::InMemory(task) => {
+            run_in_memory(alloc, rt, precedence, task, files, entrances, streams)
+        }
+        Action::Send { socket } => send_input(alloc, desks, socket, streams),
         Action::Convert(conversion) => converting::convert(rt, conversion, files, streams),
         Action::CheckRules { file } => {
             let errors = &mut streams.errors.writer;

@@ -15,8 +15,9 @@ use program_commands::streams::Streams;
 use program_files::NamedFiles;
 use program_words::invocation::Task;
 use series_rules::desk::Desk;
+use std::alloc::Global;
 use std::io::{Read, Write};
-use std::rt::HostRuntime;
+use std::time::Clock;
 
 /// Binds the port at which a command serves, before its desk is opened, so that nobody else has it
 /// meanwhile and clients wait; whether it could be is told behind the faults of the desk.
@@ -27,8 +28,17 @@ pub(crate) fn bind_port<N: Entrances>(entrances: &mut N, task: &Task<'_>) {
 }
 
 /// Runs a command over a desk, and gives its status.
-pub(crate) fn run_task<D: Desk, F: NamedFiles, N: Entrances, R: Read, W: Write, E: Write>(
-    rt: &HostRuntime,
+pub(crate) fn run_task<
+    D: Desk,
+    T: Clock,
+    F: NamedFiles,
+    N: Entrances,
+    R: Read,
+    W: Write,
+    E: Write,
+>(
+    alloc: Global,
+    clock: &T,
     desk: &mut D,
     precedence: &Precedence,
     task: &Task<'_>,
@@ -42,18 +52,11 @@ pub(crate) fn run_task<D: Desk, F: NamedFiles, N: Entrances, R: Read, W: Write, 
         task.now (F.holds files.now) (R.remaining streams.old.input) result }
 {
     match task {
-        Task::Batch => answer_input(rt.alloc(), desk, precedence, streams),
+        Task::Batch => answer_input(alloc, desk, precedence, streams),
         Task::Deliver(names) => {
-            deliver_files(
-                rt.alloc(),
-                desk,
-                precedence,
-                files,
-                names.as_slice(),
-                streams,
-            )
+            deliver_files(alloc, desk, precedence, files, names.as_slice(), streams)
         }
-        Task::Gaps(name) => ask_gaps(rt.alloc(), desk, precedence, name, streams),
+        Task::Gaps(name) => ask_gaps(alloc, desk, precedence, name, streams),
         Task::Serve {
             port,
             requests,
@@ -64,7 +67,7 @@ pub(crate) fn run_task<D: Desk, F: NamedFiles, N: Entrances, R: Read, W: Write, 
                 batches: *batches,
                 requests: *requests,
             };
-            serve_desk(rt, desk, precedence, entrances, place, streams)
+            serve_desk(alloc, clock, desk, precedence, entrances, place, streams)
         }
     }
 }

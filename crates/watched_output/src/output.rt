@@ -3,10 +3,9 @@
 ghost use Rattle.std.specs.Prelude.{◌≡◌};
 
 use crate::hints::Hints;
-use std::alloc::AllocError;
-use std::io::{ErrorKind, IsTerminal, Result, Write};
-use std::rt::HostRuntime;
-use std::time::{Duration, Instant};
+use std::alloc::{AllocError, Global};
+use std::io::{ErrorKind, Result, Write};
+use std::time::{Clock, Duration, Instant};
 
 // How long the line on the terminal stays as it is.
 const MILLISECONDS: u64 = 200;
@@ -15,8 +14,8 @@ const MILLISECONDS: u64 = 200;
 const CLEAR: &str = "\x1b[K";
 
 // The time from which on the line is written again.
-fn next_time(rt: &HostRuntime) -> Option<Instant> {
-    match Instant::now(rt) {
+fn next_time<C: Clock>(clock: &C) -> Option<Instant> {
+    match Instant::now(clock) {
         Ok(now) => now.checked_add(Duration::from_millis(MILLISECONDS)),
         Err(_) => None,
     }
@@ -32,12 +31,14 @@ fn cause_of(kind: ErrorKind) -> &'static str {
     }
 }
 
-/// Gives a writer what it is given, writes on standard error what the refusals in it mean, and shows
-/// there how much was written, if that is a terminal.
+/// Gives a writer what it is given, writes on `errors` what the refusals in it mean, and may show
+/// there how much was written.
 #[derive(Drop)]
-pub struct Watched<'a, W> {
-    rt: &'a HostRuntime,
+pub struct Watched<'a, W, E, C> {
+    alloc: Global,
+    clock: &'a C,
     writer: W,
+    errors: E,
     hints: Hints,
     // How many texts were written to their ends, and how many bytes.
     texts: u64,
@@ -50,26 +51,32 @@ pub struct Watched<'a, W> {
     fault: Option<ErrorKind>,
 }
 
-impl<'a, W: Write> Watched<'a, W> {
-    /// A writer to which nothing was written yet. The line is shown if it may be, and standard error
-    /// is a terminal.
-    pub fn new(rt: &'a HostRuntime, writer: W, may_show: bool) -> Watched<'a, W> {
-        let is_shown = may_show && rt.stderr().is_terminal();
+impl<'a, W: Write, E: Write, C: Clock> Watched<'a, W, E, C> {
+    /// A writer to which nothing was written yet, and whether a line shows how much was.
+    pub fn new(
+        alloc: Global,
+        clock: &'a C,
+        writer: W,
+        errors: E,
+        is_shown: bool,
+    ) -> Watched<'a, W, E, C> {
         Watched {
-            rt,
+            alloc,
+            clock,
             writer,
+            errors,
             hints: Hints::new(),
             texts: 0,
             bytes: 0,
             is_amid: false,
-            next: if is_shown { next_time(rt) } else { None },
+            next: if is_shown { next_time(clock) } else { None },
             has_line: false,
             fault: None,
         }
     }
 }
 
-impl<'a, W> Watched<'a, W> {
+impl<'a, W, E: Write, C: Clock> Watched<'a, W, E, C> {
     // Adds the line. The cursor is left at its front, so that what follows is written over it.
     fn push_line(&self, line: &mut String) -> std::result::Result<(), AllocError> {
         let whole = self.bytes / 1_000_000;
@@ -80,7 +87,7 @@ impl<'a, W> Watched<'a, W> {
 
     // Whether it is time to write the line.
     fn is_due(&self) -> bool {
-        match (self.next, Instant::now(self.rt)) {
+        match (self.next, Instant::now(self.clock)) {
             (Some(next), Ok(now)) => next <= now,
             _ => false,
         }
@@ -93,11 +100,11 @@ impl<'a, W> Watched<'a, W> {
         if self.next.is_none() || !self.is_due() {
             return;
         }
-        self.next = next_time(self.rt);
-        let mut line = String::new(self.rt.alloc());
+        self.next = next_time(self.clock);
+        let mut line = String::new(self.alloc);
         if let Ok(()) = self.push_line(&mut line) {
             self.has_line = true;
-            let _ = self.rt.stderr().write_all(line.as_bytes());
+            let _ = self.errors.write_all(line.as_bytes());
         }
     }
 
@@ -106,7 +113,7 @@ impl<'a, W> Watched<'a, W> {
         ensures { self.new.writer ≡ self.old.writer }
     {
         if !self.is_amid {
-            self.hints.tell(bytes, &mut self.rt.stderr());
+            self.hints.tell(bytes, &mut self.errors);
         }
         self.is_amid = count < bytes.len();
         self.bytes = self.bytes.saturating_add(count as u64);
@@ -123,11 +130,11 @@ impl<'a, W> Watched<'a, W> {
         }
     }
 
-    /// Says on standard error why the writer takes no more, if it gave an error that shows it.
-    pub fn tell_fault(&self) {
+    /// Says on `errors` why the writer takes no more, if it gave an error that shows it.
+    pub fn tell_fault(&mut self) {
         if let Some(kind) = self.fault {
             let why = cause_of(kind);
-            let mut errors = self.rt.stderr();
+            let errors = &mut self.errors;
             let _ = write!(errors, "onixdesk: standard output: {why}\n");
         }
     }
@@ -136,12 +143,12 @@ impl<'a, W> Watched<'a, W> {
     pub fn clear(&mut self) {
         if self.has_line {
             self.has_line = false;
-            let _ = self.rt.stderr().write_all(CLEAR.as_bytes());
+            let _ = self.errors.write_all(CLEAR.as_bytes());
         }
     }
 }
 
-impl<'a, W: Write> Write for Watched<'a, W> {
+impl<'a, W: Write, E: Write, C: Clock> Write for Watched<'a, W, E, C> {
     ghost contents = { λ w. W.contents w.writer };
 
     fn write(&mut self, bytes: &[u8]) -> Result<usize> {

@@ -1,23 +1,22 @@
 use Rattle.std.proofs.Common.{None, []}
 use Rattle.std.proofs.KnownBytes.{Appends-nil, Consumes-nil}
-use Rattle.std.proofs.lemmas.Result.{err_from_is_err_and}
 use Rattle.std.specs.Io.KnownBytes.{Appends}
-use Rattle.program_commands.proofs.SendingLemmas.{sent_fits, wrote_came}
+use Rattle.program_commands.proofs.SendingLemmas.{sent_part, sent_whole, wrote_came}
 use Rattle.program_commands.proofs.sending.send_batch.Goals as goal
 
-pub returns-in_err-asked : goal.returns-in_err-asked
-returns-in_err-asked g c =
+pub returns-in-Err : goal.returns-in-Err
+returns-in-Err g c =
     let held = g.W.Write.contents c.args.output.now in
-    let given = err_from_is_err_and c.from_residual.result c.from_residual.ensures.1 in
-    rw given.1 (wrote_came None None (Appends held held) [] (Consumes-nil None) (Appends-nil held))
+    wrote_came None None (Appends held held) [] (Consumes-nil None) (Appends-nil held)
 
-pub returns-in_err-from : goal.returns-in_err-from
-returns-in_err-from g c =
+pub returns-in-Err-send : goal.returns-in-Err-send
+returns-in-Err-send g c =
     let held = g.W.Write.contents c.args.output.now in
-    let given = err_from_is_err_and c.from_residual-in_err-from.result c.from_residual-in_err-from.ensures.1 in
-    rw given.1 (wrote_came None None (Appends held held) [] (Consumes-nil None) (Appends-nil held))
+    wrote_came None None (Appends held held) [] (Consumes-nil None) (Appends-nil held)
 
-pub returns : goal.returns
-returns g c =
-    let held = Appends (g.W.Write.contents c.args.output.now) (g.W.Write.contents c.take_answers.new.output) in
-    sent_fits c.args.text.now c.in_ok-asked.asked (g.K.Reader.Read.remaining c.in_ok-from.from) held c.take_answers.result c.in_ok-asked.ensures.0 c.in_ok-asked.ensures.1 c.take_answers.ensures
+pub returns-in-Ok-take_answers : goal.returns-in-Ok-take_answers
+returns-in-Ok-take_answers g c =
+    sent_whole c.args.text.now c.in-Ok.asked _ _ c.in-Ok-take_answers.refused c.in-Ok.ensures.0 c.in-Ok.ensures.1 c.in-Ok-take_answers.ensures
+
+pub returns-in-Err-take_answers : goal.returns-in-Err-take_answers
+returns-in-Err-take_answers g c = sent_part _ _ c.in-Err-take_answers.ensures

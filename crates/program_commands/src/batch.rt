@@ -1,9 +1,10 @@
 //! The command `batch`: standard input to standard output. A batch that comes to a socket is answered
 //! in the same way.
 
-ghost use Rattle.std.specs.Prelude.{◌≤◌, ℕ, List};
+ghost use Rattle.std.specs.Prelude.{◌+◌, ◌≤◌, ℕ, List};
 ghost use Rattle.std.specs.Io.KnownBytes.{Appends};
-ghost use Rattle.csv_records.specs.Streams.{IsTold};
+ghost use Rattle.csv_records.specs.RecordTexts.{limit};
+ghost use Rattle.csv_records.specs.Streams.{IsTold, TakesAtMost};
 ghost use Rattle.series_rules.specs.Steps.{Asked};
 ghost use Rattle.desk_batch.specs.Batch.{RunsBatch};
 ghost use Rattle.program_commands.specs.CommandEnds.{BatchEnds};
@@ -47,9 +48,10 @@ pub(crate) fn answer_batch<D: Desk, R: Read, W: Write, E: Write>(
     errors: &mut Errors<E>,
 ) -> Result<u64, BatchFault>
     // There is a text, that of the reader where it tells its bytes, whose batch was run.
-    ensures { (text : List ℕ) × IsTold (R.remaining reader.old) text
+    ensures ran { (text : List ℕ) × IsTold (R.remaining reader.old) text
         × RunsBatch (Asked D.seen precedence.now desk.old desk.new)
         (Appends (W.contents writer.old) (W.contents writer.new)) text result }
+    ensures taken { TakesAtMost (limit + 1) (R.remaining reader.old) (R.remaining reader.new) }
 {
     match read_text(alloc, reader) {
         Ok(text) => answer_text(alloc, desk, precedence, text.as_slice(), writer, errors),
@@ -71,6 +73,8 @@ pub fn answer_input<D: Desk, R: Read, W: Write, E: Write>(
     ensures end { BatchEnds (Asked D.seen precedence.now desk.old desk.new)
         (Appends (W.contents streams.old.output) (W.contents streams.new.output))
         (R.remaining streams.old.input) result }
+    ensures taken { TakesAtMost (limit + 1)
+        (R.remaining streams.old.input) (R.remaining streams.new.input) }
 {
     match answer_batch(
         alloc,

@@ -1,7 +1,10 @@
 //! One connection of the command `serve`, an exchange or a batch, and the line of it.
 
 ghost use Rattle.std.specs.Io.KnownBytes.{Appends};
-ghost use Rattle.std.specs.Prelude.{List, codes, ℕ};
+ghost use Rattle.std.specs.Prelude.{◌+◌, List, codes, ℕ};
+ghost use Rattle.csv_records.specs.RecordTexts.{limit};
+ghost use Rattle.csv_records.specs.Streams.{TakesAtMost};
+ghost use Rattle.http_requests.specs.Head.{head_limit};
 ghost use Rattle.series_rules.specs.Steps.{Asked};
 ghost use Rattle.program_clients.specs.Printing.{WritesWhole};
 ghost use Rattle.program_clients.specs.declared.clients.Protocol.{Protocol};
@@ -10,6 +13,7 @@ ghost use Rattle.program_commands.specs.Serving.{ServesConnection, batch, ending
 use crate::batch::answer_batch;
 use crate::streams::Streams;
 use desk_batch::BatchFault;
+use desk_http::laws::wanted_is_bounded;
 use desk_http::{HttpFault, Routes, serve_routed};
 use price_rules::precedence::Precedence;
 use program_clients::clients::Protocol;
@@ -78,13 +82,17 @@ pub(crate) fn serve_connection<D: Desk, R: Read, W: Write, I, O: Write, E: Write
     client: &mut Client<R, W>,
     streams: &mut Streams<I, O, E>,
 ) -> Result<(), Fault>
-    ensures { ServesConnection (Asked D.seen precedence.now desk.old desk.new) client.old.protocol
-        (R.remaining client.old.reader)
+    ensures served { ServesConnection (Asked D.seen precedence.now desk.old desk.new)
+        client.old.protocol (R.remaining client.old.reader)
         (Appends (W.contents client.old.writer) (W.contents client.new.writer))
         (Appends (O.contents streams.old.output) (O.contents streams.new.output)) result }
+    // No more is taken of the client than a head and a body may have.
+    ensures taken { TakesAtMost (head_limit + limit)
+        (R.remaining client.old.reader) (R.remaining client.new.reader) }
 {
     match client.protocol {
         Protocol::Exchange => {
+            wanted_is_bounded();
             let outcome = serve_routed(
                 alloc,
                 routes,

@@ -5,15 +5,15 @@ use Rattle.series_rules.specs.Steps.{Asked}
 use Rattle.desk_batch.proofs.TalkLemmas.{runs_of, unread_runs}
 use Rattle.program_commands.proofs.batch.answer_batch.Goals as goal
 
-pub returns-in-Ok : goal.returns-in-Ok
-returns-in-Ok g c =
+pub returns-in-Ok-clause-ran : goal.returns-in-Ok-clause-ran
+returns-in-Ok-clause-ran g c =
     let read = c.in-Ok.ensures.text in
     let asked = Asked g.D.Desk.seen c.args.precedence.now c.args.desk.now c.answer_text.new.desk in
     let written = Appends (g.W.Write.contents c.args.writer.now) (g.W.Write.contents c.answer_text.new.writer) in
     (read.0, read.1, runs_of asked written c.as_slice.result.now read.0 c.answer_text.result (c.as_slice.ensures.value ∙ read.2) c.answer_text.ensures)
 
-pub returns-in-Err : goal.returns-in-Err
-returns-in-Err g c =
+pub returns-in-Err-clause-ran : goal.returns-in-Err-clause-ran
+returns-in-Err-clause-ran g c =
     let read = c.in-Err.ensures.text in
     let asked = Asked g.D.Desk.seen c.args.precedence.now c.args.desk.now c.args.desk.now in
     let written = Appends (g.W.Write.contents c.args.writer.now) (g.W.Write.contents c.args.writer.now) in

@@ -10,7 +10,7 @@ pub returns-in-Ok-Some-clause-served : goal.returns-in-Ok-Some-clause-served
 returns-in-Ok-Some-clause-served g c =
     let may = rw c.in-Ok-Some.field-0-is at c.in-Ok-Some.ensures.client in
     inl (client_of _ _ (Appends (g.C.Writer.Write.contents c.in-Ok-Some.writer) (g.C.Writer.Write.contents c.serve_connection-ended.new.client.writer))
-    (g.C.Clients.takes_batches c.args.clients.now) _ c.serve_connection-ended.result c.in-Ok-Some.protocol may c.serve_connection-ended.ensures)
+    (g.C.Clients.takes_batches c.args.clients.now) _ c.serve_connection-ended.result c.in-Ok-Some.protocol may c.serve_connection-ended.ensures.served)
 
 pub returns-in-Ok-None-clause-served : goal.returns-in-Ok-None-clause-served
 returns-in-Ok-None-clause-served g c = inl (record {

@@ -52,9 +52,9 @@ fn unaccepted(error: &Error, fault: Fault) -> Result<Option<Client>, Fault> {
 
 // The next client at the port, where there is one.
 fn at_port(doors: &Doors<'_>) -> Result<Option<Client>, Fault> {
-    match doors.port.listener().accept() {
+    match doors.port.listener.accept() {
         Ok((stream, _)) => Ok(Some(Client::Port(stream))),
-        Err(error) => unaccepted(&error, doors.port.fault()),
+        Err(error) => unaccepted(&error, Fault::Port(doors.port.number)),
     }
 }
 
@@ -104,11 +104,13 @@ impl<'a> Doors<'a> {
     ) -> Result<Doors<'a>, CausedFault> {
         let port = port?;
         let socket = sockets::listen(rt, path)?;
-        let Ok(poll) = watch(rt, port.listener(), &socket) else {
-            return Err(CausedFault::from(Fault::Socket));
+        let Ok(poll) = watch(rt, &port.listener, &socket) else {
+            let fault = Fault::Socket;
+            return Err(CausedFault { fault, why: None });
         };
         let Ok(events) = Events::with_capacity(rt.alloc(), 2) else {
-            return Err(CausedFault::from(Fault::Memory));
+            let fault = Fault::Memory;
+            return Err(CausedFault { fault, why: None });
         };
         Ok(Doors {
             port,

@@ -43,12 +43,6 @@ pub struct CausedFault {
     pub why: Option<&'static str>,
 }
 
-impl From<Fault> for CausedFault {
-    fn from(fault: Fault) -> CausedFault {
-        CausedFault { fault, why: None }
-    }
-}
-
 impl From<RecordFault> for Fault {
     fn from(fault: RecordFault) -> Fault {
         match fault {

@@ -19,8 +19,8 @@ const CLIENT_SECONDS: u64 = 10;
 #[derive(Drop)]
 pub struct Port<'a> {
     rt: &'a HostRuntime,
-    number: u16,
-    listener: TcpListener,
+    pub(crate) number: u16,
+    pub(crate) listener: TcpListener,
 }
 
 // Why a port cannot be listened at, by an error of the system.
@@ -57,16 +57,6 @@ impl<'a> Port<'a> {
         }
     }
 
-    /// What is listened at.
-    pub(crate) fn listener(&self) -> &TcpListener {
-        &self.listener
-    }
-
-    /// The fault of this port.
-    pub(crate) fn fault(&self) -> Fault {
-        Fault::Port(self.number)
-    }
-
     /// Both ways of a connection, limited in time, or `None` where it cannot be had twice.
     pub(crate) fn ways(
         &self,
@@ -92,7 +82,7 @@ impl<'a> Port<'a> {
                 if is_lost(&error) {
                     Ok(None)
                 } else {
-                    Err(self.fault())
+                    Err(Fault::Port(self.number))
                 }
             }
         }

@@ -104,9 +104,12 @@ impl<'a> OpenDesks for Sockets<'a> {
     type Reader = UnixStream;
 
     fn send(&self, name: &str, text: &[u8]) -> Result<UnixStream, &'static str> {
-        match UnixStream::connect(self.rt, name) {
-            Ok(mut stream) if send_whole(&mut stream, text) => Ok(stream),
-            _ => Err(why_unanswered(self.rt, name)),
+        let Ok(mut stream) = UnixStream::connect(self.rt, name) else {
+            return Err(why_unanswered(self.rt, name));
+        };
+        if send_whole(&mut stream, text) {
+            return Ok(stream);
         }
+        Err(why_unanswered(self.rt, name))
     }
 }

@@ -13,6 +13,7 @@ use crate::collected::Collected;
 use crate::ended::Ended;
 use crate::fault::write_fault;
 use crate::notes::{Notes, PREFIX};
+use crate::progress::{Progress, Showing, size_of};
 use crate::refusal::{RefusedFile, push_packed, push_refusal};
 use crate::summary::Summary;
 use crate::titles::write_titles;
@@ -23,7 +24,7 @@ use program_files::{
 };
 use std::alloc::{AllocError, Global};
 use std::io::{Read, Write};
-use std::rt::HostRuntime;
+use std::time::Clock;
 
 /// What a run is asked to do.
 #[derive(Clone, Copy)]
@@ -178,8 +179,8 @@ fn tell<E: Write>(notes: &Notes<'_>, telling: &mut Telling<'_, E>) {
 }
 
 // Converts a FILE to standard output.
-fn convert_out<F: NamedFiles, R: Read, W: Write, E: Write>(
-    rt: &HostRuntime,
+fn convert_out<C: Clock, F: NamedFiles, R: Read, W: Write, E: Write>(
+    showing: &Showing<'_, C>,
     file: &str,
     files: &F,
     reader: &mut R,
@@ -191,13 +192,15 @@ fn convert_out<F: NamedFiles, R: Read, W: Write, E: Write>(
         × IsEnd (asking (options_view options.now) None F.is_told) file.now (R.remaining reader.old)
         (file_end result written (F.holds files.now) (F.holds files.now)) }
 {
-    let alloc = rt.alloc();
+    let alloc = showing.alloc;
     let target = Collected {
         store: Spool::new(alloc, files),
         notes: Notes::new(alloc, file, options),
         fault: None,
     };
-    let mut watched = Watched::new(rt, file, reader);
+    let size = size_of(showing, files, file);
+    let progress = Progress::new(showing, &mut *telling.errors, file, size);
+    let mut watched = Watched::new(alloc, file, reader, progress);
     let Outcome { target, ended } = convert(alloc, &mut watched, options, target);
     let seen = watched.into_seen();
     let Collected {
@@ -246,8 +249,8 @@ fn place_parts<F: NamedFiles, E: Write>(
 }
 
 // Converts a FILE into a folder.
-fn convert_into<F: NamedFiles, R: Read, E: Write>(
-    rt: &HostRuntime,
+fn convert_into<C: Clock, F: NamedFiles, R: Read, E: Write>(
+    showing: &Showing<'_, C>,
     file: &str,
     files: &mut F,
     reader: &mut R,
@@ -258,14 +261,16 @@ fn convert_into<F: NamedFiles, R: Read, E: Write>(
     ensures { IsEnd (asking (options_view options.now) (Some folder.now) F.is_told) file.now
         (R.remaining reader.old) (file_end result [] (F.holds files.old) (F.holds files.new)) }
 {
-    let alloc = rt.alloc();
+    let alloc = showing.alloc;
     let name = name_of(file);
     let target = Collected {
         store: PartFiles::new(alloc, files, folder, name),
         notes: Notes::new(alloc, file, options),
         fault: None,
     };
-    let mut watched = Watched::new(rt, file, reader);
+    let size = size_of(showing, files, file);
+    let progress = Progress::new(showing, &mut *telling.errors, file, size);
+    let mut watched = Watched::new(alloc, file, reader, progress);
     let Outcome { target, ended } = convert(alloc, &mut watched, options, target);
     let seen = watched.into_seen();
     let Collected {
@@ -313,8 +318,8 @@ fn report_packed<E: Write>(alloc: Global, file: &str, errors: &mut E) -> Ended
 }
 
 // Converts one FILE.
-fn convert_file<F: NamedFiles, R: Read, W: Write, E: Write>(
-    rt: &HostRuntime,
+fn convert_file<C: Clock, F: NamedFiles, R: Read, W: Write, E: Write>(
+    showing: &Showing<'_, C>,
     run: &Run<'_>,
     file: &str,
     files: &mut F,
@@ -333,20 +338,20 @@ fn convert_file<F: NamedFiles, R: Read, W: Write, E: Write>(
     let options = &run.options;
     if file == STANDARD_INPUT {
         return match run.folder {
-            Some(folder) => convert_into(rt, file, files, input, options, folder, telling),
-            None => convert_out(rt, file, files, input, options, output, telling),
+            Some(folder) => convert_into(showing, file, files, input, options, folder, telling),
+            None => convert_out(showing, file, files, input, options, output, telling),
         };
     }
     if is_packed(file) {
-        return report_packed(rt.alloc(), file, telling.errors);
+        return report_packed(showing.alloc, file, telling.errors);
     }
     let mut reader = match files.open(file) {
         Ok(reader) => reader,
-        Err(fault) => return report_fault(rt.alloc(), &fault, telling.errors),
+        Err(fault) => return report_fault(showing.alloc, &fault, telling.errors),
     };
     match run.folder {
-        Some(folder) => convert_into(rt, file, files, &mut reader, options, folder, telling),
-        None => convert_out(rt, file, files, &mut reader, options, output, telling),
+        Some(folder) => convert_into(showing, file, files, &mut reader, options, folder, telling),
+        None => convert_out(showing, file, files, &mut reader, options, output, telling),
     }
 }
 
@@ -420,8 +425,8 @@ fn has_folder<F: NamedFiles, E: Write>(
 /// Where titles are asked for and each FILE was converted, their titles then go into a new file of
 /// that path, each FILE opened again by its name. Where that cannot be, the records stand, a line
 /// says why, and the status is 3.
-pub fn convert_files<F: NamedFiles, R: Read, W: Write, E: Write>(
-    rt: &HostRuntime,
+pub fn convert_files<C: Clock, F: NamedFiles, R: Read, W: Write, E: Write>(
+    showing: &Showing<'_, C>,
     run: &Run<'_>,
     titles: Option<&str>,
     names: &[&str],
@@ -436,7 +441,7 @@ pub fn convert_files<F: NamedFiles, R: Read, W: Write, E: Write>(
         (option_map (λ file. file.now) titles.entry) }
     ensures most { result ≤ 3 }
 {
-    let alloc = rt.alloc();
+    let alloc = showing.alloc;
     if !has_folder(alloc, run, files, errors) {
         return 3;
     }
@@ -447,7 +452,7 @@ pub fn convert_files<F: NamedFiles, R: Read, W: Write, E: Write>(
     let mut status = 0;
     let mut are_converted = true;
     for file in names {
-        let ended = convert_file(rt, run, file, files, input, output, &mut telling);
+        let ended = convert_file(showing, run, file, files, input, output, &mut telling);
         status = greater(status, ended.status());
         are_converted = both(ended.is_converted(), are_converted);
     }

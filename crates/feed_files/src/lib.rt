@@ -26,3 +26,4 @@ mod watched;
 pub use converting::{Run, convert_files};
 pub use ended::Ended;
 pub use fault::write_fault;
+pub use progress::Showing;

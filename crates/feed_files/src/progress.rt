@@ -1,11 +1,10 @@
 //! A line on a terminal that shows how far a FILE is.
 
 use crate::shown::SHOWN;
-use program_files::STANDARD_INPUT;
-use std::alloc::AllocError;
-use std::io::{IsTerminal, Write};
-use std::rt::HostRuntime;
-use std::time::{Duration, Instant};
+use program_files::{NamedFiles, STANDARD_INPUT};
+use std::alloc::{AllocError, Global};
+use std::io::Write;
+use std::time::{Clock, Duration, Instant};
 use watched_output::shown_texts::push_shown;
 
 // How long the line stays as it is.
@@ -14,10 +13,20 @@ const MILLISECONDS: u64 = 200;
 // Takes away what stands on the line.
 const CLEAR: &str = "\r\x1b[K";
 
+/// By what a line shows how far a FILE is, and whether it is shown.
+#[derive(Drop)]
+pub struct Showing<'a, C> {
+    pub alloc: Global,
+    pub clock: &'a C,
+    pub is_shown: bool,
+}
+
 /// How far a FILE is, on standard error where that is a terminal.
 #[derive(Drop)]
-pub struct Progress<'a> {
-    rt: &'a HostRuntime,
+pub struct Progress<'a, C, E> {
+    alloc: Global,
+    clock: &'a C,
+    errors: E,
     file: &'a str,
     size: Option<u64>,
     // When the line is written next, where there is a terminal.
@@ -25,20 +34,21 @@ pub struct Progress<'a> {
     has_line: bool,
 }
 
-// The size of a FILE, where it is a regular file.
-fn size_of(rt: &HostRuntime, file: &str) -> Option<u64> {
-    if file == STANDARD_INPUT {
-        return None;
+/// The size of a FILE, where a line shows it: of a regular file.
+pub(crate) fn size_of<C, F: NamedFiles>(
+    showing: &Showing<'_, C>,
+    files: &F,
+    file: &str,
+) -> Option<u64> {
+    if showing.is_shown && file != STANDARD_INPUT {
+        return files.size(file);
     }
-    match std::fs::metadata(rt, file) {
-        Ok(found) if found.is_file() => Some(found.len()),
-        _ => None,
-    }
+    None
 }
 
 // The time from which on the line is written again.
-fn next_time(rt: &HostRuntime) -> Option<Instant> {
-    match Instant::now(rt) {
+fn next_time<C: Clock>(clock: &C) -> Option<Instant> {
+    match Instant::now(clock) {
         Ok(now) => now.checked_add(Duration::from_millis(MILLISECONDS)),
         Err(_) => None,
     }
@@ -51,15 +61,26 @@ fn push_size(line: &mut String, bytes: u64) -> Result<(), AllocError> {
     write!(line, "{whole}.{tenth} MB")
 }
 
-impl<'a> Progress<'a> {
-    /// No line yet.
-    pub(crate) fn new(rt: &'a HostRuntime, file: &'a str) -> Progress<'a> {
-        let is_shown = rt.stderr().is_terminal();
+impl<'a, C: Clock, E: Write> Progress<'a, C, E> {
+    /// No line yet, of a FILE of this size, where it has one.
+    pub(crate) fn new(
+        showing: &Showing<'a, C>,
+        errors: E,
+        file: &'a str,
+        size: Option<u64>,
+    ) -> Progress<'a, C, E> {
+        let next = if showing.is_shown {
+            next_time(showing.clock)
+        } else {
+            None
+        };
         Progress {
-            rt,
+            alloc: showing.alloc,
+            clock: showing.clock,
+            errors,
             file,
-            size: if is_shown { size_of(rt, file) } else { None },
-            next: if is_shown { next_time(rt) } else { None },
+            size,
+            next,
             has_line: false,
         }
     }
@@ -81,7 +102,7 @@ impl<'a> Progress<'a> {
 
     // Whether it is time to write the line.
     fn is_due(&self) -> bool {
-        match (self.next, Instant::now(self.rt)) {
+        match (self.next, Instant::now(self.clock)) {
             (Some(next), Ok(now)) => next <= now,
             _ => false,
         }
@@ -92,11 +113,11 @@ impl<'a> Progress<'a> {
         if self.next.is_none() || !self.is_due() {
             return;
         }
-        self.next = next_time(self.rt);
-        let mut line = String::new(self.rt.alloc());
+        self.next = next_time(self.clock);
+        let mut line = String::new(self.alloc);
         if let Ok(()) = self.push_line(count, &mut line) {
             self.has_line = true;
-            let _ = self.rt.stderr().write_all(line.as_bytes());
+            let _ = self.errors.write_all(line.as_bytes());
         }
     }
 
@@ -104,7 +125,7 @@ impl<'a> Progress<'a> {
     pub(crate) fn clear(&mut self) {
         if self.has_line {
             self.has_line = false;
-            let _ = self.rt.stderr().write_all(CLEAR.as_bytes());
+            let _ = self.errors.write_all(CLEAR.as_bytes());
         }
     }
 }

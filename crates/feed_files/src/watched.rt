@@ -7,8 +7,9 @@ use crate::kinds::other_kind;
 use crate::progress::Progress;
 use feed_xml::HEAD;
 use program_files::FileFault;
-use std::io::{Read, Result};
-use std::rt::HostRuntime;
+use std::alloc::Global;
+use std::io::{Read, Result, Write};
+use std::time::Clock;
 
 // How many of the first bytes are kept: they tell what a FILE is that is no XML.
 const FIRST: usize = 4_096;
@@ -29,11 +30,11 @@ pub struct Seen {
 /// Gives what a reader gives, keeps what tells of a FILE that is refused, and shows on a terminal
 /// how far it is.
 #[derive(Drop)]
-pub struct Watched<'a, R> {
-    rt: &'a HostRuntime,
+pub struct Watched<'a, R, C, E> {
+    alloc: Global,
     file: &'a str,
     reader: R,
-    progress: Progress<'a>,
+    progress: Progress<'a, C, E>,
     first: Vec<u8>,
     // What was read last.
     last: Vec<u8>,
@@ -42,18 +43,23 @@ pub struct Watched<'a, R> {
     fault: Option<FileFault>,
 }
 
-impl<'a, R: Read + Drop> Watched<'a, R> {
+impl<'a, R: Read + Drop, C: Clock, E: Write + Drop> Watched<'a, R, C, E> {
     /// A FILE of which nothing was read yet.
-    pub(crate) fn new(rt: &'a HostRuntime, file: &'a str, reader: R) -> Watched<'a, R>
+    pub(crate) fn new(
+        alloc: Global,
+        file: &'a str,
+        reader: R,
+        progress: Progress<'a, C, E>,
+    ) -> Watched<'a, R, C, E>
         ensures { result.reader ≡ reader }
     {
         Watched {
-            rt,
+            alloc,
             file,
             reader,
-            progress: Progress::new(rt, file),
-            first: Vec::new(rt.alloc()),
-            last: Vec::new(rt.alloc()),
+            progress,
+            first: Vec::new(alloc),
+            last: Vec::new(alloc),
             count: 0,
             ends: 0,
             fault: None,
@@ -73,7 +79,7 @@ impl<'a, R: Read + Drop> Watched<'a, R> {
     }
 }
 
-impl<'a, R> Watched<'a, R> {
+impl<'a, R, C, E> Watched<'a, R, C, E> {
     // The bytes that were read last, or all, where these are few.
     fn last_bytes(&self) -> &[u8] {
         if self.first.len() as u64 == self.count {
@@ -103,7 +109,7 @@ impl<'a, R> Watched<'a, R> {
     }
 }
 
-impl<'a, R: Read> Read for Watched<'a, R> {
+impl<'a, R: Read, C: Clock, E: Write> Read for Watched<'a, R, C, E> {
     ghost remaining = { λ w. R.remaining w.reader };
 
     fn read(&mut self, buffer: &mut [u8]) -> Result<usize> {
@@ -114,7 +120,7 @@ impl<'a, R: Read> Read for Watched<'a, R> {
                 Ok(count)
             }
             Err(error) => {
-                self.fault = Some(FileFault::of(self.rt.alloc(), self.file, &error));
+                self.fault = Some(FileFault::of(self.alloc, self.file, &error));
                 Err(error)
             }
         }

@@ -36,8 +36,8 @@ fn run_words(rt: &HostRuntime, words: std::env::Args) -> Result<u8, AllocError>
     let owned: Vec<String> = words.collect(alloc)?;
     let words: Vec<&str> = owned.iter().map(|word| word.as_str()).collect(alloc)?;
     let output = rt.stdout();
-    let is_shown =
-        is_long(words.as_slice()) && !output.is_terminal() && rt.stderr().is_terminal();
+    let is_terminal = rt.stderr().is_terminal();
+    let is_shown = is_long(words.as_slice()) && !output.is_terminal() && is_terminal;
     let mut machine = Machine {
         desks: Sockets::new(rt),
         entrances: HostEntrances::new(rt),
@@ -45,16 +45,16 @@ fn run_words(rt: &HostRuntime, words: std::env::Args) -> Result<u8, AllocError>
         streams: Streams {
             input: rt.stdin(),
             output: Watched::new(alloc, rt, output, rt.stderr(), is_shown),
-            errors: Errors::new(rt.stderr()),
+            errors: Errors::new(rt.stderr(), is_terminal),
         },
     };
     let databases = StoredDesks {
         alloc,
         databases: Paths::new(rt, Wary),
         places: HostPlaces::new(rt),
-        is_shown: rt.stderr().is_terminal(),
+        is_shown: is_terminal,
     };
-    let (status, left) = run(rt, words.as_slice(), databases, &mut machine);
+    let (status, left) = run(alloc, rt, words.as_slice(), databases, &mut machine);
     machine.streams.output.clear();
     if status == 3 {
         machine.streams.output.tell_fault();

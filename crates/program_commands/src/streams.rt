@@ -10,6 +10,8 @@ use std::time::Instant;
 #[derive(Drop)]
 pub struct Errors<E> {
     pub writer: E,
+    /// Whether it is a terminal, on which a line may show how far a command is.
+    pub is_terminal: bool,
     /// The room for lines on requests that are malformed.
     pub room: Room,
     /// When a command that serves made that room, where the clock said so.
@@ -24,9 +26,10 @@ pub struct Errors<E> {
 
 impl<E> Errors<E> {
     /// Standard error to which nothing was written yet, with no hint.
-    pub fn new(writer: E) -> Errors<E> {
+    pub fn new(writer: E, is_terminal: bool) -> Errors<E> {
         Errors {
             writer,
+            is_terminal,
             room: Room::new(MOST_LINES),
             since: None,
             hint: "",

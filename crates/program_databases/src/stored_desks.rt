@@ -22,8 +22,7 @@ pub struct StoredDesks<O, P> {
 }
 
 impl<O: Databases, P: Places + Drop> KeepsDesks<DeskStore<FileStore<O::File>>>
-    for StoredDesks<O, P>
-{
+    for StoredDesks<O, P> {
     ghost use Rattle.sqlite.specs.Files.{file_state};
     ghost use Rattle.desk_rows.specs.Seen.{in_tables, seen_in};
     ghost use Rattle.program_desks.specs.DeskFiles.{one_way};

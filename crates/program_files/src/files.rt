@@ -42,6 +42,9 @@ pub trait NamedFiles {
     /// Whether a folder has this name.
     fn is_folder(&self, name: &str) -> bool;
 
+    /// The size of the file of this name, where it is a regular one.
+    fn size(&self, name: &str) -> Option<u64>;
+
     /// Opens the file of this name to be read.
     fn open(&self, name: &str) -> Result<Self::Reader, FileFault>
         ensures { IfOk result (λ reader. Self.Reader.remaining reader ≡ holds self.now name.now) };

@@ -138,6 +138,13 @@ impl<'a> NamedFiles for HostFiles<'a> {
         }
     }
 
+    fn size(&self, name: &str) -> Option<u64> {
+        match fs::metadata(self.rt, name) {
+            Ok(found) if found.is_file() => Some(found.len()),
+            _ => None,
+        }
+    }
+
     fn open(&self, name: &str) -> Result<File, FileFault> {
         or_fault(self.rt, name, File::open(self.rt, name))
     }

@@ -7,15 +7,16 @@ ghost use Rattle.program_run.specs.ConvertEnds.{ConvertEnds, ConvertsBy};
 
 use crate::folders::tell_folder;
 use feed_conversion::Options;
-use feed_files::{Run, convert_files};
+use feed_files::{Run, Showing, convert_files};
 use feed_mapping::Choices;
 use feed_terms::table::Terms;
 use program_commands::streams::Streams;
 use program_files::NamedFiles;
 use program_rules::terms::open_terms;
 use program_words::convert_words::Conversion;
+use std::alloc::Global;
 use std::io::{Read, Write};
-use std::rt::HostRuntime;
+use std::time::Clock;
 
 // A copy of what is chosen, field by field, since the prover has no rule for one that is moved out
 // of a struct that owns memory.
@@ -33,8 +34,9 @@ fn copied<'a>(choices: &Choices<'a>) -> Choices<'a>
 }
 
 // Converts FILEs by these terms or by none, and writes their titles where they are asked for.
-fn convert_by<F: NamedFiles, R: Read, W: Write, E: Write>(
-    rt: &HostRuntime,
+fn convert_by<C: Clock, F: NamedFiles, R: Read, W: Write, E: Write>(
+    alloc: Global,
+    clock: &C,
     conversion: &Conversion<'_>,
     terms: Option<&Terms>,
     files: &mut F,
@@ -54,10 +56,15 @@ fn convert_by<F: NamedFiles, R: Read, W: Write, E: Write>(
         },
         folder: conversion.folder,
     };
+    let showing = Showing {
+        alloc,
+        clock,
+        is_shown: streams.errors.is_terminal,
+    };
     let names = conversion.files.as_slice();
     let errors = &mut streams.errors.writer;
     let status = convert_files(
-        rt,
+        &showing,
         &run,
         conversion.titles,
         names,
@@ -72,8 +79,9 @@ fn convert_by<F: NamedFiles, R: Read, W: Write, E: Write>(
 
 /// Converts FILEs, by the terms of a file where one is named, and writes their titles where they
 /// are asked for. Where there are no terms in that file, that is reported, and no FILE is opened.
-pub(crate) fn convert<F: NamedFiles, R: Read, W: Write, E: Write>(
-    rt: &HostRuntime,
+pub(crate) fn convert<C: Clock, F: NamedFiles, R: Read, W: Write, E: Write>(
+    alloc: Global,
+    clock: &C,
     conversion: &Conversion<'_>,
     files: &mut F,
     streams: &mut Streams<R, W, E>,
@@ -85,10 +93,10 @@ pub(crate) fn convert<F: NamedFiles, R: Read, W: Write, E: Write>(
         (asked_view conversion.now) result }
 {
     let Some(name) = conversion.terms else {
-        return convert_by(rt, conversion, None, files, streams);
+        return convert_by(alloc, clock, conversion, None, files, streams);
     };
-    match open_terms(rt.alloc(), files, name, &mut streams.errors.writer) {
-        Ok(terms) => convert_by(rt, conversion, Some(&terms), files, streams),
+    match open_terms(alloc, files, name, &mut streams.errors.writer) {
+        Ok(terms) => convert_by(alloc, clock, conversion, Some(&terms), files, streams),
         Err(status) => status,
     }
 }

@@ -30,7 +30,6 @@ use series_rules::desk::Desk;
 use series_rules::listing::ListedDesk;
 use std::alloc::Global;
 use std::io::{Read, Write};
-use std::rt::HostRuntime;
 use std::time::Clock;
 
 // What is said behind refusals of a desk in memory.
@@ -128,6 +127,7 @@ fn run_in_file<
 fn run_action<
     D: ListedDesk,
     K: KeepsDesks<D>,
+    T: Clock,
     O: OpenDesks,
     N: Entrances,
     F: NamedFiles,
@@ -135,7 +135,8 @@ fn run_action<
     W: Write,
     E: Write,
 >(
-    rt: &HostRuntime,
+    alloc: Global,
+    clock: &T,
     action: &Action<'_>,
     databases: K,
     precedence: &Precedence,
@@ -147,7 +148,6 @@ fn run_action<
         (Appends (W.contents machine.old.streams.output) (W.contents machine.new.streams.output))
         (R.remaining machine.old.streams.input) precedence.now action.now result.0 result.1 }
 {
-    let alloc = rt.alloc();
     let Machine {
         desks,
         entrances,
@@ -156,17 +156,19 @@ fn run_action<
     } = machine;
     let status = match action {
         Action::InFile { db, task } => {
-            return run_in_file(alloc, rt, db, databases, precedence, task, machine);
+            return run_in_file(alloc, clock, db, databases, precedence, task, machine);
         }
         Action::Listed { db, listing } => {
             return listing::list_file(alloc, db, databases, *listing, streams);
         }
         Action::Migrate { db } => return migrating::migrate_file(db, databases, streams),
         Action::InMemory(task) => {
-            run_in_memory(alloc, rt, precedence, task, files, entrances, streams)
+            run_in_memory(alloc, clock, precedence, task, files, entrances, streams)
         }
         Action::Send { socket } => send_input(alloc, desks, socket, streams),
-        Action::Convert(conversion) => converting::convert(rt, conversion, files, streams),
+        Action::Convert(conversion) => converting::convert(
+            alloc, clock, conversion, files, streams,
+        ),
         Action::CheckRules { file } => {
             let errors = &mut streams.errors.writer;
             checking::check_rules(alloc, files, file, &mut streams.output, errors)
@@ -248,6 +250,7 @@ fn read_words<'a, R, W: Write, E: Write>(
 pub fn run<
     D: ListedDesk,
     K: KeepsDesks<D>,
+    T: Clock,
     O: OpenDesks,
     N: Entrances,
     F: NamedFiles,
@@ -255,7 +258,8 @@ pub fn run<
     W: Write,
     E: Write,
 >(
-    rt: &HostRuntime,
+    alloc: Global,
+    clock: &T,
     words: &[&str],
     databases: K,
     machine: &mut Machine<O, N, F, R, W, E>,
@@ -267,21 +271,28 @@ pub fn run<
         (R.remaining machine.old.streams.input) (map (λ word. word.now) words.now)
         result.0 result.1 }
 {
-    let invocation = match read_words(rt.alloc(), words, &mut machine.streams) {
+    let invocation = match read_words(alloc, words, &mut machine.streams) {
         Ok(invocation) => invocation,
         Err(status) => return (status, FilesLeft::Untouched(databases)),
     };
-    let precedence = match rules_of(rt.alloc(), &machine.files, invocation.rules) {
+    let precedence = match rules_of(alloc, &machine.files, invocation.rules) {
         Ok(precedence) => precedence,
         Err(fault) => {
             let name = invocation.rules.unwrap_or("");
             let errors = &mut machine.streams.errors.writer;
             let status = report_rules(&fault, name, errors);
-            checking::tell_cause(rt.alloc(), &machine.files, name, errors);
+            checking::tell_cause(alloc, &machine.files, name, errors);
             return (status, FilesLeft::Untouched(databases));
         }
     };
-    let ended = run_action(rt, &invocation.action, databases, &precedence, machine);
+    let ended = run_action(
+        alloc,
+        clock,
+        &invocation.action,
+        databases,
+        &precedence,
+        machine,
+    );
     drop(precedence);
     ended
 }

@@ -28,15 +28,7 @@ pub(crate) fn bind_port<N: Entrances>(entrances: &mut N, task: &Task<'_>) {
 }
 
 /// Runs a command over a desk, and gives its status.
-pub(crate) fn run_task<
-    D: Desk,
-    T: Clock,
-    F: NamedFiles,
-    N: Entrances,
-    R: Read,
-    W: Write,
-    E: Write,
->(
+pub(crate) fn run_task<D: Desk, T: Clock, F: NamedFiles, N: Entrances, R: Read, W: Write, E: Write>(
     alloc: Global,
     clock: &T,
     desk: &mut D,

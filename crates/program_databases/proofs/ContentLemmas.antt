@@ -1,10 +1,13 @@
 -- Whatever lists of requests two files are found to hold, the content is one.
 use Rattle.std.proofs.Common.{◌∙◌, List, inl, inr, refl, subst, sym}
+use Rattle.sqlite_disk.specs.declared.Disk.{Ghosts}
 use Rattle.sqlite_trees.specs.Tree.{Trees}
 use Rattle.sqlite_wal.specs.Recovery.{Image}
 use Rattle.desk_tables.specs.Schema.{schema_0}
 use Rattle.series_rules.specs.Content.{SameContent, same_trans}
+use Rattle.series_rules.specs.Steps.{with_answered}
 use Rattle.series_rules.specs.declared.requests.Request.{Request}
+use Rattle.desk_rows.specs.ContentLemmas.{rows_by_content}
 use Rattle.desk_rows.specs.Desks.{AreRowsOf}
 use Rattle.desk_stops.proofs.ConnectionLaws.{empty_holds_no_rows}
 use Rattle.desk_stops.specs.Connections.{RowsHaveOneContent}
@@ -13,6 +16,7 @@ use Rattle.desk_versions.specs.Openings.{AreEmptyFiles, AreFilesOf, AreFoundAs, 
 use Rattle.program_desks.specs.declared.kept_desks.Creation.{Creation}
 use Rattle.program_databases.proofs.ViewLemmas.{found_trees, same_refl}
 use Rattle.program_databases.specs.FileViews.{MayBeTaken, seen_image}
+use Rattle.program_databases.specs.FilesMean.{HandsOn}
 
 same_sym : (L M : List Request) → SameContent L M → SameContent M L
 same_sym L M same = record { agreements = λ name. sym (same.agreements name); firsts = λ series number. sym (same.firsts series number) }
@@ -40,3 +44,8 @@ pub image_holds_one : RowsHaveOneContent → (image : Image) (creation : Creatio
 image_holds_one one image creation sound L M (one_list, files, same) (other, also, comes) =
     same_trans L one_list M (same_sym one_list L same)
     (same_trans one_list other M (one_of one image sound.found.0 sound.found.1 one_list other files also) comes)
+
+-- a run that led from files to others hands on of which list they are
+pub hands_on : {D : Type 0} (g : Ghosts D) → HandsOn g
+hands_on g rules steps image creation now L leads clean are =
+    let (M, (trees, both, rows), same) = (leads.follows L (L, are, same_refl L) clean).stands in (trees, both, rows_by_content trees M (with_answered L steps) same rows)

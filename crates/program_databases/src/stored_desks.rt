@@ -1,5 +1,10 @@
 //! The desks in SQLite files.
 
+ghost use Rattle.std.specs.Prelude.{[]};
+ghost use Rattle.sqlite_wal.specs.Recovery.{Image};
+ghost use Rattle.desk_versions.specs.Openings.{AreEmptyFiles, AreFilesOf};
+ghost use Rattle.program_databases.specs.FilesMean.{AreByTheirFiles, AreOfOneContent, HandsOn};
+
 use crate::database::creation_of;
 use crate::databases::{Databases, Places, open_database};
 use crate::unopened::{Unopened, fault_of, migration_of};
@@ -92,4 +97,18 @@ impl<O: Databases, P: Places + Drop> KeepsDesks<DeskStore<FileStore<O::File>>>
     }
 
     ghost same = { one_way (λ desk. seen_in (file_state desk.tables.connection)) };
+}
+
+/// What the files mean, as a law without code: there is a relation of files to lists of requests, by
+/// what the files hold, by which the desks are seen in them. Files without a desk are of the empty
+/// list, a run hands on the list with what it answered, and lists of which the same files are come to
+/// the same.
+pub fn files_mean_lists<O: Databases>()
+    ensures seen { AreByTheirFiles O.File.Disk (λ desks. O.held desks.databases)
+        ⟦<StoredDesks<O> as KeepsDesks<DeskStore<FileStore<O::File>>>>⟧.files }
+    ensures blank { (image : Image) → AreEmptyFiles image → AreFilesOf image [] }
+    ensures handed { HandsOn O.File.Disk }
+    ensures one { AreOfOneContent }
+{
+    rows_have_one_content();
 }

@@ -103,9 +103,9 @@ impl<O: Databases, P: Places + Drop> KeepsDesks<DeskStore<FileStore<O::File>>>
 /// what the files hold, by which the desks are seen in them. Files without a desk are of the empty
 /// list, a run hands on the list with what it answered, and lists of which the same files are come to
 /// the same.
-pub fn files_mean_lists<O: Databases>()
+pub fn files_mean_lists<O: Databases, P: Places + Drop>()
     ensures seen { AreByTheirFiles O.File.Disk (λ desks. O.held desks.databases)
-        ⟦<StoredDesks<O> as KeepsDesks<DeskStore<FileStore<O::File>>>>⟧.files }
+        ⟦<StoredDesks<O, P> as KeepsDesks<DeskStore<FileStore<O::File>>>>⟧.files }
     ensures blank { (image : Image) → AreEmptyFiles image → AreFilesOf image [] }
     ensures handed { HandsOn O.File.Disk }
     ensures one { AreOfOneContent }

@@ -61,10 +61,6 @@ part_mark part parts =
 abbrev pub part_name : List ℕ → ℕ → ℕ → List ℕ
 part_name name part parts = name ++ part_mark part parts ++ codes ".csv"
 
--- the name of a file that has its number alone
-abbrev pub number_name : ℕ → List ℕ
-number_name number = decimal number ++ codes ".csv"
-
 -- whether a folder ends in a slash
 abbrev pub ends_in_slash : List ℕ → Bool
 ends_in_slash folder = nat_lt 0 (suffix_len is_slash folder)

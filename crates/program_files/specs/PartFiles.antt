@@ -1,9 +1,7 @@
 -- The files of parts.
 use Rattle.std.specs.Prelude.{ℕ, List, [], ◌∷◌, string_bytes, suc}
 use Rattle.program_files.specs.Holdings.{NamedText, named}
-use Rattle.program_files.specs.Names.{number_name, part_name, path_in}
-use Rattle.program_files.specs.declared.targets.PartNames.{PartNames}
-use Rattle.program_files.specs.declared.targets.PartNames.TheVariants.{Numbers, OfMessage}
+use Rattle.program_files.specs.Names.{part_name, path_in}
 use Rattle.program_files.specs.declared.targets.Target.{Target}
 
 -- where parts go: a folder, and the name of the file of the part of each number
@@ -15,14 +13,6 @@ pub record Place : Type 0 where
 abbrev pub place : List ℕ → List ℕ → ℕ → Place
 place folder name parts =
     record { folder = folder; file_name = λ number. part_name name number parts }
-
--- that of parts which have their numbers as names
-abbrev pub numbered : List ℕ → Place
-numbered folder = record { folder = folder; file_name = number_name }
-
-abbrev pub place_by : List ℕ → PartNames → Place
-place_by folder (OfMessage name parts) = place folder name.now parts
-place_by folder Numbers = numbered folder
 
 -- the path of the part of a number, from 1
 abbrev pub path_of : Place → ℕ → List ℕ

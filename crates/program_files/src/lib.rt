@@ -25,4 +25,4 @@ pub use names::{STANDARD_INPUT, is_packed, name_of};
 pub use new_file::{NewFile, WholeFile};
 pub use part_files::{MadeFiles, PartFiles};
 pub use spool::Spool;
-pub use targets::{PartNames, Target};
+pub use targets::Target;

@@ -4,7 +4,7 @@ ghost use Rattle.std.specs.Prelude.{◌≡◌, ◌<◌, ◌≤◌, ◌-◌, ◌=
 ghost use Rattle.std.specs.Char.{to_ascii_lowercase};
 ghost use Rattle.std.specs.List.{repeat, suffix_len};
 ghost use Rattle.std.specs.Fmt.{decimal};
-ghost use Rattle.program_files.specs.Names.{digits_of, ends_in_slash, ends_so, is_packed, is_slash, last_part, name_of, number_name, padded, part_mark, part_name, path_in, without_extension, without_slashes};
+ghost use Rattle.program_files.specs.Names.{digits_of, ends_in_slash, ends_so, is_packed, is_slash, last_part, name_of, padded, part_mark, part_name, path_in, without_extension, without_slashes};
 
 use std::alloc::{AllocError, Global};
 
@@ -160,15 +160,6 @@ pub(crate) fn part_name(
 {
     let mut text = String::from_str(alloc, name)?;
     push_mark(alloc, &mut text, part, parts)?;
-    text.push_str(".csv")?;
-    Ok(text)
-}
-
-/// The name of a file that has its number alone.
-pub(crate) fn number_name(alloc: Global, number: u32) -> Result<String, AllocError>
-    ensures { IfOk result (λ text. string_bytes text ≡ number_name number) }
-{
-    let mut text = decimal(alloc, number)?;
     text.push_str(".csv")?;
     Ok(text)
 }

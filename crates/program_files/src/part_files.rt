@@ -2,12 +2,12 @@
 
 ghost use Rattle.std.specs.Prelude.{◌≡◌, ◌+◌, ◌++◌, ◌∷◌, [], IfOk, OnErr, OnOk, length, map, true};
 ghost use Rattle.program_files.specs.Holdings.{MayName, Names, ShowsSame, told_text};
-ghost use Rattle.program_files.specs.PartFiles.{files_of, numbered, place};
+ghost use Rattle.program_files.specs.PartFiles.{files_of, place};
 
 use crate::fault::FileFault;
 use crate::files::NamedFiles;
 use crate::placing::name_all;
-use crate::targets::{PartNames, targets_of};
+use crate::targets::targets_of;
 use std::alloc::Global;
 
 /// The files of the parts of one message.
@@ -116,24 +116,7 @@ impl<F: NamedFiles> MadeFiles<F> {
         ensures none { F.is_told ≡ true → F.takes ≡ true
             → OnErr result (ShowsSame (F.holds files.old) (F.holds files.new)) }
     {
-        let names = PartNames::OfMessage { name, parts };
-        let targets = targets_of(self.alloc, self.made.as_slice(), folder, names)?;
-        name_all(self.alloc, files, folder, targets.as_slice())
-    }
-
-    /// The same by their numbers: `1.csv`, `2.csv` and so on.
-    pub fn place_numbered(&self, files: &mut F, folder: &str) -> Result<(), FileFault>
-        ensures ok { F.is_told ≡ true → OnOk result
-            (Names (files_of (numbered folder.now) (map F.text_of self.now.made.items))
-            (F.holds files.old) (F.holds files.new)) }
-        ensures err { F.is_told ≡ true → OnErr result
-            (MayName (files_of (numbered folder.now) (map F.text_of self.now.made.items))
-            (F.holds files.old) (F.holds files.new)) }
-        ensures none { F.is_told ≡ true → F.takes ≡ true
-            → OnErr result (ShowsSame (F.holds files.old) (F.holds files.new)) }
-    {
-        let names = PartNames::Numbers;
-        let targets = targets_of(self.alloc, self.made.as_slice(), folder, names)?;
+        let targets = targets_of(self.alloc, self.made.as_slice(), folder, name, parts)?;
         name_all(self.alloc, files, folder, targets.as_slice())
     }
 

@@ -51,16 +51,22 @@ impl<O: Databases, P: Places + Drop> KeepsDesks<DeskStore<FileStore<O::File>>>
         creation: Creation,
         errors: &mut E,
     ) -> Result<DeskStore<FileStore<O::File>>, (OpenFault, Unopened<O, O::NotOpened, O::File>)> {
+        let StoredDesks {
+            alloc,
+            databases,
+            places,
+            is_shown,
+        } = self;
         let creation = creation_of(creation);
-        let (places, shown) = (&self.places, self.is_shown);
-        let opened = open_database(places, shown, name, creation, self.databases, errors);
-        let (files, options) = match opened {
+        let (files, options) = match open_database(
+            &places, is_shown, name, creation, databases, errors,
+        ) {
             Ok(opened) => opened,
             Err((fault, none)) => return Err((fault, none)),
         };
-        match DeskStore::open_files_with(self.alloc, files, options) {
+        match DeskStore::open_files_with(alloc, files, options) {
             Ok(desk) => Ok(desk),
-            Err((fault, left)) => Err((fault_of(&self.places, name, fault), Unopened::Left(left))),
+            Err((fault, left)) => Err((fault_of(&places, name, fault), Unopened::Left(left))),
         }
     }
 
@@ -79,16 +85,22 @@ impl<O: Databases, P: Places + Drop> KeepsDesks<DeskStore<FileStore<O::File>>>
         creation: Creation,
         errors: &mut E,
     ) -> Result<(Migration, Files<O::File>), (OpenFault, Unopened<O, O::NotOpened, O::File>)> {
+        let StoredDesks {
+            alloc,
+            databases,
+            places,
+            is_shown,
+        } = self;
         let creation = creation_of(creation);
-        let (places, shown) = (&self.places, self.is_shown);
-        let opened = open_database(places, shown, name, creation, self.databases, errors);
-        let (files, options) = match opened {
+        let (files, options) = match open_database(
+            &places, is_shown, name, creation, databases, errors,
+        ) {
             Ok(opened) => opened,
             Err((fault, none)) => return Err((fault, none)),
         };
-        match migrate_files_with(self.alloc, files, options) {
+        match migrate_files_with(alloc, files, options) {
             Ok((answer, files)) => Ok((migration_of(answer), files)),
-            Err((fault, left)) => Err((fault_of(&self.places, name, fault), Unopened::Left(left))),
+            Err((fault, left)) => Err((fault_of(&places, name, fault), Unopened::Left(left))),
         }
     }
 

@@ -33,7 +33,7 @@ fn copied<'a>(choices: &Choices<'a>) -> Choices<'a>
     }
 }
 
-// Converts FILEs by these terms or by none, and writes their titles where they are asked for.
+// Converts FILEs by these terms or by none.
 fn convert_by<C: Clock, F: NamedFiles, R: Read, W: Write, E: Write>(
     alloc: Global,
     clock: &C,
@@ -66,7 +66,6 @@ fn convert_by<C: Clock, F: NamedFiles, R: Read, W: Write, E: Write>(
     let status = convert_files(
         &showing,
         &run,
-        conversion.titles,
         names,
         files,
         &mut streams.input,
@@ -77,8 +76,8 @@ fn convert_by<C: Clock, F: NamedFiles, R: Read, W: Write, E: Write>(
     status
 }
 
-/// Converts FILEs, by the terms of a file where one is named, and writes their titles where they
-/// are asked for. Where there are no terms in that file, that is reported, and no FILE is opened.
+/// Converts FILEs, by the terms of a file where one is named. Where there are no terms in that file,
+/// that is reported, and no FILE is opened.
 pub(crate) fn convert<C: Clock, F: NamedFiles, R: Read, W: Write, E: Write>(
     alloc: Global,
     clock: &C,

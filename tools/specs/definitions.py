@@ -111,3 +111,9 @@ def read_crate(folder: Path) -> list[File]:
         for name in order
         if not LEFT_OUT.fullmatch(name)
     ]
+
+
+def crates(root: Path) -> list[str]:
+    """The crates of the repository, lowest first."""
+    lines = (root / "crates.txt").read_text(encoding="utf-8").splitlines()
+    return [line.partition(":")[0] for line in lines if line and not line.startswith("#")]

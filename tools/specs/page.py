@@ -3,9 +3,9 @@
 import re
 from pathlib import Path
 
-from tools.specs.contracts import cited_by
-from tools.specs.definitions import File, Name, read_crate
 from tools.root import ROOT
+from tools.specs.definitions import File, Name, crates, read_crate
+from tools.specs.order import sections
 
 PAGE = ROOT / "docs/DEFINITIONS.md"
 
@@ -14,39 +14,14 @@ PARAMETER = re.compile(r"(?<=\.) [A-Z]\w+: [^.]*\.?")
 INTRODUCTION = """\
 # Definitions
 
-What the contracts speak of, crate by crate and file by file of their `specs/`: each definition that a public \
-contract or PROOFS.md names, and each that these take from another file, in plain English and, below that, as it \
-is written. The steps between them, and definitions whose names say all, are in the files only. \
-`make definitions` makes this page of the files.
+First the desk, in the order in which it is read: all that the answer to a request rests on, each definition in \
+plain English and, below that, as it is written in `specs/`; then what price, calendar and choice mean, and what a \
+crash leaves. Behind these stands an index of all others that have a comment, crate by crate. \
+`make definitions` makes this page.
 
 A text is the list of its bytes, a record the list of its fields. A list of requests has its latest \
 first: `r ∷ L` is L and then r. What gives a value or none says both what is read and what is refused.
 """
-
-
-def crates(root: Path) -> list[str]:
-    """The crates of the repository, lowest first."""
-    lines = (root / "crates.txt").read_text(encoding="utf-8").splitlines()
-    return [line.partition(":")[0] for line in lines if line and not line.startswith("#")]
-
-
-def reached(cited: set[Name], files: list[File]) -> set[Name]:
-    """What is cited, and what the definitions of that take from other files."""
-    uses = {Name(file.crate, file.name, word): names for file in files for word, names in file.cited.items()}
-    found, left = set(), [name for name in cited if name in uses]
-    while left:
-        name = left.pop()
-        if name not in found:
-            found.add(name)
-            left += [used for used in uses[name] if used in uses]
-    return found
-
-
-def told_of(root: Path, files: list[File]) -> set[Name]:
-    """The definitions that docs/PROOFS.md names."""
-    words = set(re.findall(r"`(\w+)`", (root / "docs/PROOFS.md").read_text(encoding="utf-8")))
-    remarked = [(file, word) for file in files for word, said in file.comments.items() if said]
-    return {Name(file.crate, file.name, word) for file, word in remarked if word in words}
 
 
 def remark(comment: str) -> str:
@@ -61,32 +36,41 @@ def remark(comment: str) -> str:
     return said if said.endswith(".") else f"{said}."
 
 
-def file_lines(file: File, listed: set[Name]) -> list[str]:
-    """What the page says of a file: nothing, if none of its commented definitions is listed."""
-    remarks = []
-    for word, comment in file.comments.items():
-        if comment and Name(file.crate, file.name, word) in listed:
-            formula = [f"      {line}" for line in file.formulas[word]]
-            remarks += [f"- `{word}`: {remark(comment)}", "", *formula, ""]
-    place = f"crates/{file.crate}/specs/{file.name}.antt"
-    return [f"**{file.name}** ({place}). {file.about}", "", *remarks] if remarks else []
+def read_lines(files: list[File]) -> list[str]:
+    """What the page says of the desk, section by section."""
+    by_place = {(file.crate, file.name): file for file in files}
+    lines = []
+    for heading, names in sections().items():
+        lines += [f"## {heading}", ""]
+        for name in names:
+            file = by_place[name.crate, name.file]
+            comment = file.comments[name.word]
+            formula = [f"      {line}" for line in file.formulas[name.word]]
+            lines += [f"- `{name.word}`: {remark(comment)}" if comment else f"- `{name.word}`", "", *formula, ""]
+    return lines
 
 
-def read_all(root: Path) -> tuple[list[File], set[Name]]:
-    """The files of specs/ of all crates, and the definitions that public contracts and docs/PROOFS.md reach."""
-    names = crates(root)
-    files = [file for name in names for file in read_crate(root / "crates" / name)]
-    cited = told_of(root, files).union(*(cited_by(root / "crates" / name) for name in names))
-    return files, reached(cited, files)
+def index_lines(files: list[File], read: set[Name]) -> list[str]:
+    """The index of the definitions of a crate that have a comment and were not read before."""
+    lines = []
+    for file in files:
+        remarks = [
+            f"- `{word}`: {remark(comment)}"
+            for word, comment in file.comments.items()
+            if comment and Name(file.crate, file.name, word) not in read
+        ]
+        if remarks:
+            lines += [f"**{file.name}** (crates/{file.crate}/specs/{file.name}.antt). {file.about}", "", *remarks, ""]
+    return lines
 
 
 def text(root: Path = ROOT) -> str:
     """The whole page."""
-    files, listed = read_all(root)
-    lines = []
-    for name in crates(root):
-        told = [line for file in files if file.crate == name for line in file_lines(file, listed)]
-        if told:
+    of_crates = {name: read_crate(root / "crates" / name) for name in crates(root)}
+    read = {name for names in sections().values() for name in names}
+    lines = read_lines([file for files in of_crates.values() for file in files])
+    for name, files in of_crates.items():
+        if told := index_lines(files, read):
             lines += [f"## {name}", "", *told]
     return "\n".join([INTRODUCTION, *lines[:-1], ""])
 

@@ -4,9 +4,7 @@ import sys
 from pathlib import Path
 
 from tools.root import ROOT
-from tools.specs.contracts import modules
-from tools.specs.definitions import File, Name, imported, names_in, read_crate
-from tools.specs.page import crates
+from tools.specs.definitions import File, Name, crates, imported, names_in, read_crate
 
 
 def is_reached(file: File, word: str, found: set[Name]) -> bool:
@@ -24,7 +22,7 @@ def unreached(root: Path) -> list[Name]:
         for word, cited in file.cited.items()
     }
     uses |= {Name(file.crate, file.name, it.word): {it} for file in files for it in file.handed_on}
-    texts = [text for folder in folders for text in modules(folder).values()]
+    texts = [path.read_text(encoding="utf-8") for folder in folders for path in folder.glob("src/**/*.rt")]
     left = [name for text in texts for name in names_in(text, imported(text))]
     found = set()
     while left:

@@ -20,7 +20,8 @@ BUDGET = ROOT / "budget.txt"
 # The head of a function, as `rt fmt` lays it out.
 FUNCTION = re.compile(r"( *)(?:pub(?:\([^)]*\))? )?(?:const )?(?:unsafe )?fn \w+")
 
-SHELL = re.compile(r"#!.*[ /](?:ba)?sh\b")
+# The first lines of programs whose names have no suffix.
+SHELL, PYTHON = re.compile(r"#!.*[ /](?:ba)?sh\b"), re.compile(r"#!.*[ /]python3\b")
 
 
 def names() -> list[Path]:
@@ -51,6 +52,9 @@ class File:
     def is_shell(self) -> bool:
         return self.path.suffix == ".sh" or bool(SHELL.match(self.text))
 
+    def is_python(self) -> bool:
+        return self.path.suffix == ".py" or bool(PYTHON.match(self.text))
+
     def is_page_test(self) -> bool:
         return self.path.parts[:2] == ("tests", "page")
 
@@ -59,12 +63,8 @@ class File:
 
     def is_else(self) -> bool:
         """Whether it is neither Python, JavaScript, shell nor a document, below what ships or tests."""
-        others = self.top in {"programs", "packaging", "tests", "bench"} and self.path.suffix not in {
-            ".py",
-            ".js",
-            ".md",
-        }
-        return others and self.is_text and not self.is_shell()
+        others = self.top in {"programs", "packaging", "tests", "bench"} and self.path.suffix not in {".js", ".md"}
+        return others and self.is_text and not self.is_shell() and not self.is_python()
 
 
 def has_body(lines: list[str], indent: str) -> bool:
@@ -92,18 +92,18 @@ def lines_where(holds: Callable[[File], bool]) -> Callable[[File], int]:
     return lambda file: file.lines() if holds(file) else 0
 
 
-def lines_in(suffix: str, *tops: str) -> Callable[[File], int]:
-    return lines_where(lambda file: file.path.suffix == suffix and file.top in tops)
+def python_in(*tops: str) -> Callable[[File], int]:
+    return lines_where(lambda file: file.top in tops and file.is_python())
 
 
 # How much of each row a file has.
 ROWS: dict[str, Callable[[File], int]] = {
     "lines of Rattle": lines_where(File.is_rattle),
     "functions of Rattle, without the test crates": functions,
-    "lines of shipped Python": lines_in(".py", "programs"),
-    "lines of Python in tests, tools and bench": lines_in(".py", "tests", "tools", "bench"),
-    "lines of JavaScript of the page": lines_in(".js", "page"),
-    "lines of JavaScript in tests": lines_in(".js", "tests"),
+    "lines of shipped Python": python_in("programs", "bin"),
+    "lines of Python in tests, tools and bench": python_in("tests", "tools", "bench"),
+    "lines of JavaScript of the page": lines_where(lambda file: file.path.suffix == ".js" and file.top == "page"),
+    "lines of JavaScript in tests": lines_where(lambda file: file.path.suffix == ".js" and file.top == "tests"),
     "lines of page tests in all languages": lines_where(File.is_page_test),
     "lines of shell": lines_where(File.is_shell),
     "lines of all else in programs, packaging, tests and bench": lines_where(File.is_else),

@@ -1,13 +1,13 @@
-"""Kills programs beside the desk at each of their system calls that writes, renames, syncs or sends, and runs them again.
+"""Kills programs beside the desk, and runs them again.
 
     tests/killed [--most N] [--program PROGRAM] [NAME..]
     tests/killed --list
 
-It needs Debian's strace. A run that nobody kills is traced; then there is one for each such call of the program itself,
-which is killed (SIGKILL) as it comes to the call; the script that fetches is killed at each of its commands, with what
-it has started. The state that it leaves is judged, and the one that the next run makes of it: no file that was taken is
-lost or taken as two, nothing is called a copy that is not whole, no number is given twice. With --most only N calls that rename a file are tried of each, and half as many others, as far apart as can
-be.
+The inbox, copies and restores are killed (SIGKILL) at each of their system calls that writes, renames, syncs or sends,
+as they come to it, by Debian's strace; the others at 40 moments of a run, with all that they have started. The state
+that is left is judged, and the one that the next run makes of it: no file that was taken is lost or taken as two,
+nothing is called a copy that is not whole, no number is given twice. With --most only N calls that rename a file are
+tried of each, and half as many others, as far apart as can be, or N moments.
 
 A line with the counts is written for each program, and one for each state that is wrong. Status 0; 1 where one is; 2
 where there is no strace, program or such a NAME.
@@ -19,8 +19,8 @@ import sys
 import tempfile
 from pathlib import Path
 
-from tests.kills import SCENARIOS
-from tests.kills.scenarios import at_each_point, told
+from tests.kills import NAMES, killed
+from tests.kills.scenarios import told
 from tests.program.room import Room
 from tests.running import PROGRAM
 
@@ -37,13 +37,9 @@ def arguments() -> argparse.Namespace:
 
 
 def try_one(name: str, program: Path, most: int | None) -> int:
-    """Kills a program at its calls, and gives how many states were wrong."""
+    """Kills a program, and gives how many states were wrong."""
     with tempfile.TemporaryDirectory(prefix="onixdesk-") as folder:
-        scenario = SCENARIOS[name](Room(program, Path(folder)))
-        try:
-            judged = at_each_point(scenario, most)
-        finally:
-            scenario.close()
+        judged = killed(name, Room(program, Path(folder)), most)
     for line in judged.wrong:
         print(f"{name}: {line}", flush=True)
     print(told(name, judged), flush=True)
@@ -52,11 +48,11 @@ def try_one(name: str, program: Path, most: int | None) -> int:
 
 def main() -> int:
     given = arguments()
-    names = given.names or [*SCENARIOS]
+    names = given.names or NAMES
     if given.list:
-        print("\n".join(SCENARIOS))
+        print("\n".join(NAMES))
         return 0
-    why = next((f"there is no {name}; --list tells which there are" for name in names if name not in SCENARIOS), "")
+    why = next((f"there is no {name}; --list tells which there are" for name in names if name not in NAMES), "")
     why = why or ("" if shutil.which("strace") else "no strace is here (apt-get install strace)")
     if why := why or ("" if given.program.exists() else f"no program {given.program}; make build builds it"):
         print(f"tests/killed: {why}", file=sys.stderr)

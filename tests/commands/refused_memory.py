@@ -3,12 +3,11 @@ with calendars and exchanges over the desk in memory and over tables, to forty m
 over the desk in memory and over files with the rows of their tables, to a migration, and to the two calls of the text
 of contents.
 
-    tests/refused-memory [-k TEXT] [PROGRAM]
-    bench/refused_memory [-k TEXT] [PROGRAM]
+    tests/refused-memory [--longer] [-k TEXT] [PROGRAM]
 
 PROGRAM is that of the tests of the libraries, crates/desk_tests/out/desk_tests_tests where none is
-named, and is then refused where a source has changed since it was built. The second tries what takes too long for
-the gate. With -k only the tests are tried that have the text in their names. The last line is
+named, and is then refused where a source has changed since it was built. With --longer it tries what takes too
+long for the gate. With -k only the tests are tried that have the text in their names. The last line is
 `memory: N requests refused, M runs failed`. Status 0; 1 where a run failed; 2 where there is no such program or test.
 """
 
@@ -58,7 +57,7 @@ LONGER = [
 
 def main() -> int:
     parser = argparse.ArgumentParser(description=__doc__, formatter_class=argparse.RawDescriptionHelpFormatter)
-    parser.add_argument("--longer", action="store_true", help=argparse.SUPPRESS)
+    parser.add_argument("--longer", action="store_true", help="try what takes too long for the gate")
     parser.add_argument("-k", metavar="TEXT", default="", dest="text")
     parser.add_argument("program", metavar="PROGRAM", type=Path, nargs="?")
     given = parser.parse_args()

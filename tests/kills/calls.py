@@ -1,6 +1,9 @@
-"""The system calls by which a program changes what it keeps or says something, and a kill at one of them, by strace."""
+"""The system calls by which a program changes what it keeps or says something; a kill at one of them, by strace, and at
+some moment."""
 
+import os
 import re
+import signal
 import subprocess
 from collections import Counter
 from collections.abc import Mapping, Sequence
@@ -80,3 +83,22 @@ def kill_at(point: Point, words: Sequence[Word], folder: Path, environment: Mapp
     ran = traced(words, folder, environment, "-e", f"inject={point.call}:signal=KILL:when={point.place}")
     (folder / "trace").unlink(missing_ok=True)
     return ran
+
+
+def kill_after(seconds: float, words: Sequence[Word], folder: Path, environment: Mapping[str, str]) -> Ran:
+    """A run that is killed so many seconds after its start, with all that it has started."""
+    run = subprocess.Popen(
+        words,
+        cwd=folder,
+        env=environment,
+        stdin=subprocess.DEVNULL,
+        stdout=subprocess.PIPE,
+        stderr=subprocess.PIPE,
+        start_new_session=True,
+    )
+    try:
+        output, errors = run.communicate(timeout=seconds)
+    except subprocess.TimeoutExpired:
+        os.killpg(run.pid, signal.SIGKILL)
+        output, errors = run.communicate(timeout=SECONDS)
+    return Ran(run.returncode, output, errors)

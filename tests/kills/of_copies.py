@@ -1,4 +1,4 @@
-"""desk-copy, which puts a copy beside others or under a name of its own, and desk-restore."""
+"""desk-copy, which puts a copy beside others, and desk-restore."""
 
 import os
 import shutil
@@ -23,40 +23,16 @@ def files_in(folder: Path) -> Files:
     return {each.name: each.read_bytes() for each in folder.iterdir()} if folder.is_dir() else {}
 
 
+OLD = ["2025-01-01T00-00-00Z", "2025-01-02T00-00-00Z"]
+
+
 class OfCopy(Scenario):
-    """Into a new folder."""
+    """Beside two others, of which the older one is removed."""
 
     def __init__(self, room: Room) -> None:
         super().__init__(room)
         batch(room, AGREEMENT)
         self.desk = {name: room.path(name).read_bytes() for name in (DATABASE, LOG)}
-
-    def prepare(self) -> None:
-        shutil.rmtree(self.room.path("copy"), ignore_errors=True)
-
-    def words(self) -> Sequence[Word]:
-        return [ROOT / "bin/desk-copy", DATABASE, "copy"]
-
-    def wrong_then(self) -> Iterator[str]:
-        folder = self.room.path("copy")
-        if folder.exists() and files_in(folder) != self.desk:
-            yield f"a copy has {sorted(files_in(folder))}, which is not the desk"
-        if {name: self.room.path(name).read_bytes() for name in self.desk} != self.desk:
-            yield "the desk is another one"
-
-    def wrong_at_end(self) -> Iterator[str]:
-        # A copy that is there is whole.
-        is_there = self.room.path("copy").exists()
-        if not is_there and (ran := run_again(self.room, self.words(), self.environment())).status:
-            yield f"{ran}"
-        yield from self.wrong_then()
-
-
-OLD = ["2025-01-01T00-00-00Z", "2025-01-02T00-00-00Z"]
-
-
-class OfCopies(OfCopy):
-    """Beside two others, of which the older one is removed."""
 
     def prepare(self) -> None:
         copies = self.room.path("copies")
@@ -81,6 +57,8 @@ class OfCopies(OfCopy):
             whole += 1
         if whole < 2:
             yield f"{whole} copies are left of two"
+        if {name: self.room.path(name).read_bytes() for name in self.desk} != self.desk:
+            yield "the desk is another one"
 
     def wrong_at_end(self) -> Iterator[str]:
         if (ran := run_again(self.room, self.words(), self.environment())).status:

@@ -1,22 +1,13 @@
-"""fetch.sh, which moves files from a server of OpenSSH, killed with its children at each command of its own."""
+"""fetch.sh, which moves files from a server of OpenSSH, killed with its children."""
 
 import os
 import shutil
-import subprocess
 from collections.abc import Iterator, Mapping, Sequence
 
-from tests.kills.calls import Point
 from tests.kills.scenarios import Scenario, run_again
 from tests.program.inbox.fetching import SCRIPT, Fetch, sftp
-from tests.program.room import SECONDS, Ran, Room
+from tests.program.room import Ran, Room
 from tools.words import Word
-
-# bash runs this before each command of the script: it counts, and kills all at the one that it is told.
-COUNTING = """\
-COMMANDS=0
-set -o functrace
-trap '[ $BASHPID != $$ ] || { echo >>"$COUNT"; ((++COMMANDS == AT)) && kill -KILL -- -$$; }' DEBUG
-"""
 
 NAMES = {"a.xml": "one" * 9000, "b c.xml": "two", "waits.xml": "new"}
 WAITS = "old"
@@ -30,7 +21,6 @@ class OfFetch(Scenario):
         self.fetch = Fetch(room, VERB="move")
         self.server = sftp(self.fetch)
         self.fetch.configure(**self.server.__enter__(), known_hosts_file=room.path("known"))
-        room.write("counting", COUNTING.encode())
 
     def prepare(self) -> None:
         for folder in (self.fetch.files, self.fetch.incoming, self.fetch.state):
@@ -46,26 +36,6 @@ class OfFetch(Scenario):
 
     def environment(self) -> Mapping[str, str]:
         return self.fetch.environment
-
-    def counted(self, at: int) -> Ran:
-        """A run that is killed at so many commands."""
-        more = {"BASH_ENV": str(self.room.path("counting")), "COUNT": str(self.room.path("count")), "AT": str(at)}
-        done = subprocess.run(
-            self.words(),
-            env={**self.environment(), **more},
-            stdin=subprocess.DEVNULL,
-            capture_output=True,
-            timeout=SECONDS,
-            start_new_session=True,
-        )
-        return Ran(done.returncode, done.stdout, done.stderr)
-
-    def points(self) -> tuple[Ran, list[Point]]:
-        ran = self.counted(0)
-        return ran, [Point("command", at) for at in range(1, len(self.room.path("count").read_bytes()) + 1)]
-
-    def kill_at(self, point: Point) -> Ran:
-        return self.counted(point.place)
 
     def wrong_then(self) -> Iterator[str]:
         """Nothing is lost, and what an inbox would take is whole."""

@@ -13,7 +13,7 @@ from tests.program.room import Room
 from tools.root import ROOT
 from tools.words import Row, Word
 
-BEFORE = b"isbn;price\n9781234567897;7.00\n"
+BEFORE = b"isbn;price\r\n9781234567897;7.00\r\n"
 SHOP = {
     "country": "GB",
     "currency": "GBP",

@@ -2,13 +2,18 @@
 
 import os
 import signal
+import time
 from collections import Counter
 from collections.abc import Iterator, Mapping, Sequence
+from random import Random
 from typing import NamedTuple
 
-from tests.kills.calls import Failed, Point, kill_at, points_of
+from tests.kills.calls import Failed, Point, kill_after, kill_at, points_of
 from tests.program.room import Ran, Room
 from tools.words import Word
+
+# How often a program is killed by chance if no number is given.
+MOMENTS = 40
 
 
 class Scenario:
@@ -30,13 +35,6 @@ class Scenario:
     def environment(self) -> Mapping[str, str]:
         return os.environ
 
-    def points(self) -> tuple[Ran, list[Point]]:
-        """How a run ends that nobody kills, and where another one can be."""
-        return points_of(self.words(), self.room.folder, self.environment())
-
-    def kill_at(self, point: Point) -> Ran:
-        return kill_at(point, self.words(), self.room.folder, self.environment())
-
     def wrong_then(self) -> Iterator[str]:
         """What is wrong once the program was killed."""
         return iter(())
@@ -50,9 +48,9 @@ class Scenario:
 
 
 class Judged(NamedTuple):
-    """How many points there are of each call, how many were tried, and what was wrong at which."""
+    """How many points there are of each call, or moments; how many were tried, and what was wrong at which."""
 
-    calls: Counter[str]
+    points: Counter[str]
     tried: int
     wrong: list[str]
 
@@ -74,30 +72,54 @@ def chosen(points: list[Point], most: int | None) -> list[Point]:
     return [point for point in points if point in some]
 
 
-def at_each_point(scenario: Scenario, most: int | None = None) -> Judged:
-    """Kills a program at its points, or at so many of them. Each time the state is judged that it leaves, and that
-    which the next run makes of it."""
-    scenario.prepare()
-    ran, points = scenario.points()
+def check(scenario: Scenario, ran: Ran) -> None:
+    """Fails where a run that nobody kills ends in another way, or leaves something wrong."""
     if ran.status != scenario.status or (wrong := [*scenario.wrong_at_end()]):
         raise Failed(f"a run that nobody kills: {ran}: {wrong if ran.status == scenario.status else ''}")
-    found = []
-    tried = chosen(points, most)
+
+
+def wrong_after(scenario: Scenario, ended: Ran) -> Iterator[str]:
+    """What is wrong with the state that a killed run leaves, and with that which the next run makes of it."""
+    # One that came to fewer calls of the kind than the first run, or was quicker, has done all.
+    if ended.status not in (-signal.SIGKILL, scenario.status):
+        yield f"{ended}"
+        return
+    yield from (f"then: {wrong}" for wrong in scenario.wrong_then())
+    yield from (f"at the end: {wrong}" for wrong in scenario.wrong_at_end())
+
+
+def at_each_call(scenario: Scenario, most: int | None) -> Judged:
+    """Kills a program at its calls, or at so many of them."""
+    folder = scenario.room.folder
+    scenario.prepare()
+    ran, points = points_of(scenario.words(), folder, scenario.environment())
+    check(scenario, ran)
+    tried, found = chosen(points, most), []
     for point in tried:
         scenario.prepare()
-        ended = scenario.kill_at(point)
-        # One that came to fewer calls of the kind than the first run has done all.
-        if ended.status not in (-signal.SIGKILL, scenario.status):
-            found.append(f"{point}: {ended}")
-            continue
-        found += [f"{point}: then: {wrong}" for wrong in scenario.wrong_then()]
-        found += [f"{point}: at the end: {wrong}" for wrong in scenario.wrong_at_end()]
+        ended = kill_at(point, scenario.words(), folder, scenario.environment())
+        found += [f"{point}: {wrong}" for wrong in wrong_after(scenario, ended)]
     return Judged(Counter(point.call for point in points), len(tried), found)
 
 
+def by_chance(scenario: Scenario, most: int | None) -> Judged:
+    """Kills a program at so many moments of its run."""
+    moments, found = Random(41), []
+    scenario.prepare()
+    began = time.monotonic()
+    check(scenario, run_again(scenario.room, scenario.words(), scenario.environment()))
+    took, count = time.monotonic() - began, most or MOMENTS
+    for _ in range(count):
+        scenario.prepare()
+        moment = moments.uniform(0, took)
+        ended = kill_after(moment, scenario.words(), scenario.room.folder, scenario.environment())
+        found += [f"{moment:.3f} s: {wrong}" for wrong in wrong_after(scenario, ended)]
+    return Judged(Counter(moment=count), count, found)
+
+
 def told(name: str, judged: Judged) -> str:
-    calls = ", ".join(f"{count} {call}" for call, count in sorted(judged.calls.items()))
-    return f"{name}: {judged.tried} of {judged.calls.total()} points ({calls}), {len(judged.wrong)} wrong"
+    points = ", ".join(f"{count} {point}" for point, count in sorted(judged.points.items()))
+    return f"{name}: {judged.tried} of {judged.points.total()} points ({points}), {len(judged.wrong)} wrong"
 
 
 def run_again(room: Room, words: Sequence[Word], environment: Mapping[str, str]) -> Ran:

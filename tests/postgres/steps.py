@@ -1,21 +1,17 @@
-"""The follower killed, two at once, and readers meanwhile: what is seen is of one of two moments, whole."""
+"""The follower step by step, two at once, and a reader from before: what is there is the file's."""
 
 import subprocess
-import threading
-import time
 from collections.abc import Iterator
 from contextlib import closing
-from random import Random
 
 import psycopg2
 
 from tests.postgres.cluster import Cluster
-from tests.postgres.follower import brought, follow, in_file, in_postgres, words_of
+from tests.postgres.follower import follow, in_file, in_postgres, words_of
 from tests.program.databases import DATABASE
 from tests.program.messages import AGREEMENT, priced_by_number
 from tests.program.room import SECONDS, Room
 from tests.running import Outcome
-from tools.words import Row
 
 PRODUCTS = 30
 
@@ -27,27 +23,6 @@ def message(number: int) -> bytes:
 def deliver(room: Room, *numbers: int, agreement: bytes = b"") -> None:
     text = agreement + b"".join(map(message, numbers))
     assert room.run("--db", DATABASE, "batch", given=text).status == 0
-
-
-def killed_at_some_moments(cluster: Cluster, room: Room) -> Iterator[Outcome]:
-    """What is seen then is of one of two moments, and the next run brings all."""
-    database = cluster.make_database("killed")
-    deliver(room, 1, agreement=AGREEMENT)
-    began = time.monotonic()
-    follow(room, database)
-    took = time.monotonic() - began
-    moments = Random(61)
-    for number in range(2, 12):
-        before = in_postgres(database)
-        deliver(room, number)
-        after = in_file(room)
-        run = subprocess.Popen(words_of(room, database), cwd=room.folder, stdout=subprocess.PIPE)
-        time.sleep(moments.uniform(took / 4, took))
-        run.kill()
-        run.communicate(timeout=SECONDS)
-        yield Outcome(f"killed, {number}: one of two moments", in_postgres(database) in (before, after), True)
-        follow(room, database)
-        yield Outcome(f"killed, {number}: the run behind it brings all", in_postgres(database) == after, True)
 
 
 def two_at_once(cluster: Cluster, room: Room) -> Iterator[Outcome]:
@@ -64,52 +39,7 @@ def two_at_once(cluster: Cluster, room: Room) -> Iterator[Outcome]:
         deliver(room, number)
 
 
-SEEN = """\
-SELECT (SELECT next_number - 1 FROM desk.series), (SELECT count(*) FROM desk.price),
-    (SELECT min(amount) / 1000 FROM desk.price), (SELECT max(amount) / 1000 FROM desk.price)"""
 ASKED = "SELECT series, amount FROM desk.prices('9780000000000', '2025-03-01', 'GB', 'GBP', '02')"
-
-
-class Reader:
-    """Asks again and again, each time in a transaction of one snapshot, and keeps what was no moment of the desk."""
-
-    def __init__(self, database: str) -> None:
-        self.database = database
-        self.wrong: list[Row] = []
-        self.moments: set[int] = set()
-        self.is_to_end = threading.Event()
-        self.thread = threading.Thread(target=self.read)
-
-    def read(self) -> None:
-        with closing(psycopg2.connect(self.database)) as connection, connection.cursor() as cursor:
-            connection.set_session(isolation_level="REPEATABLE READ", readonly=True)
-            while not self.is_to_end.is_set():
-                cursor.execute(SEEN)
-                ((number, *seen),) = cursor.fetchall()
-                cursor.execute(ASKED)
-                asked = [(series, int(amount)) for series, amount in cursor.fetchall()]
-                connection.rollback()
-                self.moments.add(number)
-                if (seen, asked) != ([PRODUCTS, number, number], [("north", number)]):
-                    self.wrong.append((number, seen, asked))
-
-
-def readers(cluster: Cluster, room: Room) -> Iterator[Outcome]:
-    database = cluster.make_database("readers")
-    deliver(room, 1, agreement=AGREEMENT)
-    follow(room, database)
-    reader = Reader(database)
-    reader.thread.start()
-    try:
-        for number in range(2, 12):
-            deliver(room, number)
-            wanted = f"{number} messages, {PRODUCTS} records"
-            yield Outcome(f"readers, {number}", brought(follow(room, database)), wanted)
-    finally:
-        reader.is_to_end.set()
-        reader.thread.join()
-    yield Outcome("readers: what they see is of one moment", reader.wrong[:3], [])
-    yield Outcome("readers: they see most moments", len(reader.moments) > 5, True)
 
 
 def snapshot_of_before(cluster: Cluster, room: Room) -> Iterator[Outcome]:

@@ -1,6 +1,5 @@
-//! Tests of the libraries, each by public calls alone. They stand together in a crate of their own,
-//! since a library with tests is proved once more with them, and each crate of tests is linked once more
-//! with all that it stands on.
+//! Tests of the libraries, each by public calls alone, in a crate of their own: a library with tests is proved
+//! once more with them, and each crate of tests is linked once more with all that it stands on.
 #![tactic(auto)]
 
 #[cfg(test)]

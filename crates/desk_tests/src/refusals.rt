@@ -1,7 +1,6 @@
-//! Memory that may be refused once in a test, by `tests/refused-memory` or `bench/refused_memory`, which
-//! say so in the environment. Where none is refused, a call that answers out of memory ends the test, and
-//! so does a second one where one request was refused. The words by which a test ends that could not go on
-//! are those of no fault.
+//! Memory that may be refused once in a test, by `tests/refused-memory`, which says so in the environment.
+//! Where none is refused, a call that answers out of memory ends the test, and so does a second one where one
+//! request was refused. The words by which a test ends that could not go on are those of no fault.
 
 use crate::asking::{End, Taken};
 use std::process::Abort;

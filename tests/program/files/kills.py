@@ -1,28 +1,34 @@
-"""Programs beside the desk, killed at some of their system calls; tests/killed tries all."""
+"""Programs that are killed at some of their system calls or moments, of which tests/killed tries more, and the desk."""
 
 from collections.abc import Iterator
 from functools import partial
 
-from tests.kills import SCENARIOS
-from tests.kills.scenarios import at_each_point
-from tests.program.room import Group, Room
+from tests.kills import AT_EACH_CALL, BY_CHANCE, killed
+from tests.kills.of_desk import at_some_moments
+from tests.program.room import Group, Room, needs
 from tests.running import Outcome
 
-NEEDS = ["strace"]
-
-# Of each program so many calls that give a file another name, and half as many of the others.
+# Of each program so many calls that give a file another name, and half as many of the others, or so many moments.
 MOST = 4
 
 
-def killed_at_some(name: str, room: Room) -> Iterator[Outcome]:
-    scenario = SCENARIOS[name](room)
-    try:
-        judged = at_each_point(scenario, MOST)
-    finally:
-        scenario.close()
+def by_chance(name: str, room: Room) -> Iterator[Outcome]:
+    judged = killed(name, room, MOST)
     yield Outcome(f"kills: {name}", judged.wrong, [])
     yield Outcome(f"kills: {name}: it was killed", judged.tried >= MOST // 2, True)
 
 
+@needs("strace")
+def at_calls(name: str, room: Room) -> Iterator[Outcome]:
+    return by_chance(name, room)
+
+
+def desk(room: Room) -> Iterator[Outcome]:
+    return at_some_moments(room)
+
+
 # One kill of the script that fetches takes as long as all of the others; fetching.py has one.
-GROUPS = [Group(name, partial(killed_at_some, name)) for name in SCENARIOS if name != "fetch"]
+GROUPS = [
+    *(Group(name, partial(at_calls, name)) for name in AT_EACH_CALL),
+    *(Group(name, partial(by_chance, name)) for name in BY_CHANCE if name != "fetch"),
+]

@@ -1,6 +1,5 @@
-//! Exchanges over HTTP: gaps, a message that waits, one that lets it be applied, other contents of it, what is
-//! refused before the desk is asked, a price, a choice, a calendar.
-//! What is replied is taken from the desk's written rules.
+//! Exchanges over HTTP: gaps, messages that wait, are applied or have other contents, what is refused before
+//! the desk is asked, a price, a choice, a calendar. Replies are those of the desk's written rules.
 
 /// The list, with a report on gaps.
 pub const EXCHANGES: &str = "

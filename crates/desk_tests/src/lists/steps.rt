@@ -1,9 +1,5 @@
-//! Seventeen requests: messages that are late, two behind a gap and an update behind a second one, other
-//! contents of a number that waits, waivers of a number that waits and of one that is a gap, a drain up to
-//! the second gap and one that begins with a waiver, a deletion, updates, products that change nothing,
-//! minimum order quantities that wait, that are applied, that an update brings and takes away, and that go
-//! with their record, repeats of what was applied or waived, and what is refused of a number that was waived
-//! or had.
+//! Seventeen requests, each under its title: messages that are late, behind one gap or two, what is applied
+//! together and alone, deletions, updates, minimums, waivers, repeats and refusals.
 
 /// The list, with a report on gaps, the price of ten copies and the catalogue.
 pub const STEPS: &str = "
@@ -47,14 +43,18 @@ EndMessage,1
 refused,other-contents,north,3
 -- as before
 
-== 4 waits too, whose greater minimum has the greater price
+== 4 waits too: it updates what 3 brings, and its greater minimum has the greater price
 Message,2,06,4012345000009,06,5012345678900,4,1,20250301,02,GBP
+Product,R3,04,15,9781234567897
+ProductSupply,GB IE,,
+SupplyDetail,04,06,4012345000009,North Books,21,
+Price,,5,,,,,,
 Product,R4,03,15,9781234567897
 ProductSupply,GB IE,,
 SupplyDetail,04,06,4012345000009,North Books,21,
 Price,,4,,,,,,
 Price,,20,,,,,,,10
-EndMessage,6
+EndMessage,10
 -- wanted
 held,north,4,waiting-for=1
 -- after
@@ -120,25 +120,28 @@ applied,north,2,replaced=0,updated=0,deleted=1,unknown=0,ignored=0
 gaps,north,first=1,next=6,greatest=8,held=1,missing=1
 missing,6,7
 price,9781234567897,2
-offer,north,R3,1,21,3.000
+offer,north,R3,1,21,5.000
 offer,north,R4,1,21,20.000
 catalogue,north,2
 record,R3,15,9781234567897
 ProductSupply,GB IE,,
 SupplyDetail,04,06,4012345000009,North Books,21,
-Price,02,3.000,GBP,,WORLD,,,
+Price,02,5.000,GBP,,WORLD,,,
 record,R4,15,9781234567897
 ProductSupply,GB IE,,
 SupplyDetail,04,06,4012345000009,North Books,21,
 Price,02,4.000,GBP,,WORLD,,,
 Price,02,20.000,GBP,,WORLD,,,,10
 
-== 2 again, of another date
-Message,1,06,4012345000009,06,5012345678900,2,2,20250302,,
-Product,R1,05,15,9781234567897
-EndMessage,2
+== 3, which waited, again: of another date, and with its price written in another way
+Message,1,06,4012345000009,06,5012345678900,3,2,20250302,02,GBP
+Product,R3,03,15,9781234567897
+ProductSupply,GB IE,,
+SupplyDetail,04,06,4012345000009,North Books,21,
+Price,,3.000,,,,,,
+EndMessage,5
 -- wanted
-applied,north,2,replaced=0,updated=0,deleted=1,unknown=0,ignored=0
+applied,north,3,replaced=1,updated=0,deleted=0,unknown=0,ignored=0
 -- as before
 
 == 6 updates, brings minimums that ten copies reach and do not, and is applied alone

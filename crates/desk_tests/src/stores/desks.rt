@@ -1,5 +1,5 @@
-//! The lists of requests, of desks of all kinds, and the calls of the tables over files.
-//! `tests/refused-memory` and `bench/refused_memory` refuse each request for memory of these tests in turn.
+//! The lists of requests, of desks of all kinds, and the calls of the tables over files. `tests/refused-memory`
+//! refuses each request for memory of these tests in turn.
 
 use crate::cases::{expect, made};
 use crate::desks::{TestDesk, opened};

@@ -1,6 +1,6 @@
 """Proves a crate over the libraries that a run of `rt ci` has proved, and waits for no other check.
 
-    bench/check [--from CLONE] CRATE [FLAG..]
+    tools/check [--from CLONE] CRATE [FLAG..]
 
 `rt check` builds each library below the crate that no check in this clone has built, also where `rt ci` has, and waits
 for whoever builds one of them. This takes those of CLONE (this clone where none is named) that were made from the
@@ -67,7 +67,7 @@ def words_over(crate: Any, built: set[str], flags: list[str]) -> list[str]:
 
 def main() -> int:
     parser = argparse.ArgumentParser(
-        "bench/check", description=__doc__, formatter_class=argparse.RawDescriptionHelpFormatter
+        "tools/check", description=__doc__, formatter_class=argparse.RawDescriptionHelpFormatter
     )
     parser.add_argument("--from", dest="clone", metavar="CLONE", type=Path, default=ROOT)
     parser.add_argument("crate", metavar="CRATE")
@@ -84,7 +84,7 @@ def main() -> int:
     others = {name: rt.Crate(str(path), str(clone), known) for name, path in folders.items() if path.is_dir()}
     built = take_libraries(crate, others)
     sources = [library.name for library in crate.below() if library.name not in built]
-    print(f"bench/check: {len(built)} libraries are built; as sources: {' '.join(sources) or 'none'}", file=sys.stderr)
+    print(f"tools/check: {len(built)} libraries are built; as sources: {' '.join(sources) or 'none'}", file=sys.stderr)
     return subprocess.run([rt.RATTLE, "check", *words_over(crate, built, flags)], cwd=folder).returncode
 
 

@@ -1,4 +1,4 @@
-"""Whether each edit that the toolchain must refuse can be applied to the sources, told in seconds.
+"""Whether each edit that the prover must refuse can be applied to the sources, told in seconds.
 
 `rt ci` calls one that cannot be a BAD EDIT, and goes on: it would test nothing from then on. A line is written for each,
 and the status is then 1.
@@ -10,7 +10,7 @@ from typing import NamedTuple
 
 from tools.root import ROOT
 
-FOLDERS = ("must-fail", "mutants", "plants")
+FOLDERS = ("must-fail", "mutants")
 
 
 class BadEdit(Exception):

@@ -6,6 +6,7 @@ from dataclasses import dataclass, field
 from pathlib import Path
 
 from onixdesk_shop.faults import BAD_CALL, DONE, FAILED, BadCall, BadEnd, Fault
+from onixdesk_shop.feed_stream import Damaged, pieces_of
 from onixdesk_shop.lines import cut, shown
 from onixdesk_shop.machine import Machine
 
@@ -79,17 +80,13 @@ def refusal_of(said: Said) -> str:
     return why
 
 
-def child(module: str, *words: str | Path) -> list[str | Path]:
-    """The words by which a module of the package is a program of its own."""
-    return [sys.executable, "-E", "-s", "-S", "-B", Path(__file__).with_name(f"{module}.py"), *words]
-
-
 def read_by(machine: Machine, module: str, source: Path, seconds: float) -> bytes:
-    """What a module says that reads a feed, unpacked and recoded. BadEnd where it does not read it to its end."""
-    before, ended = machine.run_pipe(child("feed_stream", source), child(module), (DONE,), seconds)
-    if before:
-        raise BadEnd("it cannot be unpacked")
-    return ended.output
+    """What a module of the package says of a feed, as a child. BadEnd where it does not read it to its end."""
+    call: list[str | Path] = [sys.executable, "-E", "-s", "-S", "-B", Path(__file__).with_name(f"{module}.py")]
+    try:
+        return machine.run(call, text=pieces_of(source), seconds=seconds).output
+    except Damaged as damaged:
+        raise BadEnd(str(damaged)) from None
 
 
 def convert(
@@ -104,16 +101,14 @@ def convert(
         machine.write_whole(work / "terms.toml", terms)
         call[2:2] = ["--terms", work / "terms.toml"]
     try:
-        before, ended = machine.run_pipe(
-            child("feed_stream", source), call, (DONE, FAILED, BAD_CALL), CONVERSION_SECONDS
-        )
+        ended = machine.run(call, (DONE, FAILED, BAD_CALL), pieces_of(source), CONVERSION_SECONDS)
+    except Damaged as damaged:
+        raise Refusal(str(damaged)) from None
     except BadEnd as end:
         raise Refusal(f"its conversion failed: {end}") from None
     said = said_in(ended.errors)
     if ended.status == BAD_CALL:
         raise BadCall(f"WORDS or TERMS: {cut(said.lines[0].removeprefix(PROGRAM_SAYS)) if said.lines else ''}")
-    if before:
-        raise Refusal("it cannot be unpacked, or is no text in UTF-16")
     messages = [machine.read(work / entry.name) for entry in machine.entries(work) if entry.name.endswith(".csv")]
     machine.remove_tree(work)
     if not messages:

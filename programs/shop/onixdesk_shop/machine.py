@@ -12,7 +12,7 @@ import stat
 import sys
 import tempfile
 import time
-from collections.abc import Iterator
+from collections.abc import Iterable, Iterator
 from pathlib import Path
 from typing import NamedTuple
 
@@ -248,15 +248,11 @@ class Machine:
         self,
         words: Words,
         known: tuple[int, ...] = (DONE,),
-        text: bytes = b"",
+        text: bytes | Iterable[bytes] = b"",
         seconds: float | None = None,
     ) -> Ended:
-        """Runs a child that reads the text. BadEnd where it does not end in a way that is known."""
-        return children.run(words, known, text, seconds)
-
-    def run_pipe(self, first: Words, second: Words, known: tuple[int, ...], seconds: float) -> tuple[int, Ended]:
-        """Runs a child that reads what another one writes, whose status is the first of the two."""
-        return children.run_pipe(first, second, known, seconds)
+        """Runs a child that reads the text, or its pieces. BadEnd where it does not end in a way that is known."""
+        return children.run(words, known, [text] if isinstance(text, bytes) else text, seconds)
 
     # Output
 

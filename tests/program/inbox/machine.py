@@ -13,6 +13,8 @@ from tools.words import Word
 
 SHELL = ["sh", "-c"]
 
+LATE = "sleep takes too long"
+
 
 def why(work: Callable[[], object]) -> str:
     try:
@@ -36,10 +38,9 @@ def ends(_room: Room) -> Iterator[Outcome]:
     yield Outcome("killed", why(run("kill -9 $$")), "sh was killed by signal 9")
     yield Outcome("too long", why(run("sleep 60", seconds=0.1)), "sh takes too long")
     yield Outcome("not there", why(lambda: machine.run(["/none"])), "/none cannot be run: No such file or directory")
-    before, ended = machine.run_pipe([*SHELL, "echo one; exit 5"], ["cat"], (0,), 60)
-    yield Outcome("a pipe", (before, ended.output), (5, b"one\n"))
-    pipe = ["yes"], [*SHELL, "kill -9 $$"]
-    yield Outcome("killed in a pipe", why(lambda: machine.run_pipe(*pipe, (0,), 60)), "sh was killed by signal 9")
+    yield Outcome("pieces", machine.run(["cat"], text=iter([b"one\n", b"two\n"])).output, b"one\ntwo\n")
+    yield Outcome("not all is read", machine.run(["head", "-c", "3"], text=[b"y\n" * 99_999] * 9).output, b"y\ny")
+    yield Outcome("killed amid", why(lambda: machine.run(["sleep", "60"], text=[b"y" * 999_999], seconds=0.1)), LATE)
 
 
 def whole_files(room: Room) -> Iterator[Outcome]:

@@ -5,7 +5,9 @@ import sqlite3
 import time
 from pathlib import Path
 
+from desk_follow.following import call_of, script
 from desk_follow.rules import read_rules
+from desk_follow.source import check_version, count_in
 from onixdesk_shop.copies.copying import copied
 from onixdesk_shop.ends import parser_of, program_of, run_program
 from onixdesk_shop.faults import DONE, Fault
@@ -21,11 +23,9 @@ desk.prices, desk.choice, desk.calendar and desk.gaps answer as the desk did the
 
 STATUSES = """\
 Status 0; 2 for a bad command line or precedence table; 3 if a file cannot be read, or the database does not accept
-it. Then the schema is as it was. It needs Debian's python3-psycopg2. docs/SCALE.md has the rest."""
+it. Then the schema is as it was. It needs psql, of Debian's postgresql-client. docs/SCALE.md has the rest."""
 
-DATABASE = """\
-which database, in the words of libpq, as 'host=/run/postgresql dbname=shop'; without it the environment says it
-(PGHOST, PGDATABASE, PGUSER ..)"""
+DATABASE = "which database, in the words of libpq, as 'host=/run/postgresql dbname=shop'; else the user's own"
 
 
 def command_line() -> argparse.ArgumentParser:
@@ -39,24 +39,16 @@ def command_line() -> argparse.ArgumentParser:
 
 
 def follow(machine: Machine, options: argparse.Namespace) -> int:
-    try:
-        # Here, since psycopg2 is needed only now.
-        from desk_follow.database import connected
-        from desk_follow.following import bring
-        from desk_follow.source import check_version
-    except ModuleNotFoundError as error:
-        raise Fault(f"no {error.name}; apt-get install python3-psycopg2") from error
     rules = read_rules(machine, program_of(options.program), options.rules)
     try:
-        with connected(options.database) as connection, copied(machine, options.file) as (copy, taken):
-            with machine.reading(copy) as source, connection.cursor() as cursor:
-                check_version(source)
-                counts = bring(cursor, source, rules, taken.moment)
-                connection.commit()
+        with copied(machine, options.file) as (copy, taken), machine.reading(copy) as source:
+            check_version(source)
+            machine.run(call_of(options.database), text=script(source, rules, taken.moment))
+            messages, records = (count_in(source, table) for table in ("applied", "record"))
     except sqlite3.Error as error:
         raise Fault(f"{options.file}: {error}") from None
     at = time.strftime("as of %Y-%m-%d %H:%M:%S UTC", time.gmtime(taken.moment // 1_000_000_000))
-    machine.write(f"{at}: {counts['applied']} messages, {counts['record']} records\n")
+    machine.write(f"{at}: {messages} messages, {records} records\n")
     return DONE
 
 

@@ -9,32 +9,24 @@ from desk_follow.following import call_of, script
 from desk_follow.rules import read_rules
 from desk_follow.source import check_version, count_in
 from onixdesk_shop.copies.copying import copied
-from onixdesk_shop.ends import parser_of, program_of, run_program
+from onixdesk_shop.ends import call, parser_of, program_of
 from onixdesk_shop.faults import DONE, Fault
 from onixdesk_shop.machine import Machine
 from onixdesk_shop.places import PROGRAM
 
-NAME = "desk-follow"
-
 DESCRIPTION = """\
 Brings the tables of the schema desk in a database of PostgreSQL after those of a desk whose program goes on
 answering, in one transaction. Who reads sees the desk of one moment, which desk.moment tells. The functions
-desk.prices, desk.choice, desk.calendar and desk.gaps answer as the desk did then. Nothing of it is proved."""
-
-STATUSES = """\
-Status 0; 2 for a bad command line or precedence table; 3 if a file cannot be read, or the database does not accept
-it. Then the schema is as it was. It needs psql, of Debian's postgresql-client. docs/SCALE.md has the rest."""
+desk.prices, desk.choice, desk.calendar and desk.gaps answer as the desk did then; desk.choice chooses by the precedence table --rules. After a fault the schema is as it was.
+Nothing of it is proved. It needs psql, of Debian's postgresql-client."""
 
 DATABASE = "which database, in the words of libpq, as 'host=/run/postgresql dbname=shop'; else the user's own"
 
 
 def command_line() -> argparse.ArgumentParser:
-    parser = parser_of(NAME, DESCRIPTION, STATUSES)
-    add = parser.add_argument
-    add("--database", metavar="WORDS", default="", help=DATABASE)
-    add("--rules", metavar="FILE", type=Path, help="the precedence table by which desk.choice chooses; none without it")
-    add("--program", metavar="PATH", type=Path, default=PROGRAM, help="the desk, which reads that; onixdesk without it")
-    add("file", metavar="FILE", type=Path, help="the database that the desk has open")
+    parser = parser_of("desk-follow", DESCRIPTION, rules=None, program=PROGRAM)
+    parser.add_argument("--database", metavar="WORDS", default="", help=DATABASE)
+    parser.add_argument("file", metavar="FILE", type=Path, help="the database that the desk has open")
     return parser
 
 
@@ -53,5 +45,4 @@ def follow(machine: Machine, options: argparse.Namespace) -> int:
 
 
 def main() -> int:
-    options = command_line().parse_args()
-    return run_program(NAME, lambda machine: follow(machine, options))
+    return call(command_line(), follow)

@@ -1,30 +1,22 @@
 """The command line of desk-copy."""
 
 import argparse
-import sys
 import time
 from pathlib import Path
 
 from onixdesk_shop.copies.copying import Copied, copy_desk
 from onixdesk_shop.copies.keeping import UNFINISHED, keep_latest, named
 from onixdesk_shop.desk_files import check
-from onixdesk_shop.ends import parser_of, run_program
+from onixdesk_shop.ends import call, parser_of
 from onixdesk_shop.faults import DONE, Fault
 from onixdesk_shop.lines import ERROR
 from onixdesk_shop.machine import Machine
 from onixdesk_shop.places import LEDGER, LEDGERS
 
-NAME = "desk-copy"
-
 DESCRIPTION = """\
 Copies a desk whose program goes on answering: the database FILE and its log FILE-wal, as both were at one moment,
 under their names into a new FOLDER. All that the desk had answered when the copy began is in it. The copy is checked by
-SQLite, and FOLDER exists only once it is whole, sound and on the disk."""
-
-STATUSES = """\
-Status 0; 1 if the copy is not sound; 2 for a bad command line; 3 if a file cannot be read or written, or the desk wrote
-for ten minutes. A desk whose next start may take more than half of its memory is an error in a line.
-docs/RELIABILITY.md says what a copy is."""
+SQLite, and FOLDER exists only once it is whole, sound and on the disk. With --inboxes it has their ledgers too."""
 
 # LimitDATA of the desk's unit.
 LIMIT = 1800 << 20
@@ -34,15 +26,10 @@ OF_ITS_OWN, FOR_A_BYTE = 16_000_000, 1.1
 
 
 def command_line() -> argparse.ArgumentParser:
-    parser = parser_of(NAME, DESCRIPTION, STATUSES)
+    parser = parser_of("desk-copy", DESCRIPTION, inboxes=None)
     add = parser.add_argument
-    add(
-        "--keep",
-        metavar="N",
-        type=int,
-        help="FOLDER has a folder for each copy, named by its second; all but the latest N are removed at the end",
-    )
-    add("--inboxes", metavar="FOLDER", type=Path, help="also copies the ledgers of the inboxes that are in that folder")
+    help_of_keep = "FOLDER has a folder for each copy, named by its second; all but the latest N are removed at the end"
+    add("--keep", metavar="N", type=int, help=help_of_keep)
     add("file", metavar="FILE", type=Path, help="the database that the desk has open")
     add("folder", metavar="FOLDER", type=Path, help="a folder that does not exist yet; with --keep one that does")
     return parser
@@ -119,5 +106,4 @@ def tell_room(machine: Machine, file: Path, found: Copied) -> None:
 
 
 def main() -> int:
-    options = command_line().parse_args(sys.argv[1:])
-    return run_program(NAME, lambda machine: copy(machine, options))
+    return call(command_line(), copy)

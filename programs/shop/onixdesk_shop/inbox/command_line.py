@@ -9,18 +9,16 @@ from collections.abc import Iterator
 from pathlib import Path
 
 from onixdesk_shop.desk import Desk
-from onixdesk_shop.ends import parser_of, program_of, run_program
+from onixdesk_shop.ends import call, parser_of, program_of
 from onixdesk_shop.faults import BadCall
 from onixdesk_shop.inbox import decide, report, run, show
 from onixdesk_shop.inbox.context import Inbox, Places
 from onixdesk_shop.inbox.ledger import Ledger
 from onixdesk_shop.lines import token
 from onixdesk_shop.machine import Machine
-from onixdesk_shop.places import DESK_JSON, INBOX_SETTINGS, LEDGER, STORE
+from onixdesk_shop.places import DESK_JSON, INBOX_SETTINGS, INBOXES, INCOMING, LEDGER, PROGRAM, RULES, STATE, STORE
 from onixdesk_shop.settings import Settings, is_series, read_settings, terms_of
 from onixdesk_shop.shop_json import Shop, read_shop
-
-PROGRAM = "onixdesk-inbox"
 
 DESCRIPTION = """\
 Takes the files of a wholesaler's folder to a running desk, once each, in order:
@@ -31,26 +29,18 @@ Takes the files of a wholesaler's folder to a running desk, once each, in order:
     onixdesk-inbox report SERIES
 A MARK is the first letters of the digest of a file, as the lines have it."""
 
-STATUSES = """\
-Status 0; 1 if a line of priority error was written, or what was asked for is not so; 2 if the command line or the
-settings are wrong; 3 if a folder cannot be used. Files may wait then, too. docs/INBOX.md says what becomes of a file."""
+PATHS = {
+    "settings": INBOX_SETTINGS,
+    "incoming": INCOMING,
+    "inboxes": INBOXES,
+    "state": STATE,
+    "rules": RULES,
+    "page": DESK_JSON,
+    "program": PROGRAM,
+}
 
 # What lies beside SERIES.json.
 OTHERS = "rules", "titles"
-
-
-def add_places(parser: argparse.ArgumentParser) -> None:
-    default = Places(Path("onixdesk"))
-    for name, place in (
-        ("settings", INBOX_SETTINGS),
-        ("incoming", default.incoming),
-        ("inboxes", default.inboxes),
-        ("state", default.state),
-        ("rules", default.rules),
-        ("page", DESK_JSON),
-        ("program", Path("onixdesk")),
-    ):
-        parser.add_argument(f"--{name}", metavar="PATH", type=Path, default=place, help=f"{place} without it")
 
 
 def series_word(word: str) -> str:
@@ -76,8 +66,7 @@ def numbers_word(word: str) -> range:
 
 def parser_for(name: str) -> argparse.ArgumentParser:
     """The words behind the name of a command, or of a run, which has none."""
-    parser = parser_of(f"{PROGRAM} {name}".strip(), DESCRIPTION, STATUSES)
-    add_places(parser)
+    parser = parser_of("onixdesk-inbox", DESCRIPTION, **PATHS)
     if not name:
         what = parser.add_mutually_exclusive_group()
         for decision in decide.DECISIONS:
@@ -157,5 +146,4 @@ def main() -> int:
     words = sys.argv[1:]
     # A series may have the name of a command; alone it is a series.
     name = words.pop(0) if len(words) > 1 and words[0] in ("waive", "show", "report") else ""
-    options = parser_for(name).parse_args(words)
-    return run_program(PROGRAM, lambda machine: work(machine, name, options))
+    return call(parser_for(name), lambda machine, options: work(machine, name, options), words)

@@ -8,7 +8,7 @@ from pathlib import Path
 from onixdesk_shop.copies.copying import copied
 from onixdesk_shop.desk import answers_in
 from onixdesk_shop.desk_files import DeskFile
-from onixdesk_shop.ends import day_word, parser_of, program_of, run_program
+from onixdesk_shop.ends import call, day_word, parser_of, program_of
 from onixdesk_shop.faults import DONE, Fault
 from onixdesk_shop.lines import WARNING
 from onixdesk_shop.machine import Machine
@@ -18,16 +18,10 @@ from onixdesk_shop.prices.form import form_of
 from onixdesk_shop.prices.rows import Beside, questions_about, row
 from onixdesk_shop.shop_json import Shop, read_shop
 
-NAME = "desk-prices"
-
 DESCRIPTION = """\
 Writes a line for each article that a series offers into FOLDER/prices.csv: from which wholesaler the shop buys it, at
 what price, and its recommended price. Each answer is the desk's own, of a copy that is taken before, so that nobody
-waits. The file of before stays beside it, as prices.before.csv."""
-
-STATUSES = """\
-Status 0; 2 for a bad command line or bad settings; 3 if a file cannot be read or written, or the desk does not
-answer. Then the file is as it was. docs/PRICES.md has the rest."""
+waits. The file of before stays beside it, as prices.before.csv; after a fault it is as it was."""
 
 FILE, BEFORE = "prices.csv", "prices.before.csv"
 
@@ -40,15 +34,10 @@ AT_ONCE = 5_000
 
 
 def command_line() -> argparse.ArgumentParser:
-    parser = parser_of(NAME, DESCRIPTION, STATUSES)
+    paths = {"settings": DESK_JSON, "rules": None, "state": STATE, "program": PROGRAM}
+    parser = parser_of("desk-prices", DESCRIPTION, **paths)
     add = parser.add_argument
-    add("--settings", metavar="FILE", type=Path, default=DESK_JSON, help=f"desk.json; {DESK_JSON} without it")
-    add("--rules", metavar="FILE", type=Path, help="the precedence table; nothing is chosen without it")
-    add(
-        "--state", metavar="FOLDER", type=Path, default=STATE, help=f"how inboxes stand, and titles; {STATE} without it"
-    )
     add("--day", metavar="YYYYMMDD", type=day_word, help="of the prices; today without it")
-    add("--program", metavar="PATH", type=Path, default=PROGRAM, help="the desk; onixdesk without it")
     add("file", metavar="FILE", type=Path, help="the database that the desk has open")
     add("folder", metavar="FOLDER", type=Path, help="where the file is put")
     return parser
@@ -102,5 +91,4 @@ def write(machine: Machine, options: argparse.Namespace) -> int:
 
 
 def main() -> int:
-    options = command_line().parse_args()
-    return run_program(NAME, lambda machine: write(machine, options))
+    return call(command_line(), write)

@@ -1,10 +1,9 @@
 """The command line of desk-restore."""
 
 import argparse
-import sys
 from pathlib import Path
 
-from onixdesk_shop.ends import parser_of, program_of, run_program
+from onixdesk_shop.ends import call, parser_of, program_of
 from onixdesk_shop.faults import DONE, FAILED, Failed, Fault
 from onixdesk_shop.lines import ERROR, WARNING
 from onixdesk_shop.machine import Machine
@@ -13,45 +12,23 @@ from onixdesk_shop.restores.inboxes import inboxes_in, wait_for_all
 from onixdesk_shop.restores.restoring import CORRECTED_BEFORE, Places, Restore, is_from_before
 from onixdesk_shop.units import DESK, Units
 
-NAME = "desk-restore"
+PATHS = {"db": DESK_FILE, "inboxes": INBOXES, "settings": INBOX_SETTINGS, "program": PROGRAM}
 
 DESCRIPTION = """\
 Puts COPY, a folder that desk-copy made, into the place of the desk, whose own files get another name. The copy is
 checked by SQLite and by the desk's program. What the inboxes post again is said, with the command by which each file is
 refused, and asked for; agreements and waivers that the desk has and the copy lacks are made again. Then what runs of
-onixdesk is stopped, two files get their places, and it is started again."""
-
-STATUSES = """\
-Status 0 once the desk answers and has again what its inboxes post; 1 if nobody said yes, the copy is not sound, or the
-desk lacks something at the end; 2 for a bad command line; 3 if a file cannot be read or written, another program
-has the desk open, or a unit does not stop. After a kill the same command ends what was begun. docs/RELIABILITY.md says
-what comes after."""
-
-
-def add_places(parser: argparse.ArgumentParser) -> None:
-    for name, place in (
-        ("db", DESK_FILE),
-        ("inboxes", INBOXES),
-        ("settings", INBOX_SETTINGS),
-        ("program", PROGRAM),
-    ):
-        parser.add_argument(f"--{name}", metavar="PATH", type=Path, default=place, help=f"{place} without it")
+onixdesk is stopped, two files get their places, and it is started again, until the desk has again what the inboxes post.
+After a kill the same command ends what was begun."""
 
 
 def command_line() -> argparse.ArgumentParser:
-    parser = parser_of(NAME, DESCRIPTION, STATUSES)
-    add_places(parser)
+    parser = parser_of("desk-restore", DESCRIPTION, **PATHS, copies=COPIES)
     add = parser.add_argument
-    add("--copies", metavar="PATH", type=Path, default=COPIES, help=f"{COPIES} without it")
     add("--yes", action="store_true", help="asks nothing")
     add("--gaps", action="store_true", help="accepts a copy that lacks messages which no inbox can post again")
     add("--before-correction", action="store_true", help="accepts a copy from before a correction of the desk's text")
-    add(
-        "--text",
-        metavar="FILE",
-        type=Path,
-        help="puts a desk into place that is made of FILE, the corrected text of COPY",
-    )
+    add("--text", metavar="FILE", type=Path, help="puts a desk into place that is made of this corrected text of COPY")
     add("copy", metavar="COPY", type=Path, help="a folder with the two files of a desk, of the name of the desk's")
     return parser
 
@@ -106,5 +83,4 @@ def status_of(machine: Machine, run: Restore) -> int:
 
 
 def main() -> int:
-    options = command_line().parse_args(sys.argv[1:])
-    return run_program(NAME, lambda machine: restore(machine, options), goes_on=True)
+    return call(command_line(), restore, goes_on=True)

@@ -29,15 +29,10 @@ class Gaps:
     greatest: int | None
     missing: tuple[tuple[int, int], ...]
 
-    def has(self, number: int) -> bool:
-        """Whether a message or a waiver stands at that number."""
-        if self.greatest is None or not self.first <= number <= self.greatest:
-            return False
-        return not any(low <= number <= high for low, high in self.missing)
-
     def lacks(self, number: int) -> bool:
-        """Whether the desk would take a message of that number, and has none."""
-        return number >= self.first and not self.has(number)
+        """Whether the desk would take a message of that number, and has neither that nor a waiver."""
+        is_beyond = self.greatest is None or number > self.greatest
+        return number >= self.first and (is_beyond or any(low <= number <= high for low, high in self.missing))
 
 
 @dataclass(frozen=True)

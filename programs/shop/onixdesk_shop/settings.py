@@ -1,6 +1,5 @@
 """Files of lines NAME=VALUE, and the settings of an inbox that one of them has."""
 
-import argparse
 import fnmatch
 import re
 import shlex
@@ -40,13 +39,8 @@ class Settings:
     @property
     def parts(self) -> int:
         """How many messages the converter makes of a feed by its words."""
-        parser = argparse.ArgumentParser(allow_abbrev=False, add_help=False, exit_on_error=False)
-        parser.add_argument("--parts", type=int, default=1)
-        try:
-            return max(1, int(parser.parse_known_args(self.words)[0].parts))
-        except argparse.ArgumentError:
-            # The converter refuses these words, and says why.
-            return 1
+        found = re.search(r"--parts[ =]([1-9][0-9]{0,3})(?= |$)", " ".join(self.words))
+        return int(found[1]) if found else 1
 
     def is_full(self, name: str) -> bool:
         """Whether a file of that name says all that its wholesaler has."""

@@ -31,7 +31,6 @@ class Form:
     separator: str
     heading: list[str]
     decimal: str = "."
-    byte_order_mark: bool = False
 
     def cell(self, column: str, text: str) -> str:
         """The cell of a column; amounts are as the desk writes them."""
@@ -44,8 +43,7 @@ class Form:
 
     def head(self) -> str:
         """What a file begins with."""
-        line = self.separator.join(map(cell_of, self.heading)) + "\r\n" if self.heading else ""
-        return ("\ufeff" if self.byte_order_mark else "") + line
+        return self.separator.join(map(cell_of, self.heading)) + "\r\n" if self.heading else ""
 
 
 def is_right(key: str, value: Any, form: dict[str, Any]) -> bool:
@@ -57,7 +55,7 @@ def is_right(key: str, value: Any, form: dict[str, Any]) -> bool:
             return len(value) == len(form["columns"]) and all(isinstance(text, str) for text in value)
         case "decimal", "." | ",":
             return bool(value != form.get("separator"))
-        case ("separator", "," | ";" | "|" | "\t") | ("heading" | "byte_order_mark", bool()):
+        case ("separator", "," | ";" | "|" | "\t") | ("heading", bool()):
             return True
     return False
 

@@ -3,14 +3,13 @@
 import argparse
 import sqlite3
 
-from onixdesk_shop.ends import call, parser_of, program_of
+from onixdesk_shop.ends import call, parser_of
 from onixdesk_shop.faults import Fault
 from onixdesk_shop.machine import Machine
 from onixdesk_shop.places import COPIES
 from onixdesk_shop.renewals.renewing import Renewing
 from onixdesk_shop.restores.command_line import PATHS, put
 from onixdesk_shop.restores.placing import Work
-from onixdesk_shop.restores.restoring import Places
 
 DESCRIPTION = """\
 Puts a new desk in place, without the messages that were applied: its series begin with the numbers that their
@@ -22,17 +21,16 @@ desk is in place, the old one is. After a kill the same command ends what was be
 def command_line() -> argparse.ArgumentParser:
     parser = parser_of("desk-renew", DESCRIPTION, **PATHS)
     parser.add_argument("--yes", action="store_true", help="asks nothing")
+    parser.set_defaults(copies=COPIES, text=None, gaps=False)
     return parser
 
 
 def renew(machine: Machine, options: argparse.Namespace) -> int:
-    database = options.db.absolute()
-    copy = Work(machine, database).folder / "copy"
-    places = Places(program_of(options.program), database, options.inboxes, options.settings, COPIES, copy)
+    options.copy = Work(machine, options.db).folder / "copy"
     try:
-        return put(machine, Renewing(machine, places), options.yes)
+        return put(machine, Renewing(machine, options), options.yes)
     except sqlite3.Error as error:
-        raise Fault(f"{database}: {error}") from None
+        raise Fault(f"{options.db}: {error}") from None
 
 
 def main() -> int:

@@ -3,14 +3,19 @@
 import argparse
 from pathlib import Path
 
-from onixdesk_shop.ends import call, parser_of, program_of
+from onixdesk_shop.ends import call, parser_of
+from onixdesk_shop.copies.keeping import CORRECTED
 from onixdesk_shop.faults import DONE, FAILED, Failed, Fault
 from onixdesk_shop.lines import ERROR, WARNING
 from onixdesk_shop.machine import Machine
 from onixdesk_shop.places import COPIES, DESK_FILE, INBOX_SETTINGS, INBOXES, PROGRAM
 from onixdesk_shop.restores.inboxes import inboxes_in, wait_for_all
-from onixdesk_shop.restores.restoring import CORRECTED_BEFORE, Places, Restore, is_from_before
+from onixdesk_shop.restores.restoring import Restore
 from onixdesk_shop.units import DESK, Units
+
+CORRECTED_BEFORE = """\
+it is from before a correction of the desk's text; with --before-correction it is put into place, and the correction \
+has to be made again"""
 
 PATHS = {"db": DESK_FILE, "inboxes": INBOXES, "settings": INBOX_SETTINGS, "program": PROGRAM}
 
@@ -33,31 +38,18 @@ def command_line() -> argparse.ArgumentParser:
     return parser
 
 
-def places_of(options: argparse.Namespace) -> Places:
-    return Places(
-        program_of(options.program),
-        options.db.absolute(),
-        options.inboxes.absolute(),
-        options.settings.absolute(),
-        options.copies.absolute(),
-        options.copy.resolve(),
-        options.text.absolute() if options.text else None,
-        options.gaps,
-    )
-
-
 def restore(machine: Machine, options: argparse.Namespace) -> int:
-    places = places_of(options)
-    if is_from_before(places.copy):
+    options.copy = options.copy.resolve()
+    if options.copy.name.endswith(CORRECTED):
         if not options.before_correction:
-            raise Failed(f"{places.copy}: {' '.join(CORRECTED_BEFORE.split())}")
+            raise Failed(f"{options.copy}: {CORRECTED_BEFORE}")
         machine.tell(WARNING, "the correction of the desk's text has to be made again")
-    return put(machine, Restore(machine, places), options.yes)
+    return put(machine, Restore(machine, options), options.yes)
 
 
 def put(machine: Machine, run: Restore, is_told: bool) -> int:
     """Puts the desk of a run into place, or ends what a run began that was killed; the status."""
-    folder = run.places.database.parent
+    folder = run.options.db.parent
     with machine.lock(folder, waits=False) as is_alone:
         if not is_alone:
             raise Fault(f"{folder}: a desk is put into place there already")
@@ -78,7 +70,7 @@ def status_of(machine: Machine, run: Restore) -> int:
     if DESK not in run.work.started:
         machine.tell(ERROR, f"systemctl start {DESK}; the desk did not run, and is not started")
         return FAILED
-    inboxes = inboxes_in(machine, run.places.inboxes, run.places.settings)
+    inboxes = inboxes_in(machine, run.options.inboxes, run.options.settings)
     return DONE if run.work.is_started and wait_for_all(machine, inboxes, run.planned) and run.has_all else FAILED
 
 

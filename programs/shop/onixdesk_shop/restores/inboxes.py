@@ -58,9 +58,9 @@ class Inbox:
         found = Again()
         files: dict[int, tuple[File, list[int]]] = {}
         with self.ledger() as ledger:
-            for row, file in ledger.lacking(gaps):
+            for row in ledger.to_post(gaps):
                 found.numbers.append(row.number)
-                files.setdefault(file.id, (file, []))[1].append(row.number)
+                files.setdefault(row.file, (ledger.file(row.file), []))[1].append(row.number)
                 if not row.has_text:
                     found.gone.append(row.number)
             query = "SELECT message.number FROM message JOIN file ON file.id = message.file WHERE file.state = ?"

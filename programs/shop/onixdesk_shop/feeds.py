@@ -18,13 +18,8 @@ ON_INPUT = re.compile(r"onixdesk: -(?::([0-9]+):([0-9]+))?: ")
 TOTAL = re.compile(r"([0-9]+) notes?(?:, ([0-9]+) products? wrong)?")
 COUNTED = re.compile(r"(.*): ([0-9]+)")
 
-# What the converter proposes on a command line, and how an inbox has it in its settings.
-REMEDIES = {
-    "--number N gives one": "NUMBER=next gives one",
-    "--sender TYPE,VALUE gives one": "--sender TYPE,VALUE in WORDS gives one",
-    "--addressee TYPE,VALUE picks one": "--addressee TYPE,VALUE in WORDS picks one",
-    "--wrong all lets them through": "--wrong all in WORDS lets them through",
-}
+# What the converter proposes on a command line, but the number, stands in WORDS of an inbox.
+REMEDY = re.compile(r"(--(?:sender|addressee|wrong) \S+)")
 
 
 class Refusal(Exception):
@@ -47,14 +42,6 @@ class Said:
         return "; ".join(f"{cut(reason)}: {number}" for reason, number in list(self.reasons.items())[:20])
 
 
-@dataclass
-class Converted:
-    """The messages of a feed, in the order of their numbers."""
-
-    messages: list[bytes]
-    said: Said
-
-
 def said_in(errors: bytes) -> Said:
     said = Said()
     for line in errors.decode("utf-8", "backslashreplace").splitlines():
@@ -75,9 +62,7 @@ def refusal_of(said: Said) -> str:
     place = ON_INPUT.match(last)
     why = cut(ON_INPUT.sub("", last).removeprefix(PROGRAM_SAYS).removeprefix("refused: "))
     why = f"line {place[1]}, column {place[2]}: {why}" if place and place[1] else why
-    for on_command_line, in_inbox in REMEDIES.items():
-        why = why.replace(on_command_line, in_inbox)
-    return why
+    return REMEDY.sub(r"\1 in WORDS", why).replace("--number N gives", "NUMBER=next gives")
 
 
 def read_by(machine: Machine, module: str, source: Path, seconds: float) -> bytes:
@@ -91,9 +76,9 @@ def read_by(machine: Machine, module: str, source: Path, seconds: float) -> byte
 
 def convert(
     machine: Machine, program: Path, source: Path, words: list[str], terms: bytes | None, work: Path
-) -> Converted:
-    """The messages of a feed. Refusal where it has none that the desk would take; BadCall where the words or the table of
-    terms are wrong. The folder `work` is emptied for it."""
+) -> tuple[list[bytes], Said]:
+    """The messages of a feed, in the order of their numbers, and what was said of it. Refusal where it has none that the
+    desk would take; BadCall where the words or the table of terms are wrong. The folder `work` is emptied for it."""
     machine.remove_tree(work)
     machine.make_folder(work)
     call: list[str | Path] = [program, "convert", *words, "-o", work, "-"]
@@ -113,7 +98,7 @@ def convert(
     machine.remove_tree(work)
     if not messages:
         raise Refusal(refusal_of(said))
-    return Converted(messages, said)
+    return messages, said
 
 
 def check(machine: Machine, program: Path, message: bytes) -> str:

@@ -74,11 +74,8 @@ def read_lines(machine: Machine, path: Path) -> dict[str, tuple[int, str]]:
 
 def words(value: str) -> tuple[str, ...]:
     found = tuple(shlex.split(value))
-    is_value = False
-    for word in found:
-        if not is_value and (RESERVED.fullmatch(word) or not word.startswith("-")):
-            raise ValueError(f"{word} is no word of WORDS: the inbox gives it, or leaves it out")
-        is_value = not is_value and "=" not in word
+    for word in filter(RESERVED.fullmatch, found):
+        raise ValueError(f"{word} is no word of WORDS: the inbox gives it, or leaves it out")
     return found
 
 

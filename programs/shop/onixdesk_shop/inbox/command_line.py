@@ -105,14 +105,11 @@ def read_all(machine: Machine, options: argparse.Namespace) -> tuple[Settings, b
     return settings, terms, shop
 
 
-def places_of(options: argparse.Namespace) -> Places:
-    return Places(program_of(options.program), options.incoming, options.inboxes, options.state, options.rules)
-
-
 @contextlib.contextmanager
 def opened(machine: Machine, options: argparse.Namespace) -> Iterator[Inbox]:
     """The inbox of the series; nobody else is at work on it meanwhile."""
-    places = places_of(options)
+    program = program_of(options.program)
+    places = Places(program, options.incoming, options.inboxes, options.state, options.rules)
     settings, terms, shop = read_all(machine, options)
     folder = places.inboxes / options.series
     if machine.exists(folder):

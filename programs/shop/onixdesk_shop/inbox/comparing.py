@@ -180,7 +180,7 @@ def both_answers(
     body = [record for group in records.values() for record in group]
     message = [["Message", "2", *parties, "1", "", "", "", ""], *body, ["EndMessage", str(len(body) + 1)]]
     batch = text_of([["Agree", inbox.series, *parties, "1"], *message]) + "\n".join(questions) + "\n"
-    rules: list[str | Path] = ["--rules", inbox.places.rules] if inbox.has_rules() else []
+    rules: list[str | Path] = ["--rules", inbox.places.rules] if inbox.machine.exists(inbox.places.rules) else []
     ended = inbox.machine.run([inbox.places.program, *rules, "batch"], (DONE, FAILED), batch.encode(), seconds=SECONDS)
     made = itertools.islice(answers_in(records_of(ended.output)), 2, None)
     return answers_of(ask(inbox, questions), isbns, kinds), answers_of(made, isbns, kinds)

@@ -62,10 +62,6 @@ class Inbox:
     def stored(self, file: File) -> Path:
         return self.store / f"{file.digest}{file.ending}"
 
-    def is_settled(self, changed: int) -> bool:
-        """Whether a file that changed then has not changed for long enough."""
-        return self.machine.now() - changed / 1e9 >= self.settings.unchanged_seconds
-
     def basis(self, first: int) -> str:
         """By what files are judged: what was refused by another one is tried again."""
         program = self.machine.entry(self.places.program)
@@ -79,11 +75,9 @@ class Inbox:
             raise NotAgreed(f"the desk has agreed no series {self.series}")
         return found
 
-    def has_rules(self) -> bool:
-        return self.machine.exists(self.places.rules)
-
     def is_let_in(self, file: File) -> bool:
-        return self.ledger.has_decision(file, Decision.LET_IN)
+        query = "SELECT count(*) FROM decision WHERE file = ? AND what = ?"
+        return bool(self.ledger.value(query, file.id, Decision.LET_IN))
 
     # Lines
 
@@ -112,13 +106,6 @@ class Inbox:
             commands.append(f"onixdesk-inbox waive {self.series} {number} (or have it sent again under its number)")
         self.tell_file(ERROR, file, f"refused: {why}", *commands)
 
-    def tell_quarantined(self, file: File, why: str) -> None:
-        commands = [self.command("let-in", file), self.command("refuse", file)]
-        self.tell_file(ERROR, file, f"quarantined: {why}; later files wait", *commands)
-
-    def tell_had(self, file: File, first: File) -> None:
-        self.tell_file(NOTICE, file, f"had it already, by {first.mark}: {ranges([first.number or 0])}")
-
     def tell_once(self, subject: str, priority: int, line: str) -> None:
         """Tells what goes on until somebody does something, once."""
         if not self.ledger.is_told(subject):
@@ -137,7 +124,5 @@ class Inbox:
     def tell_known(self, file: File, before: File) -> None:
         if before.state == State.REJECTED:
             self.tell_file(WARNING, file, "these bytes were refused by a person, and stay so")
-        elif before.state == State.REFUSED:
-            self.tell_file(NOTICE, file, "refused before, and tried again")
         elif before.number is not None:
             self.tell_file(NOTICE, file, f"had it already: {before.state} from number {before.number} on")

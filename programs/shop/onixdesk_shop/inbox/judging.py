@@ -16,7 +16,7 @@ from onixdesk_shop.inbox.context import Inbox
 from onixdesk_shop.inbox.ledger import File, Message, Row, State
 from onixdesk_shop.inbox.posting import why_refused
 from onixdesk_shop.inbox.quarantine import Quarantine
-from onixdesk_shop.lines import WARNING, count, cut
+from onixdesk_shop.lines import ERROR, NOTICE, WARNING, count, cut, ranges
 from onixdesk_shop.messages import header_of, is_message, products_of
 from onixdesk_shop.settings import NEXT, OWN
 
@@ -77,7 +77,8 @@ def offset_for(inbox: Inbox, file: File, gaps: Gaps) -> list[str]:
 
 def quarantine_file(inbox: Inbox, file: File, why: str) -> None:
     inbox.ledger.set_state(file, State.QUARANTINED, why)
-    inbox.tell_quarantined(file, why)
+    commands = inbox.command("let-in", file), inbox.command("refuse", file)
+    inbox.tell_file(ERROR, file, f"quarantined: {why}; later files wait", *commands)
 
 
 def is_given_number(inbox: Inbox, file: File) -> bool:
@@ -97,8 +98,7 @@ def feed_of(inbox: Inbox, file: File, gaps: Gaps, words: list[str], terms: bytes
         if is_given_number(inbox, file):
             first = inbox.ledger.next_number(gaps, inbox.settings.parts)
             number = ["--number", str((first - 1) // inbox.settings.parts + 1)]
-        made = convert(inbox.machine, inbox.places.program, source, [*words, *number], terms, inbox.work)
-        texts, said = made.messages, made.said
+        texts, said = convert(inbox.machine, inbox.places.program, source, [*words, *number], terms, inbox.work)
     return Feed(file, [message_of(inbox, text) for text in texts], words, terms, said)
 
 
@@ -186,7 +186,7 @@ def post_again(inbox: Inbox, feed: Feed, others: dict[int, Row], gaps: Gaps) -> 
             raise Refusal(why_refused(answer))
         assert isinstance(answer, Taken)
     ledger.set_state(file, State.HAD, f"{first.mark} has its number")
-    inbox.tell_had(file, first)
+    inbox.tell_file(NOTICE, file, f"had it already, by {first.mark}: {ranges([first.number or 0])}")
 
 
 def is_below_and_same(inbox: Inbox, row: Row, message: Message, gaps: Gaps) -> bool:

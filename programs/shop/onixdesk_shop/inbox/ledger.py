@@ -182,9 +182,6 @@ class Ledger:
         names = ", ".join(f"{name} = ?" for name in columns)
         self.do(f"UPDATE file SET {names} WHERE id = ?", *columns.values(), file.id)
 
-    def has_decision(self, file: File, what: str) -> bool:
-        return bool(self.value("SELECT count(*) FROM decision WHERE file = ? AND what = ?", file.id, what))
-
     def full_files(self) -> list[File]:
         """The full files that have numbers, the last one first."""
         found = self.files("is_full AND state IN ('posting', 'held', 'applied')")

@@ -79,7 +79,7 @@ def converted(
     remarks: list[str] = []
     while True:
         try:
-            made = convert(machine, program, file, [*words, *itertools.chain(*more.items())], terms, work)
+            messages, said = convert(machine, program, file, [*words, *itertools.chain(*more.items())], terms, work)
         except Refusal as refusal:
             word = word_for(str(refusal))
             if not word or word.items() <= more.items():
@@ -87,7 +87,7 @@ def converted(
             more |= word
             remarks.append(str(refusal))
         else:
-            return Sample(made.messages, made.said, more, remarks)
+            return Sample(messages, said, more, remarks)
 
 
 def word_for(refusal: str) -> dict[str, str]:

@@ -38,10 +38,6 @@ class Work:
     def end(self) -> None:
         self.machine.remove_tree(self.folder)
 
-    def keep_units(self, units: list[str]) -> None:
-        """Has the disk keep what is to be started again, before it is stopped."""
-        self.machine.write_whole(self.folder / "units", "\n".join(units).encode(), 0o600)
-
     def units(self) -> list[str]:
         file = self.folder / "units"
         return self.machine.read(file).decode().split() if self.machine.exists(file) else []
@@ -75,15 +71,7 @@ class Work:
 
     def is_begun(self) -> bool:
         """Whether the desk that stood there is moved away, and the new one not in its place: no desk starts."""
-        ready = self.ready()
-        return bool(ready and self.machine.exists(ready / self.database.name) and not self.stands())
-
-    def is_in_place(self) -> bool:
-        ready = self.ready()
-        return bool(ready and not self.machine.exists(ready / self.database.name))
-
-    def stands(self) -> bool:
-        return self.machine.exists(self.database)
+        return bool(self.ready() and not self.machine.exists(self.database))
 
     def put_in_place(self) -> Path:
         """Gives the files that stand there another name, and the new ones their place, or goes on with that. The
@@ -125,7 +113,8 @@ class Work:
         """Ends what a run began that was killed. Whether its desk is in place then."""
         if not self.machine.exists(self.folder):
             return False
-        is_done = self.is_begun() or self.is_in_place()
+        ready = self.ready()
+        is_done = self.is_begun() or bool(ready and not self.machine.exists(ready / self.database.name))
         stood = "has put its desk into place" if is_done else "has changed nothing"
         self.machine.tell(WARNING, f"a run that was killed {stood}, and is ended now")
         self.finish(units)

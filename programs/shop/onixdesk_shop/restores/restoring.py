@@ -157,7 +157,8 @@ class Restore:
 
     def stop(self) -> None:
         """Stops what runs, once the disk has what is to be started again."""
-        self.work.keep_units(self.units.begun)
+        units = "\n".join(self.units.begun).encode()
+        self.machine.write_whole(self.work.folder / "units", units, 0o600)
         self.units.stop(self.units.all)
 
     def put_ledgers_back(self) -> None:

@@ -35,16 +35,13 @@ def command_line() -> argparse.ArgumentParser:
     return parser
 
 
-def copy_ledgers(machine: Machine, inboxes: Path, target: Path) -> int:
+def copy_ledgers(machine: Machine, inboxes: Path, target: Path) -> None:
     """Copies each inbox's ledger, behind the desk: so they have the text of each message that the copy has."""
     machine.make_folder(target)
-    copied = 0
     for entry in machine.entries(inboxes):
         ledger = inboxes / entry.name / LEDGER
         if machine.exists(ledger):
             machine.backup(ledger, target / f"{entry.name}.db")
-            copied += 1
-    return copied
 
 
 def copy(machine: Machine, options: argparse.Namespace) -> int:
@@ -58,30 +55,31 @@ def copy(machine: Machine, options: argparse.Namespace) -> int:
             raise Fault(f"{parent}: another program is at work there")
         new = parent / UNFINISHED
         try:
-            place, found, ledgers = copy_by(machine, new, folder, options)
+            place, found = copy_by(machine, new, folder, options)
         finally:
             machine.remove_tree(new)
         if options.keep:
             keep_latest(machine, folder, options.keep, place)
-    machine.write(told(place / options.file.name, found, ledgers))
+    machine.write(f"{place}: as of {time.strftime('%F %T UTC', time.gmtime(found.moment // 1_000_000_000))}\n")
     tell_room(machine, options.file, found)
     return DONE
 
 
-def copy_by(machine: Machine, new: Path, folder: Path, options: argparse.Namespace) -> tuple[Path, Copied, int]:
-    """A copy that is checked, and on the disk, before it has its place; how many ledgers it has."""
+def copy_by(machine: Machine, new: Path, folder: Path, options: argparse.Namespace) -> tuple[Path, Copied]:
+    """A copy that is checked, and on the disk, before it has its place."""
     machine.remove_tree(new)
     machine.make_folder(new)
     found = copy_desk(machine, options.file, new)
     check(machine, new / options.file.name, options.file)
-    ledgers = copy_ledgers(machine, options.inboxes, new / LEDGERS) if options.inboxes else 0
+    if options.inboxes:
+        copy_ledgers(machine, options.inboxes, new / LEDGERS)
     machine.sync_tree(new)
     place = free_name(machine, folder, found.moment) if options.keep else folder
     if machine.exists(place):
         raise Fault(f"{place}: it already exists")
     machine.rename(new, place)
     machine.sync_folder(place.parent)
-    return place, found, ledgers
+    return place, found
 
 
 def free_name(machine: Machine, folder: Path, moment: int) -> Path:
@@ -89,12 +87,6 @@ def free_name(machine: Machine, folder: Path, moment: int) -> Path:
     while machine.exists(place := named(folder, moment)):
         moment += 1_000_000_000
     return place
-
-
-def told(database: Path, found: Copied, ledgers: int) -> str:
-    moment = time.strftime("%Y-%m-%d %H:%M:%S UTC", time.gmtime(found.moment // 1_000_000_000))
-    files = f"{found.database} bytes, and {found.log} of its log"
-    return f"{database}: as of {moment}, {files}; {ledgers} ledgers\n"
 
 
 def tell_room(machine: Machine, file: Path, found: Copied) -> None:

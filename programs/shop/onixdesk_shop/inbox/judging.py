@@ -109,7 +109,8 @@ def message_of(inbox: Inbox, text: bytes) -> Message:
         raise Refusal(why or "its records are not one message")
     header = header_of(text)
     if header.sender != inbox.settings.sender:
-        raise Refusal(f"its sender is not {','.join(inbox.settings.sender)}")
+        senders = ",".join(header.sender), ",".join(inbox.settings.sender)
+        raise Refusal("its sender is {}, and SENDER of the settings is {}".format(*senders))
     if header.number is None:
         raise Refusal("it has no number")
     kinds = sorted({kind for product in products_of(text) for kind in product.kinds})

@@ -35,7 +35,10 @@ def run(words: Words, known: tuple[int, ...], pieces: Iterable[bytes], seconds: 
         late = threading.Timer(seconds or threading.TIMEOUT_MAX, child.kill)
         late.start()
         try:
-            give(child, pieces)
+            assert child.stdin
+            with contextlib.suppress(BrokenPipeError), child.stdin:
+                for piece in pieces:
+                    child.stdin.write(piece)
             status = child.wait()
             is_late = not late.is_alive()
         finally:
@@ -48,13 +51,6 @@ def run(words: Words, known: tuple[int, ...], pieces: Iterable[bytes], seconds: 
     how = f"was killed by signal {-status}" if status < 0 else f"ended with status {status}"
     lines = ended.errors.decode("utf-8", "backslashreplace").splitlines()
     raise BadEnd(f"{name} takes too long" if is_late else ": ".join([f"{name} {how}", *lines[-1:]]))
-
-
-def give(child: subprocess.Popen[bytes], pieces: Iterable[bytes]) -> None:
-    assert child.stdin
-    with contextlib.suppress(BrokenPipeError), child.stdin:
-        for piece in pieces:
-            child.stdin.write(piece)
 
 
 def read(written: IO[bytes]) -> bytes:

@@ -17,26 +17,18 @@ def log_of(database: Path) -> Path:
     return database.with_name(f"{database.name}-wal")
 
 
-def wrong_with(connection: sqlite3.Connection) -> str:
-    """What SQLite finds wrong with a database and its foreign keys, or why it is no desk's; nothing where it is one."""
-    found = str(connection.execute("PRAGMA integrity_check").fetchone()[0])
-    if found != "ok":
-        return found
-    if broken := connection.execute("PRAGMA foreign_key_check").fetchone():
-        return f"a row of {broken[0]} has no parent"
-    if not connection.execute("SELECT amount FROM meta WHERE item = 'version'").fetchone():
-        return "its tables have no version"
-    return ""
-
-
 def check(machine: Machine, database: Path, source: Path) -> None:
     """Failed where SQLite finds the copy of that source not to be a sound database of a desk."""
     try:
         with machine.reading(database) as connection:
-            wrong = wrong_with(connection)
+            wrong = str(connection.execute("PRAGMA integrity_check").fetchone()[0])
+            if orphan := connection.execute("PRAGMA foreign_key_check").fetchone():
+                wrong = f"a row of {orphan[0]} has no parent"
+            if not connection.execute("SELECT amount FROM meta WHERE item = 'version'").fetchone():
+                wrong = "its tables have no version"
     except sqlite3.Error as error:
         wrong = str(error)
-    if wrong:
+    if wrong != "ok":
         raise Failed(f"{source}: a copy of it is not sound: {cut(wrong)}")
 
 

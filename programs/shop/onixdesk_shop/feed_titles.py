@@ -23,7 +23,7 @@ TAGS = """
 product=Product a002=NotificationType productidentifier=ProductIdentifier b221=ProductIDType b244=IDValue
 descriptivedetail=DescriptiveDetail titledetail=TitleDetail b202=TitleType titleelement=TitleElement
 x409=TitleElementLevel b203=TitleText b030=TitlePrefix b031=TitleWithoutPrefix b029=Subtitle contributor=Contributor
-b034=SequenceNumber b035=ContributorRole b036=PersonName b037=PersonNameInverted b047=CorporateName
+b035=ContributorRole b036=PersonName b037=PersonNameInverted b047=CorporateName
 publishingdetail=PublishingDetail publisher=Publisher b081=PublisherName imprint=Imprint b079=ImprintName
 """
 
@@ -50,14 +50,13 @@ def title_of(product: Element) -> tuple[str, str]:
 
 
 def contributors_of(product: Element) -> str:
-    found: list[tuple[int, int, str]] = []
+    found = []
     for each in product.iterfind("DescriptiveDetail/Contributor"):
         names = (text_in(each, tag) for tag in ("PersonName", "PersonNameInverted", "CorporateName"))
-        number, role = text_in(each, "SequenceNumber"), text_in(each, "ContributorRole")
-        place = int(number) if re.fullmatch("[0-9]{1,9}", number, re.ASCII) else 1_000_000_000
+        role = text_in(each, "ContributorRole")
         if name := next(filter(None, names), ""):
-            found.append((place, len(found), f"{name} ({role})" if role else name))
-    return "; ".join(name for _, _, name in sorted(found)[:CONTRIBUTORS])[:LONGEST]
+            found.append(f"{name} ({role})" if role else name)
+    return "; ".join(found[:CONTRIBUTORS])[:LONGEST]
 
 
 def row_of(product: Element) -> list[Any]:

@@ -19,7 +19,8 @@ OWN, NEXT = "own", "next"
 RESERVED = re.compile(r"-o.*|--(number|terms)(=.*)?|-h|--help|--?")
 OFFSET = re.compile(r"--number-offset(=.*)?")
 
-is_series = re.compile("[a-z0-9-]{1,32}").fullmatch
+# Two names are those of other files beside SERIES.json.
+is_series = re.compile("(?!(?:rules|titles)$)[a-z0-9-]{1,32}").fullmatch
 
 
 @dataclass(frozen=True)

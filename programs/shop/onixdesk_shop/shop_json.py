@@ -27,24 +27,16 @@ class Shop:
     given: dict[str, Any]
 
 
-def is_quantity(value: object) -> bool:
-    return type(value) is int and 1 <= value <= 999_999
-
-
 def shop_of(given: Any) -> Shop:
     """The shop that the object of desk.json has; ValueError, which names a key, if that is wrong."""
-    if not isinstance(given, dict):
-        raise ValueError("it is no object")
     texts = {key: given.get(key, "") for key in PATTERNS}
     for key, text in texts.items():
         if not isinstance(text, str) or not re.fullmatch(PATTERNS[key], text):
             raise ValueError(f"{key} is wrong, or missing")
     quantities = given.get("quantities") or [1]
-    if not isinstance(quantities, list) or not all(map(is_quantity, quantities)):
+    if not all(type(value) is int and 1 <= value <= 999_999 for value in quantities):
         raise ValueError("quantities is no list of numbers of copies")
     series = given.get("series", [])
-    if not isinstance(series, list) or not all(isinstance(item, dict) and "name" in item for item in series):
-        raise ValueError("series is no list of objects with a name")
     wholesalers = {str(item["name"]): str(item.get("words", item["name"])) for item in series}
     return Shop(**texts, quantities=quantities, wholesalers=wholesalers, given=given)
 
@@ -54,5 +46,5 @@ def read_shop(machine: Machine, path: Path) -> Shop:
         return shop_of(json.loads(machine.read(path)))
     except OSError as error:
         raise BadCall(f"{path}: {error.strerror}") from None
-    except ValueError as error:
+    except (ValueError, TypeError, AttributeError, KeyError) as error:
         raise BadCall(f"{path}: {error}") from None

@@ -41,10 +41,6 @@ class Units:
     def begun(self) -> list[str]:
         return [unit for unit in self.all if is_begun(unit)]
 
-    def stop(self, units: list[str]) -> None:
-        if units:
-            self.systemctl("stop", *units)
-
     def start(self, units: list[str]) -> bool:
         """Starts these, the desk before the others. Whether all could be; what could not is told with its command."""
         if DESK in units:

@@ -39,29 +39,16 @@ PATHS = {
     "program": PROGRAM,
 }
 
-# What lies beside SERIES.json.
-OTHERS = "rules", "titles"
-
 
 def series_word(word: str) -> str:
     if not is_series(word):
-        raise argparse.ArgumentTypeError(f"{token(word)} is no name of a series")
-    if word in OTHERS:
-        raise argparse.ArgumentTypeError(
-            f"{word}.json is another file of the page's: agree on the series by another name"
-        )
+        raise argparse.ArgumentTypeError(f"{token(word)} is no name of a series, or of a file beside SERIES.json")
     return word
 
 
-def number_word(word: str) -> int:
-    if not (word.isascii() and word.isdigit() and len(word) <= 9 and int(word)):
-        raise argparse.ArgumentTypeError(f"{token(word)} is no number of a message")
-    return int(word)
-
-
 def numbers_word(word: str) -> range:
-    first, dash, last = word.partition("-")
-    return range(number_word(first), number_word(last if dash else first) + 1)
+    first, _, last = word.partition("-")
+    return range(int(first), int(last or first) + 1)
 
 
 def parser_for(name: str) -> argparse.ArgumentParser:
@@ -77,7 +64,7 @@ def parser_for(name: str) -> argparse.ArgumentParser:
         parser.add_argument("numbers", metavar="NUMBER", type=numbers_word, help="or FIRST-LAST")
     if name == "show":
         what = parser.add_mutually_exclusive_group(required=True)
-        what.add_argument("--number", metavar="N", type=number_word)
+        what.add_argument("--number", metavar="N", type=int)
         what.add_argument("--isbn", metavar="ISBN")
         what.add_argument("--file", metavar="NAME")
     return parser
@@ -116,13 +103,9 @@ def opened(machine: Machine, options: argparse.Namespace) -> Iterator[Inbox]:
         become_owner(folder)
     machine.make_folder(folder)
     machine.make_folder(folder / STORE)
-    with machine.lock(folder):
-        ledger = Ledger(machine, folder / LEDGER)
-        try:
-            desk = Desk(machine, settings.batches)
-            yield Inbox(machine, options.series, settings, places, ledger, desk, shop, terms)
-        finally:
-            ledger.close()
+    with machine.lock(folder), contextlib.closing(Ledger(machine, folder / LEDGER)) as ledger:
+        desk = Desk(machine, settings.batches)
+        yield Inbox(machine, options.series, settings, places, ledger, desk, shop, terms)
 
 
 def work(machine: Machine, name: str, options: argparse.Namespace) -> int:

@@ -7,7 +7,7 @@ from pathlib import Path
 from onixdesk_shop.desk import Desk, Gaps
 from onixdesk_shop.faults import Fault
 from onixdesk_shop.inbox.ledger import Decision, File, Ledger, State
-from onixdesk_shop.lines import ERROR, NOTICE, WARNING, ranges, token
+from onixdesk_shop.lines import ERROR, NOTICE, WARNING, token
 from onixdesk_shop.machine import Entry, Machine
 from onixdesk_shop.places import INCOMING, INBOXES, RULES, STATE, STORE, WORK
 from onixdesk_shop.settings import OWN, Settings
@@ -91,13 +91,6 @@ class Inbox:
     def tell_file(self, priority: int, file: File, text: str, *commands: str) -> None:
         """A line on a file: its commands first, its name last."""
         self.tell(priority, "; ".join([*commands, text, token(file.name)]))
-
-    def tell_state(self, file: File, state: str) -> None:
-        """That a file is held, or applied."""
-        numbers = [row.number for row in self.ledger.messages_of(file) if row.state in (State.HELD, State.APPLIED)]
-        said = f"; {file.why}" if file.why else ""
-        if state in (State.HELD, State.APPLIED):
-            self.tell_file(NOTICE, file, f"{state}: {ranges(numbers)}{said}")
 
     def tell_refused(self, file: File, why: str, number: int | None = None, *remedies: str) -> None:
         """That a file is refused, and what to do."""

@@ -229,13 +229,12 @@ class Ledger:
             )
         )
 
-    def known_agreement(self) -> tuple[tuple[str, str], int]:
-        """The addressee and the first number, as far as messages tell them."""
+    def agreement(self, series: str, sender: tuple[str, str]) -> str:
+        """The record by which a series is agreed, as far as messages tell the addressee and the first number."""
         number = self.value("SELECT min(number) FROM message WHERE text IS NOT NULL")
-        if number is None:
-            return ("", ""), 1
-        first = self.value("SELECT min(number) FROM message")
-        return header_of(self.text(number)).addressee, int(first)
+        addressee = header_of(self.text(number)).addressee if number else ("", "")
+        first = self.value("SELECT min(number) FROM message") or 1
+        return ",".join(["Agree", series, *sender, *addressee, str(first)])
 
     # Messages
 

@@ -97,7 +97,9 @@ def settle_file(inbox: Inbox, file: File) -> None:
     state = State.POSTING if state in (State.POSTED, State.READY) else state
     if state != file.state:
         inbox.ledger.set_state(file, state, file.why if state == State.HELD else "")
-        inbox.tell_state(file, state)
+        if state in (State.HELD, State.APPLIED):
+            numbers = [row.number for row in inbox.ledger.messages_of(file) if row.state in (State.HELD, State.APPLIED)]
+            inbox.tell_file(NOTICE, file, f"{state}: {ranges(numbers)}{'; ' if file.why else ''}{file.why}")
 
 
 def settle_refused(inbox: Inbox, row: Row, answer: Refused) -> None:

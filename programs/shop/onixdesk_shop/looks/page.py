@@ -30,17 +30,16 @@ percent = ""  # the discount that is agreed, as 42.5
 """
 
 
-def section(title: str, rows: Mapping[str, int]) -> Iterator[str]:
-    """The greatest counts first; nothing where there are none."""
+def counted(rows: Mapping[str, int]) -> Iterator[str]:
+    """The greatest counts first."""
     ordered = sorted(rows.items(), key=lambda row: (-row[1], row[0]))
-    if ordered:
-        yield f"\n{title}"
-    yield from (f"{number:>9}  {cut(words)}" for words, number in ordered[:MOST_ROWS])
+    yield from (f"{number:>7}  {cut(words)}" for words, number in ordered[:MOST_ROWS])
     if len(ordered) > MOST_ROWS:
-        yield f"           and {len(ordered) - MOST_ROWS} more"
+        yield f"         and {len(ordered) - MOST_ROWS} more"
 
 
 def section_of(title: str, lines: Iterable[str]) -> Iterator[str]:
+    """Nothing where there are no lines."""
     found = [*lines]
     yield from [f"\n{title}", *(f"  {line}" for line in found)] if found else []
 
@@ -51,11 +50,13 @@ def of_feed(sample: Sample) -> Iterator[str]:
     yield f"sender: {','.join(header.sender)}"
     yield f"addressee: {','.join(header.addressee).strip(',') or 'none'}"
     yield f"number: {sample.number or 'none'}; messages: {len(sample.messages)}"
-    yield from section("Products by NotificationType", sample.types)
-    yield from section("Suppliers by SupplyDetails", sample.suppliers)
-    yield from section("Prices by type and currency", {" ".join(kind): n for kind, n in sample.prices.items()})
-    yield from section("Discount codes by prices", {in_words(code): n for code, n in sample.codes.items()})
-    yield from section("What the converter says", sample.said.reasons)
+    yield from section_of("Products by NotificationType", counted(sample.types))
+    yield from section_of("Suppliers by SupplyDetails", counted(sample.suppliers))
+    yield from section_of(
+        "Prices by type and currency", counted({" ".join(kind): n for kind, n in sample.prices.items()})
+    )
+    yield from section_of("Discount codes by prices", counted({in_words(code): n for code, n in sample.codes.items()}))
+    yield from section_of("What the converter says", counted(sample.said.reasons))
 
 
 def in_words(code: Code) -> str:

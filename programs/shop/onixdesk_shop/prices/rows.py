@@ -1,5 +1,6 @@
 """What a line of the file says of an article, by the desk's answers, and by how its wholesaler's inbox stands."""
 
+import functools
 import json
 from pathlib import Path
 from typing import Any
@@ -38,16 +39,15 @@ class Beside:
     def __init__(self, machine: Machine, state: Path) -> None:
         self.machine = machine
         self.state = state
-        self.files: dict[Path, Any] = {}
+        # The articles of a file of titles come one after the other.
+        self.read = functools.lru_cache(1)(self.read_file)
 
-    def read(self, path: Path) -> Any:
-        """A file of JSON, an empty object where it cannot be read; the last one is kept."""
-        if path not in self.files:
-            try:
-                self.files = {path: json.loads(self.machine.read(path))}
-            except (OSError, ValueError):
-                self.files = {path: {}}
-        return self.files[path]
+    def read_file(self, path: Path) -> Any:
+        """A file of JSON, an empty object where it cannot be read."""
+        try:
+            return json.loads(self.machine.read(path))
+        except (OSError, ValueError):
+            return {}
 
     def title(self, isbn: str, series: str) -> str:
         """The title of that series, else the one that a feed said last."""

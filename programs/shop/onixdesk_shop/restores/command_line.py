@@ -57,11 +57,14 @@ def put(machine: Machine, run: Restore, is_told: bool) -> int:
             machine.tell(WARNING, "the desk of that run is in place; for another one run the command again")
             return status_of(machine, run)
         run.units = Units(machine)
-        with run.work.at_work(run.units):
+        try:
             run.lay_out()
             if not run.is_wanted(is_told):
                 raise Failed("nobody said yes, so the desk is as it was")
             run.replace()
+        finally:
+            # What ran runs again, whatever ends this.
+            run.work.finish(run.units)
         return status_of(machine, run)
 
 

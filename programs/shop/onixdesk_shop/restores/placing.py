@@ -4,9 +4,7 @@ It has `units`, what is to be started again; `new`, which is being made, and in 
 whole and on the disk. What a run that was killed has left there tells the next one how far it was.
 """
 
-import contextlib
 import time
-from collections.abc import Iterator
 from pathlib import Path
 
 from onixdesk_shop.desk_files import log_of
@@ -34,9 +32,6 @@ class Work:
         self.machine.make_folder(self.folder)
         self.machine.remove_tree(self.new.parent)
         self.machine.make_folder(self.new.parent)
-
-    def end(self) -> None:
-        self.machine.remove_tree(self.folder)
 
     def units(self) -> list[str]:
         file = self.folder / "units"
@@ -93,21 +88,13 @@ class Work:
             self.machine.sync_folder(new.parent)
             self.machine.sync_folder(old.parent)
 
-    @contextlib.contextmanager
-    def at_work(self, units: Units) -> Iterator[None]:
-        """At the end what ran runs again, whatever ends this."""
-        try:
-            yield
-        finally:
-            self.finish(units)
-
     def finish(self, units: Units) -> None:
         """Puts the new desk into its place where the old one is moved away, and starts what was stopped."""
         if self.is_begun():
             self.put_in_place()
         self.started = [unit for unit in self.units() if is_begun(unit)]
         self.is_started = units.start(self.started)
-        self.end()
+        self.machine.remove_tree(self.folder)
 
     def end_killed(self, units: Units) -> bool:
         """Ends what a run began that was killed. Whether its desk is in place then."""

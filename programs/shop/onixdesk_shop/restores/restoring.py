@@ -159,7 +159,8 @@ class Restore:
         """Stops what runs, once the disk has what is to be started again."""
         units = "\n".join(self.units.begun).encode()
         self.machine.write_whole(self.work.folder / "units", units, 0o600)
-        self.units.stop(self.units.all)
+        if self.units.all:
+            self.units.systemctl("stop", *self.units.all)
 
     def put_ledgers_back(self) -> None:
         """A ledger of the copy has its place where there is none."""

@@ -1,7 +1,6 @@
 """The command line of desk-follow."""
 
 import argparse
-import sqlite3
 import time
 from pathlib import Path
 
@@ -10,7 +9,7 @@ from desk_follow.rules import read_rules
 from desk_follow.source import check_version, count_in
 from onixdesk_shop.copies.copying import copied
 from onixdesk_shop.ends import call, parser_of, program_of
-from onixdesk_shop.faults import DONE, Fault
+from onixdesk_shop.faults import DONE
 from onixdesk_shop.machine import Machine
 from onixdesk_shop.places import PROGRAM
 
@@ -32,13 +31,10 @@ def command_line() -> argparse.ArgumentParser:
 
 def follow(machine: Machine, options: argparse.Namespace) -> int:
     rules = read_rules(machine, program_of(options.program), options.rules)
-    try:
-        with copied(machine, options.file) as (copy, taken), machine.reading(copy) as source:
-            check_version(source)
-            machine.run(call_of(options.database), text=script(source, rules, taken.moment))
-            messages, records = (count_in(source, table) for table in ("applied", "record"))
-    except sqlite3.Error as error:
-        raise Fault(f"{options.file}: {error}") from None
+    with copied(machine, options.file) as (copy, taken), machine.reading(copy) as source:
+        check_version(source)
+        machine.run(call_of(options.database), text=script(source, rules, taken.moment))
+        messages, records = (count_in(source, table) for table in ("applied", "record"))
     at = time.strftime("as of %Y-%m-%d %H:%M:%S UTC", time.gmtime(taken.moment // 1_000_000_000))
     machine.write(f"{at}: {messages} messages, {records} records\n")
     return DONE

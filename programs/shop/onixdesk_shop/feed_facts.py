@@ -2,15 +2,9 @@
 each has, and its discount codes with how many Prices of which type each has."""
 
 import json
-import sys
 from collections import Counter
 from collections.abc import Iterator
-from pathlib import Path
 from xml.etree.ElementTree import Element
-
-if __name__ == "__main__":
-    # Run as a program of its own, it finds its package beside itself.
-    sys.path[0] = str(Path(__file__).resolve().parent.parent)
 
 from onixdesk_shop.feed_products import read_input, text_in
 
@@ -53,5 +47,5 @@ def codes_of(price: Element, kind: str) -> set[tuple[str, str, str]]:
     return found
 
 
-if __name__ == "__main__":
-    sys.exit(read_input(TAGS, write))
+def main() -> None:
+    read_input(TAGS, write)

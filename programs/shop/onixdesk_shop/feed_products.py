@@ -69,11 +69,9 @@ def elements_in(stream: IO[bytes], names: dict[str, str]) -> Iterator[Element]:
     reader.parser.Parse(b"", True)
 
 
-def read_input(names: str, work: Callable[[Iterator[Element]], None]) -> int:
-    """The status of a program that reads a feed from its standard input; `names` has pairs SHORT=NAME."""
+def read_input(names: str, work: Callable[[Iterator[Element]], None]) -> None:
+    """The work of a program that reads a feed from its standard input; `names` has pairs SHORT=NAME."""
     try:
         work(elements_in(sys.stdin.buffer, dict(pair.split("=") for pair in names.split())))
     except (expat.ExpatError, ValueError, LookupError) as error:
-        print(f"expat does not take it: {error}", file=sys.stderr)
-        return 1
-    return 0
+        sys.exit(f"expat does not take it: {error}")

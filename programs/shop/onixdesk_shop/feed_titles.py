@@ -3,15 +3,9 @@ deletion, title, subtitle, contributors, publisher."""
 
 import json
 import re
-import sys
 from collections.abc import Iterator
-from pathlib import Path
 from typing import Any
 from xml.etree.ElementTree import Element
-
-if __name__ == "__main__":
-    # Run as a program of its own, it finds its package beside itself.
-    sys.path[0] = str(Path(__file__).resolve().parent.parent)
 
 from onixdesk_shop.feed_products import LONGEST, read_input, text_in
 
@@ -72,5 +66,5 @@ def write(elements: Iterator[Element]) -> None:
             print(json.dumps(row))
 
 
-if __name__ == "__main__":
-    sys.exit(read_input(TAGS, write))
+def main() -> None:
+    read_input(TAGS, write)

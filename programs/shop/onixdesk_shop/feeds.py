@@ -67,7 +67,9 @@ def refusal_of(said: Said) -> str:
 
 def read_by(machine: Machine, module: str, source: Path, seconds: float) -> bytes:
     """What a module of the package says of a feed, as a child. BadEnd where it does not read it to its end."""
-    call: list[str | Path] = [sys.executable, "-E", "-s", "-S", "-B", Path(__file__).with_name(f"{module}.py")]
+    package = Path(__file__).parent
+    start = f"import sys; sys.path[0] = {str(package.parent)!r}; from {package.name} import {module}; {module}.main()"
+    call = [sys.executable, "-EsSB", "-c", start]
     try:
         return machine.run(call, text=pieces_of(source), seconds=seconds).output
     except Damaged as damaged:

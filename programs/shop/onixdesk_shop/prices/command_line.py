@@ -1,7 +1,6 @@
 """The command line of desk-prices."""
 
 import argparse
-import sqlite3
 from collections.abc import Iterator
 from pathlib import Path
 
@@ -43,15 +42,6 @@ def command_line() -> argparse.ArgumentParser:
     return parser
 
 
-def rows_of(machine: Machine, database: Path, query: str) -> list[str]:
-    """The first column of a query over a copy."""
-    try:
-        with machine.reading(database) as connection:
-            return [text for (text,) in connection.execute(query)]
-    except sqlite3.Error as error:
-        raise Fault(f"{database.name}: {error}") from None
-
-
 def asked(desk: DeskFile, day: str, shop: Shop, isbns: list[str]) -> Iterator[tuple[str, list[Records]]]:
     """Each article with its answers. Fault if some are missing or refused."""
     count = 3 if shop.recommended_type else 2
@@ -71,8 +61,9 @@ def write(machine: Machine, options: argparse.Namespace) -> int:
     day, beside = options.day or machine.today(), Beside(machine, options.state)
     lines, chosen = [form.head()], 0
     with copied(machine, options.file) as (copy, _):
-        isbns = rows_of(machine, copy, ARTICLES)
-        old = {name for name in rows_of(machine, copy, "SELECT name FROM series") if beside.may_be_old(name)}
+        with machine.reading(copy) as source:
+            isbns = [isbn for (isbn,) in source.execute(ARTICLES)]
+            old = {name for (name,) in source.execute("SELECT name FROM series") if beside.may_be_old(name)}
         desk = DeskFile(machine, program_of(options.program), copy, options.rules)
         for isbn, answers in asked(desk, day, shop, isbns):
             cells = row(isbn, answers, shop, beside, old) | {"day": day}
@@ -82,11 +73,7 @@ def write(machine: Machine, options: argparse.Namespace) -> int:
         machine.write_whole(options.folder / BEFORE, machine.read(options.folder / FILE), 0o640)
     machine.write_whole(options.folder / FILE, "".join(lines).encode(), 0o640)
     if isbns and not chosen:
-        machine.tell(
-            WARNING,
-            f"of {len(isbns)} articles nothing is chosen: no rule of the precedence table admits an offer, or desk.json"
-            " has another price type, currency or country than their prices",
-        )
+        machine.tell(WARNING, f"of {len(isbns)} articles nothing is chosen, and none has a price (PRICES.md)")
     return DONE
 
 

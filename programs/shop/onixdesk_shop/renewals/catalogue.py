@@ -65,7 +65,7 @@ def product(database: sqlite3.Connection, *record: str) -> list[list[str]]:
 
 
 def contents_in(database: sqlite3.Connection, series: str) -> Iterator[str]:
-    """A catalogue as the contents of as few messages as can be. Failed if none takes one of its records."""
+    """A catalogue as the contents of as few messages as can be, of one at least. Failed if none takes one of its records."""
     pieces, count, size = [""], 0, 0
     for (reference,) in database.execute(REFERENCES, [series]):
         rows = product(database, series, reference)
@@ -78,5 +78,4 @@ def contents_in(database: sqlite3.Connection, series: str) -> Iterator[str]:
             pieces, count, size = [], 0, 0
         pieces.append(text)
         count, size = count + len(rows), size + length
-    if count:
-        yield "".join(pieces)
+    yield "".join(pieces)

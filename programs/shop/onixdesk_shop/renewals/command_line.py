@@ -1,10 +1,8 @@
 """The command line of desk-renew."""
 
 import argparse
-import sqlite3
 
 from onixdesk_shop.ends import call, parser_of
-from onixdesk_shop.faults import Fault
 from onixdesk_shop.machine import Machine
 from onixdesk_shop.places import COPIES
 from onixdesk_shop.renewals.renewing import Renewing
@@ -27,10 +25,7 @@ def command_line() -> argparse.ArgumentParser:
 
 def renew(machine: Machine, options: argparse.Namespace) -> int:
     options.copy = Work(machine, options.db).folder / "copy"
-    try:
-        return put(machine, Renewing(machine, options), options.yes)
-    except sqlite3.Error as error:
-        raise Fault(f"{options.db}: {error}") from None
+    return put(machine, Renewing(machine, options), options.yes)
 
 
 def main() -> int:

@@ -6,7 +6,7 @@ from pathlib import Path
 
 from desk_follow.following import call_of, script
 from desk_follow.rules import read_rules
-from desk_follow.source import check_version, count_in
+from desk_follow.source import check_version
 from onixdesk_shop.copies.copying import copied
 from onixdesk_shop.ends import call, parser_of, program_of
 from onixdesk_shop.faults import DONE
@@ -34,7 +34,8 @@ def follow(machine: Machine, options: argparse.Namespace) -> int:
     with copied(machine, options.file) as (copy, taken), machine.reading(copy) as source:
         check_version(source)
         machine.run(call_of(options.database), text=script(source, rules, taken.moment))
-        messages, records = (count_in(source, table) for table in ("applied", "record"))
+        counts = "SELECT (SELECT count(*) FROM applied), (SELECT count(*) FROM record)"
+        messages, records = source.execute(counts).fetchone()
     at = time.strftime("as of %Y-%m-%d %H:%M:%S UTC", time.gmtime(taken.moment // 1_000_000_000))
     machine.write(f"{at}: {messages} messages, {records} records\n")
     return DONE

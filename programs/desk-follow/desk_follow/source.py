@@ -20,10 +20,6 @@ def check_version(source: sqlite3.Connection) -> None:
         raise Fault(f"its tables are of version {version} of a desk's, in place of {VERSION}")
 
 
-def count_in(source: sqlite3.Connection, table: str) -> int:
-    return int(source.execute(f"SELECT count(*) FROM {table}").fetchone()[0])
-
-
 def escaped(column: str) -> str:
     for character, text in ESCAPES:
         column = f"replace({column}, char({ord(character)}), {text})"

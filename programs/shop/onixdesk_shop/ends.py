@@ -9,7 +9,6 @@ import traceback
 from collections.abc import Callable, Sequence
 from datetime import date
 from pathlib import Path
-from types import FrameType
 
 from onixdesk_shop.faults import DONE, FAULT, Fault
 from onixdesk_shop.lines import ERROR, token
@@ -52,10 +51,6 @@ def program_of(word: Path) -> Path:
     return Path(found).absolute()
 
 
-def end(number: int, _frame: FrameType | None) -> None:
-    sys.exit(128 + number)
-
-
 Work = Callable[[Machine, argparse.Namespace], int]
 
 
@@ -69,8 +64,10 @@ def run_program(name: str, work: Callable[[Machine], int], goes_on: bool = False
     """The status of a program's work on this machine. A program that `goes_on` is not ended by a terminal that hangs
     up."""
     os.umask(0o077)
-    signal.signal(signal.SIGTERM, end)
-    signal.signal(signal.SIGHUP, signal.SIG_IGN if goes_on else end)
+    for number in (signal.SIGTERM, signal.SIGHUP):
+        signal.signal(number, lambda number, _: sys.exit(128 + number))
+    if goes_on:
+        signal.signal(signal.SIGHUP, signal.SIG_IGN)
     machine = Machine(name)
     status = status_of(machine, work)
     return status or (FAULT if machine.is_output_broken else DONE)

@@ -10,8 +10,8 @@ from onixdesk_shop.feed_stream import Damaged, pieces_of
 from onixdesk_shop.lines import cut, shown
 from onixdesk_shop.machine import Machine
 
-# How long a conversion, and a check, may take.
-CONVERSION_SECONDS, CHECK_SECONDS = 1800, 60
+# How long a conversion, a reading for people, and a check may take.
+CONVERSION_SECONDS, READING_SECONDS, CHECK_SECONDS = 1800, 600, 60
 
 PROGRAM_SAYS = "onixdesk: "
 ON_INPUT = re.compile(r"onixdesk: -(?::([0-9]+):([0-9]+))?: ")
@@ -65,13 +65,13 @@ def refusal_of(said: Said) -> str:
     return REMEDY.sub(r"\1 in WORDS", why).replace("--number N gives", "NUMBER=next gives")
 
 
-def read_by(machine: Machine, module: str, source: Path, seconds: float) -> bytes:
+def read_by(machine: Machine, module: str, source: Path) -> bytes:
     """What a module of the package says of a feed, as a child. BadEnd where it does not read it to its end."""
     package = Path(__file__).parent
     start = f"import sys; sys.path[0] = {str(package.parent)!r}; from {package.name} import {module}; {module}.main()"
     call = [sys.executable, "-EsSB", "-c", start]
     try:
-        return machine.run(call, text=pieces_of(source), seconds=seconds).output
+        return machine.run(call, text=pieces_of(source), seconds=READING_SECONDS).output
     except Damaged as damaged:
         raise BadEnd(str(damaged)) from None
 

@@ -203,8 +203,8 @@ def each_night(room: Room) -> Iterator[Outcome]:
     for name in (*OLD, *corrected):
         (shop.copies / name).mkdir()
     run(shop, "--keep", 4, *words[2:])
-    left = sorted(path.name for path in shop.copies.iterdir())[:2]
-    yield Outcome("corrections of a day push no night out", left, [OLD[2], corrected[3]])
+    left = sorted(path.name for path in shop.copies.iterdir())[:3]
+    yield Outcome("corrections of a day push no night out", left, [*OLD[1:], corrected[3]])
 
 
 class Writing(ShopMachine):

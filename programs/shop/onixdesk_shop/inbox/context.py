@@ -9,7 +9,7 @@ from onixdesk_shop.faults import Fault
 from onixdesk_shop.inbox.ledger import Decision, File, Ledger, State
 from onixdesk_shop.lines import ERROR, NOTICE, WARNING, token
 from onixdesk_shop.machine import Entry, Machine
-from onixdesk_shop.places import INCOMING, INBOXES, RULES, STATE, STORE, WORK
+from onixdesk_shop.places import INCOMING, INBOXES, RULES, STATE, STORE
 from onixdesk_shop.settings import OWN, Settings
 from onixdesk_shop.shop_json import Shop
 
@@ -54,10 +54,6 @@ class Inbox:
     @property
     def store(self) -> Path:
         return self.folder / STORE
-
-    @property
-    def work(self) -> Path:
-        return self.folder / WORK
 
     def stored(self, file: File) -> Path:
         return self.store / f"{file.digest}{file.ending}"

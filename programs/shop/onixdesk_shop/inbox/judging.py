@@ -18,6 +18,7 @@ from onixdesk_shop.inbox.posting import why_refused
 from onixdesk_shop.inbox.quarantine import Quarantine
 from onixdesk_shop.lines import ERROR, NOTICE, WARNING, count, cut, ranges
 from onixdesk_shop.messages import header_of, is_message, products_of
+from onixdesk_shop.places import WORK
 from onixdesk_shop.settings import NEXT, OWN
 
 MOST_BYTES = 4_194_304
@@ -98,7 +99,9 @@ def feed_of(inbox: Inbox, file: File, gaps: Gaps, words: list[str], terms: bytes
         if is_given_number(inbox, file):
             first = inbox.ledger.next_number(gaps, inbox.settings.parts)
             number = ["--number", str((first - 1) // inbox.settings.parts + 1)]
-        texts, said = convert(inbox.machine, inbox.places.program, source, [*words, *number], terms, inbox.work)
+        texts, said = convert(
+            inbox.machine, inbox.places.program, source, [*words, *number], terms, inbox.folder / WORK
+        )
     return Feed(file, [message_of(inbox, text) for text in texts], words, terms, said)
 
 

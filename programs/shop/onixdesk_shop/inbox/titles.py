@@ -18,8 +18,6 @@ DIGITS, FOLDER_DIGITS = 8, 5
 # By this file the page knows that titles are kept.
 MARK, FOLDER = "titles.json", "titles"
 
-SECONDS = 600
-
 # Series, number and second of the message, and, unless that deletes it, title, subtitle, contributors, publisher.
 Entry = list[Any]
 
@@ -36,7 +34,7 @@ def keep(inbox: Inbox) -> None:
 
 def entries_of(inbox: Inbox, file: File) -> dict[str, Entry]:
     """What a file says of each ISBN."""
-    said = read_by(inbox.machine, "feed_titles", inbox.stored(file), SECONDS)
+    said = read_by(inbox.machine, "feed_titles", inbox.stored(file))
     found: dict[str, Entry] = {}
     for line in said.splitlines():
         isbn, is_deletion, *texts = json.loads(line)

@@ -101,9 +101,7 @@ READERS: dict[str, tuple[str, str, Callable[[str], Any]]] = {
 
 WHAT = {
     "SENDER": "TYPE,VALUE with a TYPE of two digits",
-    "NUMBER": "own or next",
     "TERMS": "a file, whose name begins with /, or nothing",
-    "BATCHES": "a socket, whose name begins with /",
 }
 
 

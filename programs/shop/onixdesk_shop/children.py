@@ -5,6 +5,7 @@ import os
 import subprocess
 import tempfile
 import threading
+import time
 from collections.abc import Iterable, Sequence
 from pathlib import Path
 from typing import IO, NamedTuple
@@ -32,7 +33,8 @@ def run(words: Words, known: tuple[int, ...], pieces: Iterable[bytes], seconds: 
             child = subprocess.Popen(words, stdin=subprocess.PIPE, stdout=written, stderr=errors, env=ENVIRONMENT)
         except OSError as error:
             raise BadEnd(f"{words[0]} cannot be run: {error.strerror}") from None
-        late = threading.Timer(seconds or threading.TIMEOUT_MAX, child.kill)
+        limit = seconds or threading.TIMEOUT_MAX
+        late, end = threading.Timer(limit, child.kill), time.monotonic() + limit
         late.start()
         try:
             assert child.stdin
@@ -40,7 +42,6 @@ def run(words: Words, known: tuple[int, ...], pieces: Iterable[bytes], seconds: 
                 for piece in pieces:
                     child.stdin.write(piece)
             status = child.wait()
-            is_late = not late.is_alive()
         finally:
             late.cancel()
             child.kill()
@@ -50,7 +51,7 @@ def run(words: Words, known: tuple[int, ...], pieces: Iterable[bytes], seconds: 
         return ended
     how = f"was killed by signal {-status}" if status < 0 else f"ended with status {status}"
     lines = ended.errors.decode("utf-8", "backslashreplace").splitlines()
-    raise BadEnd(f"{name} takes too long" if is_late else ": ".join([f"{name} {how}", *lines[-1:]]))
+    raise BadEnd(f"{name} takes too long" if time.monotonic() > end else ": ".join([f"{name} {how}", *lines[-1:]]))
 
 
 def read(written: IO[bytes]) -> bytes:

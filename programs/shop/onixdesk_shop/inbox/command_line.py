@@ -48,7 +48,10 @@ def series_word(word: str) -> str:
 
 def numbers_word(word: str) -> range:
     first, _, last = word.partition("-")
-    return range(int(first), int(last or first) + 1)
+    found = range(int(first), int(last or first) + 1)
+    if not found or found[0] < 1 or found[-1] > 999_999_999:
+        raise ValueError(word)
+    return found
 
 
 def parser_for(name: str) -> argparse.ArgumentParser:

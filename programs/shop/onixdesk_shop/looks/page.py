@@ -105,16 +105,12 @@ def lines_to_paste(name: str, sample: Sample, words: tuple[str, ...]) -> list[st
     is_small = sample.parts == 1 and all(len(message) < ALMOST_FULL for message in sample.messages)
     parts = 1 if is_small or "--parts" in words else TIMES * sample.parts
     number = 0 if sample.number is None or is_date(str(sample.number)) else sample.number
+    stem = re.sub("[^a-z0-9]+", "-", name.lower().partition(".")[0])
+    series = stem.strip("-0123456789")[:32].strip("-") or "wholesaler"
     more = () if parts == 1 else ("--parts", str(parts))
     return [
-        agreement(series_of(name), sample.header, (number - 1) * parts + 1 if number else 1),
+        agreement(series, sample.header, (number - 1) * parts + 1 if number else 1),
         f"SENDER={','.join(sample.header.sender)}",
         f"NUMBER={'own' if number else 'next'}",
         f"WORDS={shlex.join([*words, *more])}",
     ]
-
-
-def series_of(name: str) -> str:
-    """A name of a series after that of a file."""
-    stem = re.sub("[^a-z0-9]+", "-", name.lower().partition(".")[0])
-    return stem.strip("-0123456789")[:32].strip("-") or "wholesaler"

@@ -13,8 +13,6 @@ from tools.words import Word
 
 SHELL = ["sh", "-c"]
 
-LATE = "sleep takes too long"
-
 
 def why(work: Callable[[], object]) -> str:
     try:
@@ -40,7 +38,8 @@ def ends(_room: Room) -> Iterator[Outcome]:
     yield Outcome("not there", why(lambda: machine.run(["/none"])), "/none cannot be run: No such file or directory")
     yield Outcome("pieces", machine.run(["cat"], text=iter([b"one\n", b"two\n"])).output, b"one\ntwo\n")
     yield Outcome("not all is read", machine.run(["head", "-c", "3"], text=[b"y\n" * 99_999] * 9).output, b"y\ny")
-    yield Outcome("killed amid", why(lambda: machine.run(["sleep", "60"], text=[b"y" * 999_999], seconds=0.1)), LATE)
+    late = why(lambda: machine.run(["sleep", "60"], text=[b"y" * 999_999], seconds=0.1))
+    yield Outcome("killed amid", late, "sleep takes too long")
 
 
 def whole_files(room: Room) -> Iterator[Outcome]:

@@ -13,9 +13,6 @@ from onixdesk_shop.shop_json import Shop
 # How an inbox stands is known for so many seconds.
 SEEN_SECONDS = 900
 
-# Series, reference and place of an offer.
-Key = tuple[str, ...]
-
 
 def questions_about(isbn: str, day: str, shop: Shop) -> str:
     """The choice, all prices, and the recommended ones if the shop names their type."""
@@ -26,8 +23,9 @@ def questions_about(isbn: str, day: str, shop: Shop) -> str:
     return "".join(f"{line}\n" for line in lines)
 
 
-def recommended(answer: Records, key: Key) -> str:
-    """The recommended price that the page shows: the offer's own, else its wholesaler's, else another one's."""
+def recommended(answer: Records, key: tuple[str, ...]) -> str:
+    """The recommended price that the page shows: the offer's own, else its wholesaler's, else another one's. The key of an
+    offer is its series, reference and place."""
     priced = {tuple(record[1:4]): record[5] for record in answer[1:] if record[5]}
     own = [amount for other, amount in priced.items() if other[:1] == key[:1]]
     return next(iter([*filter(None, [priced.get(key)]), *own, *priced.values()]), "")

@@ -13,10 +13,6 @@ from onixdesk_shop.restores.inboxes import inboxes_in, wait_for_all
 from onixdesk_shop.restores.restoring import Restore
 from onixdesk_shop.units import DESK, Units
 
-CORRECTED_BEFORE = """\
-it is from before a correction of the desk's text; with --before-correction it is put into place, and the correction \
-has to be made again"""
-
 PATHS = {"db": DESK_FILE, "inboxes": INBOXES, "settings": INBOX_SETTINGS, "program": PROGRAM}
 
 DESCRIPTION = """\
@@ -42,7 +38,7 @@ def restore(machine: Machine, options: argparse.Namespace) -> int:
     options.copy = options.copy.resolve()
     if options.copy.name.endswith(CORRECTED):
         if not options.before_correction:
-            raise Failed(f"{options.copy}: {CORRECTED_BEFORE}")
+            raise Failed(f"{options.copy}: it is from before a correction of the desk's text (--before-correction)")
         machine.tell(WARNING, "the correction of the desk's text has to be made again")
     return put(machine, Restore(machine, options), options.yes)
 

@@ -12,8 +12,6 @@ from tests.program.room import Ran, Room
 from tests.running import Outcome
 from tools.words import Word
 
-SHELL = ["sh", "-c"]
-
 
 def why(work: Callable[[], object]) -> str:
     try:
@@ -27,11 +25,11 @@ def ends(_room: Room) -> Iterator[Outcome]:
     """An end that is not known is a failure."""
     machine = Machine("test")
 
-    def run(text: str, **more: Any) -> Callable[[], object]:
-        return lambda: machine.run([*SHELL, text], (0, 1), **more)
+    def run(script: str, **more: Any) -> Callable[[], object]:
+        return lambda: machine.run(["sh", "-c", script], (0, 1), **more)
 
     yield Outcome(
-        "known", machine.run([*SHELL, "cat; echo told >&2; exit 1"], (0, 1), b"given")[:], (1, b"given", b"told\n")
+        "known", machine.run(["sh", "-c", "cat; echo told >&2; exit 1"], (0, 1), b"given")[:], (1, b"given", b"told\n")
     )
     yield Outcome("another", why(run("echo no >&2; exit 3")), "sh ended with status 3: no")
     yield Outcome("killed", why(run("kill -9 $$")), "sh was killed by signal 9")

@@ -149,7 +149,7 @@ class Restore:
         work.make_ready()
         self.put_ledgers_back()
         if (options.text or self.has_refused) and machine.exists(options.copies):
-            is_among = not options.text and options.copy.parent == options.copies
+            is_among = not options.text and options.copy.parent == options.copies.resolve()
             set_aside(machine, options.copies, options.copy.name if is_among else "")
         before = work.put_in_place()
         stood = f"the one before is {before}" if machine.exists(before) else "there was none before"

@@ -95,6 +95,7 @@ fetch() {
     call lsf --files-only "$whole" >"$state/came" || fail "the disk takes nothing"
     if [ "$VERB" = move ] && [ -s "$state/came" ]; then
         call move --immutable --files-from-raw "$state/came" "$FROM" "$whole" || status=1
+        [ -z "$(call lsf --files-from-raw "$state/came" "$FROM")" ] || status=1
     fi
     return $status
 }
@@ -127,10 +128,9 @@ began=$(date +%s)
 deliver || fail "the folder cannot be written to"
 check_server
 choose
-fetch
-status=$?
+fetch || status=$?
 deliver || fail "the folder cannot be written to"
-[ $status = 0 ] || fail_by_rclone "not all that is there came"
+[ -z "${status-}" ] || fail_by_rclone "not all came, or it stays there: of a server that forbids removal VERB=copy, with LEAVE=yes"
 echo "$began" >"$state/succeeded"
 [ ! -e "$state/told" ] || say 3 "fetching is well again"
 rm -f "$state/failing" "$state/told"

@@ -56,10 +56,15 @@ def state_of(call: Callable[[], object]) -> str | None:
 
 
 def in_postgres(database: str) -> Tables:
-    """The rows of each table; nothing where there is no schema."""
-    if not ask(database, "SELECT FROM pg_namespace WHERE nspname = 'desk'"):
-        return {}
-    return {table: sorted(ask(database, f"SELECT * FROM desk.{table}"), key=repr) for table in TABLES}
+    """The rows of each table at one moment, since psql may outlive who started it; nothing where there is no schema."""
+    with closing(psycopg2.connect(database)) as connection, connection.cursor() as cursor:
+        connection.set_session(isolation_level="REPEATABLE READ")
+        cursor.execute("SELECT FROM pg_namespace WHERE nspname = 'desk'")
+        found: Tables = {}
+        for table in TABLES if cursor.fetchall() else []:
+            cursor.execute(f"SELECT * FROM desk.{table}")
+            found[table] = sorted(cursor.fetchall(), key=repr)
+        return found
 
 
 def in_file(room: Room) -> Tables:

@@ -22,7 +22,7 @@ UNION ALL SELECT 'relation', oid::regclass::text, relacl::text FROM pg_class
 UNION ALL SELECT 'function', oid::regprocedure::text, proacl::text FROM pg_proc WHERE pronamespace <> 'desk'::regnamespace
 ORDER BY 1, 2"""
 
-OTHER = b"desk-follow: the database has a schema desk that is not desk-follow's, and it stays as it is\n"
+OTHER = b"desk-follow: psql ended with status 3: ERROR:  the database has a schema desk that is not desk-follow's, and it stays as it is\n"
 OLD_LAYOUT = "COMMENT ON SCHEMA desk IS 'Kept by desk-follow of onixdesk, layout of before'"
 
 

@@ -95,7 +95,7 @@ class ShopMachine(FakeMachine):
         self.shop = shop
         self.said = "yes"
 
-    def run(self, words: Words, known: tuple[int, ...] = (0,), text: bytes = b"", *_: Any, **__: Any) -> Ended:
+    def run(self, words: Words, known: tuple[int, ...] = (0,), text: Any = b"", *_: Any, **__: Any) -> Ended:
         self.step("child")
         if words[0] == "systemctl":
             output = self.shop.systemctl([str(word) for word in words[1:]])

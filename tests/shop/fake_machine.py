@@ -5,7 +5,7 @@ import os
 import shutil
 import sqlite3
 from collections import Counter
-from collections.abc import Callable, Iterator
+from collections.abc import Callable, Iterable, Iterator
 from pathlib import Path
 
 from onixdesk_shop.children import Ended, Words
@@ -149,20 +149,14 @@ class FakeMachine(Machine):
         self,
         words: Words,
         known: tuple[int, ...] = (0,),
-        text: bytes = b"",
+        text: bytes | Iterable[bytes] = b"",
         seconds: float | None = None,
     ) -> Ended:
         self.step("child")
-        ended = fake_program.check(text) if "check" in words else fake_program.batch(text)
+        ended = fake_program.ended([str(word) for word in words], text if isinstance(text, bytes) else b"".join(text))
         if ended.status not in known:
             raise BadEnd(f"{words[0]} ended with status {ended.status}")
         return ended
-
-    def run_pipe(self, first: Words, second: Words, known: tuple[int, ...], seconds: float) -> tuple[int, Ended]:
-        self.step("child")
-        if "convert" in second:
-            return 0, fake_program.convert(Path(first[-1]), [str(word) for word in second])
-        return 0, fake_program.titles(Path(first[-1]))
 
     def tell(self, priority: int, line: str) -> None:
         self.lines.append((priority, line))

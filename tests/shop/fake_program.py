@@ -40,9 +40,18 @@ def message_of(number: int, products: list[Records], sent: str = "", sender: Seq
     return "".join(",".join(record) + "\n" for record in [*records, ["EndMessage", str(len(records))]])
 
 
-def convert(source: Path, words: list[str]) -> Ended:
+def ended(words: list[str], text: bytes) -> Ended:
+    """How a run of the program, or of what reads titles, ends."""
+    if "convert" in words:
+        return convert(text, words)
+    if "check" in words or "batch" in words:
+        return check(text) if "check" in words else Ended(0, FakeDesk().batch(text.decode()).encode(), b"")
+    return titles(text)
+
+
+def convert(text: bytes, words: list[str]) -> Ended:
     try:
-        feed: Feed = json.loads(source.read_bytes())
+        feed: Feed = json.loads(text)
         feed["products"]
     except (ValueError, KeyError):
         return Ended(1, b"", b"onixdesk: -:1:1: refused: the XML is not well-formed\n")
@@ -68,8 +77,8 @@ def messages_of(feed: Feed, number: int, parts: int, terms: bytes | None) -> lis
     ]
 
 
-def titles(source: Path) -> Ended:
-    feed: Feed = json.loads(source.read_bytes())
+def titles(text: bytes) -> Ended:
+    feed: Feed = json.loads(text)
     rows = [[isbn_of(name), price == "-", f"Title {name}", "", "", ""] for name, price in feed["products"].items()]
     return Ended(0, "\n".join(map(json.dumps, rows)).encode(), b"")
 
@@ -77,7 +86,3 @@ def titles(source: Path) -> Ended:
 def check(text: bytes) -> Ended:
     records = records_of(text.decode())
     return Ended(0, b"", b"") if is_message(records) else Ended(1, b"", b"onixdesk: -: line 1: it is malformed\n")
-
-
-def batch(text: bytes) -> Ended:
-    return Ended(0, FakeDesk().batch(text.decode()).encode(), b"")

@@ -39,10 +39,6 @@ class ProgramMachine(FakeMachine):
         self.step("child")
         return Machine.run(self, words, *others, **more)
 
-    def run_pipe(self, *words: Any) -> tuple[int, Ended]:
-        self.step("child")
-        return Machine.run_pipe(self, *words)
-
     def batch(self, address: Path, text: bytes) -> bytes:
         assert self.desk
         if not text.startswith(b"Ask") or text.startswith(b"AskGaps"):

@@ -1,65 +1,45 @@
 """The command line of desk-follow."""
 
 import argparse
-import sqlite3
 import time
 from pathlib import Path
 
+from desk_follow.following import call_of, script
 from desk_follow.rules import read_rules
+from desk_follow.source import check_version
 from onixdesk_shop.copies.copying import copied
-from onixdesk_shop.ends import parser_of, program_of, run_program
-from onixdesk_shop.faults import DONE, Fault
+from onixdesk_shop.ends import call, parser_of, program_of
+from onixdesk_shop.faults import DONE
 from onixdesk_shop.machine import Machine
 from onixdesk_shop.places import PROGRAM
-
-NAME = "desk-follow"
 
 DESCRIPTION = """\
 Brings the tables of the schema desk in a database of PostgreSQL after those of a desk whose program goes on
 answering, in one transaction. Who reads sees the desk of one moment, which desk.moment tells. The functions
-desk.prices, desk.choice, desk.calendar and desk.gaps answer as the desk did then. Nothing of it is proved."""
+desk.prices, desk.choice, desk.calendar and desk.gaps answer as the desk did then; desk.choice chooses by the precedence table --rules. After a fault the schema is as it was.
+Nothing of it is proved. It needs psql, of Debian's postgresql-client."""
 
-STATUSES = """\
-Status 0; 2 for a bad command line or precedence table; 3 if a file cannot be read, or the database does not accept
-it. Then the schema is as it was. It needs Debian's python3-psycopg2. docs/SCALE.md has the rest."""
-
-DATABASE = """\
-which database, in the words of libpq, as 'host=/run/postgresql dbname=shop'; without it the environment says it
-(PGHOST, PGDATABASE, PGUSER ..)"""
+DATABASE = "which database, in the words of libpq, as 'host=/run/postgresql dbname=shop'; else the user's own"
 
 
 def command_line() -> argparse.ArgumentParser:
-    parser = parser_of(NAME, DESCRIPTION, STATUSES)
-    add = parser.add_argument
-    add("--database", metavar="WORDS", default="", help=DATABASE)
-    add("--rules", metavar="FILE", type=Path, help="the precedence table by which desk.choice chooses; none without it")
-    add("--program", metavar="PATH", type=Path, default=PROGRAM, help="the desk, which reads that; onixdesk without it")
-    add("file", metavar="FILE", type=Path, help="the database that the desk has open")
+    parser = parser_of("desk-follow", DESCRIPTION, rules=None, program=PROGRAM)
+    parser.add_argument("--database", metavar="WORDS", default="", help=DATABASE)
+    parser.add_argument("file", metavar="FILE", type=Path, help="the database that the desk has open")
     return parser
 
 
 def follow(machine: Machine, options: argparse.Namespace) -> int:
-    try:
-        # Here, since psycopg2 is needed only now.
-        from desk_follow.database import connected
-        from desk_follow.following import bring
-        from desk_follow.source import check_version
-    except ModuleNotFoundError as error:
-        raise Fault(f"no {error.name}; apt-get install python3-psycopg2") from error
     rules = read_rules(machine, program_of(options.program), options.rules)
-    try:
-        with connected(options.database) as connection, copied(machine, options.file) as (copy, taken):
-            with machine.reading(copy) as source, connection.cursor() as cursor:
-                check_version(source)
-                counts = bring(cursor, source, rules, taken.moment)
-                connection.commit()
-    except sqlite3.Error as error:
-        raise Fault(f"{options.file}: {error}") from None
+    with copied(machine, options.file) as (copy, taken), machine.reading(copy) as source:
+        check_version(source)
+        machine.run(call_of(options.database), text=script(source, rules, taken.moment))
+        counts = "SELECT (SELECT count(*) FROM applied), (SELECT count(*) FROM record)"
+        messages, records = source.execute(counts).fetchone()
     at = time.strftime("as of %Y-%m-%d %H:%M:%S UTC", time.gmtime(taken.moment // 1_000_000_000))
-    machine.write(f"{at}: {counts['applied']} messages, {counts['record']} records\n")
+    machine.write(f"{at}: {messages} messages, {records} records\n")
     return DONE
 
 
 def main() -> int:
-    options = command_line().parse_args()
-    return run_program(NAME, lambda machine: follow(machine, options))
+    return call(command_line(), follow)

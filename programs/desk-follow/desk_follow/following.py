@@ -1,57 +1,48 @@
-"""How the tables in PostgreSQL are brought after a copy of the desk's file: all rows anew, in one transaction, in which others
-see those of before."""
+"""What psql is told, so that the tables in PostgreSQL have the rows of a copy of the desk's file: all anew, in one
+transaction, in which others see those of before."""
 
+import hashlib
 import sqlite3
 from collections.abc import Iterator
+from pathlib import Path
 
-from psycopg2.extensions import cursor as Cursor
-
-from desk_follow import layout
-from desk_follow.rules import Rule
 from desk_follow.source import TABLES, lines_of
 
-PIECE = 1 << 20
+FOLDER = Path(__file__).resolve().parent
+BEGIN, TABLE, KEYS, FUNCTIONS = (
+    FOLDER.joinpath(f"{name}.sql").read_text(encoding="utf-8") for name in ("begin", "tables", "keys", "functions")
+)
 
-OF_FOLLOWER = ("rule", "moment")
+# What the schema is commented with, by which the follower knows its own.
+MARK = f"Kept by desk-follow of onixdesk, layout {hashlib.sha256((TABLE + KEYS + FUNCTIONS).encode()).hexdigest()[:16]}"
 
-
-class Lines:
-    """Lines as the file from which COPY reads them."""
-
-    def __init__(self, lines: Iterator[bytes]) -> None:
-        self.lines = lines
-        self.read_on = bytearray()
-        self.count = 0
-
-    def read(self, size: int = PIECE) -> bytes:
-        while len(self.read_on) < size and (line := next(self.lines, None)):
-            self.read_on += line
-            self.count += 1
-        piece = bytes(self.read_on[:size])
-        del self.read_on[:size]
-        return piece
+CALL = "psql --no-psqlrc --quiet --set=ON_ERROR_STOP=1 --set=VERBOSITY=terse".split()
 
 
-def put(cursor: Cursor, table: str, lines: Iterator[bytes]) -> int:
-    """Puts the rows of these lines, and gives their number."""
-    file = Lines(lines)
-    cursor.copy_expert(f"COPY desk.{table} FROM STDIN", file, PIECE)
-    return file.count
+def call_of(database: str) -> list[str]:
+    """The words by which psql reads the script."""
+    return [*CALL, f"--set=mark={MARK}", f"--dbname={database}"]
 
 
-def bring(cursor: Cursor, source: sqlite3.Connection, rules: list[Rule], moment: int) -> dict[str, int]:
-    """Brings the schema after the copy, which is of that moment, in nanoseconds since 1970. How many rows a table has."""
-    is_there = layout.is_there(cursor)
-    if not is_there:
-        layout.make_tables(cursor)
-    for table in [*TABLES, *OF_FOLLOWER]:
-        cursor.execute(f"DELETE FROM desk.{table}")
-    counts = {table: put(cursor, table, lines_of(source, table)) for table in TABLES}
-    for rule in rules:
-        cursor.execute("INSERT INTO desk.rule VALUES (%s, %s, %s, %s)", rule)
-    cursor.execute("INSERT INTO desk.moment (taken) VALUES (to_timestamp(%s))", [moment / 1e9])
-    if not is_there:
-        layout.make_keys(cursor)
+def where_new(text: str) -> str:
+    """What is done only where there was no schema."""
+    return f"\\if :is_there\n\\else\n{text}\n\\endif\n"
+
+
+def rows_of(table: str, lines: Iterator[bytes]) -> Iterator[bytes]:
+    """A table gets the rows of these lines."""
+    yield f"DELETE FROM desk.{table}; COPY desk.{table} FROM STDIN;\n".encode()
+    yield from lines
+    yield b"\\.\n"
+
+
+def script(source: sqlite3.Connection, rules: list[str], moment: int) -> Iterator[bytes]:
+    """Brings the schema after the copy, which is of that moment, in nanoseconds since 1970."""
+    yield f"{BEGIN}{where_new(f'CREATE SCHEMA desk;{TABLE}')}".encode()
     for table in TABLES:
-        cursor.execute(f"ANALYZE desk.{table}")
-    return counts
+        yield from rows_of(table, lines_of(source, table))
+    yield from rows_of("rule", (f"{rule}\n".encode() for rule in rules))
+    yield f"DELETE FROM desk.moment; INSERT INTO desk.moment (taken) VALUES (to_timestamp({moment / 1e9}));\n".encode()
+    # Keys are made once the rows are there, which is quicker.
+    yield where_new(f"{KEYS}{FUNCTIONS}COMMENT ON SCHEMA desk IS :'mark';").encode()
+    yield f"ANALYZE {', '.join(f'desk.{table}' for table in TABLES)}; COMMIT;\n".encode()

@@ -1,9 +1,9 @@
 """A text of requests that is larger than a batch, sent as several."""
 
 from collections.abc import Iterable, Iterator
-from typing import Protocol
 
-from onixdesk_shop.faults import Failed, Fault
+from onixdesk_shop.desk_files import DeskFile
+from onixdesk_shop.faults import Failed
 from onixdesk_shop.lines import cut
 
 MOST_BYTES = 4_194_304
@@ -11,13 +11,6 @@ MOST_BYTES = 4_194_304
 # The records with which a request begins, as the desk writes them.
 NAMES = "Agree", "Waive", "Message", "AskPrice", "AskChoice", "AskCalendar", "AskGaps", "AskCatalogue"
 BEGINNINGS = tuple(f"{name},".encode() for name in NAMES)
-
-
-class TakesBatches(Protocol):
-    """A desk, open or over files."""
-
-    def batch(self, text: str) -> list[list[str]]:
-        ...
 
 
 def requests_in(lines: Iterable[bytes]) -> Iterator[bytes]:
@@ -37,9 +30,7 @@ def cut_into_batches(lines: Iterable[bytes], most: int = MOST_BYTES) -> Iterator
     pieces: list[bytes] = []
     size = 0
     for request in requests_in(lines):
-        if len(request) > most:
-            raise Fault(f"a request has more than {most} bytes: {cut(request[:80].decode('utf-8', 'replace'))}")
-        if size + len(request) > most:
+        if pieces and size + len(request) > most:
             yield b"".join(pieces)
             pieces, size = [], 0
         pieces.append(request)
@@ -48,7 +39,7 @@ def cut_into_batches(lines: Iterable[bytes], most: int = MOST_BYTES) -> Iterator
         yield b"".join(pieces)
 
 
-def send(desk: TakesBatches, lines: Iterable[bytes]) -> int:
+def send(desk: DeskFile, lines: Iterable[bytes]) -> int:
     """Has a desk take a text in batches; how many answers it gave. Failed where one is a refusal."""
     answers = 0
     for batch in cut_into_batches(lines):

@@ -29,15 +29,10 @@ class Gaps:
     greatest: int | None
     missing: tuple[tuple[int, int], ...]
 
-    def has(self, number: int) -> bool:
-        """Whether a message or a waiver stands at that number."""
-        if self.greatest is None or not self.first <= number <= self.greatest:
-            return False
-        return not any(low <= number <= high for low, high in self.missing)
-
     def lacks(self, number: int) -> bool:
-        """Whether the desk would take a message of that number, and has none."""
-        return number >= self.first and not self.has(number)
+        """Whether the desk would take a message of that number, and has neither that nor a waiver."""
+        is_beyond = self.greatest is None or number > self.greatest
+        return number >= self.first and (is_beyond or any(low <= number <= high for low, high in self.missing))
 
 
 @dataclass(frozen=True)
@@ -77,12 +72,12 @@ class Desk:
         self.socket = socket
         self.patience = patience
 
-    def answers(self, batch: bytes) -> list[list[str]]:
+    def batch(self, text: str) -> list[list[str]]:
         """The records that it answers a batch with. NoDesk where nobody answers to the end."""
         end = self.machine.now() + self.patience
         while True:
             try:
-                said = self.machine.batch(self.socket, batch)
+                said = self.machine.batch(self.socket, text.encode())
                 break
             except (ConnectionRefusedError, FileNotFoundError):
                 if self.machine.now() >= end:
@@ -94,9 +89,6 @@ class Desk:
             raise NoDesk(f"the desk at {self.socket} gives no whole answer")
         return records_of(said)
 
-    def batch(self, text: str) -> list[list[str]]:
-        return self.answers(text.encode())
-
     def gaps(self, series: str) -> Gaps | None:
         """Its report on a series; nothing where it has not agreed on that."""
         records = self.batch(f"AskGaps,{series}\n")
@@ -104,7 +96,7 @@ class Desk:
 
     def post(self, message: bytes) -> Taken | Refused:
         """What it says of a message. Fault where it says neither yes nor no."""
-        match self.answers(message):
+        match self.batch(message.decode()):
             case [["applied" | "held" as kind, series, number, *words]]:
                 counts = {name: int(value) for name, value in (word.split("=") for word in words)}
                 said = {"answer": kind, "series": series, "number": int(number), **counts}

@@ -1,11 +1,10 @@
 """The two files of a desk that nobody has open: what SQLite and the desk's own program say of them."""
 
-import sqlite3
 from dataclasses import dataclass, field
 from pathlib import Path
 
 from onixdesk_shop.desk import Gaps, records_of, reports_in
-from onixdesk_shop.faults import BadEnd, Failed
+from onixdesk_shop.faults import BadEnd, Failed, Fault
 from onixdesk_shop.lines import cut
 from onixdesk_shop.machine import Machine
 
@@ -17,26 +16,18 @@ def log_of(database: Path) -> Path:
     return database.with_name(f"{database.name}-wal")
 
 
-def wrong_with(connection: sqlite3.Connection) -> str:
-    """What SQLite finds wrong with a database and its foreign keys, or why it is no desk's; nothing where it is one."""
-    found = str(connection.execute("PRAGMA integrity_check").fetchone()[0])
-    if found != "ok":
-        return found
-    if broken := connection.execute("PRAGMA foreign_key_check").fetchone():
-        return f"a row of {broken[0]} has no parent"
-    if not connection.execute("SELECT amount FROM meta WHERE item = 'version'").fetchone():
-        return "its tables have no version"
-    return ""
-
-
 def check(machine: Machine, database: Path, source: Path) -> None:
     """Failed where SQLite finds the copy of that source not to be a sound database of a desk."""
     try:
         with machine.reading(database) as connection:
-            wrong = wrong_with(connection)
-    except sqlite3.Error as error:
-        wrong = str(error)
-    if wrong:
+            wrong = str(connection.execute("PRAGMA integrity_check").fetchone()[0])
+            if orphan := connection.execute("PRAGMA foreign_key_check").fetchone():
+                wrong = f"a row of {orphan[0]} has no parent"
+            if not connection.execute("SELECT amount FROM meta WHERE item = 'version'").fetchone():
+                wrong = "its tables have no version"
+    except Fault as fault:
+        wrong = str(fault)
+    if wrong != "ok":
         raise Failed(f"{source}: a copy of it is not sound: {cut(wrong)}")
 
 
@@ -61,17 +52,13 @@ class Contents:
 
 
 def contents_of(machine: Machine, database: Path) -> Contents:
-    """Failed where the tables cannot be read."""
     found = Contents()
-    try:
-        with machine.reading(database) as connection:
-            for name, *parties in connection.execute(SERIES):
-                found.agreements[name] = ",".join(["Agree", name, *map(str, parties)])
-            for table in ("applied", "held"):
-                for name, number, is_waived in connection.execute(NUMBERS.format(table)):
-                    (found.waivers if is_waived else found.messages).add((name, number))
-    except sqlite3.Error as error:
-        raise Failed(f"{database}: {error}") from None
+    with machine.reading(database) as connection:
+        for name, *parties in connection.execute(SERIES):
+            found.agreements[name] = ",".join(["Agree", name, *map(str, parties)])
+        for table in ("applied", "held"):
+            for name, number, is_waived in connection.execute(NUMBERS.format(table)):
+                (found.waivers if is_waived else found.messages).add((name, number))
     return found
 
 

@@ -6,25 +6,33 @@ import shutil
 import signal
 import sys
 import traceback
-from collections.abc import Callable
+from collections.abc import Callable, Sequence
 from datetime import date
 from pathlib import Path
-from types import FrameType
 
 from onixdesk_shop.faults import DONE, FAULT, Fault
 from onixdesk_shop.lines import ERROR, token
 from onixdesk_shop.machine import Machine
 
 
-def parser_of(program: str, description: str, statuses: str) -> argparse.ArgumentParser:
-    """A parser whose help keeps the lines of both texts, and which takes no abbreviations."""
-    return argparse.ArgumentParser(
+STATUSES = """\
+Status 0; 1 if what was asked for is not so, or a line of priority error was written; 2 if the command line or a file of
+settings is wrong; 3 if a file, the desk or another program fails. The documents of the package have the rest."""
+
+
+def parser_of(program: str, description: str, /, **paths: Path | None) -> argparse.ArgumentParser:
+    """A parser with an option for each of the paths, whose help keeps the lines of its texts, and which takes no
+    abbreviations."""
+    parser = argparse.ArgumentParser(
         program,
         description=description,
-        epilog=statuses,
+        epilog=STATUSES,
         formatter_class=argparse.RawDescriptionHelpFormatter,
         allow_abbrev=False,
     )
+    for name, path in paths.items():
+        parser.add_argument(f"--{name}", metavar="PATH", type=Path, default=path, help=f"{path or 'none'} without it")
+    return parser
 
 
 def day_word(word: str) -> str:
@@ -43,16 +51,23 @@ def program_of(word: Path) -> Path:
     return Path(found).absolute()
 
 
-def end(number: int, _frame: FrameType | None) -> None:
-    sys.exit(128 + number)
+Work = Callable[[Machine, argparse.Namespace], int]
+
+
+def call(parser: argparse.ArgumentParser, work: Work, words: Sequence[str] | None = None, goes_on: bool = False) -> int:
+    """The status of a program's work by the words of its command line."""
+    options = parser.parse_args(words)
+    return run_program(parser.prog, lambda machine: work(machine, options), goes_on)
 
 
 def run_program(name: str, work: Callable[[Machine], int], goes_on: bool = False) -> int:
     """The status of a program's work on this machine. A program that `goes_on` is not ended by a terminal that hangs
     up."""
     os.umask(0o077)
-    signal.signal(signal.SIGTERM, end)
-    signal.signal(signal.SIGHUP, signal.SIG_IGN if goes_on else end)
+    for number in (signal.SIGTERM, signal.SIGHUP):
+        signal.signal(number, lambda number, _: sys.exit(128 + number))
+    if goes_on:
+        signal.signal(signal.SIGHUP, signal.SIG_IGN)
     machine = Machine(name)
     status = status_of(machine, work)
     return status or (FAULT if machine.is_output_broken else DONE)

@@ -6,6 +6,7 @@ import html.entities
 import sys
 from collections.abc import Callable, Iterator
 from typing import IO, Any
+from xml.etree.ElementTree import Element, TreeBuilder
 from xml.parsers import expat
 
 PIECE = 65_536
@@ -13,35 +14,18 @@ PIECE = 65_536
 # How much of each text is kept.
 LONGEST = 300
 
-# The elements that count, each by its short tag.
-Tags = dict[str, str]
 
-
-class Element:
-    def __init__(self, name: str) -> None:
-        self.name = name
-        self.pieces: list[str] = []
-        self.children: list[Element] = []
-
-    def all(self, name: str) -> list["Element"]:
-        return [child for child in self.children if child.name == name]
-
-    def first(self, name: str) -> "Element":
-        """The first child of that name; one without anything where there is none."""
-        return (self.all(name) or [Element(name)])[0]
-
-    def text(self, name: str) -> str:
-        """The text of the first child of that name that has one."""
-        texts = (" ".join("".join(child.pieces).split())[:LONGEST] for child in self.all(name))
-        return next(filter(None, texts), "")
+def text_in(element: Element, path: str) -> str:
+    """The text of the first element of that path that has one."""
+    texts = (" ".join("".join(found.itertext()).split())[:LONGEST] for found in element.iterfind(path))
+    return next(filter(None, texts), "")
 
 
 class Reader:
-    """The header and the products, one after the other; nothing outside of them is kept."""
+    """What stands directly below the root, one after the other, by reference names; `names` has them by short tags."""
 
-    def __init__(self, tags: Tags, encoding: str | None) -> None:
-        self.tags = tags
-        self.names = frozenset(tags.values())
+    def __init__(self, names: dict[str, str], encoding: str | None) -> None:
+        self.names = names
         self.parser = expat.ParserCreate(encoding)
         self.parser.buffer_text = True
         self.parser.UseForeignDTD(True)
@@ -49,52 +33,45 @@ class Reader:
         self.parser.StartElementHandler = self.start
         self.parser.EndElementHandler = self.end
         self.parser.CharacterDataHandler = self.add
-        self.parser.SkippedEntityHandler = self.add_entity
-        self.open: list[Element | None] = []
+        self.parser.SkippedEntityHandler = lambda name, _: self.add(html.entities.html5.get(f"{name};", ""))
+        self.depth = 0
+        self.builder = TreeBuilder()
         self.whole: list[Element] = []
 
     def start(self, tag: str, _: Any) -> None:
         local = tag.rpartition(":")[2]
-        name = self.tags.get(local, local)
-        above = self.open[-1] if self.open else None
-        element = Element(name) if name in self.names and (above or len(self.open) == 1) else None
-        if above and element:
-            above.children.append(element)
-        self.open.append(element)
+        if self.depth:
+            self.builder.start(self.names.get(local, local), {})
+        self.depth += 1
 
-    def end(self, _: str) -> None:
-        element = self.open.pop()
-        if element and len(self.open) == 1:
-            self.whole.append(element)
+    def end(self, tag: str) -> None:
+        self.depth -= 1
+        if self.depth:
+            self.builder.end(tag)
+        if self.depth == 1:
+            self.whole.append(self.builder.close())
+            self.builder = TreeBuilder()
 
     def add(self, text: str) -> None:
-        if self.open and (element := self.open[-1]):
-            element.pieces.append(text)
-
-    def add_entity(self, name: str, _: bool) -> None:
-        self.add(html.entities.html5.get(f"{name};", ""))
-
-    def read(self, piece: bytes, is_last: bool = False) -> Iterator[Element]:
-        self.parser.Parse(piece, is_last)
-        whole, self.whole = self.whole, []
-        yield from whole
+        if self.depth > 1:
+            self.builder.data(text)
 
 
-def elements_in(stream: IO[bytes], tags: Tags) -> Iterator[Element]:
+def elements_in(stream: IO[bytes], names: dict[str, str]) -> Iterator[Element]:
     """What stands directly below the root, in order. A byte order mark outweighs what the feed declares."""
     piece = stream.read(PIECE)
-    reader = Reader(tags, "utf-8" if piece.startswith(codecs.BOM_UTF8) else None)
+    reader = Reader(names, "utf-8" if piece.startswith(codecs.BOM_UTF8) else None)
     while piece:
-        yield from reader.read(piece)
+        reader.parser.Parse(piece, False)
+        yield from reader.whole
+        reader.whole = []
         piece = stream.read(PIECE)
-    yield from reader.read(b"", is_last=True)
+    reader.parser.Parse(b"", True)
 
 
-def read_input(tags: Tags, work: Callable[[Iterator[Element]], None]) -> int:
-    """The status of a program that reads a feed from its standard input."""
+def read_input(names: str, work: Callable[[Iterator[Element]], None]) -> None:
+    """The work of a program that reads a feed from its standard input; `names` has pairs SHORT=NAME."""
     try:
-        work(elements_in(sys.stdin.buffer, tags))
+        work(elements_in(sys.stdin.buffer, dict(pair.split("=") for pair in names.split())))
     except (expat.ExpatError, ValueError, LookupError) as error:
-        print(f"expat does not take it: {error}", file=sys.stderr)
-        return 1
-    return 0
+        sys.exit(f"expat does not take it: {error}")

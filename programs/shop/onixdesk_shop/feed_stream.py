@@ -1,15 +1,13 @@
-"""Writes what a feed has to standard output: unpacked where it is packed, recoded where it is UTF-16. It is a child of its
-own, so that what a stranger's file takes of memory ends nothing else."""
+"""What a feed has: unpacked where it is packed, recoded where it is UTF-16."""
 
 import codecs
 import gzip
 import lzma
-import sys
 import zipfile
 import zlib
-from collections.abc import Iterator
+from collections.abc import Callable, Iterator
 from pathlib import Path
-from typing import IO
+from typing import IO, Any
 
 PIECE = 65_536
 
@@ -22,27 +20,21 @@ ENCODINGS = {codecs.BOM_UTF16_LE: "utf-16-le", codecs.BOM_UTF16_BE: "utf-16-be"}
 
 
 class Damaged(Exception):
-    """A feed that cannot be read, and why."""
+    """Why a feed cannot be read."""
 
 
-def entry_of(file: IO[bytes]) -> IO[bytes]:
+def entry_of(path: Path) -> IO[bytes]:
     """The one file of a zip, beside its folders and what a Mac adds."""
-    archive = zipfile.ZipFile(file)
+    archive = zipfile.ZipFile(path)
     entries = [entry for entry in archive.infolist() if not entry.is_dir() and not entry.filename.startswith(OF_A_MAC)]
     if len(entries) != 1:
-        raise Damaged(f"a zip of {len(entries)} files, not of one")
-    if entries[0].flag_bits & 1:
-        raise Damaged("an encrypted zip")
+        raise Damaged(f"it is a zip of {len(entries)} files, not of one")
     return archive.open(entries[0])
 
 
-def pieces_of(path: Path) -> Iterator[bytes]:
-    with path.open("rb") as file:
-        stream: IO[bytes] = file
-        if path.suffix == ".gz":
-            stream = gzip.GzipFile(fileobj=file)  # type: ignore[assignment]
-        elif path.suffix == ".zip":
-            stream = entry_of(file)
+def unpacked(path: Path) -> Iterator[bytes]:
+    packed: dict[str, Callable[[Path], Any]] = {".gz": gzip.open, ".zip": entry_of}
+    with packed.get(path.suffix, lambda path: path.open("rb"))(path) as stream:
         while piece := stream.read(PIECE):
             yield piece
 
@@ -62,24 +54,9 @@ def recoded(pieces: Iterator[bytes]) -> Iterator[bytes]:
     yield decoder.decode(b"", final=True).encode("utf-8")
 
 
-def main() -> int:
-    path = Path(sys.argv[1])
+def pieces_of(path: Path) -> Iterator[bytes]:
+    """Damaged where it cannot be read to its end."""
     try:
-        for piece in recoded(pieces_of(path)):
-            sys.stdout.buffer.write(piece)
-        sys.stdout.buffer.flush()
-    except BrokenPipeError:
-        # Whoever reads it has seen enough.
-        sys.stderr.close()
-        return 0
-    except Damaged as damaged:
-        print(damaged, file=sys.stderr)
-        return 1
+        yield from recoded(unpacked(path))
     except DAMAGE as error:
-        print(f"no whole {path.suffix} file: {error or 'it ends too early'}", file=sys.stderr)
-        return 1
-    return 0
-
-
-if __name__ == "__main__":
-    sys.exit(main())
+        raise Damaged(f"it cannot be unpacked, or is no text in UTF-16: {error or 'it ends too early'}") from None

@@ -6,24 +6,20 @@ from dataclasses import dataclass, field
 from pathlib import Path
 
 from onixdesk_shop.faults import BAD_CALL, DONE, FAILED, BadCall, BadEnd, Fault
+from onixdesk_shop.feed_stream import Damaged, pieces_of
 from onixdesk_shop.lines import cut, shown
 from onixdesk_shop.machine import Machine
 
-# How long a conversion, and a check, may take.
-CONVERSION_SECONDS, CHECK_SECONDS = 1800, 60
+# How long a conversion, a reading for people, and a check may take.
+CONVERSION_SECONDS, READING_SECONDS, CHECK_SECONDS = 1800, 600, 60
 
 PROGRAM_SAYS = "onixdesk: "
 ON_INPUT = re.compile(r"onixdesk: -(?::([0-9]+):([0-9]+))?: ")
 TOTAL = re.compile(r"([0-9]+) notes?(?:, ([0-9]+) products? wrong)?")
 COUNTED = re.compile(r"(.*): ([0-9]+)")
 
-# What the converter proposes on a command line, and how an inbox has it in its settings.
-REMEDIES = {
-    "--number N gives one": "NUMBER=next gives one",
-    "--sender TYPE,VALUE gives one": "--sender TYPE,VALUE in WORDS gives one",
-    "--addressee TYPE,VALUE picks one": "--addressee TYPE,VALUE in WORDS picks one",
-    "--wrong all lets them through": "--wrong all in WORDS lets them through",
-}
+# What the converter proposes on a command line, but the number, stands in WORDS of an inbox.
+REMEDY = re.compile(r"(--(?:sender|addressee|supplier|wrong) \S+)")
 
 
 class Refusal(Exception):
@@ -46,14 +42,6 @@ class Said:
         return "; ".join(f"{cut(reason)}: {number}" for reason, number in list(self.reasons.items())[:20])
 
 
-@dataclass
-class Converted:
-    """The messages of a feed, in the order of their numbers."""
-
-    messages: list[bytes]
-    said: Said
-
-
 def said_in(errors: bytes) -> Said:
     said = Said()
     for line in errors.decode("utf-8", "backslashreplace").splitlines():
@@ -74,29 +62,25 @@ def refusal_of(said: Said) -> str:
     place = ON_INPUT.match(last)
     why = cut(ON_INPUT.sub("", last).removeprefix(PROGRAM_SAYS).removeprefix("refused: "))
     why = f"line {place[1]}, column {place[2]}: {why}" if place and place[1] else why
-    for on_command_line, in_inbox in REMEDIES.items():
-        why = why.replace(on_command_line, in_inbox)
-    return why
+    return REMEDY.sub(r"\1 in WORDS", why).replace("--number N gives", "NUMBER=next gives")
 
 
-def child(module: str, *words: str | Path) -> list[str | Path]:
-    """The words by which a module of the package is a program of its own."""
-    return [sys.executable, "-E", "-s", "-S", "-B", Path(__file__).with_name(f"{module}.py"), *words]
-
-
-def read_by(machine: Machine, module: str, source: Path, seconds: float) -> bytes:
-    """What a module says that reads a feed, unpacked and recoded. BadEnd where it does not read it to its end."""
-    before, ended = machine.run_pipe(child("feed_stream", source), child(module), (DONE,), seconds)
-    if before:
-        raise BadEnd("it cannot be unpacked")
-    return ended.output
+def read_by(machine: Machine, module: str, source: Path) -> bytes:
+    """What a module of the package says of a feed, as a child. BadEnd where it does not read it to its end."""
+    package = Path(__file__).parent
+    start = f"import sys; sys.path[0] = {str(package.parent)!r}; from {package.name} import {module}; {module}.main()"
+    call = [sys.executable, "-EsSB", "-c", start]
+    try:
+        return machine.run(call, text=pieces_of(source), seconds=READING_SECONDS).output
+    except Damaged as damaged:
+        raise BadEnd(str(damaged)) from None
 
 
 def convert(
     machine: Machine, program: Path, source: Path, words: list[str], terms: bytes | None, work: Path
-) -> Converted:
-    """The messages of a feed. Refusal where it has none that the desk would take; BadCall where the words or the table of
-    terms are wrong. The folder `work` is emptied for it."""
+) -> tuple[list[bytes], Said]:
+    """The messages of a feed, in the order of their numbers, and what was said of it. Refusal where it has none that the
+    desk would take; BadCall where the words or the table of terms are wrong. The folder `work` is emptied for it."""
     machine.remove_tree(work)
     machine.make_folder(work)
     call: list[str | Path] = [program, "convert", *words, "-o", work, "-"]
@@ -104,21 +88,19 @@ def convert(
         machine.write_whole(work / "terms.toml", terms)
         call[2:2] = ["--terms", work / "terms.toml"]
     try:
-        before, ended = machine.run_pipe(
-            child("feed_stream", source), call, (DONE, FAILED, BAD_CALL), CONVERSION_SECONDS
-        )
+        ended = machine.run(call, (DONE, FAILED, BAD_CALL), pieces_of(source), CONVERSION_SECONDS)
+    except Damaged as damaged:
+        raise Refusal(str(damaged)) from None
     except BadEnd as end:
         raise Refusal(f"its conversion failed: {end}") from None
     said = said_in(ended.errors)
     if ended.status == BAD_CALL:
         raise BadCall(f"WORDS or TERMS: {cut(said.lines[0].removeprefix(PROGRAM_SAYS)) if said.lines else ''}")
-    if before:
-        raise Refusal("it cannot be unpacked, or is no text in UTF-16")
     messages = [machine.read(work / entry.name) for entry in machine.entries(work) if entry.name.endswith(".csv")]
     machine.remove_tree(work)
     if not messages:
         raise Refusal(refusal_of(said))
-    return Converted(messages, said)
+    return messages, said
 
 
 def check(machine: Machine, program: Path, message: bytes) -> str:

@@ -12,13 +12,13 @@ import stat
 import sys
 import tempfile
 import time
-from collections.abc import Iterator
+from collections.abc import Iterable, Iterator
 from pathlib import Path
 from typing import NamedTuple
 
 from onixdesk_shop import children
 from onixdesk_shop.children import Ended, Words
-from onixdesk_shop.faults import DONE
+from onixdesk_shop.faults import DONE, Fault
 
 PIECE = 1 << 20
 
@@ -199,7 +199,8 @@ class Machine:
 
     @contextlib.contextmanager
     def reading(self, database: Path) -> Iterator[sqlite3.Connection]:
-        """A database that nobody has open, to be read. What SQLite makes beside it is removed at the end."""
+        """A database that nobody has open, to be read; Fault where it cannot be. What SQLite makes beside it is removed at
+        the end."""
         log = database.with_name(f"{database.name}-wal")
         has_log = log.exists()
         try:
@@ -207,6 +208,8 @@ class Machine:
             with contextlib.closing(sqlite3.connect(address, uri=True, isolation_level=None)) as connection:
                 connection.execute("PRAGMA query_only=ON")
                 yield connection
+        except sqlite3.Error as error:
+            raise Fault(f"{database.name}: {error}") from None
         finally:
             database.with_name(f"{database.name}-shm").unlink(missing_ok=True)
             if not has_log:
@@ -248,15 +251,11 @@ class Machine:
         self,
         words: Words,
         known: tuple[int, ...] = (DONE,),
-        text: bytes = b"",
+        text: bytes | Iterable[bytes] = b"",
         seconds: float | None = None,
     ) -> Ended:
-        """Runs a child that reads the text. BadEnd where it does not end in a way that is known."""
-        return children.run(words, known, text, seconds)
-
-    def run_pipe(self, first: Words, second: Words, known: tuple[int, ...], seconds: float) -> tuple[int, Ended]:
-        """Runs a child that reads what another one writes, whose status is the first of the two."""
-        return children.run_pipe(first, second, known, seconds)
+        """Runs a child that reads the text, or its pieces. BadEnd where it does not end in a way that is known."""
+        return children.run(words, known, [text] if isinstance(text, bytes) else text, seconds)
 
     # Output
 

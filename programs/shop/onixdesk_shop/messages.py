@@ -67,17 +67,9 @@ def records_of(message: bytes) -> Iterator[list[str]]:
 
 
 def header_of(message: bytes) -> Header:
-    """What the first record says, whatever it is: an empty text where it says nothing."""
-    try:
-        said: list[str] = next(records_of(message), [])
-    except (ValueError, csv.Error):
-        said = []
-    record = [*said, *[""] * 11]
-    number = record[6]
-    is_number = number.isascii() and number.isdigit() and len(number) <= 9 and int(number) > 0
-    return Header(
-        (record[2], record[3]), (record[4], record[5]), int(number) if is_number else None, record[9], record[10]
-    )
+    record = next(records_of(message))
+    number = int(record[6]) if record[6] else None
+    return Header((record[2], record[3]), (record[4], record[5]), number, record[9], record[10])
 
 
 def products_of(message: bytes) -> Iterator[Product]:

@@ -1,6 +1,5 @@
 """Files of lines NAME=VALUE, and the settings of an inbox that one of them has."""
 
-import argparse
 import fnmatch
 import re
 import shlex
@@ -20,7 +19,8 @@ OWN, NEXT = "own", "next"
 RESERVED = re.compile(r"-o.*|--(number|terms)(=.*)?|-h|--help|--?")
 OFFSET = re.compile(r"--number-offset(=.*)?")
 
-is_series = re.compile("[a-z0-9-]{1,32}").fullmatch
+# Two names are those of other files beside SERIES.json.
+is_series = re.compile("(?!(?:rules|titles)$)[a-z0-9-]{1,32}").fullmatch
 
 
 @dataclass(frozen=True)
@@ -40,13 +40,8 @@ class Settings:
     @property
     def parts(self) -> int:
         """How many messages the converter makes of a feed by its words."""
-        parser = argparse.ArgumentParser(allow_abbrev=False, add_help=False, exit_on_error=False)
-        parser.add_argument("--parts", type=int, default=1)
-        try:
-            return max(1, int(parser.parse_known_args(self.words)[0].parts))
-        except argparse.ArgumentError:
-            # The converter refuses these words, and says why.
-            return 1
+        found = re.search(r"--parts[ =]([1-9][0-9]{0,3})(?= |$)", " ".join(self.words))
+        return int(found[1]) if found else 1
 
     def is_full(self, name: str) -> bool:
         """Whether a file of that name says all that its wholesaler has."""
@@ -80,11 +75,8 @@ def read_lines(machine: Machine, path: Path) -> dict[str, tuple[int, str]]:
 
 def words(value: str) -> tuple[str, ...]:
     found = tuple(shlex.split(value))
-    is_value = False
-    for word in found:
-        if not is_value and (RESERVED.fullmatch(word) or not word.startswith("-")):
-            raise ValueError(f"{word} is no word of WORDS: the inbox gives it, or leaves it out")
-        is_value = not is_value and "=" not in word
+    for word in filter(RESERVED.fullmatch, found):
+        raise ValueError(f"{word} is no word of WORDS: the inbox gives it, or leaves it out")
     return found
 
 
@@ -109,9 +101,7 @@ READERS: dict[str, tuple[str, str, Callable[[str], Any]]] = {
 
 WHAT = {
     "SENDER": "TYPE,VALUE with a TYPE of two digits",
-    "NUMBER": "own or next",
     "TERMS": "a file, whose name begins with /, or nothing",
-    "BATCHES": "a socket, whose name begins with /",
 }
 
 

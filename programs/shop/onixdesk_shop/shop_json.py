@@ -1,4 +1,5 @@
-"""What desk.json says of the shop (docs/PAGE.md): one reader for all programs that need it."""
+"""What desk.json says of the shop (docs/PAGE.md): one reader for all programs that need it. Of keys that nobody knows the
+page tells."""
 
 import json
 import re
@@ -8,11 +9,6 @@ from typing import Any
 
 from onixdesk_shop.faults import BadCall
 from onixdesk_shop.machine import Machine
-
-KEYS = (
-    "series country currency price_type shop language quantities catalogue many_copies recommended_type address price_file"
-).split()
-SERIES_KEYS = "name words parts number_offset mail free_from account csv".split()
 
 PATTERNS = {"country": "[A-Z]{2}", "currency": "[A-Z]{3}", "price_type": "[0-9]{2}", "recommended_type": "([0-9]{2})?"}
 
@@ -31,33 +27,16 @@ class Shop:
     given: dict[str, Any]
 
 
-def is_quantity(value: object) -> bool:
-    return type(value) is int and 1 <= value <= 999_999
-
-
-def check_keys(given: dict[str, Any], known: list[str], where: str) -> None:
-    for key in given:
-        if key not in known:
-            raise ValueError(f"{where}{key} is no key of it")
-
-
 def shop_of(given: Any) -> Shop:
     """The shop that the object of desk.json has; ValueError, which names a key, if that is wrong."""
-    if not isinstance(given, dict):
-        raise ValueError("it is no object")
-    check_keys(given, KEYS, "")
     texts = {key: given.get(key, "") for key in PATTERNS}
     for key, text in texts.items():
         if not isinstance(text, str) or not re.fullmatch(PATTERNS[key], text):
             raise ValueError(f"{key} is wrong, or missing")
     quantities = given.get("quantities") or [1]
-    if not isinstance(quantities, list) or not all(map(is_quantity, quantities)):
+    if not all(type(value) is int and 1 <= value <= 999_999 for value in quantities):
         raise ValueError("quantities is no list of numbers of copies")
     series = given.get("series", [])
-    if not isinstance(series, list) or not all(isinstance(item, dict) and "name" in item for item in series):
-        raise ValueError("series is no list of objects with a name")
-    for item in series:
-        check_keys(item, SERIES_KEYS, f"series {item['name']}: ")
     wholesalers = {str(item["name"]): str(item.get("words", item["name"])) for item in series}
     return Shop(**texts, quantities=quantities, wholesalers=wholesalers, given=given)
 
@@ -67,5 +46,5 @@ def read_shop(machine: Machine, path: Path) -> Shop:
         return shop_of(json.loads(machine.read(path)))
     except OSError as error:
         raise BadCall(f"{path}: {error.strerror}") from None
-    except ValueError as error:
+    except (ValueError, TypeError, AttributeError, KeyError) as error:
         raise BadCall(f"{path}: {error}") from None

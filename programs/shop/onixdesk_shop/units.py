@@ -2,11 +2,11 @@
 
 import re
 
-from onixdesk_shop.faults import BadEnd, Fault
+from onixdesk_shop.faults import BadEnd
 from onixdesk_shop.lines import ERROR
 from onixdesk_shop.machine import Machine
 
-DESK, OF_INBOX = "onixdesk.service", "onixdesk-inbox@"
+DESK = "onixdesk.service"
 STATES = "--state=active,activating,reloading,deactivating,failed"
 
 # A shop's own unit of such a name, as of a second desk, is left alone.
@@ -15,9 +15,6 @@ is_own = re.compile(rf"onixdesk(?:-(?:{OTHERS}))?\.(?:path|service|timer)").full
 
 # What goes on by itself; the services that these start are begun by them.
 BEGIN = (".timer", ".path")
-
-# How long a run of an inbox is waited for, in seconds.
-PATIENCE = 600
 
 
 def is_begun(unit: str) -> bool:
@@ -43,23 +40,6 @@ class Units:
     @property
     def begun(self) -> list[str]:
         return [unit for unit in self.all if is_begun(unit)]
-
-    def stop(self, units: list[str]) -> None:
-        if units:
-            self.systemctl("stop", *units)
-
-    def wait_for_inboxes(self) -> None:
-        """Until no inbox is at work. Fault where one is for long."""
-        for unit in self.all:
-            if unit.startswith(OF_INBOX) and unit.endswith(".service"):
-                self.wait_for(unit)
-
-    def wait_for(self, unit: str) -> None:
-        end = self.machine.now() + PATIENCE
-        while self.systemctl("show", "--property=ActiveState", "--value", unit).strip().endswith("ing"):
-            if self.machine.now() > end:
-                raise Fault(f"{unit}: it is still at work after {PATIENCE} s")
-            self.machine.sleep(1)
 
     def start(self, units: list[str]) -> bool:
         """Starts these, the desk before the others. Whether all could be; what could not is told with its command."""

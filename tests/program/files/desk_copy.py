@@ -199,6 +199,12 @@ def each_night(room: Room) -> Iterator[Outcome]:
     yield Outcome("a clock that was ahead", run(shop, "--keep", 1, *words[2:]), 0)
     names = sorted(path.name for path in shop.copies.iterdir())
     yield Outcome("leaves the new one", (len(names), names[0] > OLD[2], names[1]), (2, True, "of the shop"))
+    corrected = [f"2025-01-04T1{hour}-00-00Z.before-correction" for hour in range(4)]
+    for name in (*OLD, *corrected):
+        (shop.copies / name).mkdir()
+    run(shop, "--keep", 4, *words[2:])
+    left = sorted(path.name for path in shop.copies.iterdir())[:3]
+    yield Outcome("corrections of a day push no night out", left, [*OLD[1:], corrected[3]])
 
 
 class Writing(ShopMachine):

@@ -96,9 +96,5 @@ def a_file_of_prices(room: Room) -> Iterator[Outcome]:
     room.write("desk.json", json.dumps(SETTINGS | {"price_file": {"columns": ["isbn"], "file": "x"}}).encode())
     came = run(room)
     yield Outcome("a wrong key", (came.status, came.errors), (2, b"desk-prices: desk.json: price_file: file\n"))
-    room.write("desk.json", json.dumps(SETTINGS | {"minutes_to_usual": 5}).encode())
-    came = run(room)
-    why = b"desk-prices: desk.json: minutes_to_usual is no key of it\n"
-    yield Outcome("an unknown key", (came.status, came.errors), (2, why))
     came = run(room, "--day", "20250230")
     yield Outcome("no day of the calendar", (came.status, b"20250230 is no day YYYYMMDD" in came.errors), (2, True))

@@ -65,7 +65,6 @@ stop() {{ case $1 in onixdesk|onixdesk.service)
 case $word in
 list-units) for unit in onixdesk.service onixdesk-inbox@north.timer; do
     [ ! -e pid ] || echo "$unit loaded active running"; done ;;
-show) echo inactive ;;
 start|enable) for unit; do start "$unit"; done ;;
 restart) for unit; do stop "$unit"; start "$unit"; done ;;
 stop) for unit; do stop "$unit"; done ;;

@@ -256,8 +256,9 @@ def ftp_is_verified(room: Room) -> Iterator[Outcome]:
         fetch.settings["VERB"] = "move"
         # rclone takes that for a removal: the files come anew in each run.
         for _ in range(2):
-            fetch.run()
-            yield Outcome("fetch: what may not be removed comes", fetch.came(), both)
+            ran = fetch.run()
+            yield Outcome("fetch: what may not be removed comes", (ran.status, fetch.came()), (1, both))
+            yield Outcome("fetch: it is told", b"of a server that forbids removal VERB=copy" in ran.errors, True)
 
 
 def https_without_times(room: Room) -> Iterator[Outcome]:

@@ -3,6 +3,7 @@
 import os
 import threading
 from collections.abc import Callable, Iterator
+from typing import Any
 
 from onixdesk_shop.faults import BadEnd
 from onixdesk_shop.machine import Machine
@@ -10,8 +11,6 @@ from tests.program.inbox.inboxes import within
 from tests.program.room import Ran, Room
 from tests.running import Outcome
 from tools.words import Word
-
-SHELL = ["sh", "-c"]
 
 
 def why(work: Callable[[], object]) -> str:
@@ -26,20 +25,18 @@ def ends(_room: Room) -> Iterator[Outcome]:
     """An end that is not known is a failure."""
     machine = Machine("test")
 
-    def run(text: str, **more: float) -> Callable[[], object]:
-        return lambda: machine.run([*SHELL, text], (0, 1), **more)  # type: ignore[arg-type]
+    def run(script: str, **more: Any) -> Callable[[], object]:
+        return lambda: machine.run(["sh", "-c", script], (0, 1), **more)
 
     yield Outcome(
-        "known", machine.run([*SHELL, "cat; echo told >&2; exit 1"], (0, 1), b"given")[:], (1, b"given", b"told\n")
+        "known", machine.run(["sh", "-c", "cat; echo told >&2; exit 1"], (0, 1), b"given")[:], (1, b"given", b"told\n")
     )
     yield Outcome("another", why(run("echo no >&2; exit 3")), "sh ended with status 3: no")
     yield Outcome("killed", why(run("kill -9 $$")), "sh was killed by signal 9")
-    yield Outcome("too long", why(run("sleep 60", seconds=0.1)), "sh takes too long")
+    yield Outcome("too long", why(run("sleep 60", seconds=0.1, text=[b"y" * 999_999])), "sh takes too long")
     yield Outcome("not there", why(lambda: machine.run(["/none"])), "/none cannot be run: No such file or directory")
-    before, ended = machine.run_pipe([*SHELL, "echo one; exit 5"], ["cat"], (0,), 60)
-    yield Outcome("a pipe", (before, ended.output), (5, b"one\n"))
-    pipe = ["yes"], [*SHELL, "kill -9 $$"]
-    yield Outcome("killed in a pipe", why(lambda: machine.run_pipe(*pipe, (0,), 60)), "sh was killed by signal 9")
+    yield Outcome("pieces", machine.run(["cat"], text=iter([b"one\n", b"two\n"])).output, b"one\ntwo\n")
+    yield Outcome("not all is read", machine.run(["head", "-c", "3"], text=[b"y\n" * 99_999] * 9).output, b"y\ny")
 
 
 def whole_files(room: Room) -> Iterator[Outcome]:

@@ -16,7 +16,7 @@ WRONG = {
     "": "SENDER is missing: the sender that messages must have",
     "SENDER=any\n": "SENDER: it is TYPE,VALUE with a TYPE of two digits",
     f"{SENDER}{SENDER}": "SENDER is given twice",
-    f"{SENDER}NUMBER=last\n": "NUMBER: it is own or next",
+    f"{SENDER}NUMBER=last\n": "NUMBER: it is own|next",
     f"{SENDER}NUMBER=next\nWORDS=--number-offset 5\n": "NUMBER=next and --number-offset do not go together",
     f"{SENDER}WORDS=-o there\n": "WORDS: -o is no word of WORDS: the inbox gives it, or leaves it out",
     f"{SENDER}STOP=no # today\n": "a remark has a line of its own, which begins with #",

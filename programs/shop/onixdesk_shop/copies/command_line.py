@@ -1,30 +1,22 @@
 """The command line of desk-copy."""
 
 import argparse
-import sys
 import time
 from pathlib import Path
 
 from onixdesk_shop.copies.copying import Copied, copy_desk
 from onixdesk_shop.copies.keeping import UNFINISHED, keep_latest, named
 from onixdesk_shop.desk_files import check
-from onixdesk_shop.ends import parser_of, run_program
+from onixdesk_shop.ends import call, parser_of
 from onixdesk_shop.faults import DONE, Fault
 from onixdesk_shop.lines import ERROR
 from onixdesk_shop.machine import Machine
 from onixdesk_shop.places import LEDGER, LEDGERS
 
-NAME = "desk-copy"
-
 DESCRIPTION = """\
 Copies a desk whose program goes on answering: the database FILE and its log FILE-wal, as both were at one moment,
 under their names into a new FOLDER. All that the desk had answered when the copy began is in it. The copy is checked by
-SQLite, and FOLDER exists only once it is whole, sound and on the disk."""
-
-STATUSES = """\
-Status 0; 1 if the copy is not sound; 2 for a bad command line; 3 if a file cannot be read or written, or the desk wrote
-for ten minutes. A desk whose next start may take more than half of its memory is an error in a line.
-docs/RELIABILITY.md says what a copy is."""
+SQLite, and FOLDER exists only once it is whole, sound and on the disk. With --inboxes it has their ledgers too."""
 
 # LimitDATA of the desk's unit.
 LIMIT = 1800 << 20
@@ -34,30 +26,22 @@ OF_ITS_OWN, FOR_A_BYTE = 16_000_000, 1.1
 
 
 def command_line() -> argparse.ArgumentParser:
-    parser = parser_of(NAME, DESCRIPTION, STATUSES)
+    parser = parser_of("desk-copy", DESCRIPTION, inboxes=None)
     add = parser.add_argument
-    add(
-        "--keep",
-        metavar="N",
-        type=int,
-        help="FOLDER has a folder for each copy, named by its second; all but the latest N are removed at the end",
-    )
-    add("--inboxes", metavar="FOLDER", type=Path, help="also copies the ledgers of the inboxes that are in that folder")
+    help_of_keep = "FOLDER has a folder for each copy, named by its second; all but the latest N are removed at the end"
+    add("--keep", metavar="N", type=int, help=help_of_keep)
     add("file", metavar="FILE", type=Path, help="the database that the desk has open")
     add("folder", metavar="FOLDER", type=Path, help="a folder that does not exist yet; with --keep one that does")
     return parser
 
 
-def copy_ledgers(machine: Machine, inboxes: Path, target: Path) -> int:
+def copy_ledgers(machine: Machine, inboxes: Path, target: Path) -> None:
     """Copies each inbox's ledger, behind the desk: so they have the text of each message that the copy has."""
     machine.make_folder(target)
-    copied = 0
     for entry in machine.entries(inboxes):
         ledger = inboxes / entry.name / LEDGER
         if machine.exists(ledger):
             machine.backup(ledger, target / f"{entry.name}.db")
-            copied += 1
-    return copied
 
 
 def copy(machine: Machine, options: argparse.Namespace) -> int:
@@ -71,30 +55,31 @@ def copy(machine: Machine, options: argparse.Namespace) -> int:
             raise Fault(f"{parent}: another program is at work there")
         new = parent / UNFINISHED
         try:
-            place, found, ledgers = copy_by(machine, new, folder, options)
+            place, found = copy_by(machine, new, folder, options)
         finally:
             machine.remove_tree(new)
         if options.keep:
             keep_latest(machine, folder, options.keep, place)
-    machine.write(told(place / options.file.name, found, ledgers))
+    machine.write(f"{place}: as of {time.strftime('%F %T UTC', time.gmtime(found.moment // 1_000_000_000))}\n")
     tell_room(machine, options.file, found)
     return DONE
 
 
-def copy_by(machine: Machine, new: Path, folder: Path, options: argparse.Namespace) -> tuple[Path, Copied, int]:
-    """A copy that is checked, and on the disk, before it has its place; how many ledgers it has."""
+def copy_by(machine: Machine, new: Path, folder: Path, options: argparse.Namespace) -> tuple[Path, Copied]:
+    """A copy that is checked, and on the disk, before it has its place."""
     machine.remove_tree(new)
     machine.make_folder(new)
     found = copy_desk(machine, options.file, new)
     check(machine, new / options.file.name, options.file)
-    ledgers = copy_ledgers(machine, options.inboxes, new / LEDGERS) if options.inboxes else 0
+    if options.inboxes:
+        copy_ledgers(machine, options.inboxes, new / LEDGERS)
     machine.sync_tree(new)
     place = free_name(machine, folder, found.moment) if options.keep else folder
     if machine.exists(place):
         raise Fault(f"{place}: it already exists")
     machine.rename(new, place)
     machine.sync_folder(place.parent)
-    return place, found, ledgers
+    return place, found
 
 
 def free_name(machine: Machine, folder: Path, moment: int) -> Path:
@@ -102,12 +87,6 @@ def free_name(machine: Machine, folder: Path, moment: int) -> Path:
     while machine.exists(place := named(folder, moment)):
         moment += 1_000_000_000
     return place
-
-
-def told(database: Path, found: Copied, ledgers: int) -> str:
-    moment = time.strftime("%Y-%m-%d %H:%M:%S UTC", time.gmtime(found.moment // 1_000_000_000))
-    files = f"{found.database} bytes, and {found.log} of its log"
-    return f"{database}: as of {moment}, {files}; {ledgers} ledgers\n"
 
 
 def tell_room(machine: Machine, file: Path, found: Copied) -> None:
@@ -119,5 +98,4 @@ def tell_room(machine: Machine, file: Path, found: Copied) -> None:
 
 
 def main() -> int:
-    options = command_line().parse_args(sys.argv[1:])
-    return run_program(NAME, lambda machine: copy(machine, options))
+    return call(command_line(), copy)

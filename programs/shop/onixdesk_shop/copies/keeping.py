@@ -10,6 +10,9 @@ UNFINISHED = ".desk-copy"
 
 NAME = "%Y-%m-%dT%H-%M-%SZ"
 
+# So many letters of it are the day.
+DAY = 10
+
 # Behind the name of one from before a correction of the desk's text.
 CORRECTED = ".before-correction"
 
@@ -38,6 +41,9 @@ def keep_latest(machine: Machine, folder: Path, count: int, newest: Path) -> Non
     """Removes all but the latest copies. The newest stays, also where a clock that was ahead has given others later
     names. One that is being removed has a hidden name: a run that is killed would leave a part of it."""
     others = [copy for copy in copies_in(machine, folder) if copy != newest]
+    # Corrections make several in a day. All but the last of a day go first, so that those of the nights before stay.
+    doubled = [old for old, later in zip(others, [*others[1:], newest]) if old.name[:DAY] == later.name[:DAY]]
+    others = [*doubled, *(copy for copy in others if copy not in doubled)]
     for old in others[: max(0, len(others) + 1 - count)]:
         machine.rename(old, folder / UNFINISHED)
         machine.remove_tree(folder / UNFINISHED)

@@ -9,18 +9,16 @@ from collections.abc import Iterator
 from pathlib import Path
 
 from onixdesk_shop.desk import Desk
-from onixdesk_shop.ends import parser_of, program_of, run_program
+from onixdesk_shop.ends import call, parser_of, program_of
 from onixdesk_shop.faults import BadCall
 from onixdesk_shop.inbox import decide, report, run, show
 from onixdesk_shop.inbox.context import Inbox, Places
 from onixdesk_shop.inbox.ledger import Ledger
 from onixdesk_shop.lines import token
 from onixdesk_shop.machine import Machine
-from onixdesk_shop.places import DESK_JSON, INBOX_SETTINGS, LEDGER, STORE
+from onixdesk_shop.places import DESK_JSON, INBOX_SETTINGS, INBOXES, INCOMING, LEDGER, PROGRAM, RULES, STATE, STORE
 from onixdesk_shop.settings import Settings, is_series, read_settings, terms_of
 from onixdesk_shop.shop_json import Shop, read_shop
-
-PROGRAM = "onixdesk-inbox"
 
 DESCRIPTION = """\
 Takes the files of a wholesaler's folder to a running desk, once each, in order:
@@ -31,53 +29,34 @@ Takes the files of a wholesaler's folder to a running desk, once each, in order:
     onixdesk-inbox report SERIES
 A MARK is the first letters of the digest of a file, as the lines have it."""
 
-STATUSES = """\
-Status 0; 1 if a line of priority error was written, or what was asked for is not so; 2 if the command line or the
-settings are wrong; 3 if a folder cannot be used. Files may wait then, too. docs/INBOX.md says what becomes of a file."""
-
-# What lies beside SERIES.json.
-OTHERS = "rules", "titles"
-
-
-def add_places(parser: argparse.ArgumentParser) -> None:
-    default = Places(Path("onixdesk"))
-    for name, place in (
-        ("settings", INBOX_SETTINGS),
-        ("incoming", default.incoming),
-        ("inboxes", default.inboxes),
-        ("state", default.state),
-        ("rules", default.rules),
-        ("page", DESK_JSON),
-        ("program", Path("onixdesk")),
-    ):
-        parser.add_argument(f"--{name}", metavar="PATH", type=Path, default=place, help=f"{place} without it")
+PATHS = {
+    "settings": INBOX_SETTINGS,
+    "incoming": INCOMING,
+    "inboxes": INBOXES,
+    "state": STATE,
+    "rules": RULES,
+    "page": DESK_JSON,
+    "program": PROGRAM,
+}
 
 
 def series_word(word: str) -> str:
     if not is_series(word):
-        raise argparse.ArgumentTypeError(f"{token(word)} is no name of a series")
-    if word in OTHERS:
-        raise argparse.ArgumentTypeError(
-            f"{word}.json is another file of the page's: agree on the series by another name"
-        )
+        raise argparse.ArgumentTypeError(f"{token(word)} is no name of a series, or of a file beside SERIES.json")
     return word
 
 
-def number_word(word: str) -> int:
-    if not (word.isascii() and word.isdigit() and len(word) <= 9 and int(word)):
-        raise argparse.ArgumentTypeError(f"{token(word)} is no number of a message")
-    return int(word)
-
-
 def numbers_word(word: str) -> range:
-    first, dash, last = word.partition("-")
-    return range(number_word(first), number_word(last if dash else first) + 1)
+    first, _, last = word.partition("-")
+    found = range(int(first), int(last or first) + 1)
+    if not found or found[0] < 1 or found[-1] > 999_999_999:
+        raise ValueError(word)
+    return found
 
 
 def parser_for(name: str) -> argparse.ArgumentParser:
     """The words behind the name of a command, or of a run, which has none."""
-    parser = parser_of(f"{PROGRAM} {name}".strip(), DESCRIPTION, STATUSES)
-    add_places(parser)
+    parser = parser_of("onixdesk-inbox", DESCRIPTION, **PATHS)
     if not name:
         what = parser.add_mutually_exclusive_group()
         for decision in decide.DECISIONS:
@@ -88,7 +67,7 @@ def parser_for(name: str) -> argparse.ArgumentParser:
         parser.add_argument("numbers", metavar="NUMBER", type=numbers_word, help="or FIRST-LAST")
     if name == "show":
         what = parser.add_mutually_exclusive_group(required=True)
-        what.add_argument("--number", metavar="N", type=number_word)
+        what.add_argument("--number", metavar="N", type=int)
         what.add_argument("--isbn", metavar="ISBN")
         what.add_argument("--file", metavar="NAME")
     return parser
@@ -116,27 +95,20 @@ def read_all(machine: Machine, options: argparse.Namespace) -> tuple[Settings, b
     return settings, terms, shop
 
 
-def places_of(options: argparse.Namespace) -> Places:
-    return Places(program_of(options.program), options.incoming, options.inboxes, options.state, options.rules)
-
-
 @contextlib.contextmanager
 def opened(machine: Machine, options: argparse.Namespace) -> Iterator[Inbox]:
     """The inbox of the series; nobody else is at work on it meanwhile."""
-    places = places_of(options)
+    program = program_of(options.program)
+    places = Places(program, options.incoming, options.inboxes, options.state, options.rules)
     settings, terms, shop = read_all(machine, options)
     folder = places.inboxes / options.series
     if machine.exists(folder):
         become_owner(folder)
     machine.make_folder(folder)
     machine.make_folder(folder / STORE)
-    with machine.lock(folder):
-        ledger = Ledger(machine, folder / LEDGER)
-        try:
-            desk = Desk(machine, settings.batches)
-            yield Inbox(machine, options.series, settings, places, ledger, desk, shop, terms)
-        finally:
-            ledger.close()
+    with machine.lock(folder), contextlib.closing(Ledger(machine, folder / LEDGER)) as ledger:
+        desk = Desk(machine, settings.batches)
+        yield Inbox(machine, options.series, settings, places, ledger, desk, shop, terms)
 
 
 def work(machine: Machine, name: str, options: argparse.Namespace) -> int:
@@ -157,5 +129,4 @@ def main() -> int:
     words = sys.argv[1:]
     # A series may have the name of a command; alone it is a series.
     name = words.pop(0) if len(words) > 1 and words[0] in ("waive", "show", "report") else ""
-    options = parser_for(name).parse_args(words)
-    return run_program(PROGRAM, lambda machine: work(machine, name, options))
+    return call(parser_for(name), lambda machine, options: work(machine, name, options), words)

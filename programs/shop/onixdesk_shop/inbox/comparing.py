@@ -75,7 +75,10 @@ def look_at(inbox: Inbox, feed: Feed) -> tuple[Findings, int] | None:
     findings = Findings(len(isbns))
     for reference, isbn in isbns.items():
         makes_record = any(product.is_block for product in products[reference])
-        compare(findings, Place(inbox.series, reference, isbn, makes_record), old, new, kinds)
+        key = inbox.series, reference
+        spans = [(old.offers[isbn, kind].get(key, []), new.offers[isbn, kind].get(key, [])) for kind in kinds]
+        is_unchosen = old.choices[isbn][3:5] == [*key] and new.choices[isbn][2:] == ["none"]
+        compare(findings, isbn, spans, makes_record, is_unchosen)
     return findings, len(known) * total // len(products)
 
 
@@ -180,7 +183,7 @@ def both_answers(
     body = [record for group in records.values() for record in group]
     message = [["Message", "2", *parties, "1", "", "", "", ""], *body, ["EndMessage", str(len(body) + 1)]]
     batch = text_of([["Agree", inbox.series, *parties, "1"], *message]) + "\n".join(questions) + "\n"
-    rules: list[str | Path] = ["--rules", inbox.places.rules] if inbox.has_rules() else []
+    rules: list[str | Path] = ["--rules", inbox.places.rules] if inbox.machine.exists(inbox.places.rules) else []
     ended = inbox.machine.run([inbox.places.program, *rules, "batch"], (DONE, FAILED), batch.encode(), seconds=SECONDS)
     made = itertools.islice(answers_in(records_of(ended.output)), 2, None)
     return answers_of(ask(inbox, questions), isbns, kinds), answers_of(made, isbns, kinds)
@@ -209,21 +212,12 @@ def offers_in(answer: Records) -> dict[tuple[str, str], Spans]:
 # What differs
 
 
-class Place(NamedTuple):
-    """What is compared: a reference of the series, and the ISBN by which it is asked for."""
-
-    series: str
-    reference: str
-    isbn: str
-    makes_record: bool
-
-
-def compare(findings: Findings, place: Place, old: Answers, new: Answers, kinds: list[Kind]) -> None:
-    """Adds to the findings what differs of one reference."""
-    key, isbn = (place.series, place.reference), place.isbn
-    spans = [(old.offers[isbn, kind].get(key, []), new.offers[isbn, kind].get(key, [])) for kind in kinds]
+def compare(
+    findings: Findings, isbn: str, spans: list[tuple[Spans, Spans]], makes_record: bool, is_unchosen: bool
+) -> None:
+    """Adds to the findings what differs of a reference: its spans before and behind the file, of each kind."""
     if not any(before for before, _ in spans):
-        if place.makes_record:
+        if makes_record:
             findings.jumped.append(isbn)
         return
     pairs = [pair for before, after in spans for pair in amounts(before, after)]
@@ -232,7 +226,6 @@ def compare(findings: Findings, place: Place, old: Answers, new: Answers, kinds:
         findings.jumped.append(isbn)
     if any(5 * abs(one - other) > 2 * one for one, other in both):
         findings.moved.append(isbn)
-    is_unchosen = old.choices[isbn][3:5] == [*key] and new.choices[isbn][2:] == ["none"]
     if is_unchosen or any(one is not None and other is None for one, other in pairs):
         findings.lost.append(isbn)
 

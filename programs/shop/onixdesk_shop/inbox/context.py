@@ -7,9 +7,9 @@ from pathlib import Path
 from onixdesk_shop.desk import Desk, Gaps
 from onixdesk_shop.faults import Fault
 from onixdesk_shop.inbox.ledger import Decision, File, Ledger, State
-from onixdesk_shop.lines import ERROR, NOTICE, WARNING, ranges, token
+from onixdesk_shop.lines import ERROR, NOTICE, WARNING, token
 from onixdesk_shop.machine import Entry, Machine
-from onixdesk_shop.places import INCOMING, INBOXES, RULES, STATE, STORE, WORK
+from onixdesk_shop.places import INCOMING, INBOXES, RULES, STATE, STORE
 from onixdesk_shop.settings import OWN, Settings
 from onixdesk_shop.shop_json import Shop
 
@@ -55,16 +55,8 @@ class Inbox:
     def store(self) -> Path:
         return self.folder / STORE
 
-    @property
-    def work(self) -> Path:
-        return self.folder / WORK
-
     def stored(self, file: File) -> Path:
         return self.store / f"{file.digest}{file.ending}"
-
-    def is_settled(self, changed: int) -> bool:
-        """Whether a file that changed then has not changed for long enough."""
-        return self.machine.now() - changed / 1e9 >= self.settings.unchanged_seconds
 
     def basis(self, first: int) -> str:
         """By what files are judged: what was refused by another one is tried again."""
@@ -79,11 +71,9 @@ class Inbox:
             raise NotAgreed(f"the desk has agreed no series {self.series}")
         return found
 
-    def has_rules(self) -> bool:
-        return self.machine.exists(self.places.rules)
-
     def is_let_in(self, file: File) -> bool:
-        return self.ledger.has_decision(file, Decision.LET_IN)
+        query = "SELECT count(*) FROM decision WHERE file = ? AND what = ?"
+        return bool(self.ledger.value(query, file.id, Decision.LET_IN))
 
     # Lines
 
@@ -98,26 +88,12 @@ class Inbox:
         """A line on a file: its commands first, its name last."""
         self.tell(priority, "; ".join([*commands, text, token(file.name)]))
 
-    def tell_state(self, file: File, state: str) -> None:
-        """That a file is held, or applied."""
-        numbers = [row.number for row in self.ledger.messages_of(file) if row.state in (State.HELD, State.APPLIED)]
-        said = f"; {file.why}" if file.why else ""
-        if state in (State.HELD, State.APPLIED):
-            self.tell_file(NOTICE, file, f"{state}: {ranges(numbers)}{said}")
-
     def tell_refused(self, file: File, why: str, number: int | None = None, *remedies: str) -> None:
         """That a file is refused, and what to do."""
         commands = [*remedies, self.command("dismiss", file)]
         if number is not None and self.settings.number == OWN:
             commands.append(f"onixdesk-inbox waive {self.series} {number} (or have it sent again under its number)")
         self.tell_file(ERROR, file, f"refused: {why}", *commands)
-
-    def tell_quarantined(self, file: File, why: str) -> None:
-        commands = [self.command("let-in", file), self.command("refuse", file)]
-        self.tell_file(ERROR, file, f"quarantined: {why}; later files wait", *commands)
-
-    def tell_had(self, file: File, first: File) -> None:
-        self.tell_file(NOTICE, file, f"had it already, by {first.mark}: {ranges([first.number or 0])}")
 
     def tell_once(self, subject: str, priority: int, line: str) -> None:
         """Tells what goes on until somebody does something, once."""
@@ -137,7 +113,5 @@ class Inbox:
     def tell_known(self, file: File, before: File) -> None:
         if before.state == State.REJECTED:
             self.tell_file(WARNING, file, "these bytes were refused by a person, and stay so")
-        elif before.state == State.REFUSED:
-            self.tell_file(NOTICE, file, "refused before, and tried again")
         elif before.number is not None:
             self.tell_file(NOTICE, file, f"had it already: {before.state} from number {before.number} on")

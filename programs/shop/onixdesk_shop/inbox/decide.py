@@ -1,10 +1,10 @@
 """What a person decides on a file or a number. It is written down; the next run does it."""
 
-from collections.abc import Callable, Sequence
+from collections.abc import Sequence
 
 from onixdesk_shop.faults import DONE, BadCall, Failed
 from onixdesk_shop.inbox.context import Inbox
-from onixdesk_shop.inbox.ledger import Decision, File, Row, State
+from onixdesk_shop.inbox.ledger import Decision, File, State
 from onixdesk_shop.lines import ranges, token
 from onixdesk_shop.settings import NEXT, OWN
 
@@ -67,12 +67,7 @@ def again(inbox: Inbox, file: File) -> str:
     return "is taken again by the next run, under a new number"
 
 
-DECISIONS: dict[str, Callable[[Inbox, File], str]] = {
-    "let-in": let_in,
-    "refuse": refuse,
-    "dismiss": dismiss,
-    "again": again,
-}
+DECISIONS = {"let-in": let_in, "refuse": refuse, "dismiss": dismiss, "again": again}
 
 
 def decide(inbox: Inbox, what: str, mark: str) -> int:
@@ -91,19 +86,14 @@ def waive(inbox: Inbox, numbers: Sequence[int]) -> int:
         for number in numbers:
             row = ledger.row(number)
             if row and ledger.stands(number):
-                refuse_first(inbox, row)
+                if row.has_text:
+                    command = inbox.command("refuse", ledger.file(row.file))
+                    raise Failed(f"{command}; number {number} has that file, which has to be refused first")
                 ledger.set_message(number, State.REFUSED)
                 ledger.forget_references(number)
             ledger.decide(Decision.WAIVE, number=number)
     inbox.machine.write(f"waived by the next run: {ranges([*numbers])}\n")
     return DONE
-
-
-def refuse_first(inbox: Inbox, row: Row) -> None:
-    """Failed where a number has a text that can be posted again."""
-    if row.has_text:
-        command = inbox.command("refuse", inbox.ledger.file(row.file))
-        raise Failed(f"{command}; number {row.number} has that file, which has to be refused first")
 
 
 def take_back(inbox: Inbox, numbers: Sequence[int]) -> int:

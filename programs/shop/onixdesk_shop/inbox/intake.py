@@ -5,7 +5,7 @@ from pathlib import Path
 
 from onixdesk_shop.inbox.context import Inbox
 from onixdesk_shop.inbox.keeping import AT_END
-from onixdesk_shop.inbox.ledger import Decision, File, State
+from onixdesk_shop.inbox.ledger import Decision, State
 from onixdesk_shop.lines import shown
 from onixdesk_shop.machine import Entry
 
@@ -44,7 +44,7 @@ def take_entry(inbox: Inbox, entry: Entry) -> None:
         why = "it is no regular file"
     elif Path(name).suffix not in ENDINGS:
         why = f"it does not end in {', '.join(ENDINGS)}"
-    elif not inbox.is_settled(entry.changed):
+    elif inbox.machine.now() - entry.changed / 1e9 < inbox.settings.unchanged_seconds:
         return
     else:
         why = take_file(inbox, entry)
@@ -55,7 +55,10 @@ def take_entry(inbox: Inbox, entry: Entry) -> None:
 def take_file(inbox: Inbox, entry: Entry) -> str:
     """Takes a whole file; why it could not, or an empty text."""
     if inbox.settings.leave and (known := inbox.ledger.left(subject_of(entry))):
-        remove_left(inbox, entry, known)
+        # Once nothing is to be done with it for a good while it is removed.
+        is_old = inbox.machine.now() - max(known.seen, known.at) > LEFT_SECONDS
+        if is_old and known.state in (*AT_END, State.REFUSED):
+            inbox.machine.remove(inbox.incoming / entry.name)
         return ""
     machine, source = inbox.machine, inbox.incoming / entry.name
     copy = inbox.store / COPY
@@ -117,12 +120,6 @@ def remove(inbox: Inbox, entry: Entry, mark: str) -> None:
 def subject_of(entry: Entry) -> str:
     """By what a file that is left in its folder is known again: several may have the same bytes."""
     return f"left {entry.size} {entry.modified} {shown(entry.name)}"
-
-
-def remove_left(inbox: Inbox, entry: Entry, file: File) -> None:
-    """Removes a file that is left in the folder, once nothing is to be done with it for a good while."""
-    if file.state in (*AT_END, State.REFUSED) and inbox.machine.now() - max(file.seen, file.at) > LEFT_SECONDS:
-        inbox.machine.remove(inbox.incoming / entry.name)
 
 
 def adopt(inbox: Inbox) -> None:

@@ -16,8 +16,9 @@ from onixdesk_shop.inbox.context import Inbox
 from onixdesk_shop.inbox.ledger import File, Message, Row, State
 from onixdesk_shop.inbox.posting import why_refused
 from onixdesk_shop.inbox.quarantine import Quarantine
-from onixdesk_shop.lines import WARNING, count, cut
+from onixdesk_shop.lines import ERROR, NOTICE, WARNING, count, cut, ranges
 from onixdesk_shop.messages import header_of, is_message, products_of
+from onixdesk_shop.places import WORK
 from onixdesk_shop.settings import NEXT, OWN
 
 MOST_BYTES = 4_194_304
@@ -77,7 +78,8 @@ def offset_for(inbox: Inbox, file: File, gaps: Gaps) -> list[str]:
 
 def quarantine_file(inbox: Inbox, file: File, why: str) -> None:
     inbox.ledger.set_state(file, State.QUARANTINED, why)
-    inbox.tell_quarantined(file, why)
+    commands = inbox.command("let-in", file), inbox.command("refuse", file)
+    inbox.tell_file(ERROR, file, f"quarantined: {why}; later files wait", *commands)
 
 
 def is_given_number(inbox: Inbox, file: File) -> bool:
@@ -97,8 +99,9 @@ def feed_of(inbox: Inbox, file: File, gaps: Gaps, words: list[str], terms: bytes
         if is_given_number(inbox, file):
             first = inbox.ledger.next_number(gaps, inbox.settings.parts)
             number = ["--number", str((first - 1) // inbox.settings.parts + 1)]
-        made = convert(inbox.machine, inbox.places.program, source, [*words, *number], terms, inbox.work)
-        texts, said = made.messages, made.said
+        texts, said = convert(
+            inbox.machine, inbox.places.program, source, [*words, *number], terms, inbox.folder / WORK
+        )
     return Feed(file, [message_of(inbox, text) for text in texts], words, terms, said)
 
 
@@ -109,7 +112,8 @@ def message_of(inbox: Inbox, text: bytes) -> Message:
         raise Refusal(why or "its records are not one message")
     header = header_of(text)
     if header.sender != inbox.settings.sender:
-        raise Refusal(f"its sender is not {','.join(inbox.settings.sender)}")
+        senders = ",".join(header.sender), ",".join(inbox.settings.sender)
+        raise Refusal("its sender is {}, and SENDER of the settings is {}".format(*senders))
     if header.number is None:
         raise Refusal("it has no number")
     kinds = sorted({kind for product in products_of(text) for kind in product.kinds})
@@ -128,7 +132,7 @@ def look_at(inbox: Inbox, feed: Feed, gaps: Gaps) -> None:
             if not product.is_deletion:
                 records.update(product.isbns)
     if mixed:
-        said = f"{count(mixed, 'product')} with several suppliers: ask the wholesaler for its own offers alone"
+        said = f"{count(mixed, 'product')} with several suppliers: --supplier TYPE,VALUE in WORDS takes one's alone"
         inbox.tell_file(WARNING, feed.file, said)
     for isbn, most in records.most_common(1):
         if most > MOST_RECORDS_OF_ONE_ISBN:
@@ -186,7 +190,7 @@ def post_again(inbox: Inbox, feed: Feed, others: dict[int, Row], gaps: Gaps) -> 
             raise Refusal(why_refused(answer))
         assert isinstance(answer, Taken)
     ledger.set_state(file, State.HAD, f"{first.mark} has its number")
-    inbox.tell_had(file, first)
+    inbox.tell_file(NOTICE, file, f"had it already, by {first.mark}: {ranges([first.number or 0])}")
 
 
 def is_below_and_same(inbox: Inbox, row: Row, message: Message, gaps: Gaps) -> bool:

@@ -15,10 +15,10 @@ def clear(inbox: Inbox) -> None:
     """Removes the bytes of files, and then the texts of messages, that are old enough."""
     before = int(inbox.machine.now()) - KEPT_SECONDS
     marks = ", ".join("?" for _ in AT_END)
-    old = inbox.ledger.files(f"state IN ({marks}) AND at < ? AND seen < ?", *AT_END, before, before)
-    for file in old[: max(0, inbox.ledger.count_files(*State) - KEPT_FILES)]:
-        if not inbox.ledger.is_needed(file):
-            inbox.machine.remove(inbox.stored(file))
+    at_end = f"state IN ({marks}) AND digest NOT IN (SELECT digest FROM file WHERE state NOT IN ({marks}))"
+    old = inbox.ledger.files(f"{at_end} AND at < ? AND seen < ?", *AT_END, *AT_END, before, before)
+    for file in old[: max(0, inbox.ledger.value("SELECT count(*) FROM file") - KEPT_FILES)]:
+        inbox.machine.remove(inbox.stored(file))
     inbox.ledger.do(
         "UPDATE message SET text = NULL WHERE text IS NOT NULL AND state = 'applied' AND at < ?"
         " AND number <= (SELECT max(number) FROM message) - ?",

@@ -120,10 +120,6 @@ class Ledger:
         found = self.connection.execute(query, values).fetchone()
         return found[0] if found else None
 
-    def number(self, query: str, *values: Any) -> int | None:
-        found = self.value(query, *values)
-        return None if found is None else int(found)
-
     # Files
 
     def files(self, where: str, *values: Any) -> list[File]:
@@ -174,10 +170,9 @@ class Ledger:
                 if not self.has_stood(file):
                     self.set_state(file, State.NEW)
 
-    def has_stood(self, file: File) -> bool:
+    def has_stood(self, file: File, states: tuple[State, ...] = (State.POSTED, State.HELD, State.APPLIED)) -> bool:
         """Whether the desk has, or may have, a message of a file."""
-        states = "('posted', 'held', 'applied')"
-        return bool(self.value(f"SELECT count(*) FROM message WHERE file = ? AND state IN {states}", file.id))
+        return any(row.state in states for row in self.messages_of(file))
 
     def set_state(self, file: File, state: str, why: str = "") -> None:
         now = int(self.machine.now())
@@ -187,13 +182,6 @@ class Ledger:
         names = ", ".join(f"{name} = ?" for name in columns)
         self.do(f"UPDATE file SET {names} WHERE id = ?", *columns.values(), file.id)
 
-    def has_decision(self, file: File, what: str) -> bool:
-        return bool(self.value("SELECT count(*) FROM decision WHERE file = ? AND what = ?", file.id, what))
-
-    def has_taken(self, file: File) -> bool:
-        """Whether the desk took a message of a file."""
-        return bool(self.value("SELECT count(*) FROM message WHERE file = ? AND state IN ('held', 'applied')", file.id))
-
     def full_files(self) -> list[File]:
         """The full files that have numbers, the last one first."""
         found = self.files("is_full AND state IN ('posting', 'held', 'applied')")
@@ -202,13 +190,10 @@ class Ledger:
     def last_taken(self) -> int | None:
         """The time of the latest file that the desk has, or may have, something of, at a number of ours."""
         query = "SELECT max(time) FROM file JOIN message ON message.file = file.id WHERE ending <> '.csv'"
-        return self.number(f"{query} AND message.state IN ('ready', 'posted', 'held', 'applied')")
+        found: int | None = self.value(f"{query} AND message.state IN ('ready', 'posted', 'held', 'applied')")
+        return found
 
     # What is told of them
-
-    def count_files(self, *states: str) -> int:
-        marks = ", ".join("?" for _ in states)
-        return int(self.value(f"SELECT count(*) FROM file WHERE state IN ({marks})", *states))
 
     def count_waiting(self, gaps: Gaps | None) -> int:
         """The files that wait for the desk or a number, or of which that lacks something by now."""
@@ -222,7 +207,8 @@ class Ledger:
 
     def heard_at(self) -> int | None:
         """When a file came last that was no empty one."""
-        return self.number("SELECT max(seen) FROM file WHERE products > 0")
+        found: int | None = self.value("SELECT max(seen) FROM file WHERE products > 0")
+        return found
 
     def kinds_since(self, second: int) -> list[list[str]]:
         """The types and currencies of the prices of messages since then, in order."""
@@ -243,18 +229,12 @@ class Ledger:
             )
         )
 
-    def known_agreement(self) -> tuple[tuple[str, str], int]:
-        """The addressee and the first number, as far as messages tell them."""
+    def agreement(self, series: str, sender: tuple[str, str]) -> str:
+        """The record by which a series is agreed, as far as messages tell the addressee and the first number."""
         number = self.value("SELECT min(number) FROM message WHERE text IS NOT NULL")
-        if number is None:
-            return ("", ""), 1
-        first = self.value("SELECT min(number) FROM message")
-        return header_of(self.text(number)).addressee, int(first)
-
-    def is_needed(self, file: File) -> bool:
-        """Whether bytes are still to be read: of another taking, or for their titles."""
-        others = "SELECT count(*) FROM file WHERE digest = ? AND state IN ('new', 'quarantined', 'refused', 'posting')"
-        return bool(self.value(others, file.digest))
+        addressee = header_of(self.text(number)).addressee if number else ("", "")
+        first = self.value("SELECT min(number) FROM message") or 1
+        return ",".join(["Agree", series, *sender, *addressee, str(first)])
 
     # Messages
 
@@ -283,11 +263,9 @@ class Ledger:
                 )
 
     def set_message(self, number: int, state: str, answer: str = "") -> None:
-        now = int(self.machine.now())
-        with self.step():
-            self.do("UPDATE message SET state = ?, at = ? WHERE number = ?", state, now, number)
-            if answer:
-                self.do("UPDATE message SET answer = ? WHERE number = ?", answer, number)
+        """An answer of before stays where there is no other."""
+        values = "state = ?, at = ?, answer = coalesce(nullif(?, ''), answer)"
+        self.do(f"UPDATE message SET {values} WHERE number = ?", state, int(self.machine.now()), answer, number)
 
     def to_post(self, gaps: Gaps) -> list[Row]:
         """What is to be posted, in order of numbers: what has no answer yet; what was held, and is no more; and what the
@@ -310,10 +288,6 @@ class Ledger:
         given = self.value("SELECT max(number) FROM message WHERE state <> 'returned'") or 0
         before = max(given, gaps.greatest or 0, gaps.first - 1)
         return (before + parts - 1) // parts * parts + 1
-
-    def lacking(self, gaps: Gaps) -> list[tuple[Row, File]]:
-        """What is posted again once a desk with these gaps stands there."""
-        return [(row, self.file(row.file)) for row in self.to_post(gaps)]
 
     # References
 
@@ -352,21 +326,6 @@ class Ledger:
         query = "SELECT reference FROM reference WHERE NOT deleted AND number < ? ORDER BY reference"
         return [reference for (reference,) in self.rows(query, number)]
 
-    # Titles
-
-    def title_number(self, isbn: str) -> int:
-        """By which number its title was said last, 0 if by none."""
-        return self.number("SELECT number FROM title WHERE isbn = ?", isbn) or 0
-
-    def name_titles(self, entries: dict[str, list[Any]]) -> None:
-        """What a message says of ISBNs: series, number, moment, and its words."""
-        for isbn, (_, number, moment, *words) in entries.items():
-            self.do(
-                "INSERT INTO title VALUES (?, ?, ?, ?) ON CONFLICT (isbn) DO UPDATE SET"
-                " number = excluded.number, moment = excluded.moment, words = excluded.words",
-                *(isbn, number, moment, json.dumps(words)),
-            )
-
     # Decisions
 
     def decide(self, what: str, file: File | None = None, number: int | None = None, subject: str = "") -> None:
@@ -389,7 +348,7 @@ class Ledger:
 
     def left(self, subject: str) -> File | None:
         """The file that was taken and left in its folder, by what is told of it."""
-        number = self.number("SELECT file FROM decision WHERE what = 'told' AND subject = ?", subject)
+        number = self.value("SELECT file FROM decision WHERE what = 'told' AND subject = ?", subject)
         return None if number is None else self.file(number)
 
     def is_told(self, subject: str) -> bool:

@@ -97,7 +97,9 @@ def settle_file(inbox: Inbox, file: File) -> None:
     state = State.POSTING if state in (State.POSTED, State.READY) else state
     if state != file.state:
         inbox.ledger.set_state(file, state, file.why if state == State.HELD else "")
-        inbox.tell_state(file, state)
+        if state in (State.HELD, State.APPLIED):
+            numbers = [row.number for row in inbox.ledger.messages_of(file) if row.state in (State.HELD, State.APPLIED)]
+            inbox.tell_file(NOTICE, file, f"{state}: {ranges(numbers)}{'; ' if file.why else ''}{file.why}")
 
 
 def settle_refused(inbox: Inbox, row: Row, answer: Refused) -> None:
@@ -105,7 +107,7 @@ def settle_refused(inbox: Inbox, row: Row, answer: Refused) -> None:
     file = ledger.file(row.file)
     ledger.set_message(row.number, State.REFUSED, answer.said)
     is_next = inbox.settings.number == NEXT and file.ending != ".csv"
-    if is_next and not ledger.has_taken(file):
+    if is_next and not ledger.has_stood(file, (State.HELD, State.APPLIED)):
         for each in ledger.messages_of(file):
             ledger.set_message(each.number, State.RETURNED)
         if answer.reason in QUICKER and row.state in (State.READY, State.POSTED):

@@ -52,8 +52,7 @@ def of_the_week(inbox: Inbox) -> Iterator[str]:
     for file in inbox.ledger.files("state = 'applied'")[-LAST_FILES:]:
         yield f"{file.mark}: applied {moment(file.at)}; {token(file.name)}"
     since = int(inbox.machine.now()) - WEEK
-    deleted = inbox.ledger.number(DELETED, since) or 0
-    yield f"{count(deleted, 'article')} deleted in seven days"
+    yield f"{count(inbox.ledger.value(DELETED, since), 'article')} deleted in seven days"
 
 
 def not_named(inbox: Inbox) -> Iterator[str]:

@@ -24,7 +24,8 @@ def run(inbox: Inbox) -> int:
         gaps = work(inbox, gaps)
         inbox.is_well("no desk")
     except NotAgreed as fault:
-        inbox.tell_once("not agreed", ERROR, f"{agreement(inbox)}; {fault}, and its files wait")
+        agreement = inbox.ledger.agreement(inbox.series, inbox.settings.sender)
+        inbox.tell_once("not agreed", ERROR, f"{agreement}; {fault}, and its files wait")
     except NoDesk as fault:
         # That a desk does not run is its own unit's error; one that answers at one place alone is this program's.
         inbox.tell_once("no desk", ERROR if gaps else WARNING, f"files wait: {fault}")
@@ -34,12 +35,6 @@ def run(inbox: Inbox) -> int:
     titles.keep(inbox)
     keeping.clear(inbox)
     return FAILED if inbox.has_error else 0
-
-
-def agreement(inbox: Inbox) -> str:
-    """The record by which the series is agreed, as far as the inbox knows it."""
-    addressee, first = inbox.ledger.known_agreement()
-    return f"Agree,{inbox.series},{','.join(inbox.settings.sender)},{','.join(addressee)},{first}"
 
 
 def work(inbox: Inbox, gaps: Gaps) -> Gaps:

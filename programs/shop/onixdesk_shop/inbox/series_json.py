@@ -23,7 +23,7 @@ def members(inbox: Inbox, gaps: Gaps | None) -> dict[str, Any]:
         "desk": gaps is not None,
         "silent": heard is not None and now - heard > inbox.settings.silent_days * DAY,
         "waiting": ledger.count_waiting(gaps),
-        "quarantined": ledger.count_files("quarantined"),
+        "quarantined": ledger.value("SELECT count(*) FROM file WHERE state = 'quarantined'"),
         "refused": ledger.count_undecided(),
         "first": gaps.first if gaps else None,
         "next": gaps.next if gaps else None,

@@ -18,8 +18,6 @@ DIGITS, FOLDER_DIGITS = 8, 5
 # By this file the page knows that titles are kept.
 MARK, FOLDER = "titles.json", "titles"
 
-SECONDS = 600
-
 # Series, number and second of the message, and, unless that deletes it, title, subtitle, contributors, publisher.
 Entry = list[Any]
 
@@ -28,26 +26,21 @@ def keep(inbox: Inbox) -> None:
     """Reads the titles of files that were applied since."""
     for file in inbox.ledger.files("NOT titled AND state = 'applied' AND ending <> '.csv'"):
         try:
-            entries = entries_of(inbox, file)
+            write(inbox, entries_of(inbox, file))
         except BadEnd as end:
             inbox.tell_file(WARNING, file, f"no titles: {end}")
-            entries = {}
-        write(inbox, entries)
-        with inbox.ledger.step():
-            inbox.ledger.name_titles(entries)
-            inbox.ledger.set_of_file(file, titled=1)
+        inbox.ledger.set_of_file(file, titled=1)
 
 
 def entries_of(inbox: Inbox, file: File) -> dict[str, Entry]:
-    """What a file says of each ISBN that no later message of the series spoke of."""
-    said = read_by(inbox.machine, "feed_titles", inbox.stored(file), SECONDS)
+    """What a file says of each ISBN."""
+    said = read_by(inbox.machine, "feed_titles", inbox.stored(file))
     found: dict[str, Entry] = {}
     for line in said.splitlines():
         isbn, is_deletion, *texts = json.loads(line)
         if not is_deletion or isbn not in found:
             found[isbn] = [inbox.series, file.number, file.at, *([] if is_deletion else texts)]
-    number = file.number or 0
-    return {isbn: entry for isbn, entry in found.items() if inbox.ledger.title_number(isbn) <= number}
+    return found
 
 
 def write(inbox: Inbox, entries: dict[str, Entry]) -> None:
@@ -65,8 +58,10 @@ def write(inbox: Inbox, entries: dict[str, Entry]) -> None:
             path = folder / digits[:FOLDER_DIGITS] / f"{digits}.json"
             kept = kept_in(inbox, path)
             for isbn, entry in some.items():
-                others = [each for each in kept.get(isbn, []) if each[0] != inbox.series]
-                kept[isbn] = sorted([entry, *others], key=lambda each: int(each[2]), reverse=True)
+                # Of a series the message of the greatest number counts.
+                of_series = {each[0]: each for each in kept.get(isbn, [])}
+                of_series[inbox.series] = max(entry, of_series.get(inbox.series, entry), key=lambda each: int(each[1]))
+                kept[isbn] = sorted(of_series.values(), key=lambda each: int(each[2]), reverse=True)
             machine.write_whole(path, json.dumps(kept, separators=(",", ":"), ensure_ascii=False).encode())
 
 

@@ -5,7 +5,7 @@ import sys
 from pathlib import Path
 
 from onixdesk_shop.desk_files import DeskFile
-from onixdesk_shop.ends import day_word, parser_of, program_of, run_program
+from onixdesk_shop.ends import call, day_word, parser_of, program_of
 from onixdesk_shop.faults import DONE, FAILED, Fault
 from onixdesk_shop.feeds import Refusal
 from onixdesk_shop.lines import count
@@ -16,29 +16,20 @@ from onixdesk_shop.places import DESK_JSON
 from onixdesk_shop.settings import words
 from onixdesk_shop.shop_json import read_shop
 
-NAME = "onixdesk-look"
-
 DESCRIPTION = """\
 Says of a sample of a wholesaler's feed what a shop has to know before anything is agreed: suppliers, prices and discount
 codes, what the converter leaves out, of how many articles a desk would give a price, and what to paste into the
 agreement, the settings of the inbox and a table of terms. No desk of the shop is asked or changed."""
 
-STATUSES = """\
-Status 0; 1 if FILE is refused, or products of it are wrong; 2 for a bad command line; 3 if a file cannot be read.
-docs/ONIX.md has what to ask a wholesaler for."""
-
 TO_PASTE = "To paste; the last field of Agree is to be the number of the first message that the desk gets"
 
 
 def command_line() -> argparse.ArgumentParser:
-    parser = parser_of(NAME, DESCRIPTION, STATUSES)
-    add = parser.add_argument
     beside = Path(sys.argv[0]).resolve().with_name("onixdesk")
-    add("--like", metavar="FILE", type=Path, default=DESK_JSON, help=f"a desk.json; {DESK_JSON} without it")
+    parser = parser_of("onixdesk-look", DESCRIPTION, like=DESK_JSON, terms=None, program=beside)
+    add = parser.add_argument
     add("--day", metavar="YYYYMMDD", type=day_word, help="of the prices; today without it")
     add("--words", metavar="WORDS", type=words, default=(), help="words for onixdesk convert, as in WORDS of an inbox")
-    add("--terms", metavar="FILE", type=Path, help="the shop's terms, by which net prices are computed")
-    add("--program", metavar="PATH", type=Path, default=beside, help="onixdesk beside this program without it")
     add("file", metavar="FILE", type=Path, help="a feed, packed or not")
     return parser
 
@@ -69,5 +60,4 @@ def look(machine: Machine, options: argparse.Namespace) -> int:
 
 
 def main() -> int:
-    options = command_line().parse_args()
-    return run_program(NAME, lambda machine: look(machine, options))
+    return call(command_line(), look)

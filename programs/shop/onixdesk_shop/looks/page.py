@@ -1,5 +1,6 @@
 """What is said of a sample: what is in it, what follows from that, and what to paste."""
 
+import json
 import re
 import shlex
 import tomllib
@@ -24,23 +25,22 @@ is_retail = re.compile("[0-4][1-4]").fullmatch
 TERM = """\
 [[term]]
 types = ["{kind}"]
-codes = ["{code}"]{scheme}
-net = "{net}"
+codes = ["{code}"]
+{scheme}net = "{net}"
 percent = ""  # the discount that is agreed, as 42.5
 """
 
 
-def section(title: str, rows: Mapping[str, int]) -> Iterator[str]:
-    """The greatest counts first; nothing where there are none."""
+def counted(rows: Mapping[str, int]) -> Iterator[str]:
+    """The greatest counts first."""
     ordered = sorted(rows.items(), key=lambda row: (-row[1], row[0]))
-    if ordered:
-        yield f"\n{title}"
-    yield from (f"{number:>9}  {cut(words)}" for words, number in ordered[:MOST_ROWS])
+    yield from (f"{number:>7}  {cut(words)}" for words, number in ordered[:MOST_ROWS])
     if len(ordered) > MOST_ROWS:
-        yield f"           and {len(ordered) - MOST_ROWS} more"
+        yield f"         and {len(ordered) - MOST_ROWS} more"
 
 
 def section_of(title: str, lines: Iterable[str]) -> Iterator[str]:
+    """Nothing where there are no lines."""
     found = [*lines]
     yield from [f"\n{title}", *(f"  {line}" for line in found)] if found else []
 
@@ -51,11 +51,13 @@ def of_feed(sample: Sample) -> Iterator[str]:
     yield f"sender: {','.join(header.sender)}"
     yield f"addressee: {','.join(header.addressee).strip(',') or 'none'}"
     yield f"number: {sample.number or 'none'}; messages: {len(sample.messages)}"
-    yield from section("Products by NotificationType", sample.types)
-    yield from section("Suppliers by SupplyDetails", sample.suppliers)
-    yield from section("Prices by type and currency", {" ".join(kind): n for kind, n in sample.prices.items()})
-    yield from section("Discount codes by prices", {in_words(code): n for code, n in sample.codes.items()})
-    yield from section("What the converter says", sample.said.reasons)
+    yield from section_of("Products by NotificationType", counted(sample.types))
+    yield from section_of("Suppliers by SupplyDetails", counted(sample.suppliers))
+    yield from section_of(
+        "Prices by type and currency", counted({" ".join(kind): n for kind, n in sample.prices.items()})
+    )
+    yield from section_of("Discount codes by prices", counted({in_words(code): n for code, n in sample.codes.items()}))
+    yield from section_of("What the converter says", counted(sample.said.reasons))
 
 
 def in_words(code: Code) -> str:
@@ -69,7 +71,7 @@ def remarks(sample: Sample, net: str, terms: bytes | None) -> Iterator[str]:
     if updates := sample.types[UPDATE]:
         yield f"{count(updates, 'update')} of products: ask for a full feed first, since a desk drops those it has not"
     if len(sample.suppliers) > 1:
-        yield "several suppliers: where they are other firms, ask for a feed of the sender's own offers alone"
+        yield "several suppliers: where they are other firms, --supplier TYPE,VALUE in WORDS takes the sender's offers alone"
     if unfitted := {in_words(code): n for code, n in sample.codes.items() if not is_fitted(code, terms)}:
         yield f"no term names these codes: {'; '.join(f'{cut(words)}: {n}' for words, n in unfitted.items())}"
     if sample.number and is_date(str(sample.number)):
@@ -81,7 +83,10 @@ def remarks(sample: Sample, net: str, terms: bytes | None) -> Iterator[str]:
 def is_fitted(code: Code, terms: bytes | None) -> bool:
     """Whether a term names a code, or takes each; also where there is no table."""
     table = tomllib.loads(terms.decode("utf-8-sig")).get("term", []) if terms is not None else []
-    return terms is None or any(code[0] in each["types"] and code[1] in each.get("codes", [code[1]]) for each in table)
+    return terms is None or any(
+        code[0] in each["types"] and code[1] in each.get("codes", [code[1]]) and code[2] == each.get("scheme", code[2])
+        for each in table
+    )
 
 
 def needs_terms(sample: Sample, net: str) -> bool:
@@ -94,8 +99,8 @@ def terms_to_paste(sample: Sample, net: str) -> str:
     found = []
     for kind, code, scheme in sample.codes:
         if is_retail(kind) and not {'"', "\\"} & {*code}:
-            remark = f"  # {cut(scheme)}" if scheme else ""
-            found.append(TERM.format(kind=kind, code=shown(code), scheme=remark, net=net))
+            line = f"scheme = {json.dumps(scheme, ensure_ascii=False)}\n" if scheme else ""
+            found.append(TERM.format(kind=kind, code=shown(code), scheme=line, net=net))
     return "".join(found)
 
 
@@ -104,16 +109,12 @@ def lines_to_paste(name: str, sample: Sample, words: tuple[str, ...]) -> list[st
     is_small = sample.parts == 1 and all(len(message) < ALMOST_FULL for message in sample.messages)
     parts = 1 if is_small or "--parts" in words else TIMES * sample.parts
     number = 0 if sample.number is None or is_date(str(sample.number)) else sample.number
+    stem = re.sub("[^a-z0-9]+", "-", name.lower().partition(".")[0])
+    series = stem.strip("-0123456789")[:32].strip("-") or "wholesaler"
     more = () if parts == 1 else ("--parts", str(parts))
     return [
-        agreement(series_of(name), sample.header, (number - 1) * parts + 1 if number else 1),
+        agreement(series, sample.header, (number - 1) * parts + 1 if number else 1),
         f"SENDER={','.join(sample.header.sender)}",
         f"NUMBER={'own' if number else 'next'}",
         f"WORDS={shlex.join([*words, *more])}",
     ]
-
-
-def series_of(name: str) -> str:
-    """A name of a series after that of a file."""
-    stem = re.sub("[^a-z0-9]+", "-", name.lower().partition(".")[0])
-    return stem.strip("-0123456789")[:32].strip("-") or "wholesaler"

@@ -15,8 +15,6 @@ from onixdesk_shop.feeds import Refusal, Said, convert, read_by
 from onixdesk_shop.machine import Machine
 from onixdesk_shop.messages import Header, header_of, products_of
 
-SECONDS = 1800
-
 # For what the converter refuses a feed, and the word that lets it through.
 NUMBER, WRONG = "NUMBER=next gives one", "--wrong all in WORDS"
 PARTS = re.compile(r"the message needs ([0-9]+) parts")
@@ -62,7 +60,7 @@ class Sample:
     def read_facts(self, machine: Machine, file: Path) -> None:
         """Counts what the records do not have."""
         try:
-            facts = json.loads(read_by(machine, "feed_facts", file, SECONDS))
+            facts = json.loads(read_by(machine, "feed_facts", file))
         except BadEnd as end:
             self.remarks.append(f"suppliers and discount codes are not known: {end}")
             return
@@ -79,7 +77,7 @@ def converted(
     remarks: list[str] = []
     while True:
         try:
-            made = convert(machine, program, file, [*words, *itertools.chain(*more.items())], terms, work)
+            messages, said = convert(machine, program, file, [*words, *itertools.chain(*more.items())], terms, work)
         except Refusal as refusal:
             word = word_for(str(refusal))
             if not word or word.items() <= more.items():
@@ -87,7 +85,7 @@ def converted(
             more |= word
             remarks.append(str(refusal))
         else:
-            return Sample(made.messages, made.said, more, remarks)
+            return Sample(messages, said, more, remarks)
 
 
 def word_for(refusal: str) -> dict[str, str]:

@@ -1,14 +1,13 @@
 """The command line of desk-prices."""
 
 import argparse
-import sqlite3
 from collections.abc import Iterator
 from pathlib import Path
 
 from onixdesk_shop.copies.copying import copied
 from onixdesk_shop.desk import answers_in
 from onixdesk_shop.desk_files import DeskFile
-from onixdesk_shop.ends import day_word, parser_of, program_of, run_program
+from onixdesk_shop.ends import call, day_word, parser_of, program_of
 from onixdesk_shop.faults import DONE, Fault
 from onixdesk_shop.lines import WARNING
 from onixdesk_shop.machine import Machine
@@ -18,16 +17,10 @@ from onixdesk_shop.prices.form import form_of
 from onixdesk_shop.prices.rows import Beside, questions_about, row
 from onixdesk_shop.shop_json import Shop, read_shop
 
-NAME = "desk-prices"
-
 DESCRIPTION = """\
 Writes a line for each article that a series offers into FOLDER/prices.csv: from which wholesaler the shop buys it, at
 what price, and its recommended price. Each answer is the desk's own, of a copy that is taken before, so that nobody
-waits. The file of before stays beside it, as prices.before.csv."""
-
-STATUSES = """\
-Status 0; 2 for a bad command line or bad settings; 3 if a file cannot be read or written, or the desk does not
-answer. Then the file is as it was. docs/PRICES.md has the rest."""
+waits. The file of before stays beside it, as prices.before.csv; after a fault it is as it was."""
 
 FILE, BEFORE = "prices.csv", "prices.before.csv"
 
@@ -40,27 +33,13 @@ AT_ONCE = 5_000
 
 
 def command_line() -> argparse.ArgumentParser:
-    parser = parser_of(NAME, DESCRIPTION, STATUSES)
+    paths = {"settings": DESK_JSON, "rules": None, "state": STATE, "program": PROGRAM}
+    parser = parser_of("desk-prices", DESCRIPTION, **paths)
     add = parser.add_argument
-    add("--settings", metavar="FILE", type=Path, default=DESK_JSON, help=f"desk.json; {DESK_JSON} without it")
-    add("--rules", metavar="FILE", type=Path, help="the precedence table; nothing is chosen without it")
-    add(
-        "--state", metavar="FOLDER", type=Path, default=STATE, help=f"how inboxes stand, and titles; {STATE} without it"
-    )
     add("--day", metavar="YYYYMMDD", type=day_word, help="of the prices; today without it")
-    add("--program", metavar="PATH", type=Path, default=PROGRAM, help="the desk; onixdesk without it")
     add("file", metavar="FILE", type=Path, help="the database that the desk has open")
     add("folder", metavar="FOLDER", type=Path, help="where the file is put")
     return parser
-
-
-def rows_of(machine: Machine, database: Path, query: str) -> list[str]:
-    """The first column of a query over a copy."""
-    try:
-        with machine.reading(database) as connection:
-            return [text for (text,) in connection.execute(query)]
-    except sqlite3.Error as error:
-        raise Fault(f"{database.name}: {error}") from None
 
 
 def asked(desk: DeskFile, day: str, shop: Shop, isbns: list[str]) -> Iterator[tuple[str, list[Records]]]:
@@ -82,8 +61,9 @@ def write(machine: Machine, options: argparse.Namespace) -> int:
     day, beside = options.day or machine.today(), Beside(machine, options.state)
     lines, chosen = [form.head()], 0
     with copied(machine, options.file) as (copy, _):
-        isbns = rows_of(machine, copy, ARTICLES)
-        old = {name for name in rows_of(machine, copy, "SELECT name FROM series") if beside.may_be_old(name)}
+        with machine.reading(copy) as source:
+            isbns = [isbn for (isbn,) in source.execute(ARTICLES)]
+            old = {name for (name,) in source.execute("SELECT name FROM series") if beside.may_be_old(name)}
         desk = DeskFile(machine, program_of(options.program), copy, options.rules)
         for isbn, answers in asked(desk, day, shop, isbns):
             cells = row(isbn, answers, shop, beside, old) | {"day": day}
@@ -93,14 +73,9 @@ def write(machine: Machine, options: argparse.Namespace) -> int:
         machine.write_whole(options.folder / BEFORE, machine.read(options.folder / FILE), 0o640)
     machine.write_whole(options.folder / FILE, "".join(lines).encode(), 0o640)
     if isbns and not chosen:
-        machine.tell(
-            WARNING,
-            f"of {len(isbns)} articles nothing is chosen: no rule of the precedence table admits an offer, or desk.json"
-            " has another price type, currency or country than their prices",
-        )
+        machine.tell(WARNING, f"of {len(isbns)} articles nothing is chosen, and none has a price (PRICES.md)")
     return DONE
 
 
 def main() -> int:
-    options = command_line().parse_args()
-    return run_program(NAME, lambda machine: write(machine, options))
+    return call(command_line(), write)

@@ -31,7 +31,6 @@ class Form:
     separator: str
     heading: list[str]
     decimal: str = "."
-    byte_order_mark: bool = False
 
     def cell(self, column: str, text: str) -> str:
         """The cell of a column; amounts are as the desk writes them."""
@@ -44,32 +43,24 @@ class Form:
 
     def head(self) -> str:
         """What a file begins with."""
-        line = self.separator.join(map(cell_of, self.heading)) + "\r\n" if self.heading else ""
-        return ("\ufeff" if self.byte_order_mark else "") + line
-
-
-def is_right(key: str, value: Any, form: dict[str, Any]) -> bool:
-    """Whether a key of a form may have this value."""
-    match key, value:
-        case "columns", [_, *_]:
-            return all(name in COLUMNS for name in value)
-        case "heading", [*_]:
-            return len(value) == len(form["columns"]) and all(isinstance(text, str) for text in value)
-        case "decimal", "." | ",":
-            return bool(value != form.get("separator"))
-        case ("separator", "," | ";" | "|" | "\t") | ("heading" | "byte_order_mark", bool()):
-            return True
-    return False
+        return self.separator.join(map(cell_of, self.heading)) + "\r\n" if self.heading else ""
 
 
 def form_of(shop: Shop) -> Form:
     """The form that desk.json has, all columns without one. BadCall, which names the first key that is wrong."""
-    given = shop.given.get("price_file", {"columns": COLUMNS})
-    form: dict[str, Any] = {"columns": [], **(given if isinstance(given, dict) else {})}
-    for key, value in form.items():
-        if not is_right(key, value, form):
+    given = shop.given.get("price_file", {})
+    separator = ";" if given.get("decimal") == "," else ","
+    form: dict[str, Any] = {"columns": COLUMNS, "heading": True, "separator": separator, "decimal": "."}
+    form |= given
+    if isinstance(form["heading"], bool):
+        form["heading"] = form["columns"] if form["heading"] else []
+    is_right = {
+        "columns": form["columns"] and {*form["columns"]} <= {*COLUMNS},
+        "heading": len(form["heading"]) in (0, len(form["columns"])),
+        "separator": form["separator"] in (",", ";", "|", "\t") and form["separator"] != form["decimal"],
+        "decimal": form["decimal"] in (".", ","),
+    }
+    for key in form:
+        if not is_right.get(key):
             raise BadCall(f"desk.json: price_file: {key}")
-    whole: dict[str, Any] = {"separator": ";" if form.get("decimal") == "," else ",", "heading": True} | form
-    if isinstance(whole["heading"], bool):
-        whole["heading"] = form["columns"] if whole["heading"] else []
-    return Form(**whole)
+    return Form(**form)

@@ -1,5 +1,6 @@
 """What a line of the file says of an article, by the desk's answers, and by how its wholesaler's inbox stands."""
 
+import functools
 import json
 from pathlib import Path
 from typing import Any
@@ -12,9 +13,6 @@ from onixdesk_shop.shop_json import Shop
 # How an inbox stands is known for so many seconds.
 SEEN_SECONDS = 900
 
-# Series, reference and place of an offer.
-Key = tuple[str, ...]
-
 
 def questions_about(isbn: str, day: str, shop: Shop) -> str:
     """The choice, all prices, and the recommended ones if the shop names their type."""
@@ -25,8 +23,9 @@ def questions_about(isbn: str, day: str, shop: Shop) -> str:
     return "".join(f"{line}\n" for line in lines)
 
 
-def recommended(answer: Records, key: Key) -> str:
-    """The recommended price that the page shows: the offer's own, else its wholesaler's, else another one's."""
+def recommended(answer: Records, key: tuple[str, ...]) -> str:
+    """The recommended price that the page shows: the offer's own, else its wholesaler's, else another one's. The key of an
+    offer is its series, reference and place."""
     priced = {tuple(record[1:4]): record[5] for record in answer[1:] if record[5]}
     own = [amount for other, amount in priced.items() if other[:1] == key[:1]]
     return next(iter([*filter(None, [priced.get(key)]), *own, *priced.values()]), "")
@@ -38,16 +37,15 @@ class Beside:
     def __init__(self, machine: Machine, state: Path) -> None:
         self.machine = machine
         self.state = state
-        self.files: dict[Path, Any] = {}
+        # The articles of a file of titles come one after the other.
+        self.read = functools.lru_cache(1)(self.read_file)
 
-    def read(self, path: Path) -> Any:
-        """A file of JSON, an empty object where it cannot be read; the last one is kept."""
-        if path not in self.files:
-            try:
-                self.files = {path: json.loads(self.machine.read(path))}
-            except (OSError, ValueError):
-                self.files = {path: {}}
-        return self.files[path]
+    def read_file(self, path: Path) -> Any:
+        """A file of JSON, an empty object where it cannot be read."""
+        try:
+            return json.loads(self.machine.read(path))
+        except (OSError, ValueError):
+            return {}
 
     def title(self, isbn: str, series: str) -> str:
         """The title of that series, else the one that a feed said last."""

@@ -4,7 +4,6 @@ import itertools
 import sqlite3
 from collections.abc import Iterable, Iterator
 from datetime import date
-from operator import itemgetter
 from typing import Any
 
 from onixdesk_shop.batches import MOST_BYTES
@@ -22,34 +21,16 @@ ROOM = 8_192
 # Days are counted from there.
 EPOCH = date(1970, 1, 1).toordinal()
 
-# All in the order of the references.
 REFERENCES = "SELECT reference FROM record WHERE series = ? ORDER BY reference"
-ARTICLES = "SELECT reference, id_type, id_value FROM article WHERE series = ? ORDER BY reference, id_place"
+ARTICLES = "SELECT id_type, id_value FROM article WHERE series = ? AND reference = ? ORDER BY id_place"
 OFFERS = """\
-SELECT reference, place, supply, included, world, excluded, role, supplier_type, supplier_value, supplier_name,
-    availability, unpriced
-FROM offer WHERE series = ? ORDER BY reference, place"""
+SELECT place, supply, included, world, excluded, role, supplier_type, supplier_value, supplier_name, availability,
+    unpriced
+FROM offer WHERE series = ? AND reference = ? ORDER BY place"""
 PRICES = """\
-SELECT reference, place, price_type, amount, currency, included, world, excluded, from_day, until_day,
-    coalesce(minimum, 1)
+SELECT place, price_type, amount, currency, included, world, excluded, from_day, until_day, coalesce(minimum, 1)
 FROM price LEFT JOIN price_minimum USING (series, reference, place, price_place)
-WHERE series = ? ORDER BY reference, place, price_place"""
-
-
-class Rows:
-    """The rows of references that are asked for one after the other, in their order."""
-
-    def __init__(self, rows: Iterable[tuple[Any, ...]]) -> None:
-        self.groups = itertools.groupby(rows, itemgetter(0))
-        self.group = next(self.groups, None)
-
-    def of(self, reference: str) -> list[tuple[Any, ...]]:
-        """Its rows, without the reference."""
-        if not self.group or self.group[0] != reference:
-            return []
-        found = [row[1:] for row in self.group[1]]
-        self.group = next(self.groups, None)
-        return found
+WHERE series = ? AND reference = ? ORDER BY place, price_place"""
 
 
 def territory(included: str, world: int, excluded: str) -> list[str]:
@@ -70,11 +51,12 @@ def prices_by_offer(rows: Iterable[tuple[Any, ...]]) -> dict[int, list[list[str]
     return found
 
 
-def product(reference: str, articles: Rows, offers: Rows, prices: Rows) -> list[list[str]]:
-    """The records of the product that puts this record as it is."""
-    rows = [["Product", reference, CONFIRMED, *itertools.chain.from_iterable(articles.of(reference))]]
-    of_offers, before = prices_by_offer(prices.of(reference)), None
-    for place, supply, included, world, excluded, *detail in offers.of(reference):
+def product(database: sqlite3.Connection, *record: str) -> list[list[str]]:
+    """The records of the product that puts a record, of a series and by its reference, as it is."""
+    articles, offers, prices = (database.execute(query, record) for query in (ARTICLES, OFFERS, PRICES))
+    rows = [["Product", record[1], CONFIRMED, *itertools.chain.from_iterable(articles)]]
+    of_offers, before = prices_by_offer(prices), None
+    for place, supply, included, world, excluded, *detail in offers:
         if supply != before:
             rows.append(["ProductSupply", *territory(included, world, excluded)])
             before = supply
@@ -83,11 +65,10 @@ def product(reference: str, articles: Rows, offers: Rows, prices: Rows) -> list[
 
 
 def contents_in(database: sqlite3.Connection, series: str) -> Iterator[str]:
-    """A catalogue as the contents of as few messages as can be. Failed if none takes one of its records."""
-    others = [Rows(database.execute(query, [series])) for query in (ARTICLES, OFFERS, PRICES)]
+    """A catalogue as the contents of as few messages as can be, of one at least. Failed if none takes one of its records."""
     pieces, count, size = [""], 0, 0
     for (reference,) in database.execute(REFERENCES, [series]):
-        rows = product(reference, *others)
+        rows = product(database, series, reference)
         text = text_of(rows)
         length = len(text.encode())
         if len(rows) > MOST_RECORDS - 2 or length > MOST_BYTES - ROOM:
@@ -97,5 +78,4 @@ def contents_in(database: sqlite3.Connection, series: str) -> Iterator[str]:
             pieces, count, size = [], 0, 0
         pieces.append(text)
         count, size = count + len(rows), size + length
-    if count:
-        yield "".join(pieces)
+    yield "".join(pieces)

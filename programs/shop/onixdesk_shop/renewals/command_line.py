@@ -1,48 +1,32 @@
 """The command line of desk-renew."""
 
 import argparse
-import sqlite3
-import sys
 
-from onixdesk_shop.ends import parser_of, program_of, run_program
-from onixdesk_shop.faults import Fault
+from onixdesk_shop.ends import call, parser_of
 from onixdesk_shop.machine import Machine
 from onixdesk_shop.places import COPIES
 from onixdesk_shop.renewals.renewing import Renewing
-from onixdesk_shop.restores.command_line import add_places, put
+from onixdesk_shop.restores.command_line import PATHS, put
 from onixdesk_shop.restores.placing import Work
-from onixdesk_shop.restores.restoring import Places
-
-NAME = "desk-renew"
 
 DESCRIPTION = """\
 Puts a new desk in place, without the messages that were applied: its series begin with the numbers that their
 catalogues need before the next one. It is made of a copy while the desk answers. What is given up is said first, and
-asked for; what the inboxes took meanwhile they post again. The old files stay beside it."""
-
-STATUSES = """\
-Status 0 once the new desk answers; 1 if nobody said yes, the desk cannot be renewed, or the new one differs or does not
-answer; 2 for a bad command line; 3 if a file cannot be read or written, or a unit does not stop. If no line says that
-the new desk is in place, the old one is. After a kill the same command ends what was begun."""
+asked for; what the inboxes took meanwhile they post again. The old files stay beside it. If no line says that the new
+desk is in place, the old one is. After a kill the same command ends what was begun."""
 
 
 def command_line() -> argparse.ArgumentParser:
-    parser = parser_of(NAME, DESCRIPTION, STATUSES)
-    add_places(parser)
+    parser = parser_of("desk-renew", DESCRIPTION, **PATHS)
     parser.add_argument("--yes", action="store_true", help="asks nothing")
+    parser.set_defaults(copies=COPIES, text=None, gaps=False)
     return parser
 
 
 def renew(machine: Machine, options: argparse.Namespace) -> int:
-    database = options.db.absolute()
-    copy = Work(machine, database).folder / "copy"
-    places = Places(program_of(options.program), database, options.inboxes, options.settings, COPIES, copy)
-    try:
-        return put(machine, Renewing(machine, places), options.yes)
-    except sqlite3.Error as error:
-        raise Fault(f"{database}: {error}") from None
+    options.copy = Work(machine, options.db).folder / "copy"
+    return put(machine, Renewing(machine, options), options.yes)
 
 
 def main() -> int:
-    options = command_line().parse_args(sys.argv[1:])
-    return run_program(NAME, lambda machine: renew(machine, options), goes_on=True)
+    return call(command_line(), renew, goes_on=True)

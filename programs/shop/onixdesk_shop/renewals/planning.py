@@ -9,8 +9,8 @@ from onixdesk_shop.faults import Failed
 from onixdesk_shop.messages import text_of
 from onixdesk_shop.renewals.catalogue import contents_in
 
-# The contents of a number that was waived, and of a message without products.
-WAIVED, EMPTY = "waived", ""
+# The contents of a number that was waived.
+WAIVED = "waived"
 SERIES = """\
 SELECT name, sender_type, sender_value, addressee_type, addressee_value, first_number, next_number
 FROM series ORDER BY name"""
@@ -45,18 +45,11 @@ class Renewal:
         return f"Message,2,{self.parties},{number},1,,,\n{contents}EndMessage,{lines}\n"
 
 
-def contents_of(copy: sqlite3.Connection, series: str) -> Iterator[str]:
-    """Of the numbers before the next one, of which there is one at least."""
-    contents = contents_in(copy, series)
-    yield next(contents, EMPTY)
-    yield from contents
-
-
 def renewals_in(copy: sqlite3.Connection) -> list[Renewal]:
     """All series of a copy. Failed, which names those that have too few numbers for their catalogue."""
     found, left = [], []
     for series, *parties, first, after in copy.execute(SERIES).fetchall():
-        messages = sum(1 for _ in contents_of(copy, series)) if first < after else 0
+        messages = sum(1 for _ in contents_in(copy, series)) if first < after else 0
         if after - messages < first:
             left.append(f"{series}: its catalogue needs {messages} numbers before {after}, and it begins at {first}")
         found.append(Renewal(series, text_of([parties]).rstrip("\n"), first, after, messages))
@@ -69,7 +62,7 @@ def requests(copy: sqlite3.Connection, renewal: Renewal) -> Iterator[str]:
     """The agreement, the catalogue, and what is held or waived from the next number on."""
     yield f"Agree,{renewal.series},{renewal.parties},{renewal.first}\n"
     if renewal.messages:
-        for number, contents in enumerate(contents_of(copy, renewal.series), renewal.first):
+        for number, contents in enumerate(contents_in(copy, renewal.series), renewal.first):
             yield renewal.at(number, contents)
     for number, contents in copy.execute(HELD, [renewal.series]):
         yield renewal.at(number, contents)

@@ -9,8 +9,8 @@ from onixdesk_shop.faults import Failed
 from onixdesk_shop.lines import cut
 from onixdesk_shop.machine import Machine
 from onixdesk_shop.renewals.planning import lines, renewals_in
+from onixdesk_shop.restores.inboxes import PATIENCE
 from onixdesk_shop.restores.restoring import Restore
-from onixdesk_shop.units import BEGIN, OF_INBOX, PATIENCE
 
 GIVEN_UP = """\
 given up are the answers to and the contents of these messages, with their NotificationTypes and counts, and the waivers
@@ -26,12 +26,12 @@ class Renewing(Restore):
 
     def lay_out(self) -> None:
         """Makes the new desk of a copy, and compares their rows, on which each answer about articles hangs."""
-        machine, folder = self.machine, self.places.copy
+        machine, folder = self.machine, self.options.copy
         self.work.begin()
         machine.remove_tree(folder)
         machine.make_folder(folder)
-        copy_desk(machine, self.places.database, folder)
-        copy = folder / self.places.database.name
+        copy_desk(machine, self.options.db, folder)
+        copy = folder / self.options.db.name
         self.base = contents_of(machine, copy)
         with machine.reading(copy) as connection:
             renewals = renewals_in(connection)
@@ -43,12 +43,9 @@ class Renewing(Restore):
     def stop(self) -> None:
         """Stops all once each message has its answer: below the new first numbers none would get one."""
         self.wait_for_answers()
-        self.work.keep_units(self.units.begun)
-        self.units.stop([unit for unit in self.units.all if unit.startswith(OF_INBOX) and unit.endswith(BEGIN)])
-        self.units.wait_for_inboxes()
         super().stop()
         if any(inbox.has_unanswered() for inbox in self.inboxes()):
-            raise Failed("a message came meanwhile, and has no answer yet; the desk is as it was")
+            raise Failed("a message came meanwhile, and has no answer yet; the desk is as it was: run it again")
 
     def wait_for_answers(self) -> None:
         end = self.machine.now() + PATIENCE

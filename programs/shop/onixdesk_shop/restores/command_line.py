@@ -1,86 +1,51 @@
 """The command line of desk-restore."""
 
 import argparse
-import sys
 from pathlib import Path
 
-from onixdesk_shop.ends import parser_of, program_of, run_program
+from onixdesk_shop.ends import call, parser_of
+from onixdesk_shop.copies.keeping import CORRECTED
 from onixdesk_shop.faults import DONE, FAILED, Failed, Fault
 from onixdesk_shop.lines import ERROR, WARNING
 from onixdesk_shop.machine import Machine
 from onixdesk_shop.places import COPIES, DESK_FILE, INBOX_SETTINGS, INBOXES, PROGRAM
 from onixdesk_shop.restores.inboxes import inboxes_in, wait_for_all
-from onixdesk_shop.restores.restoring import CORRECTED_BEFORE, Places, Restore, is_from_before
+from onixdesk_shop.restores.restoring import Restore
 from onixdesk_shop.units import DESK, Units
 
-NAME = "desk-restore"
+PATHS = {"db": DESK_FILE, "inboxes": INBOXES, "settings": INBOX_SETTINGS, "program": PROGRAM}
 
 DESCRIPTION = """\
 Puts COPY, a folder that desk-copy made, into the place of the desk, whose own files get another name. The copy is
 checked by SQLite and by the desk's program. What the inboxes post again is said, with the command by which each file is
 refused, and asked for; agreements and waivers that the desk has and the copy lacks are made again. Then what runs of
-onixdesk is stopped, two files get their places, and it is started again."""
-
-STATUSES = """\
-Status 0 once the desk answers and has again what its inboxes post; 1 if nobody said yes, the copy is not sound, or the
-desk lacks something at the end; 2 for a bad command line; 3 if a file cannot be read or written, another program
-has the desk open, or a unit does not stop. After a kill the same command ends what was begun. docs/RELIABILITY.md says
-what comes after."""
-
-
-def add_places(parser: argparse.ArgumentParser) -> None:
-    for name, place in (
-        ("db", DESK_FILE),
-        ("inboxes", INBOXES),
-        ("settings", INBOX_SETTINGS),
-        ("program", PROGRAM),
-    ):
-        parser.add_argument(f"--{name}", metavar="PATH", type=Path, default=place, help=f"{place} without it")
+onixdesk is stopped, two files get their places, and it is started again, until the desk has again what the inboxes post.
+After a kill the same command ends what was begun."""
 
 
 def command_line() -> argparse.ArgumentParser:
-    parser = parser_of(NAME, DESCRIPTION, STATUSES)
-    add_places(parser)
+    parser = parser_of("desk-restore", DESCRIPTION, **PATHS, copies=COPIES)
     add = parser.add_argument
-    add("--copies", metavar="PATH", type=Path, default=COPIES, help=f"{COPIES} without it")
     add("--yes", action="store_true", help="asks nothing")
     add("--gaps", action="store_true", help="accepts a copy that lacks messages which no inbox can post again")
     add("--before-correction", action="store_true", help="accepts a copy from before a correction of the desk's text")
-    add(
-        "--text",
-        metavar="FILE",
-        type=Path,
-        help="puts a desk into place that is made of FILE, the corrected text of COPY",
-    )
+    add("--text", metavar="FILE", type=Path, help="puts a desk into place that is made of this corrected text of COPY")
     add("copy", metavar="COPY", type=Path, help="a folder with the two files of a desk, of the name of the desk's")
     return parser
 
 
-def places_of(options: argparse.Namespace) -> Places:
-    return Places(
-        program_of(options.program),
-        options.db.absolute(),
-        options.inboxes.absolute(),
-        options.settings.absolute(),
-        options.copies.absolute(),
-        options.copy.resolve(),
-        options.text.absolute() if options.text else None,
-        options.gaps,
-    )
-
-
 def restore(machine: Machine, options: argparse.Namespace) -> int:
-    places = places_of(options)
-    if is_from_before(places.copy):
+    options.copy = options.copy.resolve()
+    if options.copy.name.endswith(CORRECTED):
         if not options.before_correction:
-            raise Failed(f"{places.copy}: {' '.join(CORRECTED_BEFORE.split())}")
+            raise Failed(f"{options.copy}: it is from before a correction of the desk's text (--before-correction)")
         machine.tell(WARNING, "the correction of the desk's text has to be made again")
-    return put(machine, Restore(machine, places), options.yes)
+    return put(machine, Restore(machine, options), options.yes)
 
 
 def put(machine: Machine, run: Restore, is_told: bool) -> int:
     """Puts the desk of a run into place, or ends what a run began that was killed; the status."""
-    folder = run.places.database.parent
+    folder = run.options.db.parent
     with machine.lock(folder, waits=False) as is_alone:
         if not is_alone:
             raise Fault(f"{folder}: a desk is put into place there already")
@@ -88,11 +53,14 @@ def put(machine: Machine, run: Restore, is_told: bool) -> int:
             machine.tell(WARNING, "the desk of that run is in place; for another one run the command again")
             return status_of(machine, run)
         run.units = Units(machine)
-        with run.work.at_work(run.units):
+        try:
             run.lay_out()
             if not run.is_wanted(is_told):
                 raise Failed("nobody said yes, so the desk is as it was")
             run.replace()
+        finally:
+            # What ran runs again, whatever ends this.
+            run.work.finish(run.units)
         return status_of(machine, run)
 
 
@@ -101,10 +69,9 @@ def status_of(machine: Machine, run: Restore) -> int:
     if DESK not in run.work.started:
         machine.tell(ERROR, f"systemctl start {DESK}; the desk did not run, and is not started")
         return FAILED
-    inboxes = inboxes_in(machine, run.places.inboxes, run.places.settings)
+    inboxes = inboxes_in(machine, run.options.inboxes, run.options.settings)
     return DONE if run.work.is_started and wait_for_all(machine, inboxes, run.planned) and run.has_all else FAILED
 
 
 def main() -> int:
-    options = command_line().parse_args(sys.argv[1:])
-    return run_program(NAME, lambda machine: restore(machine, options), goes_on=True)
+    return call(command_line(), restore, goes_on=True)

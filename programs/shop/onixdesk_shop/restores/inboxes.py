@@ -1,7 +1,6 @@
 """The inboxes at a restore: what each posts again to the desk that is put into place, and when that is done."""
 
-from collections.abc import Iterator
-from contextlib import contextmanager
+from contextlib import closing
 from dataclasses import dataclass, field
 from pathlib import Path
 
@@ -37,14 +36,6 @@ class Inbox:
         self.file = ledger
         self.conf = settings / f"{series}.conf"
 
-    @contextmanager
-    def ledger(self) -> Iterator[Ledger]:
-        opened = Ledger(self.machine, self.file)
-        try:
-            yield opened
-        finally:
-            opened.close()
-
     def settings(self) -> Settings | None:
         """Nothing where they are missing or wrong, which is told."""
         try:
@@ -57,10 +48,10 @@ class Inbox:
         """What it posts again to a desk with these gaps."""
         found = Again()
         files: dict[int, tuple[File, list[int]]] = {}
-        with self.ledger() as ledger:
-            for row, file in ledger.lacking(gaps):
+        with closing(Ledger(self.machine, self.file)) as ledger:
+            for row in ledger.to_post(gaps):
                 found.numbers.append(row.number)
-                files.setdefault(file.id, (file, []))[1].append(row.number)
+                files.setdefault(row.file, (ledger.file(row.file), []))[1].append(row.number)
                 if not row.has_text:
                     found.gone.append(row.number)
             query = "SELECT message.number FROM message JOIN file ON file.id = message.file WHERE file.state = ?"
@@ -73,19 +64,17 @@ class Inbox:
     def agreement(self) -> str:
         """The record by which the series is agreed, as far as it is known here."""
         settings = self.settings()
-        with self.ledger() as ledger:
-            addressee, first = ledger.known_agreement()
-        sender = settings.sender if settings else ("", "")
-        return f"Agree,{self.series},{','.join(sender)},{','.join(addressee)},{first}"
+        with closing(Ledger(self.machine, self.file)) as ledger:
+            return ledger.agreement(self.series, settings.sender if settings else ("", ""))
 
     def has_unanswered(self) -> bool:
         """Whether the desk has not said yet what it makes of a message."""
-        with self.ledger() as ledger:
+        with closing(Ledger(self.machine, self.file)) as ledger:
             return bool(ledger.value("SELECT count(*) FROM message WHERE state IN ('ready', 'posted')"))
 
     def has_refused(self, number: int) -> bool:
         """Whether the desk has refused that number since, or a person its file."""
-        with self.ledger() as ledger:
+        with closing(Ledger(self.machine, self.file)) as ledger:
             row = ledger.row(number)
             return not row or row.state == State.REFUSED or ledger.file(row.file).state == State.REJECTED
 

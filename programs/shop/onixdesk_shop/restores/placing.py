@@ -4,9 +4,7 @@ It has `units`, what is to be started again; `new`, which is being made, and in 
 whole and on the disk. What a run that was killed has left there tells the next one how far it was.
 """
 
-import contextlib
 import time
-from collections.abc import Iterator
 from pathlib import Path
 
 from onixdesk_shop.desk_files import log_of
@@ -34,13 +32,6 @@ class Work:
         self.machine.make_folder(self.folder)
         self.machine.remove_tree(self.new.parent)
         self.machine.make_folder(self.new.parent)
-
-    def end(self) -> None:
-        self.machine.remove_tree(self.folder)
-
-    def keep_units(self, units: list[str]) -> None:
-        """Has the disk keep what is to be started again, before it is stopped."""
-        self.machine.write_whole(self.folder / "units", "\n".join(units).encode(), 0o600)
 
     def units(self) -> list[str]:
         file = self.folder / "units"
@@ -75,15 +66,7 @@ class Work:
 
     def is_begun(self) -> bool:
         """Whether the desk that stood there is moved away, and the new one not in its place: no desk starts."""
-        ready = self.ready()
-        return bool(ready and self.machine.exists(ready / self.database.name) and not self.stands())
-
-    def is_in_place(self) -> bool:
-        ready = self.ready()
-        return bool(ready and not self.machine.exists(ready / self.database.name))
-
-    def stands(self) -> bool:
-        return self.machine.exists(self.database)
+        return bool(self.ready() and not self.machine.exists(self.database))
 
     def put_in_place(self) -> Path:
         """Gives the files that stand there another name, and the new ones their place, or goes on with that. The
@@ -105,27 +88,20 @@ class Work:
             self.machine.sync_folder(new.parent)
             self.machine.sync_folder(old.parent)
 
-    @contextlib.contextmanager
-    def at_work(self, units: Units) -> Iterator[None]:
-        """At the end what ran runs again, whatever ends this."""
-        try:
-            yield
-        finally:
-            self.finish(units)
-
     def finish(self, units: Units) -> None:
         """Puts the new desk into its place where the old one is moved away, and starts what was stopped."""
         if self.is_begun():
             self.put_in_place()
         self.started = [unit for unit in self.units() if is_begun(unit)]
         self.is_started = units.start(self.started)
-        self.end()
+        self.machine.remove_tree(self.folder)
 
     def end_killed(self, units: Units) -> bool:
         """Ends what a run began that was killed. Whether its desk is in place then."""
         if not self.machine.exists(self.folder):
             return False
-        is_done = self.is_begun() or self.is_in_place()
+        ready = self.ready()
+        is_done = self.is_begun() or bool(ready and not self.machine.exists(ready / self.database.name))
         stood = "has put its desk into place" if is_done else "has changed nothing"
         self.machine.tell(WARNING, f"a run that was killed {stood}, and is ended now")
         self.finish(units)

@@ -1,12 +1,12 @@
 """One restore: what it is to put into place, what is said before, and the exchange."""
 
-from dataclasses import dataclass
-from pathlib import Path
+import argparse
 
 from onixdesk_shop.batches import send
 from onixdesk_shop.copies.copying import copy_desk
-from onixdesk_shop.copies.keeping import CORRECTED, set_aside
+from onixdesk_shop.copies.keeping import set_aside
 from onixdesk_shop.desk_files import Contents, DeskFile, check, contents_of
+from onixdesk_shop.ends import program_of
 from onixdesk_shop.faults import Failed, Fault
 from onixdesk_shop.lines import ERROR, NOTICE, WARNING, cut, ranges
 from onixdesk_shop.machine import Machine
@@ -15,34 +15,16 @@ from onixdesk_shop.restores.inboxes import Inbox, inboxes_in
 from onixdesk_shop.restores.placing import Work
 from onixdesk_shop.units import Units
 
-CORRECTED_BEFORE = """\
-it is from before a correction of the desk's text; with --before-correction it is put into place, and the correction
-has to be made again"""
-
-
-@dataclass(frozen=True)
-class Places:
-    """Where everything is; `text` is the corrected text of the copy, if a desk is made of one."""
-
-    program: Path
-    database: Path
-    inboxes: Path
-    settings: Path
-    copies: Path
-    copy: Path
-    text: Path | None = None
-    has_gaps: bool = False
-
 
 class Restore:
     remedy = "with --gaps it is put into place all the same"
 
-    def __init__(self, machine: Machine, places: Places) -> None:
+    def __init__(self, machine: Machine, options: argparse.Namespace) -> None:
         self.machine = machine
-        self.places = places
-        self.work = Work(machine, places.database)
+        self.options = options
+        self.work = Work(machine, options.db)
         self.units = Units(machine)
-        self.desk = DeskFile(machine, places.program, self.work.new)
+        self.desk = DeskFile(machine, program_of(options.program), self.work.new)
         self.base = Contents()
         self.said: list[str] = []
         self.planned: dict[str, list[int]] = {}
@@ -54,19 +36,19 @@ class Restore:
 
     def lay_out(self) -> None:
         """Failed where the copy, or the desk that its corrected text makes, is not sound."""
-        machine, places, name = self.machine, self.places, self.places.database.name
+        machine, options, name = self.machine, self.options, self.options.db.name
         # SQLite leaves the third where somebody has looked at a copy.
-        found = {entry.name for entry in machine.entries(places.copy)} - {f"{name}-shm", LEDGERS}
+        found = {entry.name for entry in machine.entries(options.copy)} - {f"{name}-shm", LEDGERS}
         if name not in found or found - {name, f"{name}-wal"}:
-            raise Fault(f"{places.copy}: it has not {name} and its log alone")
+            raise Fault(f"{options.copy}: it has not {name} and its log alone")
         self.work.begin()
         for each in found:
-            machine.copy(places.copy / each, self.work.new.parent / each)
-        check(machine, self.work.new, places.copy / name)
+            machine.copy(options.copy / each, self.work.new.parent / each)
+        check(machine, self.work.new, options.copy / name)
         self.base = contents_of(machine, self.work.new)
-        if places.text:
+        if options.text:
             self.work.begin()
-            send(self.desk, machine.lines_of(places.text))
+            send(self.desk, machine.lines_of(options.text))
 
     def send_since(self, present: Contents) -> None:
         """Tells the new desk the agreements and waivers that the present one has and the copy lacked."""
@@ -84,7 +66,7 @@ class Restore:
 
     def present(self) -> Contents:
         """What the present desk was told, by a copy; nothing where that cannot be read, which is told."""
-        machine, database = self.machine, self.places.database
+        machine, database = self.machine, self.options.db
         if not machine.exists(database):
             return Contents()
         folder = self.work.folder / "present"
@@ -123,19 +105,19 @@ class Restore:
 
     def inboxes(self) -> list[Inbox]:
         """Those that are there, and those whose ledgers the copy alone has."""
-        machine, places = self.machine, self.places
-        found = inboxes_in(machine, places.inboxes, places.settings)
+        machine, options = self.machine, self.options
+        found = inboxes_in(machine, options.inboxes, options.settings)
         known = {inbox.series for inbox in found}
         for name in self.ledgers_of_copy():
             if name not in known:
                 file = self.work.folder / f"{name}.db"
                 if not machine.exists(file):
-                    machine.copy(places.copy / LEDGERS / f"{name}.db", file)
-                found.append(Inbox(machine, name, file, places.settings))
+                    machine.copy(options.copy / LEDGERS / f"{name}.db", file)
+                found.append(Inbox(machine, name, file, options.settings))
         return found
 
     def ledgers_of_copy(self) -> list[str]:
-        folder = self.places.copy / LEDGERS
+        folder = self.options.copy / LEDGERS
         if not self.machine.exists(folder):
             return []
         return [entry.name[:-3] for entry in self.machine.entries(folder) if entry.name.endswith(".db")]
@@ -150,8 +132,8 @@ class Restore:
         """Makes again what the present desk was told since; what is posted again, in lines."""
         self.send_since(present)
         said, lost = self.plan(present)
-        if lost and not self.places.has_gaps:
-            raise Failed(f"{self.places.copy}: {'; '.join(lost)}; {self.remedy}")
+        if lost and not self.options.gaps:
+            raise Failed(f"{self.options.copy}: {'; '.join(lost)}; {self.remedy}")
         return [*said, *lost]
 
     # The exchange
@@ -159,42 +141,40 @@ class Restore:
     def replace(self) -> None:
         """Stops what runs, and puts the new files into place. Nothing is lost whatever ends this: each inbox posts what
         the desk lacks."""
-        machine, places, work = self.machine, self.places, self.work
+        machine, options, work = self.machine, self.options, self.work
         self.stop()
-        if machine.is_open(places.database):
-            raise Fault(f"{places.database}: another program has it open; stop it before")
+        if machine.is_open(options.db):
+            raise Fault(f"{options.db}: another program has it open; stop it before")
         self.prepare(self.present())
         work.make_ready()
         self.put_ledgers_back()
-        if (places.text or self.has_refused) and machine.exists(places.copies):
-            is_among = not places.text and places.copy.parent == places.copies
-            set_aside(machine, places.copies, places.copy.name if is_among else "")
+        if (options.text or self.has_refused) and machine.exists(options.copies):
+            is_among = not options.text and options.copy.parent == options.copies.resolve()
+            set_aside(machine, options.copies, options.copy.name if is_among else "")
         before = work.put_in_place()
         stood = f"the one before is {before}" if machine.exists(before) else "there was none before"
-        machine.tell(NOTICE, f"the desk is in place as {places.database}; {stood}")
+        machine.tell(NOTICE, f"the desk is in place as {options.db}; {stood}")
 
     def stop(self) -> None:
         """Stops what runs, once the disk has what is to be started again."""
-        self.work.keep_units(self.units.begun)
-        self.units.stop(self.units.all)
+        units = "\n".join(self.units.begun).encode()
+        self.machine.write_whole(self.work.folder / "units", units, 0o600)
+        if self.units.all:
+            self.units.systemctl("stop", *self.units.all)
 
     def put_ledgers_back(self) -> None:
         """A ledger of the copy has its place where there is none."""
-        machine, places = self.machine, self.places
+        machine, options = self.machine, self.options
         for name in self.ledgers_of_copy():
-            folder = places.inboxes / name
-            if machine.exists(folder / LEDGER) or not machine.exists(places.inboxes):
+            folder = options.inboxes / name
+            if machine.exists(folder / LEDGER) or not machine.exists(options.inboxes):
                 continue
             machine.make_folder(folder)
-            machine.own(folder, places.inboxes)
+            machine.own(folder, options.inboxes)
             new = folder / f".{LEDGER}"
-            machine.copy(places.copy / LEDGERS / f"{name}.db", new)
-            machine.own(new, places.inboxes)
+            machine.copy(options.copy / LEDGERS / f"{name}.db", new)
+            machine.own(new, options.inboxes)
             machine.rename(new, folder / LEDGER)
             machine.sync_folder(folder)
             since = "what was refused, let in or waived since is not known"
             machine.tell(WARNING, f"onixdesk-inbox report {name}; its ledger is the copy's, as there was none: {since}")
-
-
-def is_from_before(copy: Path) -> bool:
-    return copy.name.endswith(CORRECTED)

@@ -31,10 +31,13 @@ class Disk:
     def sync(self, folder: Path) -> None:
         self.undo = [(each, undo) for each, undo in self.undo if each != folder]
 
-    def lose_power(self) -> None:
-        for _, undo in reversed(self.undo):
-            with contextlib.suppress(FileNotFoundError):
-                undo()
+    def lose_power(self, is_torn: bool) -> None:
+        """What is not synced is gone: of all folders, or, torn, of the one that changed first."""
+        first = self.undo[0][0] if is_torn and self.undo else None
+        for folder, undo in reversed(self.undo):
+            if folder == (first or folder):
+                with contextlib.suppress(FileNotFoundError):
+                    undo()
         self.undo = []
 
 
@@ -55,9 +58,12 @@ class FakeMachine(Machine):
         self.desk = desk
         self.clock = clock
         self.kind, *self.at = fault
+        # What somebody else does then, where the kind is `meanwhile`.
+        self.meanwhile: Callable[[], object] = lambda: None
         self.steps: Counter[str] = Counter()
         self.is_dead = False
         self.lines: list[tuple[int, str]] = []
+        self.posted: list[bytes] = []
         self.written = ""
 
     @property
@@ -72,14 +78,17 @@ class FakeMachine(Machine):
         self.steps.update([what, ""])
         if self.at not in ([what, self.steps[what]], ["", self.steps[""]]):
             return
+        if self.kind == "meanwhile":
+            self.meanwhile()
+            return
         if self.kind == "error":
             raise OSError(28, "No space left on device", what)
         if self.kind == "signal":
             # The program goes on with what it does at its end.
             raise SystemExit(143)
         self.is_dead = True
-        if self.kind == "power":
-            self.disk.lose_power()
+        if self.kind in ("power", "torn"):
+            self.disk.lose_power(self.kind == "torn")
         raise Killed
 
     def now(self) -> float:
@@ -141,6 +150,7 @@ class FakeMachine(Machine):
         self.step("batch")
         if not self.desk:
             raise ConnectionRefusedError(111, "Connection refused")
+        self.posted.append(text)
         answer = self.desk.batch(text.decode()).encode()
         self.step("answered")
         return answer

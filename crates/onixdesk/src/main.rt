@@ -8,7 +8,6 @@ ghost use Rattle.std.specs.Prelude.{◌≤◌, IfOk};
 use program_clients::entrances::HostEntrances;
 use program_clients::fault::{Fault, report};
 use program_clients::sockets::Sockets;
-use program_databases::causes::HostPlaces;
 use program_databases::paths::Paths;
 use program_databases::stored_desks::StoredDesks;
 use program_files::HostFiles;
@@ -51,7 +50,6 @@ fn run_words(rt: &HostRuntime, words: std::env::Args) -> Result<u8, AllocError>
     let databases = StoredDesks {
         alloc,
         databases: Paths::new(rt, Wary),
-        places: HostPlaces::new(rt),
         is_shown: is_terminal,
     };
     let (status, left) = run(alloc, rt, words.as_slice(), databases, &mut machine);

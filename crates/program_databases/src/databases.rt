@@ -28,6 +28,12 @@ pub trait Databases {
     /// What is given where there are no files.
     type NotOpened: Drop;
 
+    /// What lies at the names.
+    type Places: Places + Drop;
+
+    /// What lies at them, as it is then found.
+    fn places(&self) -> Self::Places;
+
     /// Opens the database file of that name and its log; what is missing is made. A fault comes
     /// with no files.
     fn open(self, name: &str) -> Result<Files<Self::File>, (OpenFault, Self::NotOpened)>

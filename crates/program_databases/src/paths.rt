@@ -1,6 +1,6 @@
 //! The database files at paths of the file system.
 
-use crate::causes::cause_of_error;
+use crate::causes::{HostPlaces, cause_of_error};
 use crate::databases::Databases;
 use onix_records::StoreFault;
 use program_desks::kept_desks::{Cause, OpenFault};
@@ -48,6 +48,12 @@ impl<'a, S: Start> Databases for Paths<'a, S> {
     type File = FileFrom<S>;
 
     type NotOpened = ();
+
+    type Places = HostPlaces<'a>;
+
+    fn places(&self) -> HostPlaces<'a> {
+        HostPlaces::new(self.rt)
+    }
 
     fn open(self, name: &str) -> Result<Files<FileFrom<S>>, (OpenFault, ())> {
         // SQLite keeps no file of such a name.

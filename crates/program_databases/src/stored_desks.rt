@@ -6,7 +6,7 @@ ghost use Rattle.desk_versions.specs.Openings.{AreEmptyFiles, AreFilesOf};
 ghost use Rattle.program_databases.specs.FilesMean.{AreByTheirFiles, AreOfOneContent, HandsOn};
 
 use crate::database::creation_of;
-use crate::databases::{Databases, Places, open_database};
+use crate::databases::{Databases, open_database};
 use crate::unopened::{Unopened, fault_of, migration_of};
 use desk_stops::laws::rows_have_one_content;
 use desk_store::{DeskStore, migrate_files_with};
@@ -18,16 +18,14 @@ use std::io::Write;
 
 /// The desks in SQLite files that are opened by their names: a database and its log.
 #[derive(Drop)]
-pub struct StoredDesks<O, P> {
+pub struct StoredDesks<O> {
     pub alloc: Global,
     pub databases: O,
-    pub places: P,
     /// Whether a line may say that large files are checked.
     pub is_shown: bool,
 }
 
-impl<O: Databases, P: Places + Drop> KeepsDesks<DeskStore<FileStore<O::File>>>
-    for StoredDesks<O, P> {
+impl<O: Databases> KeepsDesks<DeskStore<FileStore<O::File>>> for StoredDesks<O> {
     ghost use Rattle.sqlite.specs.Files.{file_state};
     ghost use Rattle.desk_rows.specs.Seen.{in_tables, seen_in};
     ghost use Rattle.program_desks.specs.DeskFiles.{one_way};
@@ -54,9 +52,9 @@ impl<O: Databases, P: Places + Drop> KeepsDesks<DeskStore<FileStore<O::File>>>
         let StoredDesks {
             alloc,
             databases,
-            places,
             is_shown,
         } = self;
+        let places = databases.places();
         let creation = creation_of(creation);
         let (files, options) = match open_database(
             &places, is_shown, name, creation, databases, errors,
@@ -88,9 +86,9 @@ impl<O: Databases, P: Places + Drop> KeepsDesks<DeskStore<FileStore<O::File>>>
         let StoredDesks {
             alloc,
             databases,
-            places,
             is_shown,
         } = self;
+        let places = databases.places();
         let creation = creation_of(creation);
         let (files, options) = match open_database(
             &places, is_shown, name, creation, databases, errors,
@@ -115,9 +113,9 @@ impl<O: Databases, P: Places + Drop> KeepsDesks<DeskStore<FileStore<O::File>>>
 /// what the files hold, by which the desks are seen in them. Files without a desk are of the empty
 /// list, a run hands on the list with what it answered, and lists of which the same files are come to
 /// the same.
-pub fn files_mean_lists<O: Databases, P: Places + Drop>()
+pub fn files_mean_lists<O: Databases>()
     ensures seen { AreByTheirFiles O.File.Disk (λ desks. O.held desks.databases)
-        ⟦<StoredDesks<O, P> as KeepsDesks<DeskStore<FileStore<O::File>>>>⟧.files }
+        ⟦<StoredDesks<O> as KeepsDesks<DeskStore<FileStore<O::File>>>>⟧.files }
     ensures blank { (image : Image) → AreEmptyFiles image → AreFilesOf image [] }
     ensures handed { HandsOn O.File.Disk }
     ensures one { AreOfOneContent }

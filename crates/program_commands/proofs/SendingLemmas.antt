@@ -33,9 +33,9 @@ wrote_part was now written bytes chunk part rest took is wrote =
 -- ---- the answers to the batch of a text
 
 -- all of them came
-pub sent_whole : {F : Type 0} (text : List ℕ) (asked : ℕ) (came : Option (List ℕ)) (written : List ℕ → Type 0) (refused : Bool) → HasRecords text → asked ≡ length (requests_of text) → TakesAnswers asked came written (Ok refused)
+pub sent_whole : (F : Type 0) (text : List ℕ) (asked : ℕ) (came : Option (List ℕ)) (written : List ℕ → Type 0) (refused : Bool) → HasRecords text → asked ≡ length (requests_of text) → TakesAnswers asked came written (Ok refused)
     → SendFits {F = F} text written (Ok refused)
-sent_whole text asked came written refused has is takes = (has, (takes.0, tt, subst (λ n. unanswered n (records_of takes.0) ≡ 0) is takes.2, takes.3, takes.4))
+sent_whole F text asked came written refused has is takes = (has, (takes.0, tt, subst (λ n. unanswered n (records_of takes.0) ≡ 0) is takes.2, takes.3, takes.4))
 
 -- some of them did
 pub sent_part : (came : Option (List ℕ)) (written : List ℕ → Type 0) → WritesCame came written → WritesCame None written

@@ -9,14 +9,14 @@ returns-in-Err g c =
     let held = g.W.Write.contents c.args.output.now in
     wrote_came None None (Appends held held) [] (Consumes-nil None) (Appends-nil held)
 
-pub returns-in-Err-send : goal.returns-in-Err-send
-returns-in-Err-send g c =
+pub returns : goal.returns
+returns g c =
     let held = g.W.Write.contents c.args.output.now in
     wrote_came None None (Appends held held) [] (Consumes-nil None) (Appends-nil held)
 
 pub returns-in-Ok-take_answers : goal.returns-in-Ok-take_answers
 returns-in-Ok-take_answers g c =
-    sent_whole c.args.text.now c.in-Ok.asked _ _ c.in-Ok-take_answers.refused c.in-Ok.ensures.0 c.in-Ok.ensures.1 c.in-Ok-take_answers.ensures
+    sent_whole _ c.args.text.now c.in-Ok.asked _ _ c.in-Ok-take_answers.refused c.in-Ok.ensures.0 c.in-Ok.ensures.1 c.in-Ok-take_answers.ensures
 
-pub returns-in-Err-take_answers : goal.returns-in-Err-take_answers
-returns-in-Err-take_answers g c = sent_part _ _ c.in-Err-take_answers.ensures
+pub returns-in-Ok-send : goal.returns-in-Ok-send
+returns-in-Ok-send g c = sent_part _ _ c.in-Err-take_answers.ensures

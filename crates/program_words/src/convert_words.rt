@@ -7,7 +7,7 @@ ghost use Rattle.onix_terms.specs.Number.{number_of};
 ghost use Rattle.feed_mapping.specs.PartyViews.{pair_view};
 ghost use Rattle.feed_conversion.specs.Views.{options_view};
 ghost use Rattle.feed_conversion.specs.declared.options.Allowed.TheVariants.{FewWrong};
-ghost use Rattle.program_words.specs.ConvertWords.{AreOptions, AsksFor, AsksNothing, IsOf, IsUnread, allowed_of, asked_view, files_named, has_input, identifier_of, is_value, word_as, word_or};
+ghost use Rattle.program_words.specs.ConvertWords.{AreOptions, AsksFor, AsksNothing, IsOf, IsUnread, allowed_of, asked_view, files_named, identifier_of, is_value, word_as, word_or};
 ghost use Rattle.program_words.specs.Words.{words_in};
 
 use crate::arguments::{text_in, texts_in};

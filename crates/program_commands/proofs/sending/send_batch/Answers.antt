@@ -1,6 +1,7 @@
 use Rattle.std.proofs.Common.{None, []}
 use Rattle.std.proofs.KnownBytes.{Appends-nil, Consumes-nil}
 use Rattle.std.specs.Io.KnownBytes.{Appends}
+use Rattle.program_clients.specs.declared.fault.CausedFault.{CausedFault}
 use Rattle.program_commands.proofs.SendingLemmas.{sent_part, sent_whole, wrote_came}
 use Rattle.program_commands.proofs.sending.send_batch.Goals as goal
 
@@ -16,7 +17,7 @@ returns g c =
 
 pub returns-in-Ok-take_answers : goal.returns-in-Ok-take_answers
 returns-in-Ok-take_answers g c =
-    sent_whole _ c.args.text.now c.in-Ok.asked _ _ c.in-Ok-take_answers.refused c.in-Ok.ensures.0 c.in-Ok.ensures.1 c.in-Ok-take_answers.ensures
+    sent_whole CausedFault c.args.text.now c.in-Ok.asked _ _ c.in-Ok-take_answers.refused c.in-Ok.ensures.0 c.in-Ok.ensures.1 c.in-Ok-take_answers.ensures
 
 pub returns-in-Ok-send : goal.returns-in-Ok-send
 returns-in-Ok-send g c = sent_part _ _ c.in-Err-take_answers.ensures

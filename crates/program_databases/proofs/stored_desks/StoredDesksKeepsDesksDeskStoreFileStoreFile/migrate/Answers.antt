@@ -38,8 +38,8 @@ returns-in-Ok-migrate_files_with-clause-ok g c =
       made = λ clean. done g.O.File.Disk c.in-Ok.opened.1.creation (creation_by c.args.creation) image c.in-Ok.opened.0 c.in-Ok-migrate_files_with.files c.in-Ok-migrate_files_with.answer c.migration_of.result c.in-Ok.ensures.settled.0 c.migration_of.ensures made_by (it.kept clean) (it.answer clean) (it.holds clean) (it.chosen clean);
     }
 
-pub returns-in-Err-migrate_files_with-clause-err : goal.returns-in-Err-migrate_files_with-clause-err
-returns-in-Err-migrate_files_with-clause-err g c = λ clean.
+pub returns-clause-err : goal.returns-clause-err
+returns-clause-err g c = λ clean.
     let image = g.O.Databases.held c.args.self.databases c.args.name.now in (
       spares_settled g.O.File.Disk MakesSecond image c.in-Ok.opened.0 c.in-Err-migrate_files_with.left c.in-Ok.ensures.settled (c.in-Err-migrate_files_with.ensures.left clean),
       spares_refused g.O.File.Disk c.in-Ok.opened.1.creation (creation_by c.args.creation) image c.in-Ok.opened.0 c.in-Err-migrate_files_with.left c.in-Ok.ensures.settled (c.in-Ok.ensures.chosen ∙ c.creation_of-creation.ensures)

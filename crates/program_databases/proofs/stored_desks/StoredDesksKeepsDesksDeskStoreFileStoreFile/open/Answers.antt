@@ -18,8 +18,8 @@ returns-in-Ok-open_files_with-clause-ok g c =
     subst (λ i. OpensAs (seen_image i c.args.creation) (seen_in state)) c.in-Ok.ensures.settled.0
     (opens_as _ c.args.creation state opened.stands opened.alone opened.taken (λ clean. subst (λ by. ¬ AreRefused by (image_of g.O.File.Disk c.in-Ok.opened.0)) same (opened.chosen clean)))
 
-pub returns-in-Err-open_files_with-clause-err : goal.returns-in-Err-open_files_with-clause-err
-returns-in-Err-open_files_with-clause-err g c = λ clean.
+pub returns-clause-err : goal.returns-clause-err
+returns-clause-err g c = λ clean.
     let image = g.O.Databases.held c.args.self.databases c.args.name.now in (
       spares_settled g.O.File.Disk MakesIndex image c.in-Ok.opened.0 c.in-Err-open_files_with.left c.in-Ok.ensures.settled (c.in-Err-open_files_with.ensures.left clean),
       spares_refused g.O.File.Disk c.in-Ok.opened.1.creation (creation_by c.args.creation) image c.in-Ok.opened.0 c.in-Err-open_files_with.left c.in-Ok.ensures.settled (c.in-Ok.ensures.chosen ∙ c.creation_of-creation.ensures)

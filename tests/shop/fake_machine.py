@@ -58,6 +58,7 @@ class FakeMachine(Machine):
         self.steps: Counter[str] = Counter()
         self.is_dead = False
         self.lines: list[tuple[int, str]] = []
+        self.posted: list[bytes] = []
         self.written = ""
 
     @property
@@ -141,6 +142,7 @@ class FakeMachine(Machine):
         self.step("batch")
         if not self.desk:
             raise ConnectionRefusedError(111, "Connection refused")
+        self.posted.append(text)
         answer = self.desk.batch(text.decode()).encode()
         self.step("answered")
         return answer

@@ -11,6 +11,7 @@ import unittest
 from collections.abc import Callable
 from contextlib import closing
 from dataclasses import dataclass, field, replace
+from hashlib import sha256
 from pathlib import Path
 
 from hypothesis import HealthCheck
@@ -55,10 +56,18 @@ class Sent:
     is_whole: bool
     number: int | None
     is_rejected: bool = False
+    # The texts that it had as a person refused it: none is posted from then on.
+    refused: set[bytes] = field(default_factory=set)
     is_let_in: bool = False
     # Whether a desk was seen without it, since a person refused it.
     is_gone: bool = False
+    # Whether a desk had it that is here or in a copy, as an older ledger was put back.
+    was_had: bool = False
     terms: set[bytes | None] = field(default_factory=set)
+
+    @property
+    def digest(self) -> str:
+        return sha256(self.data).hexdigest()
 
 
 @functools.cache
@@ -127,6 +136,8 @@ class Model(RuleBasedStateMachine):
         sent = self.sent.setdefault(data, Sent(data, time, is_whole, number))
         sent.terms.add(self.terms)
 
+    # Which of what there is: a number, so that the steps of a run can be made again as they are printed.
+    some = st.integers(0, 11)
     names = st.sampled_from(["a.xml", "b.xml", "c d'.xml", "-e.xml", "f.onix"])
     prices = st.sampled_from(["1.00", "1.50", "1.70", "", "-"])
     small = st.dictionaries(st.sampled_from(REFERENCES), prices, max_size=4)
@@ -155,13 +166,14 @@ class Model(RuleBasedStateMachine):
         self.upload(name, data, False, None)
 
     @precondition(lambda self: bool(self.sent))
-    @rule(name=names, data=st.data())
-    def send_again(self, name: str, data: st.DataObject) -> None:
-        sent = self.one_of(data)
+    @rule(name=names, which=some)
+    def send_again(self, name: str, which: int) -> None:
+        sent = self.one_of(which)
         self.upload(name, sent.data, sent.is_whole, sent.number)
 
-    def one_of(self, data: st.DataObject) -> Sent:
-        return data.draw(st.sampled_from(sorted(self.sent.values(), key=lambda each: (each.time, each.data))))
+    def one_of(self, which: int) -> Sent:
+        found = sorted(self.sent.values(), key=lambda each: (each.time, each.data))
+        return found[which % len(found)]
 
     # What breaks
 
@@ -189,9 +201,9 @@ class Model(RuleBasedStateMachine):
             old.backup(new)
         self.ledgers.append(target)
 
-    @rule(data=st.data())
-    def restore(self, data: st.DataObject) -> None:
-        desk = data.draw(st.sampled_from(self.copies)).copy()
+    @rule(which=some)
+    def restore(self, which: int) -> None:
+        desk = self.copies[which % len(self.copies)].copy()
         had = set(map(bare, desk.series[SERIES].had.values()))
         if any(sent.is_gone and not had.isdisjoint(self.all_parts(sent)) for sent in self.sent.values()):
             # It has what was refused, and taken out since: desk-restore does not take it.
@@ -205,19 +217,33 @@ class Model(RuleBasedStateMachine):
         return [each for part in range(self.parts) for each in self.may_be(sent, part)] if sent.is_whole else []
 
     @precondition(lambda self: bool(self.ledgers) and not self.is_next and self.parts == 1)
-    @rule(data=st.data())
-    def put_back_ledger(self, data: st.DataObject) -> None:
+    @rule(which=some)
+    def put_back_ledger(self, which: int) -> None:
         for ending in ("", "-wal", "-shm"):
             self.ledger.with_name(f"{self.ledger.name}{ending}").unlink(missing_ok=True)
-        shutil.copyfile(data.draw(st.sampled_from(self.ledgers)), self.ledger)
+        shutil.copyfile(self.ledgers[which % len(self.ledgers)], self.ledger)
+        with closing(sqlite3.connect(self.ledger)) as ledger:
+            rejected = {digest for digest, in ledger.execute("SELECT digest FROM file WHERE state = 'rejected'")}
         # What came since is converted with the terms of then, should a desk lack it too.
         self.unsure |= {
             0,
             *self.ever,
-            *(number for desk in [self.desk, *self.copies] for number in desk.series[SERIES].had),
+            *(number for desk in self.desks() for number in desk.series[SERIES].had),
         }
         for sent in self.sent.values():
+            if sent.digest not in rejected:
+                sent.is_rejected, sent.refused = False, set()
             sent.is_gone = False
+            sent.was_had = sent.was_had or any(self.is_at(sent, desk.series[SERIES]) for desk in self.desks())
+
+    def desks(self) -> list[FakeDesk]:
+        return [self.desk, *self.copies]
+
+    def is_at(self, sent: Sent, series: Series) -> bool:
+        """Whether a desk has a part of a feed at its number."""
+        first = ((sent.number or 0) - 1) * self.parts + 1
+        had = [bare(series.had.get(first + part)) for part in range(self.parts)]
+        return sent.is_whole and any(each in self.may_be(sent, part) for part, each in enumerate(had))
 
     # What people do
 
@@ -228,31 +254,33 @@ class Model(RuleBasedStateMachine):
             sent.terms.add(terms)
 
     @precondition(lambda self: bool(self.sent))
-    @rule(data=st.data())
-    def refuse(self, data: st.DataObject) -> None:
-        self.clean()
-        sent = self.one_of(data)
+    @rule(which=some, is_clean=st.booleans())
+    def refuse(self, which: int, is_clean: bool) -> None:
+        if is_clean:
+            self.clean()
+        sent = self.one_of(which)
         self.with_inbox(self.sound(), lambda inbox: self.refuse_file(inbox, sent))
 
     def refuse_file(self, inbox: Inbox, sent: Sent) -> None:
-        file = next(file for file in inbox.ledger.files("1") if self.stored(file) == sent.data)
-        if file.state not in ("rejected", "replaced"):
+        file = inbox.ledger.latest(sent.digest)
+        if file and file.state not in ("rejected", "replaced"):
             decide.decide(inbox, "refuse", file.mark)
             sent.is_rejected = True
+            sent.refused = {inbox.ledger.text(row.number) for row in inbox.ledger.messages_of(file)}
 
     @precondition(lambda self: bool(self.sent))
-    @rule(data=st.data())
-    def correct(self, data: st.DataObject) -> None:
+    @rule(which=some)
+    def correct(self, which: int) -> None:
         """A file is refused, and its messages are taken out of the desk's text."""
         self.clean()
-        sent = self.one_of(data)
+        sent = self.one_of(which)
         self.with_inbox(self.sound(), lambda inbox: self.take_out(inbox, sent))
 
     def take_out(self, inbox: Inbox, sent: Sent) -> None:
         self.refuse_file(inbox, sent)
         series = self.desk.series[SERIES]
-        file = next(file for file in inbox.ledger.files("1") if self.stored(file) == sent.data)
-        for row in inbox.ledger.messages_of(file):
+        file = inbox.ledger.latest(sent.digest)
+        for row in inbox.ledger.messages_of(file) if file else []:
             if sent.is_rejected and row.state in ("posted", "held", "applied"):
                 series.had.pop(row.number, None)
                 sent.is_gone = not self.unsure
@@ -302,6 +330,7 @@ class Model(RuleBasedStateMachine):
         finally:
             ledger.close()
             self.clock = int(machine.clock) + 1
+            assert all(sent.refused.isdisjoint(machine.posted) for sent in self.sent.values())
 
     def run(self, machine: FakeMachine) -> FakeMachine:
         try:
@@ -338,6 +367,7 @@ class Model(RuleBasedStateMachine):
         self.check_seen(files)
         series = self.desk.series[SERIES]
         waiting = {self.stored(file) for file in files if file.state in ("new", "quarantined", "replaced")}
+        resent = {self.stored(file) for file in files if file.state == "had"}
         whole = sorted((sent for sent in self.sent.values() if sent.is_whole), key=lambda sent: sent.time)
         judged = [sent for sent in whole if sent.data not in waiting]
         if self.is_next:
@@ -345,7 +375,7 @@ class Model(RuleBasedStateMachine):
             if not self.is_restored:
                 self.check_prices(series)
         else:
-            self.check_own(series, judged)
+            self.check_own(series, judged, [sent for sent in whole if sent.data in waiting], resent)
         self.check_texts(series)
         self.check_states(inbox, files, series)
         self.check_full(inbox, series)
@@ -413,27 +443,27 @@ class Model(RuleBasedStateMachine):
         """What a part of a feed may be, by the tables of terms since it came."""
         return [contents(sent.data, self.parts, terms)[part] for terms in sent.terms]
 
-    def check_own(self, series: Series, judged: list[Sent]) -> None:
+    def check_own(self, series: Series, judged: list[Sent], waiting: list[Sent], resent: set[bytes]) -> None:
         by_number: dict[int, list[Sent]] = {}
         for sent in judged:
             by_number.setdefault(sent.number or 0, []).append(sent)
         for number, candidates in by_number.items():
-            # What a person refused does not come back by a resend that was had already.
+            # What a person refused does not come back by a resend that was had already: the number is missing.
             refused = [products_of(sent) for sent in candidates if sent.is_rejected]
-            like = [sent for sent in candidates if not sent.is_rejected and products_of(sent) in refused]
-            standing = next((sent for sent in candidates if not sent.is_rejected and sent not in like), None)
+            over = [sent for sent in candidates if sent.data in resent and products_of(sent) in refused]
+            standing = next((sent for sent in candidates if not sent.is_rejected and sent not in over), None)
             for part in range(self.parts):
                 at = (number - 1) * self.parts + part + 1
                 right = self.may_be(standing, part) if standing else [None]
-                stays = [*like, *(sent for sent in candidates if sent.is_rejected and not sent.is_gone)]
+                stays = [sent for sent in candidates if sent.is_rejected and not sent.is_gone]
+                # An older ledger does not know what was posted, or refused.
+                stays += [sent for sent in [*candidates, *waiting] if sent.number == number and sent.was_had]
                 right += [each for sent in stays for each in self.may_be(sent, part)]
                 right += [WAIVED] if at in self.waived else []
                 assert bare(series.had.get(at)) in right, (at, series.had.get(at), right)
             for sent in candidates:
-                had = [bare(series.had.get((number - 1) * self.parts + part + 1)) for part in range(self.parts)]
-                is_there = any(each in self.may_be(sent, part) for part, each in enumerate(had))
                 # A ledger of before may not know that a person refused it.
-                sent.is_gone = sent.is_rejected and not is_there and not self.unsure
+                sent.is_gone = sent.is_rejected and not self.is_at(sent, series) and not self.unsure
         named = {each.number for each in self.sent.values() if each.number}
         numbers = {(number - 1) * self.parts + part + 1 for number in named for part in range(self.parts)}
         assert set(series.had) <= numbers | self.waived

@@ -14,7 +14,7 @@ from dataclasses import dataclass, field, replace
 from hashlib import sha256
 from pathlib import Path
 
-from hypothesis import HealthCheck
+from hypothesis import HealthCheck, Phase
 from hypothesis import settings as hypothesis_settings
 from hypothesis import strategies as st
 from hypothesis.stateful import RuleBasedStateMachine, initialize, precondition, rule
@@ -56,7 +56,7 @@ class Sent:
     is_whole: bool
     number: int | None
     is_rejected: bool = False
-    # The texts that it had as a person refused it: none is posted from then on.
+    # The text that it had as a person refused it: it is not posted from then on. (Parts of several feeds may be alike.)
     refused: set[bytes] = field(default_factory=set)
     is_let_in: bool = False
     # Whether a desk was seen without it, since a person refused it.
@@ -141,25 +141,19 @@ class Model(RuleBasedStateMachine):
     names = st.sampled_from(["a.xml", "b.xml", "c d'.xml", "-e.xml", "f.onix"])
     prices = st.sampled_from(["1.00", "1.50", "1.70", "", "-"])
     small = st.dictionaries(st.sampled_from(REFERENCES), prices, max_size=4)
-    large = st.sampled_from(["5.00", "6.00", "4.50"]).map(lambda price: dict.fromkeys(MANY, price))
+    large = st.sampled_from(["4.50", "5.00", "6.00", f"{WRONG:.2f}", f"{WRONG * 2:.2f}"])
+    header = {"name": names, "number": st.integers(1, 5), "sent": st.sampled_from(["", "x"]), "is_late": st.booleans()}
 
-    @rule(
-        name=names,
-        number=st.integers(1, 5),
-        products=small | large,
-        sent=st.sampled_from(["", "x"]),
-        is_late=st.booleans(),
-    )
-    def send(self, name: str, number: int, products: dict[str, str], sent: str, is_late: bool) -> None:
+    @rule(**header, products=small)
+    def send(self, name: str, number: int, sent: str, is_late: bool, products: dict[str, str]) -> None:
         of_sender = None if self.is_next else number
         # Other bytes of the same contents are a resend where the sender numbers its files, and else another file.
         data = fake_program.feed_of(of_sender, products, sent="" if self.is_next else sent)
         self.upload(name, data, True, of_sender, is_late and self.is_next and data not in self.sent)
 
-    @rule(name=names, number=st.integers(1, 5), price=st.sampled_from([WRONG, WRONG * 2]))
-    def send_wrong(self, name: str, number: int, price: float) -> None:
-        of_sender = None if self.is_next else number
-        self.upload(name, fake_program.feed_of(of_sender, dict.fromkeys(MANY, f"{price:.2f}")), True, of_sender)
+    @rule(**header, price=large)
+    def send_many(self, name: str, number: int, sent: str, is_late: bool, price: str) -> None:
+        self.send(name, number, sent, is_late, dict.fromkeys(MANY, price))
 
     @rule(name=names, data=st.sampled_from([b"", b"<cut", b'{"number": null}']))
     def send_broken(self, name: str, data: bytes) -> None:
@@ -266,7 +260,8 @@ class Model(RuleBasedStateMachine):
         if file and file.state not in ("rejected", "replaced"):
             decide.decide(inbox, "refuse", file.mark)
             sent.is_rejected = True
-            sent.refused = {inbox.ledger.text(row.number) for row in inbox.ledger.messages_of(file)}
+            if self.parts == 1:
+                sent.refused = {inbox.ledger.text(row.number) for row in inbox.ledger.messages_of(file)}
 
     @precondition(lambda self: bool(self.sent))
     @rule(which=some)
@@ -530,7 +525,8 @@ class Model(RuleBasedStateMachine):
 
 
 def case(examples: int, steps: int, place: Path | None = None, is_same: bool = False) -> type[unittest.TestCase]:
-    """The model as a case of so many runs of so many steps each, which are the same each time, or others."""
+    """The model as a case of so many runs of so many steps each, which are the same each time, or others. The steps of one
+    that fails are printed as Python makes them again."""
     Model.place = place
     found: type[unittest.TestCase] = Model.TestCase
     found.settings = hypothesis_settings(  # type: ignore[attr-defined]
@@ -538,7 +534,9 @@ def case(examples: int, steps: int, place: Path | None = None, is_same: bool = F
         stateful_step_count=steps,
         deadline=None,
         database=None,
-        print_blob=False,
+        # What fails is not made shorter, which takes longer than a run of its own.
+        phases=[Phase.generate],
+        report_multiple_bugs=False,
         derandomize=is_same,
         suppress_health_check=list(HealthCheck),
     )

@@ -1,7 +1,8 @@
 """The inbox as a state machine (tests/shop/model.py), some runs of it; ONIXDESK_MODEL_SECONDS says for how long it is tried
-besides, each time with other seeds."""
+besides, each time with other seeds. What fails is written whole to standard error."""
 
 import os
+import sys
 import time
 import unittest
 from collections.abc import Iterator
@@ -30,4 +31,6 @@ def model(room: Room) -> Iterator[Outcome]:
 def failures(case: type[unittest.TestCase]) -> list[str]:
     result = unittest.TestResult()
     case("runTest").run(result)
-    return [text for _, text in [*result.failures, *result.errors]]
+    found = [text for _, text in [*result.failures, *result.errors]]
+    print(*found, sep="\n", end="", file=sys.stderr)
+    return [text.partition("Falsifying example:")[0].splitlines()[-1] for text in found]

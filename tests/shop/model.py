@@ -8,7 +8,6 @@ import shutil
 import sqlite3
 import tempfile
 import unittest
-from collections.abc import Callable
 from contextlib import closing
 from dataclasses import dataclass, field, replace
 from hashlib import sha256
@@ -19,27 +18,22 @@ from hypothesis import settings as hypothesis_settings
 from hypothesis import strategies as st
 from hypothesis.stateful import RuleBasedStateMachine, initialize, precondition, rule
 
-from onixdesk_shop.desk import Desk
 from onixdesk_shop.faults import Fault
-from onixdesk_shop.inbox import decide, run
-from onixdesk_shop.inbox.context import Inbox, Places
-from onixdesk_shop.inbox.ledger import File, Ledger
-from onixdesk_shop.places import LEDGER, STORE
-from onixdesk_shop.settings import NEXT, OWN, Settings
-from onixdesk_shop.shop_json import Shop
+from onixdesk_shop.inbox import decide
+from onixdesk_shop.inbox.context import Inbox
+from onixdesk_shop.inbox.ledger import File
+from onixdesk_shop.settings import NEXT, OWN
 from tests.shop import fake_program
-from tests.shop.fake_desk import WAIVED, Contents, FakeDesk, Series, contents_of, records_of
-from tests.shop.fake_machine import Disk, FakeMachine, Killed
-from tests.shop.fake_program import SENDER
+from tests.shop.fake_desk import WAIVED, Contents, FakeDesk, Series, contents_of, products_in, records_of
+from tests.shop.fake_machine import FakeMachine, Killed
+from tests.shop.inboxes import SERIES, FakeInbox
 
-SERIES = "north"
-START = 1_790_000_000
-SHOP = Shop("GB", "GBP", "02", "", [1], {}, {})
 FAULTS = ("error", "kill", "power", "signal")
 STEPS = (
     "copy copied rename renamed remove removed sync synced write written begin commit committed answered batch child"
 ).split()
 
+NUMBERS = range(1, 6)
 REFERENCES = [f"R{number}" for number in range(4)]
 MANY = [f"M{number}" for number in range(12)]
 
@@ -97,22 +91,13 @@ class Model(RuleBasedStateMachine):
     )
     def begin(self, number: str, parts: int, leave: bool, full: int) -> None:
         self.folder = Path(tempfile.mkdtemp(prefix="model-", dir=self.place))
-        self.places = Places(*(self.folder / name for name in ("program", "incoming", "inboxes", "state", "rules")))
-        for folder in (self.places.incoming, self.places.inboxes, self.places.state):
-            (folder / SERIES).mkdir(parents=True)
-        (self.places.inboxes / SERIES / STORE).mkdir()
-        self.places.program.touch()
         words = ("--parts", str(parts))
-        self.settings = Settings(SENDER, words=words, number=number, unchanged_seconds=0, leave=leave, full=full)
+        self.inbox = FakeInbox(self.folder, words=words, number=number, leave=leave, full=full)
         self.is_next, self.parts = number == NEXT, parts
-        self.terms: bytes | None = None
-        self.disk, self.desk = Disk(), FakeDesk()
-        self.desk.series[SERIES] = Series((*SENDER, "", ""), 1)
-        self.copies: list[FakeDesk] = [self.desk.copy()]
+        self.copies = [self.desk.copy()]
         self.ledgers: list[Path] = []
         self.sent: dict[bytes, Sent] = {}
         self.waived: set[int] = set()
-        self.clock = START
         self.ever: dict[int, Contents] = {}
         self.unsure: set[int] = set()
         # What was judged over another desk may look wrong beside what this one has.
@@ -126,15 +111,12 @@ class Model(RuleBasedStateMachine):
 
     def upload(self, name: str, data: bytes, is_whole: bool, number: int | None, is_late: bool = False) -> None:
         """A wholesaler that overwrites its file before that is taken has sent nothing before: this one waits."""
-        path = self.places.incoming / SERIES / name
-        if path.exists():
+        if (self.inbox.incoming / name).exists():
             self.clean()
-        self.clock += 120
-        time = self.clock - 60 - (100_000 if is_late else 0)
-        path.write_bytes(data)
-        os.utime(path, (time, time))
+        time = self.inbox.clock + 60 - (100_000 if is_late else 0)
+        self.inbox.send(name, data, time)
         sent = self.sent.setdefault(data, Sent(data, time, is_whole, number))
-        sent.terms.add(self.terms)
+        sent.terms.add(self.inbox.terms)
 
     # Which of what there is: a number, so that the steps of a run can be made again as they are printed.
     some = st.integers(0, 11)
@@ -142,7 +124,12 @@ class Model(RuleBasedStateMachine):
     prices = st.sampled_from(["1.00", "1.50", "1.70", "", "-"])
     small = st.dictionaries(st.sampled_from(REFERENCES), prices, max_size=4)
     large = st.sampled_from(["4.50", "5.00", "6.00", f"{WRONG:.2f}", f"{WRONG * 2:.2f}"])
-    header = {"name": names, "number": st.integers(1, 5), "sent": st.sampled_from(["", "x"]), "is_late": st.booleans()}
+    header = {
+        "name": names,
+        "number": st.sampled_from(NUMBERS),
+        "sent": st.sampled_from(["", "x"]),
+        "is_late": st.booleans(),
+    }
 
     @rule(**header, products=small)
     def send(self, name: str, number: int, sent: str, is_late: bool, products: dict[str, str]) -> None:
@@ -173,25 +160,27 @@ class Model(RuleBasedStateMachine):
 
     @rule(kind=st.sampled_from(FAULTS), what=st.sampled_from(STEPS), place=st.integers(1, 8))
     def run_with_fault(self, kind: str, what: str, place: int) -> None:
-        self.run(FakeMachine(self.disk, self.desk, self.clock, (kind, what, place)))
+        self.run((kind, what, place))
 
     @rule(kind=st.sampled_from(FAULTS), place=st.integers(2, 4))
     def lose_an_answer(self, kind: str, place: int) -> None:
         """The first request asks for the gaps."""
-        self.run(FakeMachine(self.disk, self.desk, self.clock, (kind, "answered", place)))
+        self.run((kind, "answered", place))
 
     @rule()
     def run_without_desk(self) -> None:
-        machine = self.run(FakeMachine(self.disk, None, self.clock))
-        assert not self.shown()["desk"]
-        assert self.settings.leave or not self.unread(), machine.lines
+        desk, self.inbox.desk = self.inbox.desk, None
+        self.run()
+        self.inbox.desk = desk
+        assert not self.inbox.shown()["desk"]
+        assert self.inbox.settings.leave or not os.listdir(self.inbox.incoming), self.inbox.lines
 
     @rule()
     def copy(self) -> None:
         self.copies.append(self.desk.copy())
         target = self.folder / f"ledger-{len(self.ledgers)}"
-        self.with_inbox(self.sound(), lambda inbox: None)
-        with closing(sqlite3.connect(self.ledger)) as old, closing(sqlite3.connect(target)) as new:
+        self.inbox.files()
+        with closing(sqlite3.connect(self.inbox.ledger)) as old, closing(sqlite3.connect(target)) as new:
             old.backup(new)
         self.ledgers.append(target)
 
@@ -202,7 +191,7 @@ class Model(RuleBasedStateMachine):
         if any(sent.is_gone and not had.isdisjoint(self.all_parts(sent)) for sent in self.sent.values()):
             # It has what was refused, and taken out since: desk-restore does not take it.
             return
-        self.desk = desk
+        self.inbox.desk = desk
         self.is_restored = True
         for sent in self.sent.values():
             sent.is_gone = sent.is_rejected and not self.unsure and had.isdisjoint(self.all_parts(sent))
@@ -214,9 +203,9 @@ class Model(RuleBasedStateMachine):
     @rule(which=some)
     def put_back_ledger(self, which: int) -> None:
         for ending in ("", "-wal", "-shm"):
-            self.ledger.with_name(f"{self.ledger.name}{ending}").unlink(missing_ok=True)
-        shutil.copyfile(self.ledgers[which % len(self.ledgers)], self.ledger)
-        with closing(sqlite3.connect(self.ledger)) as ledger:
+            self.inbox.ledger.with_name(f"{self.inbox.ledger.name}{ending}").unlink(missing_ok=True)
+        shutil.copyfile(self.ledgers[which % len(self.ledgers)], self.inbox.ledger)
+        with closing(sqlite3.connect(self.inbox.ledger)) as ledger:
             rejected = {digest for digest, in ledger.execute("SELECT digest FROM file WHERE state = 'rejected'")}
         # What came since is converted with the terms of then, should a desk lack it too.
         self.unsure |= {
@@ -235,15 +224,14 @@ class Model(RuleBasedStateMachine):
 
     def is_at(self, sent: Sent, series: Series) -> bool:
         """Whether a desk has a part of a feed at its number."""
-        first = ((sent.number or 0) - 1) * self.parts + 1
-        had = [bare(series.had.get(first + part)) for part in range(self.parts)]
+        had = [bare(series.had.get(at)) for at in self.numbers_of(sent.number or 0)]
         return sent.is_whole and any(each in self.may_be(sent, part) for part, each in enumerate(had))
 
     # What people do
 
     @rule(terms=st.sampled_from([None, b"50", b"60"]))
     def change_terms(self, terms: bytes | None) -> None:
-        self.terms = terms
+        self.inbox.terms = terms
         for sent in self.sent.values():
             sent.terms.add(terms)
 
@@ -253,7 +241,7 @@ class Model(RuleBasedStateMachine):
         if is_clean:
             self.clean()
         sent = self.one_of(which)
-        self.with_inbox(self.sound(), lambda inbox: self.refuse_file(inbox, sent))
+        self.inbox.work(lambda inbox: self.refuse_file(inbox, sent))
 
     def refuse_file(self, inbox: Inbox, sent: Sent) -> None:
         file = inbox.ledger.latest(sent.digest)
@@ -269,11 +257,11 @@ class Model(RuleBasedStateMachine):
         """A file is refused, and its messages are taken out of the desk's text."""
         self.clean()
         sent = self.one_of(which)
-        self.with_inbox(self.sound(), lambda inbox: self.take_out(inbox, sent))
+        self.inbox.work(lambda inbox: self.take_out(inbox, sent))
 
     def take_out(self, inbox: Inbox, sent: Sent) -> None:
         self.refuse_file(inbox, sent)
-        series = self.desk.series[SERIES]
+        series = self.inbox.series
         file = inbox.ledger.latest(sent.digest)
         for row in inbox.ledger.messages_of(file) if file else []:
             if sent.is_rejected and row.state in ("posted", "held", "applied"):
@@ -283,23 +271,23 @@ class Model(RuleBasedStateMachine):
     @rule(days=st.integers(4, 6))
     def change_settings(self, days: int) -> None:
         """Which ones does not matter: what was refused is tried again."""
-        self.settings = replace(self.settings, silent_days=days)
+        self.inbox.settings = replace(self.inbox.settings, silent_days=days)
 
     @rule()
     def let_in(self) -> None:
         self.clean()
-        self.with_inbox(self.sound(), self.let_in_first)
+        self.inbox.work(self.let_in_first)
 
     def let_in_first(self, inbox: Inbox) -> None:
         for file in inbox.ledger.files("state = 'quarantined'")[:1]:
             decide.decide(inbox, "let-in", file.mark)
-            self.sent[self.stored(file)].is_let_in = True
+            self.sent[self.inbox.stored(file)].is_let_in = True
 
     @precondition(lambda self: not self.is_next)
     @rule(number=st.integers(1, 8))
     def waive(self, number: int) -> None:
         self.clean()
-        self.with_inbox(self.sound(), lambda inbox: self.waive_number(inbox, number))
+        self.inbox.work(lambda inbox: self.waive_number(inbox, number))
 
     def waive_number(self, inbox: Inbox, number: int) -> None:
         try:
@@ -311,58 +299,36 @@ class Model(RuleBasedStateMachine):
     # Running it
 
     @property
-    def ledger(self) -> Path:
-        return self.places.inboxes / SERIES / LEDGER
+    def desk(self) -> FakeDesk:
+        assert self.inbox.desk
+        return self.inbox.desk
 
-    def sound(self) -> FakeMachine:
-        return FakeMachine(self.disk, self.desk, self.clock)
-
-    def with_inbox(self, machine: FakeMachine, work: Callable[[Inbox], object]) -> None:
-        ledger = Ledger(machine, self.ledger)
+    def run(self, fault: tuple[str, str, int] = ("", "", 0)) -> None:
+        inbox = self.inbox
+        machine = FakeMachine(inbox.disk, inbox.desk, inbox.clock, fault)
         try:
-            desk = Desk(machine, self.settings.batches)
-            work(Inbox(machine, SERIES, self.settings, self.places, ledger, desk, SHOP, self.terms))
-        finally:
-            ledger.close()
-            self.clock = int(machine.clock) + 1
-            assert all(sent.refused.isdisjoint(machine.posted) for sent in self.sent.values())
-
-    def run(self, machine: FakeMachine) -> FakeMachine:
-        try:
-            self.with_inbox(machine, run.run)
+            inbox.run(machine)
         except (Killed, SystemExit, OSError, Fault):
             pass
-        return machine
-
-    def unread(self) -> list[str]:
-        return os.listdir(self.places.incoming / SERIES)
-
-    def stored(self, file: File) -> bytes:
-        return (self.places.inboxes / SERIES / STORE / f"{file.digest}{file.ending}").read_bytes()
-
-    def shown(self) -> dict[str, object]:
-        found: dict[str, object] = json.loads((self.places.state / f"{SERIES}.json").read_bytes())
-        return found
+        assert all(sent.refused.isdisjoint(machine.posted) for sent in self.sent.values())
 
     @rule()
     def clean(self) -> None:
         """Nothing fails any more: two runs later all is as it should be, and nothing more is said of it."""
         for _ in range(2):
-            self.run(self.sound())
-        machine = self.sound()
-        self.with_inbox(machine, run.run)
-        assert not machine.lines, machine.lines
-        self.with_inbox(machine, self.check)
+            self.run()
+        assert not self.inbox.run(), self.inbox.lines
+        self.inbox.work(self.check)
 
     # What holds then
 
     def check(self, inbox: Inbox) -> None:
-        assert self.settings.leave or not self.unread()
+        assert self.inbox.settings.leave or not os.listdir(self.inbox.incoming)
         files = inbox.ledger.files("1")
         self.check_seen(files)
-        series = self.desk.series[SERIES]
-        waiting = {self.stored(file) for file in files if file.state in ("new", "quarantined", "replaced")}
-        resent = {self.stored(file) for file in files if file.state == "had"}
+        series = self.inbox.series
+        waiting = {self.inbox.stored(file) for file in files if file.state in ("new", "quarantined", "replaced")}
+        resent = {self.inbox.stored(file) for file in files if file.state == "had"}
         whole = sorted((sent for sent in self.sent.values() if sent.is_whole), key=lambda sent: sent.time)
         judged = [sent for sent in whole if sent.data not in waiting]
         if self.is_next:
@@ -377,31 +343,21 @@ class Model(RuleBasedStateMachine):
 
     def check_seen(self, files: list[File]) -> None:
         """Each file that was sent has a row, its bytes are there, and what waits is counted."""
-        assert {self.stored(file) for file in files} == set(self.sent)
+        assert {self.inbox.stored(file) for file in files} == set(self.sent)
         first = min(((file.time, file.name, file.id) for file in files if file.state == "quarantined"), default=None)
         for file in files:
             if file.state == "new":
                 assert first and (file.time, file.name, file.id) > first, file
             assert file.state != "posting", file
-            assert self.sent[self.stored(file)].is_whole or file.state in (
-                "new",
-                "refused",
-                "rejected",
-                "replaced",
-            ), file
-        shown = self.shown()
+            assert self.sent[self.inbox.stored(file)].is_whole or file.state not in ("applied", "held", "had"), file
+        shown = self.inbox.shown()
         assert shown["waiting"] == sum(file.state in ("new", "posting", "held") for file in files)
         assert shown["quarantined"] == sum(file.state == "quarantined" for file in files)
         assert shown["desk"]
 
-    def rejected(self) -> list[Contents]:
+    def rejected(self) -> list[Contents | str | None]:
         """The contents of all that a person refused."""
-        return [
-            part
-            for sent in self.sent.values()
-            for terms in (sent.terms if sent.is_rejected and sent.is_whole else ())
-            for part in contents(sent.data, self.parts, terms)
-        ]
+        return [each for sent in self.sent.values() if sent.is_rejected for each in self.all_parts(sent)]
 
     def check_states(self, inbox: Inbox, files: list[File], series: Series) -> None:
         """What is called taken the desk has, and what is called refused is not what it has."""
@@ -413,14 +369,13 @@ class Model(RuleBasedStateMachine):
                 for row in inbox.ledger.messages_of(file):
                     had, text = series.had.get(row.number), inbox.ledger.text(row.number).decode()
                     assert had == contents_of(records_of(text)) or bare(had) in rejected, (file, had)
-            if file.state == "refused" and self.sent[self.stored(file)].is_whole:
+            if file.state == "refused" and self.sent[self.inbox.stored(file)].is_whole:
                 assert not self.is_next, file
-                assert not self.is_had(self.sent[self.stored(file)], series), file
+                assert not self.is_had(self.sent[self.inbox.stored(file)], series), file
 
     def is_had(self, sent: Sent, series: Series) -> bool:
         """Whether the desk has a feed of that number with the same products, by whichever terms."""
-        first = ((sent.number or 0) - 1) * self.parts + 1
-        had = [bare(series.had.get(first + part)) for part in range(self.parts)]
+        had = [bare(series.had.get(at)) for at in self.numbers_of(sent.number or 0)]
         others = [other for other in self.sent.values() if other.is_whole and other.number == sent.number]
         return any(self.fits(other, had) for other in others if products_of(other) == products_of(sent))
 
@@ -439,29 +394,28 @@ class Model(RuleBasedStateMachine):
         return [contents(sent.data, self.parts, terms)[part] for terms in sent.terms]
 
     def check_own(self, series: Series, judged: list[Sent], waiting: list[Sent], resent: set[bytes]) -> None:
-        by_number: dict[int, list[Sent]] = {}
-        for sent in judged:
-            by_number.setdefault(sent.number or 0, []).append(sent)
-        for number, candidates in by_number.items():
+        for number in NUMBERS:
+            candidates = [sent for sent in judged if sent.number == number]
             # What a person refused does not come back by a resend that was had already: the number is missing.
             refused = [products_of(sent) for sent in candidates if sent.is_rejected]
             over = [sent for sent in candidates if sent.data in resent and products_of(sent) in refused]
             standing = next((sent for sent in candidates if not sent.is_rejected and sent not in over), None)
-            for part in range(self.parts):
-                at = (number - 1) * self.parts + part + 1
+            stays = [sent for sent in candidates if sent.is_rejected and not sent.is_gone]
+            # An older ledger does not know what was posted, or refused.
+            stays += [sent for sent in [*candidates, *waiting] if sent.number == number and sent.was_had]
+            for part, at in enumerate(self.numbers_of(number)):
                 right = self.may_be(standing, part) if standing else [None]
-                stays = [sent for sent in candidates if sent.is_rejected and not sent.is_gone]
-                # An older ledger does not know what was posted, or refused.
-                stays += [sent for sent in [*candidates, *waiting] if sent.number == number and sent.was_had]
                 right += [each for sent in stays for each in self.may_be(sent, part)]
                 right += [WAIVED] if at in self.waived else []
                 assert bare(series.had.get(at)) in right, (at, series.had.get(at), right)
             for sent in candidates:
                 # A ledger of before may not know that a person refused it.
                 sent.is_gone = sent.is_rejected and not self.is_at(sent, series) and not self.unsure
-        named = {each.number for each in self.sent.values() if each.number}
-        numbers = {(number - 1) * self.parts + part + 1 for number in named for part in range(self.parts)}
-        assert set(series.had) <= numbers | self.waived
+        assert set(series.had) <= self.waived | {at for number in NUMBERS for at in self.numbers_of(number)}
+
+    def numbers_of(self, number: int) -> range:
+        """The desk's numbers of one of the sender's."""
+        return range((number - 1) * self.parts + 1, number * self.parts + 1)
 
     def check_next(self, series: Series, judged: list[Sent]) -> None:
         """The contents by number are those of the files in order of their times, but for what a person let in later; what
@@ -494,33 +448,25 @@ class Model(RuleBasedStateMachine):
             had = series.had[number]
             prices = self.prices_of(had)
             wrong = [name for name, price in prices.items() if price >= WRONG and 0 < before.get(name, 0) * 2 < price]
-            is_let_in = any(bare(had) in self.may_be(sent, number % self.parts - 1) for sent in self.let_in_files())
+            let_in = [sent for sent in self.sent.values() if sent.is_let_in]
+            is_let_in = any(bare(had) in self.may_be(sent, number % self.parts - 1) for sent in let_in)
             assert not wrong or is_let_in, (number, wrong)
             before.update(prices)
 
-    def let_in_files(self) -> list[Sent]:
-        return [sent for sent in self.sent.values() if sent.is_let_in]
-
     def prices_of(self, had: Contents | str) -> dict[str, float]:
-        found: dict[str, float] = {}
-        reference = ""
-        for record in had if isinstance(had, tuple) else ():
-            if record[0] == "Product":
-                reference = record[1]
-                found[reference] = 0
-            elif record[0] == "Price" and record[1] == "02":
-                found[reference] = float(record[2])
-        return found
+        """The price of each product, 0 without one."""
+        products = products_in(had) if isinstance(had, tuple) else []
+        return {product[0][1]: float(product[3][2]) if len(product) > 3 else 0 for product in products}
 
     def check_full(self, inbox: Inbox, series: Series) -> None:
         """The desk has what the last full files named, where nothing was missing and nobody refused anything."""
-        last = inbox.ledger.full_files()[: self.settings.full]
+        last = inbox.ledger.full_files()[: self.inbox.settings.full]
         refused = any(sent.is_rejected for sent in self.sent.values())
         if not self.is_next or not last or refused or any(file.state != "applied" for file in last):
             return
         prices: dict[str, str] = {}
         for file in reversed(last):
-            prices |= json.loads(self.stored(file))["products"]
+            prices |= json.loads(self.inbox.stored(file))["products"]
         assert set(series.catalogue()) == {name for name, price in prices.items() if price != "-"}, last
 
 

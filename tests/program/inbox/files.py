@@ -237,6 +237,17 @@ def returned(room: Room) -> Iterator[Outcome]:
     inbox.run()
     yield Outcome("each number has its text", [inbox.series.had[number] for number in texts], [*texts.values()])
     yield Outcome("put there again", (sorted(inbox.series.had), price_of(inbox, "R1")), ([1, 2, 3], "1.000"))
+    inbox = inbox_in(room, "half", number=NEXT, words=("--parts", "2"))
+    assert inbox.desk
+    deliver, before = inbox.desk.deliver, inbox.desk.copy()
+    refused = ["refused", "malformed", "1"]
+    with patch.object(inbox.desk, "deliver", lambda message: deliver(message) if message[0][6] == "1" else refused):
+        inbox.send("a.xml", feed_of(None, {"R1": "1.00"}))
+        inbox.run()
+    texts, inbox.desk = inbox.series.had, before
+    inbox.send("b.xml", feed_of(None, {"R1": "2.00"}))
+    inbox.run()
+    yield Outcome("a number that the desk took is not given back", inbox.series.had[1], texts[1])
 
 
 def waived(room: Room) -> Iterator[Outcome]:

@@ -78,15 +78,6 @@ def text_of(desk: FakeDesk) -> str:
     return "".join(f"{line}\n" for line in lines)
 
 
-def reports(desk: FakeDesk) -> str:
-    lines = []
-    for name, series in desk.series.items():
-        greatest = max(series.had, default="none")
-        lines.append(f"gaps,{name},first={series.first},next={series.next},greatest={greatest},held=0,missing=0")
-        lines += [f"missing,{low},{high}" for low, high in series.missing]
-    return "".join(f"{line}\n" for line in lines)
-
-
 class ShopMachine(FakeMachine):
     """One run of a program of root."""
 
@@ -198,7 +189,7 @@ class Shop:
         database = Path(words[words.index("--db") + 1])
         desk = read(database) if database.exists() else FakeDesk()
         if words[-1] == "gaps":
-            return reports(desk)
+            return "".join(f"{','.join(row)}\n" for name in desk.series for row in desk.gaps(name))
         answers = desk.batch(text)
         write(desk, database)
         return answers

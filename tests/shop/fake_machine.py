@@ -55,6 +55,8 @@ class FakeMachine(Machine):
         self.desk = desk
         self.clock = clock
         self.kind, *self.at = fault
+        # What somebody else does then, where the kind is `meanwhile`.
+        self.meanwhile: Callable[[], object] = lambda: None
         self.steps: Counter[str] = Counter()
         self.is_dead = False
         self.lines: list[tuple[int, str]] = []
@@ -72,6 +74,9 @@ class FakeMachine(Machine):
             raise Killed
         self.steps.update([what, ""])
         if self.at not in ([what, self.steps[what]], ["", self.steps[""]]):
+            return
+        if self.kind == "meanwhile":
+            self.meanwhile()
             return
         if self.kind == "error":
             raise OSError(28, "No space left on device", what)

@@ -51,4 +51,18 @@ def interrupted(kind: str, room: Room) -> Iterator[Outcome]:
     yield Outcome("there are some", at > 60, True)
 
 
-GROUPS = [Group(f"a run, {kind}", partial(interrupted, kind)) for kind in ("kill", "power", "error", "signal")]
+def written_to(room: Room) -> Iterator[Outcome]:
+    """A file that somebody writes to, amid a run, is taken whole, whatever was copied of it before."""
+    for step, wanted in ("copied", ["applied"]), ("rename", ["applied", "refused"]):
+        inbox = inbox_in(room, step, number=NEXT)
+        whole = FILES["b.xml"]
+        inbox.send("b.xml", whole[:-9])
+        machine = FakeMachine(inbox.disk, inbox.desk, inbox.clock, ("meanwhile", step, 1))
+        machine.meanwhile = partial(inbox.send, "b.xml", whole, inbox.clock - 1)
+        inbox.run(machine)
+        inbox.run()
+        yield Outcome(f"before it is {step}", sorted(file.state for file in inbox.files()), wanted)
+
+
+KINDS = "kill", "power", "error", "signal"
+GROUPS = [Group("written to", written_to), *(Group(f"a run, {kind}", partial(interrupted, kind)) for kind in KINDS)]

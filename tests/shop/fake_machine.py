@@ -31,10 +31,13 @@ class Disk:
     def sync(self, folder: Path) -> None:
         self.undo = [(each, undo) for each, undo in self.undo if each != folder]
 
-    def lose_power(self) -> None:
-        for _, undo in reversed(self.undo):
-            with contextlib.suppress(FileNotFoundError):
-                undo()
+    def lose_power(self, is_torn: bool) -> None:
+        """What is not synced is gone: of all folders, or, torn, of the one that changed first."""
+        first = self.undo[0][0] if is_torn and self.undo else None
+        for folder, undo in reversed(self.undo):
+            if folder == (first or folder):
+                with contextlib.suppress(FileNotFoundError):
+                    undo()
         self.undo = []
 
 
@@ -84,8 +87,8 @@ class FakeMachine(Machine):
             # The program goes on with what it does at its end.
             raise SystemExit(143)
         self.is_dead = True
-        if self.kind == "power":
-            self.disk.lose_power()
+        if self.kind in ("power", "torn"):
+            self.disk.lose_power(self.kind == "torn")
         raise Killed
 
     def now(self) -> float:

@@ -28,7 +28,7 @@ from tests.shop.fake_desk import WAIVED, Contents, FakeDesk, Series, contents_of
 from tests.shop.fake_machine import FakeMachine, Killed
 from tests.shop.inboxes import SERIES, FakeInbox
 
-FAULTS = ("error", "kill", "power", "signal")
+FAULTS = ("error", "kill", "power", "torn", "signal")
 STEPS = (
     "copy copied rename renamed remove removed sync synced write written begin commit committed answered batch child"
 ).split()
@@ -124,21 +124,16 @@ class Model(RuleBasedStateMachine):
     prices = st.sampled_from(["1.00", "1.50", "1.70", "", "-"])
     small = st.dictionaries(st.sampled_from(REFERENCES), prices, max_size=4)
     large = st.sampled_from(["4.50", "5.00", "6.00", f"{WRONG:.2f}", f"{WRONG * 2:.2f}"])
-    header = {
-        "name": names,
-        "number": st.sampled_from(NUMBERS),
-        "sent": st.sampled_from(["", "x"]),
-        "is_late": st.booleans(),
-    }
+    numbers, moments = st.sampled_from(NUMBERS), st.sampled_from(["", "x"])
 
-    @rule(**header, products=small)
+    @rule(name=names, number=numbers, sent=moments, is_late=st.booleans(), products=small)
     def send(self, name: str, number: int, sent: str, is_late: bool, products: dict[str, str]) -> None:
         of_sender = None if self.is_next else number
         # Other bytes of the same contents are a resend where the sender numbers its files, and else another file.
         data = fake_program.feed_of(of_sender, products, sent="" if self.is_next else sent)
         self.upload(name, data, True, of_sender, is_late and self.is_next and data not in self.sent)
 
-    @rule(**header, price=large)
+    @rule(name=names, number=numbers, sent=moments, is_late=st.booleans(), price=large)
     def send_many(self, name: str, number: int, sent: str, is_late: bool, price: str) -> None:
         self.send(name, number, sent, is_late, dict.fromkeys(MANY, price))
 
@@ -208,11 +203,8 @@ class Model(RuleBasedStateMachine):
         with closing(sqlite3.connect(self.inbox.ledger)) as ledger:
             rejected = {digest for digest, in ledger.execute("SELECT digest FROM file WHERE state = 'rejected'")}
         # What came since is converted with the terms of then, should a desk lack it too.
-        self.unsure |= {
-            0,
-            *self.ever,
-            *(number for desk in self.desks() for number in desk.series[SERIES].had),
-        }
+        numbers = (number for desk in self.desks() for number in desk.series[SERIES].had)
+        self.unsure |= {0, *self.ever, *numbers}
         for sent in self.sent.values():
             if sent.digest not in rejected:
                 sent.is_rejected, sent.refused = False, set()

@@ -64,5 +64,5 @@ def written_to(room: Room) -> Iterator[Outcome]:
         yield Outcome(f"before it is {step}", sorted(file.state for file in inbox.files()), wanted)
 
 
-KINDS = "kill", "power", "error", "signal"
+KINDS = "kill", "power", "torn", "error", "signal"
 GROUPS = [Group("written to", written_to), *(Group(f"a run, {kind}", partial(interrupted, kind)) for kind in KINDS)]

@@ -388,9 +388,11 @@ class Model(RuleBasedStateMachine):
     def check_own(self, series: Series, judged: list[Sent], waiting: list[Sent], resent: set[bytes]) -> None:
         for number in NUMBERS:
             candidates = [sent for sent in judged if sent.number == number]
-            # What a person refused does not come back by a resend that was had already: the number is missing.
+            # What a person refused does not come back by a resend that was had already: the number is missing. By an older
+            # ledger what the desk had instead of it was such a resend, too.
             refused = [products_of(sent) for sent in candidates if sent.is_rejected]
-            over = [sent for sent in candidates if sent.data in resent and products_of(sent) in refused]
+            had = [sent for sent in candidates if sent.data in resent] if refused else []
+            over = [sent for sent in had if self.unsure or products_of(sent) in refused]
             standing = next((sent for sent in candidates if not sent.is_rejected and sent not in over), None)
             stays = [sent for sent in candidates if sent.is_rejected and not sent.is_gone]
             # An older ledger does not know what was posted, or refused.

@@ -1,7 +1,6 @@
 """A shop of the tests whose desk is two files: a database with the tables that say what the desk was told, asked by a
 stand-in of its program, served by the desk of the tests once its unit is started."""
 
-import argparse
 import contextlib
 import shutil
 import sqlite3
@@ -99,8 +98,8 @@ class ShopMachine(FakeMachine):
     def sleep(self, seconds: float) -> None:
         self.step("sleep")
         super().sleep(seconds)
-        if self.shop.inbox.desk:
-            self.shop.run_inbox()
+        if self.shop.inbox.desk and self.shop.is_inbox_run:
+            self.shop.inbox.run()
 
     def make_folder(self, path: Path, mode: int = 0o700) -> None:
         self.step("folder")
@@ -155,10 +154,6 @@ class Shop:
         if self.inbox.desk:
             write(self.inbox.desk, self.database)
 
-    def run_inbox(self) -> None:
-        if self.is_inbox_run:
-            self.inbox.run()
-
     def send(self, *files: tuple[str, bytes]) -> None:
         for name, data in files:
             self.inbox.send(name, data)
@@ -207,7 +202,3 @@ class Shop:
         shutil.copy(self.database, folder / self.database.name)
         self.inbox.work(lambda inbox: inbox.machine.backup(inbox.folder / LEDGER, folder / LEDGERS / f"{SERIES}.db"))
         return folder
-
-
-def options_of(shop: Shop, **more: Any) -> argparse.Namespace:
-    return argparse.Namespace(**{**shop.options, **more})

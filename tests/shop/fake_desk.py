@@ -120,9 +120,6 @@ class FakeDesk:
     def copy(self) -> "FakeDesk":
         return copy.deepcopy(self)
 
-    def of_parties(self, parties: tuple[str, ...]) -> tuple[str, Series] | None:
-        return next(((name, series) for name, series in self.series.items() if series.parties == parties), None)
-
     def deliver(self, records: Records) -> list[str]:
         """The answer to a message."""
         if not is_message(records):
@@ -130,10 +127,10 @@ class FakeDesk:
         header = records[0]
         if not header[6]:
             return ["refused", "unnumbered"]
-        found, number = self.of_parties(tuple(header[2:6])), int(header[6])
-        if not found:
+        name = next((name for name, series in self.series.items() if series.parties == tuple(header[2:6])), "")
+        if not name:
             return ["refused", "unknown-series"]
-        name, series = found
+        series, number = self.series[name], int(header[6])
         if number < series.first:
             return ["refused", "before-first", name, str(number), str(series.first)]
         contents = contents_of(records)

@@ -71,9 +71,9 @@ def contents(data: bytes, parts: int, terms: bytes | None) -> tuple[Contents, ..
     return tuple(contents_of(records_of(message)) for message in messages)
 
 
-def products_of(sent: Sent) -> dict[str, str]:
-    found: dict[str, str] = json.loads(sent.data)["products"]
-    return found
+def products_of(sent: Sent) -> list[tuple[str, str]]:
+    """The products of a feed, in its order, which is that of the contents."""
+    return [*json.loads(sent.data)["products"].items()]
 
 
 def bare(had: Contents | str | None) -> Contents | str | None:
@@ -388,9 +388,10 @@ class Model(RuleBasedStateMachine):
     def check_own(self, series: Series, judged: list[Sent], waiting: list[Sent], resent: set[bytes]) -> None:
         for number in NUMBERS:
             candidates = [sent for sent in judged if sent.number == number]
-            # What a person refused does not come back by a resend that was had already: the number is missing.
+            # What a person refused does not come back by a resend, nor what an older ledger took for one.
             refused = [products_of(sent) for sent in candidates if sent.is_rejected]
-            over = [sent for sent in candidates if sent.data in resent and products_of(sent) in refused]
+            had = [sent for sent in candidates if sent.data in resent] if refused else []
+            over = [sent for sent in had if self.unsure or products_of(sent) in refused]
             standing = next((sent for sent in candidates if not sent.is_rejected and sent not in over), None)
             stays = [sent for sent in candidates if sent.is_rejected and not sent.is_gone]
             # An older ledger does not know what was posted, or refused.

@@ -1,5 +1,6 @@
 """A copy that is put into the place of a desk: what is said before, what is made again, and what the inboxes post."""
 
+import argparse
 import os
 from collections.abc import Iterator
 from dataclasses import replace
@@ -13,7 +14,7 @@ from onixdesk_shop.restores.command_line import restore
 from onixdesk_shop.settings import NEXT
 from tests.program.room import Group, Room
 from tests.running import Outcome
-from tests.shop.desk_files import UNITS, Shop, ShopMachine, options_of, read, text_of
+from tests.shop.desk_files import UNITS, Shop, ShopMachine, read, text_of
 from tests.shop.fake_desk import WAIVED, FakeDesk
 from tests.shop.fake_machine import Killed
 from tests.shop.fake_program import SENDER, feed_of, isbn_of
@@ -34,7 +35,7 @@ def shop_in(room: Room, name: str, **settings: object) -> Shop:
 def run(shop: Shop, copy: Path, machine: ShopMachine | None = None, **more: object) -> int:
     """The status of a restore; its lines and what it wrote are the shop's then."""
     machine = machine or shop.machine()
-    options = options_of(shop, **{**OPTIONS, **more}, copy=copy)
+    options = argparse.Namespace(**{**shop.options, **OPTIONS, **more, "copy": copy})
     try:
         return status_of(machine, lambda each: restore(each, options))
     finally:

@@ -250,6 +250,18 @@ def returned(room: Room) -> Iterator[Outcome]:
     yield Outcome("a number that the desk took is not given back", inbox.series.had[1], texts[1])
 
 
+def refused(room: Room) -> Iterator[Outcome]:
+    """What a person refused is not posted again, also once that is there for which it waited."""
+    inbox = inbox_in(room, "refused")
+    inbox.send("2.xml", feed_of(2, {"R1": "1.00"}))
+    inbox.run()
+    inbox.work(lambda each: decide.decide(each, "refuse", each.ledger.files("1")[0].mark))
+    inbox.send("1.xml", feed_of(1, {"R2": "1.00"}))
+    machine = inbox.machine()
+    inbox.run(machine)
+    yield Outcome("the other one alone", sum(text.startswith(b"Message") for text in machine.posted), 1)
+
+
 def waived(room: Room) -> Iterator[Outcome]:
     """A number that was waived is waived again at a restored desk, before a file that came to it meanwhile."""
     inbox = inbox_in(room, "waived")

@@ -55,10 +55,9 @@ def written_to(room: Room) -> Iterator[Outcome]:
     """A file that somebody writes to, amid a run, is taken whole, whatever was copied of it before."""
     for step, wanted in ("copied", ["applied"]), ("rename", ["applied", "refused"]):
         inbox = inbox_in(room, step, number=NEXT)
-        whole = FILES["b.xml"]
-        inbox.send("b.xml", whole[:-9])
+        inbox.send("b.xml", FILES["b.xml"][:-9])
         machine = FakeMachine(inbox.disk, inbox.desk, inbox.clock, ("meanwhile", step, 1))
-        machine.meanwhile = partial(inbox.send, "b.xml", whole, inbox.clock - 1)
+        machine.meanwhile = partial(inbox.send, "b.xml", FILES["b.xml"], inbox.clock - 1)
         inbox.run(machine)
         inbox.run()
         yield Outcome(f"before it is {step}", sorted(file.state for file in inbox.files()), wanted)

@@ -126,15 +126,15 @@ def shell(room: Room, lines: list[str]) -> Ran:
 
 
 def moved(room: Room) -> Iterator[Outcome]:
-    """What docs/RELIABILITY.md says of a desk as text."""
+    """What docs/MISTAKES.md says of a desk as text."""
     batch(room, REQUESTS)
-    lines = block("docs/RELIABILITY.md", "  desk-copy /var/lib/onixdesk/shop.db friday")
+    lines = block("docs/MISTAKES.md", "desk-copy /var/lib/onixdesk/shop.db friday")
     came = shell(room, lines[1:3])
     failed = came.status, came.output, room.path("new.db").exists()
     yield Outcome("a desk is not moved where its export fails", failed, (3, b"", False))
     came = shell(room, lines)
     yield Outcome("a desk is moved", (came.status, came.output), (0, AGAIN))
     yield Outcome("a desk that was moved", listed(room, "export", "new.db"), Ran(0, EXPORT))
-    came = shell(room, block("docs/RELIABILITY.md", "  sed -n"))
+    came = shell(room, block("docs/MISTAKES.md", "sed -n"))
     wanted = b"Message,2,06,4012345000009,06,5012345678900,4,1,,,\nEndMessage,1\n"
     yield Outcome("what is recorded at a number", (came.status, came.output), (0, wanted))

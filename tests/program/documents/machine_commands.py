@@ -5,7 +5,7 @@ import sqlite3
 from collections.abc import Iterator
 from contextlib import closing
 
-from tests.program.documents.examples import blocks, written
+from tests.program.documents.examples import blocks
 from tests.program.documents.mistakes import AGREED, AGREEMENT, mark
 from tests.program.files.machines import DESK, Machine, feed, machine
 from tests.program.room import Room
@@ -52,39 +52,6 @@ def moved_to_another_machine(room: Room) -> Iterator[Outcome]:
         states = desk.take({"2.xml": feed(2, b="9.00")})
         yield Outcome(f"{PAGE}: the ledger goes on", states, {"1.xml": "applied", "2.xml": "applied"})
         yield Outcome(f"{PAGE}: the prices there", desk.prices(), {"a": ["8.000"], "b": ["9.000"]})
-
-
-def a_desk_as_text(room: Room) -> Iterator[Outcome]:
-    with machine(room, AGREED) as desk:
-        desk.take({f"{number}.xml": feed(number, a=f"{number}.00") for number in (1, 2, 3, 4)})
-        ran = desk.run(block_with("| cmp - shop.csv"))
-        yield Outcome(f"{PAGE}: the desk as text", (ran.status, ran.errors), (0, b""))
-        shown = desk.run(block_with("/^Waive,north,4$/p")).output.decode().splitlines()
-        found = shown[0].split(",")[6], shown[-1].split(",")[0], len(shown)
-        yield Outcome(f"{PAGE}: what is recorded at one number", found, ("4", "EndMessage", int(shown[-1][11:]) + 1))
-        ran = desk.run(["desk-restore --text shop.csv friday"])
-        yield Outcome(f"{PAGE}: a text is restored", (ran.status, desk.prices()), (0, {"a": ["4.000"]}))
-
-
-def very_many_records(room: Room) -> Iterator[Outcome]:
-    """Those of one ISBN, also with quotation marks and commas in their references, and no others."""
-    lines = ["Message,1,06,4012345000009,06,5012345678900,6,1,20250401,02,GBP"]
-    a, b = "9781234567897", "9781234567880"
-    products = [f"R,03,15,{b}", f"R1,03,15,{a}", f'"R,""2""",03,01,X9,15,{a}', f"R3,02,03,{a}"]
-    for product in products:
-        lines += [
-            f"Product,{product}",
-            "ProductSupply,,WORLD,",
-            "SupplyDetail,04,06,4012345000009,North Books,21,",
-            "Price,02,20.00,GBP,,WORLD,,,",
-        ]
-    records = written([*lines, f"EndMessage,{len(lines)}"]).decode()
-    with machine(room, AGREEMENT.format("4012345000009", 6) + records) as desk:
-        yield Outcome("many records: before", desk.prices(), {"a": ["20.000"] * 3, "b": ["20.000"]})
-        ran = desk.run(block_with("split -l 19998"))
-        answer = b"applied,north,7,replaced=0,updated=0,deleted=3,unknown=0,ignored=0"
-        yield Outcome("many records are deleted", (ran.status, ran.output.splitlines()[-1]), (0, answer))
-        yield Outcome("many records: behind", desk.prices(), {"b": ["20.000"]})
 
 
 def renewed_and_back(room: Room) -> Iterator[Outcome]:

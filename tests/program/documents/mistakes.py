@@ -176,22 +176,52 @@ def a_wrong_percent(room: Room) -> Iterator[Outcome]:
         yield Outcome("a wrong percent: behind", desk.prices("05"), {"a": ["7.470"], "b": ["5.750"], "c": ["0.580"]})
 
 
+SUPPLY = ["ProductSupply,,WORLD,", "SupplyDetail,04,06,4012345000009,North Books,21,", "Price,02,20.00,GBP,,WORLD,,,"]
+
+
+def with_products(number: int, products: list[str]) -> str:
+    """An agreement from this number on, and its message."""
+    lines = [f"Message,1,06,4012345000009,06,5012345678900,{number},1,20250401,02,GBP"]
+    for product in products:
+        lines += [f"Product,{product}", *SUPPLY]
+    return AGREEMENT.format("4012345000009", number) + written([*lines, f"EndMessage,{len(lines)}"]).decode()
+
+
 def a_wholesaler_that_is_gone(room: Room) -> Iterator[Outcome]:
     """References with quotation marks and commas, too."""
-    lines = ["Message,1,06,4012345000009,06,5012345678900,1,1,20250401,02,GBP"]
-    for reference in ["R1", '"R,""2"""', '"A, B"']:
-        lines += [
-            f"Product,{reference},03,15,9781234567897",
-            "ProductSupply,,WORLD,",
-            "SupplyDetail,04,06,4012345000009,North Books,21,",
-            "Price,02,10.00,GBP,,WORLD,,,",
-        ]
-    with machine(room, AGREED + written([*lines, f"EndMessage,{len(lines)}"]).decode()) as desk:
-        yield Outcome("a wholesaler that is gone: its offers", desk.prices(), {"a": ["10.000"] * 3})
-        ran = desk.run(block_with("batch() {"))
-        answer = b"applied,north,2,replaced=0,updated=0,deleted=3,unknown=0,ignored=0\n"
-        yield Outcome("a wholesaler that is gone: its records", (ran.status, ran.output), (0, answer))
+    references = ["R1", '"R,""2"""', '"A, B"']
+    with machine(room, with_products(1, [f"{each},03,15,9781234567897" for each in references])) as desk:
+        yield Outcome("a wholesaler that is gone: its offers", desk.prices(), {"a": ["20.000"] * 3})
+        ran = desk.run(block_with("split -l 19998"))
+        answer = b"applied,north,2,replaced=0,updated=0,deleted=3,unknown=0,ignored=0"
+        found = ran.status, ran.output.splitlines()[-1]
+        yield Outcome("a wholesaler that is gone: its records", found, (0, answer))
         yield Outcome("a wholesaler that is gone: prices", desk.prices(), {})
+
+
+def very_many_records(room: Room) -> Iterator[Outcome]:
+    """Those of one ISBN, also with quotation marks and commas in their references, and no others."""
+    a, b = "9781234567897", "9781234567880"
+    products = [f"R,03,15,{b}", f"R1,03,15,{a}", f'"R,""2""",03,01,X9,15,{a}', f"R3,02,03,{a}"]
+    (edit,) = re.findall("`(/978[0-9]+/s)` in place of `(.*?)`", (ROOT / PAGE).read_text(encoding="utf-8"))
+    with machine(room, with_products(6, products)) as desk:
+        yield Outcome("many records: before", desk.prices(), {"a": ["20.000"] * 3, "b": ["20.000"]})
+        ran = desk.run(["\n".join(block_with("split -l 19998")).replace(edit[1], edit[0])])
+        answer = b"applied,north,7,replaced=0,updated=0,deleted=3,unknown=0,ignored=0"
+        yield Outcome("many records are deleted", (ran.status, ran.output.splitlines()[-1]), (0, answer))
+        yield Outcome("many records: behind", desk.prices(), {"b": ["20.000"]})
+
+
+def a_desk_as_text(room: Room) -> Iterator[Outcome]:
+    with machine(room, AGREED) as desk:
+        desk.take({f"{number}.xml": feed(number, a=f"{number}.00") for number in (1, 2, 3, 4)})
+        ran = desk.run(block_with("| cmp - shop.csv"))
+        yield Outcome(f"{PAGE}: the desk as text", (ran.status, ran.errors), (0, b""))
+        shown = desk.run(block_with("/^Waive,north,4$/p")).output.decode().splitlines()
+        found = shown[0].split(",")[6], shown[-1].split(",")[0], len(shown)
+        yield Outcome(f"{PAGE}: what is recorded at one number", found, ("4", "EndMessage", int(shown[-1][11:]) + 1))
+        ran = desk.run(["desk-restore --text shop.csv friday"])
+        yield Outcome(f"{PAGE}: a text is restored", (ran.status, desk.prices()), (0, {"a": ["4.000"]}))
 
 
 def causes(room: Room) -> Iterator[Outcome]:

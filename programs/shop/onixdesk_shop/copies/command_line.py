@@ -48,8 +48,6 @@ def copy(machine: Machine, options: argparse.Namespace) -> int:
     """Makes a copy under a hidden name, which a run that is killed leaves to the next one."""
     folder = options.folder.absolute()
     parent = folder if options.keep else folder.parent
-    if not machine.exists(parent):
-        raise Fault(f"{parent}: there is no such folder")
     with machine.lock(parent, waits=False) as is_alone:
         if not is_alone:
             raise Fault(f"{parent}: another program is at work there")

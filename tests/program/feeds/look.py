@@ -162,7 +162,7 @@ def refused(room: Room) -> Iterator[Outcome]:
     )
     yield Outcome("a feed without a sender", found, (1, True, True))
     came = look(room, "absent.xml")
-    yield Outcome("no file", came, Ran(3, b"", b"onixdesk-look: absent.xml: No such file or directory\n"))
+    yield Outcome("no file", came, Ran(3, b"", b"onixdesk-look: absent.xml: there is no such file\n"))
     room.write("a.xml", feed([product(0, supplied(PRICE))]))
     for line in ("", "--words=-o a.xml", "--words=--unknown a.xml", "--day 20250230 a.xml", "--like none.json a.xml"):
         came = look(room, *line.split())

@@ -5,7 +5,7 @@ import time
 from pathlib import Path
 
 from onixdesk_shop.copies.copying import Copied, copy_desk
-from onixdesk_shop.copies.keeping import UNFINISHED, keep_latest, named
+from onixdesk_shop.copies.keeping import UNFINISHED, free_name, keep_latest
 from onixdesk_shop.desk_files import check
 from onixdesk_shop.ends import call, parser_of
 from onixdesk_shop.faults import DONE, Fault
@@ -78,13 +78,6 @@ def copy_by(machine: Machine, new: Path, folder: Path, options: argparse.Namespa
     machine.rename(new, place)
     machine.sync_folder(place.parent)
     return place, found
-
-
-def free_name(machine: Machine, folder: Path, moment: int) -> Path:
-    """The name of that second, or of the first later one that no copy has."""
-    while machine.exists(place := named(folder, moment)):
-        moment += 1_000_000_000
-    return place
 
 
 def tell_room(machine: Machine, file: Path, found: Copied) -> None:

@@ -6,7 +6,7 @@ from pathlib import Path
 
 from onixdesk_shop.desk_files import DeskFile
 from onixdesk_shop.ends import call, day_word, parser_of, program_of
-from onixdesk_shop.faults import DONE, FAILED
+from onixdesk_shop.faults import DONE, FAILED, Fault
 from onixdesk_shop.feeds import Refusal
 from onixdesk_shop.lines import count
 from onixdesk_shop.looks import page
@@ -37,6 +37,8 @@ def command_line() -> argparse.ArgumentParser:
 def look(machine: Machine, options: argparse.Namespace) -> int:
     shop, program = read_shop(machine, options.like), program_of(options.program)
     terms = machine.read(options.terms) if options.terms else None
+    if not machine.exists(options.file):
+        raise Fault(f"{options.file}: there is no such file")
     with machine.scratch() as folder:
         try:
             sample = converted(machine, program, options.file, options.words, terms, folder / "work")

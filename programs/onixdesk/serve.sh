@@ -4,7 +4,7 @@
 #     serve.sh PROGRAM WORD..
 # 503 and whatever else begins with 5 is an error, a connection without a whole reply (`fault`) a warning.
 # Where RULES and STATE are set, the folder STATE gets rules.json first: what the file RULES has, for the page.
-if [ -n "${STATE-}" ] && ! "$(dirname "$0")/write-rules" "$RULES" "$STATE"; then
+if [ -n "${STATE-}" ] && ! "$(dirname "$0")/../../bin/write-rules" "$RULES" "$STATE"; then
     # The page says that it cannot see the rules, and not older ones.
     rm -f "$STATE/rules.json"
     echo "<3>serve.sh: $STATE/rules.json is not written" >&2

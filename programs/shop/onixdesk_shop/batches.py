@@ -13,38 +13,26 @@ NAMES = "Agree", "Waive", "Message", "AskPrice", "AskChoice", "AskCalendar", "As
 BEGINNINGS = tuple(f"{name},".encode() for name in NAMES)
 
 
-def requests_in(lines: Iterable[bytes]) -> Iterator[bytes]:
-    """The requests of a text that `onixdesk export` wrote, where no field has a line end."""
-    pieces: list[bytes] = []
-    for line in lines:
-        if line.startswith(BEGINNINGS) and pieces:
-            yield b"".join(pieces)
-            pieces = []
-        pieces.append(line)
-    if pieces:
-        yield b"".join(pieces)
-
-
 def cut_into_batches(lines: Iterable[bytes], most: int = MOST_BYTES) -> Iterator[bytes]:
-    """The requests in batches that the desk takes, cut before a record that begins a request."""
+    """A text that `onixdesk export` wrote, where no field has a line end, in batches that the desk takes: cut before a
+    record that begins a request."""
     pieces: list[bytes] = []
-    size = 0
-    for request in requests_in(lines):
-        if pieces and size + len(request) > most:
-            yield b"".join(pieces)
-            pieces, size = [], 0
-        pieces.append(request)
-        size += len(request)
+    size, whole = 0, 0
+    for line in lines:
+        if line.startswith(BEGINNINGS):
+            whole = len(pieces)
+        pieces.append(line)
+        size += len(line)
+        if size > most and whole:
+            yield b"".join(pieces[:whole])
+            pieces, whole = pieces[whole:], 0
+            size = sum(map(len, pieces))
     if pieces:
         yield b"".join(pieces)
 
 
-def send(desk: DeskFile, lines: Iterable[bytes]) -> int:
-    """Has a desk take a text in batches; how many answers it gave. Failed where one is a refusal."""
-    answers = 0
+def send(desk: DeskFile, lines: Iterable[bytes]) -> None:
+    """Has a desk take a text in batches. Failed where it refuses a request."""
     for batch in cut_into_batches(lines):
-        records = desk.batch(batch.decode())
-        if refused := [record for record in records if record[0] == "refused"]:
+        if refused := [record for record in desk.batch(batch.decode()) if record[0] == "refused"]:
             raise Failed(f"the desk refuses {len(refused)} requests, the first: {cut(','.join(refused[0]))}")
-        answers += len(records)
-    return answers

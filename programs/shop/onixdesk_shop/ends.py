@@ -14,7 +14,6 @@ from onixdesk_shop.faults import DONE, FAULT, Fault
 from onixdesk_shop.lines import ERROR, token
 from onixdesk_shop.machine import Machine
 
-
 STATUSES = """\
 Status 0; 1 if what was asked for is not so, or a line of priority error was written; 2 if the command line or a file of
 settings is wrong; 3 if a file, the desk or another program fails. The documents of the package have the rest."""

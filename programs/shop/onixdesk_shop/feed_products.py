@@ -29,7 +29,6 @@ class Reader:
         self.parser = expat.ParserCreate(encoding)
         self.parser.buffer_text = True
         self.parser.UseForeignDTD(True)
-        self.parser.SetParamEntityParsing(expat.XML_PARAM_ENTITY_PARSING_NEVER)
         self.parser.StartElementHandler = self.start
         self.parser.EndElementHandler = self.end
         self.parser.CharacterDataHandler = self.add

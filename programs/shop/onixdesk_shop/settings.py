@@ -80,10 +80,6 @@ def words(value: str) -> tuple[str, ...]:
     return found
 
 
-def file(value: str) -> Path | None:
-    return Path(value) if value else None
-
-
 # The setting that each line sets, what it may be, and how it is read.
 READERS: dict[str, tuple[str, str, Callable[[str], Any]]] = {
     "BATCHES": ("batches", "/.+", Path),
@@ -92,7 +88,7 @@ READERS: dict[str, tuple[str, str, Callable[[str], Any]]] = {
     "SENDER": ("sender", "[0-9]{2},.+", lambda value: (value[:2], value[3:])),
     "UNCHANGED_SECONDS": ("unchanged_seconds", "[0-9]{1,6}", int),
     "LEAVE": ("leave", "yes|no", lambda value: value == "yes"),
-    "TERMS": ("terms", "|/.+", file),
+    "TERMS": ("terms", "|/.+", lambda value: Path(value) if value else None),
     "STOP": ("stop", "yes|no", lambda value: value == "yes"),
     "SILENT_DAYS": ("silent_days", "[1-9][0-9]{0,3}", int),
     "FULL": ("full", "[0-9]{1,4}", int),

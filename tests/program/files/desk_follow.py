@@ -6,10 +6,10 @@ import sqlite3
 from collections.abc import Iterator
 from contextlib import closing
 
-from desk_follow.rules import read_rules
-from desk_follow.source import TABLES, check_version, lines_of
 from onixdesk_shop.faults import BadCall, Fault
 from onixdesk_shop.machine import Machine
+from onixdesk_shop.postgres.following import TABLES, check_version, lines_of, rule_line
+from onixdesk_shop.rules import rules_by
 from tests.program.databases import DATABASE, batch
 from tests.program.room import Ran, Room
 from tests.program.desk.rules_files import files, said_by_desk
@@ -54,15 +54,16 @@ def precedence_tables(room: Room) -> Iterator[Outcome]:
     for name, text, fault in files("desk"):
         room.write("rules.toml", text)
         try:
-            read_rules(machine, room.program, room.path("rules.toml"))
+            rules_by(machine, room.program, room.path("rules.toml"))
             said = b""
         except BadCall as bad:
             said = f"onixdesk: {bad}\n".encode()
         yield Outcome(f"desk-follow: rules: {name}", said, said_by_desk(fault))
     text = b'\xef\xbb\xbf[[rule]]\nseries = "*"\ncodes = ["20", "21"]\nmax = "12.9"\n[[rule]]\nseries = "north"\ncodes = ["10"]\n'
     room.write("rules.toml", text)
-    wanted = ["1\t*\t{20,21}\t12900", "2\tnorth\t{10}\t\\N"]
-    found = read_rules(machine, room.program, room.path("rules.toml"))
+    wanted = [b"1\t*\t{20,21}\t12900\n", b"2\tnorth\t{10}\t\\N\n"]
+    rules = rules_by(machine, room.program, room.path("rules.toml"))
+    found = [rule_line(number, rule) for number, rule in enumerate(rules, 1)]
     yield Outcome("desk-follow: rules that are read", found, wanted)
 
 

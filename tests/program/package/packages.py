@@ -1,4 +1,4 @@
-"""What ships of Python imports the standard library and its own packages, and psycopg2 for PostgreSQL alone."""
+"""What ships of Python imports the standard library and its own package."""
 
 import ast
 import sys
@@ -8,8 +8,6 @@ from pathlib import Path
 from tests.program.room import Room
 from tests.running import Outcome
 from tools.root import PACKAGES, ROOT
-
-FOR_POSTGRESQL = ROOT / "programs/desk-follow"
 
 
 def imported(tree: ast.AST) -> set[str]:
@@ -26,6 +24,6 @@ def imported(tree: ast.AST) -> set[str]:
 def imports(_room: Room) -> Iterator[Outcome]:
     shipped = {path.parent.name for folder in PACKAGES for path in Path(folder).glob("*/__init__.py")}
     for path in sorted(ROOT.glob("programs/**/*.py")):
-        allowed = sys.stdlib_module_names | shipped | ({"psycopg2"} if FOR_POSTGRESQL in path.parents else set())
+        allowed = sys.stdlib_module_names | shipped
         more = imported(ast.parse(path.read_text(encoding="utf-8"))) - allowed
         yield Outcome(f"{path.relative_to(ROOT)}: what it imports", more, set())

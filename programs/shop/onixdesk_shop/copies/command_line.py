@@ -5,7 +5,7 @@ import time
 from pathlib import Path
 
 from onixdesk_shop.copies.copying import Copied, copy_desk
-from onixdesk_shop.copies.keeping import UNFINISHED, keep_latest, named
+from onixdesk_shop.copies.keeping import UNFINISHED, free_name, keep_latest
 from onixdesk_shop.desk_files import check
 from onixdesk_shop.ends import call, parser_of
 from onixdesk_shop.faults import DONE, Fault
@@ -48,8 +48,6 @@ def copy(machine: Machine, options: argparse.Namespace) -> int:
     """Makes a copy under a hidden name, which a run that is killed leaves to the next one."""
     folder = options.folder.absolute()
     parent = folder if options.keep else folder.parent
-    if not machine.exists(parent):
-        raise Fault(f"{parent}: there is no such folder")
     with machine.lock(parent, waits=False) as is_alone:
         if not is_alone:
             raise Fault(f"{parent}: another program is at work there")
@@ -80,13 +78,6 @@ def copy_by(machine: Machine, new: Path, folder: Path, options: argparse.Namespa
     machine.rename(new, place)
     machine.sync_folder(place.parent)
     return place, found
-
-
-def free_name(machine: Machine, folder: Path, moment: int) -> Path:
-    """The name of that second, or of the first later one that no copy has."""
-    while machine.exists(place := named(folder, moment)):
-        moment += 1_000_000_000
-    return place
 
 
 def tell_room(machine: Machine, file: Path, found: Copied) -> None:

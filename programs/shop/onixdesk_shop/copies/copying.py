@@ -116,7 +116,7 @@ ROOM = Path("/var/tmp")
 
 
 @contextmanager
-def copied(machine: Machine, database: Path, room: Path = ROOM) -> Iterator[tuple[Path, Copied]]:
+def copied(machine: Machine, database: Path) -> Iterator[tuple[Path, Copied]]:
     """A copy of a desk that is removed at the end."""
-    with machine.scratch(room) as folder:
+    with machine.scratch(ROOM) as folder:
         yield folder / database.name, copy_desk(machine, database, folder)

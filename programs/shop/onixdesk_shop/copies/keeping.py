@@ -19,9 +19,11 @@ CORRECTED = ".before-correction"
 is_name = re.compile(rf"\d{{4}}-\d\d-\d\dT\d\d-\d\d-\d\dZ(?:{re.escape(CORRECTED)})?").fullmatch
 
 
-def named(folder: Path, moment: int) -> Path:
-    """The place of a copy of that moment, in nanoseconds since 1970."""
-    return folder / time.strftime(NAME, time.gmtime(moment // 1_000_000_000))
+def free_name(machine: Machine, folder: Path, moment: int) -> Path:
+    """The place of a copy of that moment, in nanoseconds since 1970, or of the first later second that no copy has."""
+    while machine.exists(place := folder / time.strftime(NAME, time.gmtime(moment // 1_000_000_000))):
+        moment += 1_000_000_000
+    return place
 
 
 def copies_in(machine: Machine, folder: Path) -> list[Path]:

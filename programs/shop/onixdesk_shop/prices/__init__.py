@@ -1,1 +1,0 @@
-"""The till's file of prices."""

@@ -7,15 +7,13 @@ whole and on the disk. What a run that was killed has left there tells the next 
 import time
 from pathlib import Path
 
+from onixdesk_shop.copies.keeping import NAME
 from onixdesk_shop.desk_files import log_of
 from onixdesk_shop.lines import WARNING
 from onixdesk_shop.machine import Machine
 from onixdesk_shop.units import Units, is_begun
 
 READY = "ready."
-
-# What stood there before is named by the second at which the other was ready, of the world's time.
-NAME = "%Y-%m-%dT%H-%M-%SZ"
 
 
 class Work:

@@ -4,19 +4,19 @@ import argparse
 import time
 from pathlib import Path
 
-from desk_follow.following import call_of, script
-from desk_follow.rules import read_rules
-from desk_follow.source import check_version
 from onixdesk_shop.copies.copying import copied
 from onixdesk_shop.ends import call, parser_of, program_of
 from onixdesk_shop.faults import DONE
 from onixdesk_shop.machine import Machine
 from onixdesk_shop.places import PROGRAM
+from onixdesk_shop.postgres.following import call_of, check_version, script
+from onixdesk_shop.rules import rules_by
 
 DESCRIPTION = """\
 Brings the tables of the schema desk in a database of PostgreSQL after those of a desk whose program goes on
 answering, in one transaction. Who reads sees the desk of one moment, which desk.moment tells. The functions
-desk.prices, desk.choice, desk.calendar and desk.gaps answer as the desk did then; desk.choice chooses by the precedence table --rules. After a fault the schema is as it was.
+desk.prices, desk.choice, desk.calendar and desk.gaps answer as the desk did then; desk.choice chooses by the precedence
+table --rules. After a fault the schema is as it was.
 Nothing of it is proved. It needs psql, of Debian's postgresql-client."""
 
 DATABASE = "which database, in the words of libpq, as 'host=/run/postgresql dbname=shop'; else the user's own"
@@ -30,7 +30,8 @@ def command_line() -> argparse.ArgumentParser:
 
 
 def follow(machine: Machine, options: argparse.Namespace) -> int:
-    rules = read_rules(machine, program_of(options.program), options.rules)
+    program = program_of(options.program)
+    rules = rules_by(machine, program, options.rules) if options.rules else []
     with copied(machine, options.file) as (copy, taken), machine.reading(copy) as source:
         check_version(source)
         machine.run(call_of(options.database), text=script(source, rules, taken.moment))

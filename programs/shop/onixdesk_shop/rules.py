@@ -1,0 +1,42 @@
+"""The shop's precedence table (docs/FORMATS.md), and a copy of it for the page: `write-rules RULES FOLDER`."""
+
+import argparse
+import json
+import tomllib
+from pathlib import Path
+from typing import Any
+
+from onixdesk_shop.ends import call, parser_of
+from onixdesk_shop.faults import BAD_CALL, DONE, BadCall
+from onixdesk_shop.machine import Machine
+
+
+def rules_of(text: bytes) -> list[dict[str, Any]]:
+    """The rules of a table that the desk takes."""
+    try:
+        return list(tomllib.loads(text.decode("utf-8-sig")).get("rule", []))
+    except ValueError as error:
+        raise BadCall(f"the rules are no TOML 1.0: {error}") from None
+
+
+def rules_by(machine: Machine, program: Path, file: Path) -> list[dict[str, Any]]:
+    """The rules of a file. BadCall, in the desk's words, where its program takes none."""
+    text = machine.read(file)
+    ended = machine.run([program, "--rules", file, "batch"], (DONE, BAD_CALL))
+    if ended.status != DONE:
+        raise BadCall(ended.errors.decode("utf-8", "replace").partition("\n")[0].removeprefix("onixdesk: "))
+    return rules_of(text)
+
+
+def write(machine: Machine, options: argparse.Namespace) -> int:
+    found = rules_of(machine.read(options.rules)) if machine.exists(options.rules) else []
+    text = json.dumps({"version": 1, "at": int(machine.now()), "rules": found}, default=str)
+    machine.write_whole(options.folder / "rules.json", f"{text}\n".encode())
+    return DONE
+
+
+def main() -> int:
+    parser = parser_of("write-rules", "Writes the rules of a desk that starts for the page, as FOLDER/rules.json.")
+    parser.add_argument("rules", metavar="RULES", type=Path)
+    parser.add_argument("folder", metavar="FOLDER", type=Path)
+    return call(parser, write)

@@ -206,9 +206,7 @@ class Model(RuleBasedStateMachine):
         numbers = (number for desk in self.desks() for number in desk.series[SERIES].had)
         self.unsure |= {0, *self.ever, *numbers}
         for sent in self.sent.values():
-            if sent.digest not in rejected:
-                sent.is_rejected, sent.refused = False, set()
-            sent.is_gone = False
+            sent.is_rejected, sent.is_gone = sent.digest in rejected, False
             sent.was_had = sent.was_had or any(self.is_at(sent, desk.series[SERIES]) for desk in self.desks())
 
     def desks(self) -> list[FakeDesk]:
@@ -302,7 +300,7 @@ class Model(RuleBasedStateMachine):
             inbox.run(machine)
         except (Killed, SystemExit, OSError, Fault):
             pass
-        assert all(sent.refused.isdisjoint(machine.posted) for sent in self.sent.values())
+        assert not any(sent.is_rejected and not sent.refused.isdisjoint(machine.posted) for sent in self.sent.values())
 
     @rule()
     def clean(self) -> None:
@@ -421,18 +419,19 @@ class Model(RuleBasedStateMachine):
             group = had[at : at + self.parts]
             if all(each == WAIVED for each in group):
                 continue
-            if later := next((sent for sent in others if self.fits(sent, group)), None):
+            if later := next((sent for sent in others if self.fits(sent, group, sent.is_rejected)), None):
                 others.remove(later)
                 continue
-            while ordered and not self.fits(ordered[0], group):
+            while ordered and not self.fits(ordered[0], group, ordered[0].is_rejected):
                 assert ordered[0].is_rejected, (ordered[0], group)
                 ordered.pop(0)
             assert ordered and not ordered[0].is_gone, group
             ordered.pop(0)
         assert all(sent.is_rejected for sent in [*ordered, *others]), (ordered, others)
 
-    def fits(self, sent: Sent, group: list[Contents | str | None]) -> bool:
-        return all(each in self.may_be(sent, part) for part, each in enumerate(group))
+    def fits(self, sent: Sent, group: list[Contents | str | None], is_waived: bool = False) -> bool:
+        """Whether a group has the contents of a feed, of which some parts may be waived."""
+        return all(each in self.may_be(sent, part) or is_waived and each == WAIVED for part, each in enumerate(group))
 
     def check_prices(self, series: Series) -> None:
         """A feed with prices that nobody asks is not posted where the desk had others, unless a person let it in."""

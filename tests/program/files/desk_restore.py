@@ -35,7 +35,7 @@ def shop_in(room: Room, name: str, **settings: object) -> Shop:
 def run(shop: Shop, copy: Path, machine: ShopMachine | None = None, **more: object) -> int:
     """The status of a restore; its lines and what it wrote are the shop's then."""
     machine = machine or shop.machine()
-    options = argparse.Namespace(**{**shop.options, **OPTIONS, **more, "copy": copy})
+    options = argparse.Namespace(**shop.options, **{**OPTIONS, **more}, copy=copy)
     try:
         return status_of(machine, lambda each: restore(each, options))
     finally:

@@ -175,7 +175,7 @@ def lines_of_a_desk(room: Room) -> Iterator[Outcome]:
 def rules_for_the_page(room: Room) -> Iterator[Outcome]:
     """A desk that starts has written the rules that it reads; where they cannot be read, no older ones are left."""
     program = script(room, "program", "exit 0")
-    room.write("rules.toml", b'[[rule]]\nseries = "north"\ncodes = ["20", "21"]\nmax = "15.00"\n')
+    room.write("rules.toml", b'\xef\xbb\xbf[[rule]]\nseries = "north"\ncodes = ["20", "21"]\nmax = "15.00"\n')
     environment = {"PATH": os.environ["PATH"], "RULES": str(room.path("rules.toml")), "STATE": str(room.folder)}
     came = room.call([SERVE, program], environment=environment)
     found = json.loads(room.path("rules.json").read_text("ascii"))

@@ -3,7 +3,6 @@
 import json
 import os
 from collections.abc import Callable
-from dataclasses import replace
 from pathlib import Path
 from typing import Any
 
@@ -51,15 +50,13 @@ class ProgramMachine(FakeMachine):
 
 class FakeInbox:
     def __init__(self, folder: Path, program: Path | None = None, **settings: Any) -> None:
-        names = ("program", "incoming", "inboxes", "state", "rules")
-        self.places = Places(*(folder / name for name in names))
+        names = ("incoming", "inboxes", "state", "rules")
+        self.places = Places(program or folder / "program", *(folder / name for name in names))
         for place in (self.places.incoming, self.places.inboxes, self.places.state):
             (place / SERIES).mkdir(parents=True)
         (self.places.inboxes / SERIES / STORE).mkdir()
-        self.places.program.touch()
+        (folder / "program").touch()
         self.program = program
-        if program:
-            self.places = replace(self.places, program=program)
         given: dict[str, Any] = {"unchanged_seconds": 0, **settings}
         self.settings = Settings(SENDER, **given)
         self.shop: Shop | None = SHOP

@@ -29,9 +29,9 @@ from tests.shop.fake_machine import FakeMachine, Killed
 from tests.shop.inboxes import SERIES, FakeInbox
 
 FAULTS = ("error", "kill", "power", "torn", "signal")
-STEPS = (
-    "copy copied rename renamed remove removed sync synced write written begin commit committed answered batch child"
-).split()
+STEPS = "copy copied rename renamed remove removed sync synced write written begin commit committed batch child".split()
+# A lost answer of the desk is tried as often as all else.
+STEPS += ["answered"] * len(STEPS)
 
 NUMBERS = range(1, 6)
 REFERENCES = [f"R{number}" for number in range(4)]
@@ -91,8 +91,7 @@ class Model(RuleBasedStateMachine):
     )
     def begin(self, number: str, parts: int, leave: bool, full: int) -> None:
         self.folder = Path(tempfile.mkdtemp(prefix="model-", dir=self.place))
-        words = ("--parts", str(parts))
-        self.inbox = FakeInbox(self.folder, words=words, number=number, leave=leave, full=full)
+        self.inbox = FakeInbox(self.folder, words=("--parts", str(parts)), number=number, leave=leave, full=full)
         self.is_next, self.parts = number == NEXT, parts
         self.copies = [self.desk.copy()]
         self.ledgers: list[Path] = []
@@ -156,11 +155,6 @@ class Model(RuleBasedStateMachine):
     @rule(kind=st.sampled_from(FAULTS), what=st.sampled_from(STEPS), place=st.integers(1, 8))
     def run_with_fault(self, kind: str, what: str, place: int) -> None:
         self.run((kind, what, place))
-
-    @rule(kind=st.sampled_from(FAULTS), place=st.integers(2, 4))
-    def lose_an_answer(self, kind: str, place: int) -> None:
-        """The first request asks for the gaps."""
-        self.run((kind, "answered", place))
 
     @rule()
     def run_without_desk(self) -> None:
@@ -226,12 +220,15 @@ class Model(RuleBasedStateMachine):
             sent.terms.add(terms)
 
     @precondition(lambda self: bool(self.sent))
-    @rule(which=some, is_clean=st.booleans())
-    def refuse(self, which: int, is_clean: bool) -> None:
-        if is_clean:
+    @rule(which=some, is_clean=st.booleans(), is_corrected=st.booleans())
+    def refuse(self, which: int, is_clean: bool, is_corrected: bool) -> None:
+        """A file is refused, and its messages are taken out of the desk's text."""
+        if is_clean or is_corrected:
             self.clean()
         sent = self.one_of(which)
         self.inbox.work(lambda inbox: self.refuse_file(inbox, sent))
+        if is_corrected:
+            self.inbox.work(lambda inbox: self.take_out(inbox, sent))
 
     def refuse_file(self, inbox: Inbox, sent: Sent) -> None:
         file = inbox.ledger.latest(sent.digest)
@@ -241,21 +238,11 @@ class Model(RuleBasedStateMachine):
             if self.parts == 1:
                 sent.refused = {inbox.ledger.text(row.number) for row in inbox.ledger.messages_of(file)}
 
-    @precondition(lambda self: bool(self.sent))
-    @rule(which=some)
-    def correct(self, which: int) -> None:
-        """A file is refused, and its messages are taken out of the desk's text."""
-        self.clean()
-        sent = self.one_of(which)
-        self.inbox.work(lambda inbox: self.take_out(inbox, sent))
-
     def take_out(self, inbox: Inbox, sent: Sent) -> None:
-        self.refuse_file(inbox, sent)
-        series = self.inbox.series
         file = inbox.ledger.latest(sent.digest)
         for row in inbox.ledger.messages_of(file) if file else []:
             if sent.is_rejected and row.state in ("posted", "held", "applied"):
-                series.had.pop(row.number, None)
+                self.inbox.series.had.pop(row.number, None)
                 sent.is_gone = not self.unsure
 
     @rule(days=st.integers(4, 6))
@@ -294,10 +281,9 @@ class Model(RuleBasedStateMachine):
         return self.inbox.desk
 
     def run(self, fault: tuple[str, str, int] = ("", "", 0)) -> None:
-        inbox = self.inbox
-        machine = FakeMachine(inbox.disk, inbox.desk, inbox.clock, fault)
+        machine = FakeMachine(self.inbox.disk, self.inbox.desk, self.inbox.clock, fault)
         try:
-            inbox.run(machine)
+            self.inbox.run(machine)
         except (Killed, SystemExit, OSError, Fault):
             pass
         assert not any(sent.is_rejected and not sent.refused.isdisjoint(machine.posted) for sent in self.sent.values())
@@ -394,8 +380,11 @@ class Model(RuleBasedStateMachine):
             stays = [sent for sent in candidates if sent.is_rejected and not sent.is_gone]
             # An older ledger does not know what was posted, or refused.
             stays += [sent for sent in [*candidates, *waiting] if sent.number == number and sent.was_had]
+            # Half of a feed that a person refused keeps others out, until it is corrected.
+            is_kept_out = any(sent.is_rejected and self.is_at(sent, series) for sent in candidates)
             for part, at in enumerate(self.numbers_of(number)):
                 right = self.may_be(standing, part) if standing else [None]
+                right += [None] if is_kept_out else []
                 right += [each for sent in stays for each in self.may_be(sent, part)]
                 right += [WAIVED] if at in self.waived else []
                 assert bare(series.had.get(at)) in right, (at, series.had.get(at), right)

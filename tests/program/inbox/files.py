@@ -262,6 +262,21 @@ def refused(room: Room) -> Iterator[Outcome]:
     yield Outcome("the other one alone", sum(text.startswith(b"Message") for text in machine.posted), 1)
 
 
+def halves(room: Room) -> Iterator[Outcome]:
+    """Where the desk has a half of a feed, another one of that number is taken if that half is the same."""
+    inbox = inbox_in(room, "halves", words=("--parts", "2"))
+    assert inbox.desk
+    deliver, refused = inbox.desk.deliver, ["refused", "malformed", "1"]
+    with patch.object(inbox.desk, "deliver", lambda message: deliver(message) if message[0][6] == "1" else refused):
+        inbox.send("a.xml", feed_of(1, {"R1": "1.00", "R2": "1.00"}))
+        inbox.run()
+    for name, amounts in ("other.xml", ("2.00", "2.00")), ("same.xml", ("1.00", "2.00")):
+        inbox.send(name, feed_of(1, dict(zip(["R1", "R2"], amounts))))
+        inbox.run()
+    wanted = {"a.xml": "refused", "other.xml": "refused", "same.xml": "applied"}
+    yield Outcome("another, and the same", (inbox.states(), price_of(inbox, "R2")), (wanted, "2.000"))
+
+
 def waived(room: Room) -> Iterator[Outcome]:
     """A number that was waived is waived again at a restored desk, before a file that came to it meanwhile."""
     inbox = inbox_in(room, "waived")

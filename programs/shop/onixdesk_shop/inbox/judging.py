@@ -47,11 +47,10 @@ def judge(inbox: Inbox, file: File, gaps: Gaps) -> None:
         feed = feed_of(inbox, file, gaps, list(inbox.settings.words), inbox.terms)
         look_at(inbox, feed, gaps)
         others = {message.number: row for message in feed.messages if (row := final_row(inbox, file, message.number))}
-        if len(others) == len(feed.messages):
-            post_again(inbox, feed, others, gaps)
-            return
-        quarantine.look(inbox, feed, gaps)
-        take(inbox, feed, others, full.with_deletions(inbox, feed, gaps))
+        new = post_again(inbox, feed, others, gaps) if others else feed
+        if new:
+            quarantine.look(inbox, new, gaps)
+            take(inbox, new, others, full.with_deletions(inbox, new, gaps))
     except Refusal as refusal:
         inbox.ledger.set_state(file, State.REFUSED, str(refusal))
         inbox.tell_refused(file, str(refusal), None, *offset_for(inbox, inbox.ledger.file(file.id), gaps))
@@ -170,18 +169,20 @@ def take(inbox: Inbox, feed: Feed, others: dict[int, Row], messages: list[Messag
         ledger.set_state(file, State.POSTING, feed.said.summary)
 
 
-def post_again(inbox: Inbox, feed: Feed, others: dict[int, Row], gaps: Gaps) -> None:
-    """A number that comes again in other bytes: converted as it was first, and posted once behind the ledger's own,
-    unkept. The desk says whether it is the same."""
+def post_again(inbox: Inbox, feed: Feed, others: dict[int, Row], gaps: Gaps) -> Feed | None:
+    """Numbers that come again in other bytes: converted as they were first, and posted once behind the ledger's own, unkept.
+    The desk says whether they are the same. The feed so, where other numbers of it are new."""
     ledger, file = inbox.ledger, feed.file
-    first = ledger.file(others[feed.messages[0].number].file)
+    first, numbers = ledger.file(others[min(others)].file), {message.number for message in feed.messages}
     words, terms = json.loads(first.words), first.terms
     if file.ending != ".csv" and (words, terms) != (feed.words, feed.terms):
         feed = feed_of(inbox, file, gaps, words, terms)
+        look_at(inbox, feed, gaps)
     for message in feed.messages:
-        row = others.get(message.number)
-        if not row:
+        if message.number not in numbers:
             raise Refusal(f"it has number {message.number} by the words and terms of its number's first file")
+        if not (row := others.get(message.number)):
+            continue
         text = full.with_deletions_of(inbox, row, message)
         if text.digest == row.digest or is_below_and_same(inbox, row, text, gaps):
             continue
@@ -189,8 +190,11 @@ def post_again(inbox: Inbox, feed: Feed, others: dict[int, Row], gaps: Gaps) -> 
         if isinstance(answer, Refused):
             raise Refusal(why_refused(answer))
         assert isinstance(answer, Taken)
+    if not others.keys() >= {message.number for message in feed.messages}:
+        return feed
     ledger.set_state(file, State.HAD, f"{first.mark} has its number")
     inbox.tell_file(NOTICE, file, f"had it already, by {first.mark}: {ranges([first.number or 0])}")
+    return None
 
 
 def is_below_and_same(inbox: Inbox, row: Row, message: Message, gaps: Gaps) -> bool:

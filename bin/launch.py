@@ -1,4 +1,3 @@
-#!/usr/bin/env -S python3 -E -s -S -B
 """Starts the shop's program by whose name it is called: `desk-copy --help`."""
 
 import sys
@@ -19,5 +18,6 @@ MODULES = {
 # The package, beside this folder.
 sys.path.insert(0, str(Path(__file__).resolve().parent.parent / "programs" / "shop"))
 
-if __name__ == "__main__":
+
+def main() -> None:
     sys.exit(import_module(f"onixdesk_shop.{MODULES[Path(sys.argv[0]).name]}").main())

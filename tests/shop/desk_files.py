@@ -129,6 +129,8 @@ class Shop:
         self.copies = folder / "copies"
         self.settings = folder / "settings"
         number = f"NUMBER={settings.get('number', 'own')}\n"
+        places = {"db": self.database, "copies": self.copies, "settings": self.settings}
+        self.options: dict[str, Any] = {**places, "inboxes": self.inbox.places.inboxes, "program": Path("true")}
         self.settings.joinpath(f"{SERIES}.conf").write_text(f"SENDER={','.join(SENDER)}\n{number}")
         self.units: list[str] = []
         self.failing = ""
@@ -138,16 +140,6 @@ class Shop:
         self.is_output_broken = False
         self.is_inbox_run = True
         self.write()
-
-    @property
-    def options(self) -> dict[str, Any]:
-        return {
-            "db": self.database,
-            "inboxes": self.inbox.places.inboxes,
-            "settings": self.settings,
-            "copies": self.copies,
-            "program": Path("true"),
-        }
 
     def write(self) -> None:
         """What the desk has is in its files."""

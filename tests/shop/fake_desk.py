@@ -73,14 +73,8 @@ class Series:
 
     @property
     def missing(self) -> list[list[int]]:
-        found: list[list[int]] = []
-        for number in range(self.first, max(self.had, default=0)):
-            if number not in self.had:
-                if found and found[-1][1] == number - 1:
-                    found[-1][1] = number
-                else:
-                    found.append([number, number])
-        return found
+        numbers = range(self.first, max(self.had, default=0))
+        return [[number, number] for number in numbers if number not in self.had]
 
     def catalogue(self) -> dict[str, Records]:
         """The records by reference: that of the product, and those below it."""

@@ -109,8 +109,7 @@ class FakeInbox:
         return [line for _, line in self.lines]
 
     def files(self) -> list[File]:
-        found: list[File] = self.work(lambda inbox: inbox.ledger.files("1"))
-        return found
+        return list(self.work(lambda inbox: inbox.ledger.files("1")))
 
     def states(self) -> dict[str, str]:
         return {file.name: file.state for file in self.files()}

@@ -183,7 +183,7 @@ class Model(RuleBasedStateMachine):
         self.inbox.desk = desk
         self.is_restored = True
         for sent in self.sent.values():
-            sent.is_gone = sent.is_rejected and not self.unsure and had.isdisjoint(self.all_parts(sent))
+            sent.is_gone |= sent.is_rejected and not self.unsure and had.isdisjoint(self.all_parts(sent))
 
     def all_parts(self, sent: Sent) -> list[Contents | str | None]:
         return [each for part in range(self.parts) for each in self.may_be(sent, part)] if sent.is_whole else []
@@ -378,10 +378,10 @@ class Model(RuleBasedStateMachine):
             over = [sent for sent in had if self.unsure or products_of(sent) in refused]
             standing = next((sent for sent in candidates if not sent.is_rejected and sent not in over), None)
             stays = [sent for sent in candidates if sent.is_rejected and not sent.is_gone]
+            # Half of a feed that a person refused keeps others out, until it is corrected.
+            is_kept_out = any(self.is_at(sent, series) for sent in stays)
             # An older ledger does not know what was posted, or refused.
             stays += [sent for sent in [*candidates, *waiting] if sent.number == number and sent.was_had]
-            # Half of a feed that a person refused keeps others out, until it is corrected.
-            is_kept_out = any(sent.is_rejected and self.is_at(sent, series) for sent in candidates)
             for part, at in enumerate(self.numbers_of(number)):
                 right = self.may_be(standing, part) if standing else [None]
                 right += [None] if is_kept_out else []
@@ -390,7 +390,7 @@ class Model(RuleBasedStateMachine):
                 assert bare(series.had.get(at)) in right, (at, series.had.get(at), right)
             for sent in candidates:
                 # A ledger of before may not know that a person refused it.
-                sent.is_gone = sent.is_rejected and not self.is_at(sent, series) and not self.unsure
+                sent.is_gone |= sent.is_rejected and not self.is_at(sent, series) and not self.unsure
         assert set(series.had) <= self.waived | {at for number in NUMBERS for at in self.numbers_of(number)}
 
     def numbers_of(self, number: int) -> range:

@@ -50,6 +50,20 @@ def order(room: Room) -> Iterator[Outcome]:
     )
 
 
+def order_without_ledger(room: Room) -> Iterator[Outcome]:
+    """A file that the store has keeps its time, also where its row is lost and it comes again."""
+    inbox = inbox_in(room, "lost")
+    inbox.desk, desk = None, inbox.desk
+    inbox.send("a.xml", feed_of(1, {"R1": "1.00"}))
+    inbox.run()
+    inbox.ledger.unlink()
+    for amount in "2.00", "1.00":
+        inbox.send(f"{amount}.xml", feed_of(1, {"R1": amount}))
+    inbox.desk = desk
+    inbox.run()
+    yield Outcome("the first one", price_of(inbox, "R1"), "1.000")
+
+
 def numbers(room: Room) -> Iterator[Outcome]:
     """Which number a file gets where the inbox gives it."""
     inbox = inbox_in(room, "others", number=NEXT, words=("--parts", "2"))

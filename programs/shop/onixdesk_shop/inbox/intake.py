@@ -29,11 +29,11 @@ is_stored = re.compile(r"([0-9a-f]{64})(\.csv|\.xml|\.gz|\.zip)").fullmatch
 
 def take_in(inbox: Inbox) -> None:
     """Takes each whole file of the folder. Who fills it meanwhile has its lock; then it is passed over."""
+    adopt(inbox)
     with inbox.machine.lock(inbox.incoming, waits=False) as is_free:
         if is_free:
             for entry in inbox.machine.entries(inbox.incoming):
                 take_entry(inbox, entry)
-    adopt(inbox)
 
 
 def take_entry(inbox: Inbox, entry: Entry) -> None:

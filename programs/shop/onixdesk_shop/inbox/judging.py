@@ -212,10 +212,11 @@ def is_below_and_same(inbox: Inbox, row: Row, message: Message, gaps: Gaps) -> b
 
 def retry_refused(inbox: Inbox, gaps: Gaps) -> None:
     """What was refused by other settings, terms, agreement or program is judged anew, and what the desk had another message
-    of, and lacks now."""
+    or a waiver of, and lacks now."""
     ledger = inbox.ledger
     ledger.retry_refused(inbox.basis(gaps.first))
-    query = "SELECT number FROM message WHERE state = 'refused' AND answer LIKE '%\"other-contents\"%'"
+    was_had = "answer LIKE '%\"other-contents\"%' OR answer LIKE '%\"waived\"%'"
+    query = f"SELECT number FROM message WHERE state = 'refused' AND ({was_had})"
     lacking = [number for (number,) in ledger.rows(query) if gaps.lacks(number)]
     if lacking:
         with ledger.step():

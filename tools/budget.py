@@ -110,7 +110,6 @@ ROWS: dict[str, Callable[[File], int]] = {
     "words of documents": lambda file: len(file.text.split()) if file.path.suffix == ".md" else 0,
 }
 
-
 WEIGHED = "times the proofs of csv_records and onix_terms: the last gate from nothing"
 
 

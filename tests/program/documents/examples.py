@@ -8,7 +8,7 @@ from collections.abc import Iterator
 
 from tests.commands.try_out import BUILT
 from tests.program.messages import AGREEMENT, bare
-from tests.program.room import Ran, Room
+from tests.program.room import Ran, Room, needs
 from tests.program.serving import free_port, serving
 from tests.running import Outcome
 from tools.root import ROOT
@@ -142,6 +142,7 @@ def over_http(room: Room, page: str) -> Iterator[Outcome]:
     yield Outcome(f"{page}: the lines of serve", (lines, desk.returncode), (shown, 0))
 
 
+@needs("curl")
 def desk_in_a_file(room: Room) -> Iterator[Outcome]:
     """A desk on two days, and then over HTTP; and a feed."""
     like_the_repository(room)
@@ -173,10 +174,10 @@ EndMessage,5
 """
 RULES = b'[[rule]]\nseries = "north"\ncodes = ["21"]\n'
 
-
 HTTP = "docs/HTTP.md"
 
 
+@needs("curl")
 def page_of_http(room: Room) -> Iterator[Outcome]:
     """Each command that the page of HTTP shows with its reply, to desks in the states that it tells of."""
     post, *deliveries = block(HTTP, "curl -H 'Expect:' --data-binary @message.csv")
@@ -253,6 +254,7 @@ def script(room: Room, name: str, *words: str) -> Ran:
     return room.call([ROOT / name, *words], environment={**os.environ, "ONIXDESK": str(room.program)})
 
 
+@needs("curl")
 def script_of_http(room: Room) -> Iterator[Outcome]:
     """The script compares each reply with the one that is written in it; what is wrong with its bad query is told."""
     wanted = Ran(0, b"", b"onixdesk: bad-query: day is given 2 times\n")

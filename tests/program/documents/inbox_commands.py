@@ -143,6 +143,7 @@ def fetched_by_sftp(room: Room) -> Iterator[Outcome]:
     yield Outcome(f"{PAGE}: its files", (mode, "FROM=north:out" in lines), (0o600, True))
 
 
+@needs("curl")
 def an_address_with_a_date(room: Room) -> Iterator[Outcome]:
     """The script, from a folder in place of the server. What came once is not fetched again."""
     desk = Machine(room)

@@ -29,7 +29,6 @@ MADE = [
     "onixdesk-fetch/north/succeeded",
 ]
 
-
 OWN_UNIT = "etc/systemd/system/onixdesk-away.timer"
 OWN_LINK = "etc/systemd/system/timers.target.wants/onixdesk-away.timer"
 

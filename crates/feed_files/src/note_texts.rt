@@ -162,7 +162,6 @@ fn words_of_foreign(kind: Foreign, text: &[u8]) -> Words {
         Foreign::EpubLicense => plain("EpubLicense"),
         Foreign::EpubLicenseWithDate => plain("EpubLicenseWithDate"),
         Foreign::DateFormat => with_text("PriceDate in format", ""),
-        Foreign::MoreDecimals => with_text("PriceAmount", " has more than 3 decimals"),
         Foreign::NoCharge => with_text("PriceAmount", " is no price"),
         Foreign::BesideDates => plain(BESIDE_DATES),
         Foreign::RegionAlone => with_text("RegionsIncluded", " without a country or WORLD"),
@@ -173,6 +172,7 @@ fn words_of_foreign(kind: Foreign, text: &[u8]) -> Words {
         Foreign::RegionExcluded => with_text("", " is a part of a country"),
         Foreign::CountryName => country(text),
         Foreign::Discount | Foreign::DiscountCoded => plain("of a Price, not read"),
+        Foreign::Rounded => plain("rounded to 3 decimals"),
         Foreign::NoTerm => plain("that no term fits"),
         Foreign::NothingToPay => plain("an amount of 0"),
         Foreign::HeldBack => plain("held back"),
@@ -336,7 +336,11 @@ pub(crate) fn is_counted_alone(kind: ReasonKind) -> bool {
     matches!(
         kind,
         ReasonKind::Foreign(
-            Foreign::Discount | Foreign::DiscountCoded | Foreign::NoTerm | Foreign::HeldBack
+            Foreign::Discount
+                | Foreign::DiscountCoded
+                | Foreign::Rounded
+                | Foreign::NoTerm
+                | Foreign::HeldBack
         )
     )
 }
@@ -408,6 +412,7 @@ fn verb_of(kind: ReasonKind) -> &'static str {
             | Foreign::Ignored
             | Foreign::Discount
             | Foreign::DiscountCoded
+            | Foreign::Rounded
             | Foreign::NoTerm
             | Foreign::HeldBack,
         ) => " ",

@@ -2,6 +2,7 @@ pub mod Parties
 pub mod Identifiers
 pub mod Elements
 pub mod Again
+pub mod Amounts
 pub mod Notes
 pub mod Regions
 pub mod Records

@@ -28,8 +28,6 @@ pub enum Foreign {
     EpubLicenseWithDate,
     /// A Price with a PriceDate in a format that its role does not have: the format is the text.
     DateFormat,
-    /// A Price whose amount, the text, has more than three decimals.
-    MoreDecimals,
     /// A Price whose amount, the text, is 0.
     NoCharge,
     /// A Price of a type and a currency of which another Price beside it is left out for its
@@ -52,6 +50,8 @@ pub enum Foreign {
     Discount,
     /// A DiscountCoded of a Price, likewise.
     DiscountCoded,
+    /// A Price whose amount has more than three decimals, and is written with three.
+    Rounded,
     /// A Price of a type of the terms of the shop that none of these fits.
     NoTerm,
     /// A Price of which the terms compute an amount of 0.

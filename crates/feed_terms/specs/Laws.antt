@@ -59,7 +59,7 @@ LessComputedIsWithout =
     (terms : List Term) (supplier : Option (List ℕ)) (closed : List Kind) (given : List GivenPrice)
     (records : List (List (List ℕ)))
     → less_behind
-    (map (λ g. length (written_of terms supplier (is_held_back closed given) g)) given)
+    (map (λ g. length (written_of terms supplier (is_held_back terms supplier given closed) g)) given)
     (with_terms terms supplier closed given records) ≡ records
 
 -- wherever a price of the feed is the current one of an offer, it is that with the terms too
@@ -69,7 +69,7 @@ GivenPriceStands =
     (offer : Offer) (q : PriceQuery) (amount : ℕ) → offer.prices ≡ map (λ g. g.price) given
     → IsCurrent offer q (Some amount)
     → IsCurrent (record offer {
-      prices = prices_with terms supplier (is_held_back closed given) given;
+      prices = prices_with terms supplier (is_held_back terms supplier given closed) given;
     }) q (Some amount)
 
 -- a term that fits each price that another fits does so

@@ -6,6 +6,7 @@ pub mod Fits
 pub mod Codes
 pub mod Precedes
 pub mod Amounts
+pub mod Barred
 pub mod Computed
 pub mod HeldBack
 pub mod GivenStarts

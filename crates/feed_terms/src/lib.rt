@@ -9,6 +9,7 @@
 #![tactic(auto)]
 
 pub mod amounts;
+mod barred;
 mod codes;
 pub mod computed;
 pub mod fits;

@@ -1,4 +1,5 @@
 pub mod Percents
+pub mod TaxDoubts
 pub mod TermsFile
 pub mod Reading
 pub mod Prices

@@ -20,6 +20,7 @@ pub mod precedes;
 pub mod price;
 pub mod reading;
 pub mod table;
+pub mod tax_doubts;
 pub mod term;
 mod toml_terms;
 pub mod with_terms;

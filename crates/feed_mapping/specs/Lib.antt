@@ -2,10 +2,10 @@ pub mod Parties
 pub mod Identifiers
 pub mod Elements
 pub mod Again
-pub mod Amounts
 pub mod Notes
 pub mod Regions
 pub mod Records
+pub mod Amounts
 pub mod Outcomes
 pub mod Territories
 pub mod Dates

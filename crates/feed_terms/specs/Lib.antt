@@ -1,15 +1,15 @@
 pub mod Percents
-pub mod TaxDoubts
 pub mod TermsFile
 pub mod Reading
 pub mod Prices
 pub mod Fits
+pub mod TaxDoubts
 pub mod Codes
 pub mod Precedes
 pub mod Amounts
-pub mod Barred
 pub mod Computed
 pub mod HeldBack
 pub mod GivenStarts
+pub mod Barred
 pub mod WithTerms
 pub mod Laws

@@ -19,7 +19,8 @@ use Rattle.feed_terms.specs.declared.price.SaidCode.{SaidCode}
 use Rattle.feed_terms.specs.declared.price.GivenPrice.{GivenPrice}
 use Rattle.feed_terms.specs.declared.price.Kind.{Kind}
 use Rattle.feed_terms.specs.declared.term.Term.{Term}
-use Rattle.feed_mapping.specs.Elements.{Composite, Element, composites, each_at, first}
+use Rattle.feed_mapping.specs.Again.{comes_again}
+use Rattle.feed_mapping.specs.Elements.{Composite, Element, each_at}
 use Rattle.feed_mapping.specs.Elements.{some_at, text_at}
 use Rattle.feed_mapping.specs.Notes.{Note, foreign, note}
 use Rattle.feed_mapping.specs.Outcomes.{Outcome, all_records, written}
@@ -40,7 +41,7 @@ is_of_terms name =
 abbrev pub is_mixed : Nodes → Bool
 is_mixed no_nodes = false
 is_mixed (node n tag text below rest) =
-    (bytes_eq n stranger_apart || is_some (first (composites n rest))) || is_mixed rest
+    (bytes_eq n stranger_apart || comes_again n text rest) || is_mixed rest
 
 -- a Price is garbled: one of the elements that the terms read is a stranger, or comes again in one
 -- of those

@@ -15,7 +15,8 @@ ghost use Rattle.feed_mapping.specs.declared.notes.Foreign.TheVariants as other;
 ghost use Rattle.feed_terms.specs.HeldBack.{is_held_back};
 ghost use Rattle.feed_terms.specs.WithTerms.{HavePrices, remarks_of, with_terms};
 
-use crate::elements::{Composite, first_composite, next_composite, text_or_empty};
+use crate::again::comes_again;
+use crate::elements::{Composite, next_composite, text_or_empty};
 use crate::identifiers::is_there;
 use crate::notes::{Foreign, Note, Reason, push_note};
 use crate::parties::Pair;
@@ -58,7 +59,8 @@ fn is_mixed(elements: &Elements<'_>) -> bool
     let mut rest = elements.copy();
     while let Some(node) = rest.first() {
         let name = node.line.name;
-        if is_stranger_apart(name) || first_composite(name, &node.rest).is_some() {
+        let text = node.line.text.as_slice();
+        if is_stranger_apart(name) || comes_again(name, text, &node.rest) {
             return true;
         }
         rest = node.rest;

@@ -56,7 +56,8 @@ SHORT_TAGS = dict(
     SupplyToCountryExcluded=j140 SupplyToTerritory=j397 OrderQuantityMinimum=x532 PriceDate=pricedate PriceDateRole=x476
     DateFormat=j260 Date=b306 Discount=discount DiscountCoded=discountcoded
     PublishingDetail=publishingdetail SalesRights=salesrights DiscountCodeType=j363 DiscountCode=j364
-    DiscountType=x467 Quantity=x320 DiscountPercent=j267 Tax=tax TaxRatePercent=x472
+    DiscountCodeTypeName=j378 DiscountType=x467 Quantity=x320 DiscountPercent=j267 Tax=tax TaxRateCode=x471
+    TaxRatePercent=x472
     """.split()
 )
 

@@ -4,7 +4,6 @@ use Rattle.std.specs.Prelude.{codes, filter, if◌then◌else◌, is_some, not, 
 use Rattle.std.specs.List.{AllByRecursion, flat_map}
 use Rattle.std.specs.Option.{option_map_or, option_or}
 use Rattle.feed_outline.specs.Nodes.{Nodes}
-use Rattle.onix_records.specs.declared.parts.Price.{Price}
 use Rattle.onix_records.specs.declared.row.Opening.{Opening}
 use Rattle.feed_terms.specs.Computed.{computed_by}
 use Rattle.feed_terms.specs.Fits.{fitting}
@@ -33,11 +32,11 @@ use Rattle.feed_mapping.specs.declared.product_records.Fate.TheVariants as fate
 -- ---- no term fits
 
 -- what is written behind a record where this term fits
-behind : (held : Price → ComputedPrice → Bool) (fields : List (List ℕ)) (g : GivenPrice) → Option Term → List (List (List ℕ))
+behind : (held : GivenPrice → ComputedPrice → Bool) (fields : List (List ℕ)) (g : GivenPrice) → Option Term → List (List (List ℕ))
 behind held fields g term =
-    map (computed_record fields) (filter (λ c. not (c.amount == 0)) (filter (λ c. not (held g.price c)) (computed_by term g)))
+    map (computed_record fields) (filter (λ c. not (c.amount == 0)) (filter (λ c. not (held g c)) (computed_by term g)))
 
-none_behind : (terms : List Term) (supplier : Option (List ℕ)) (held : Price → ComputedPrice → Bool) (given : List GivenPrice) (records : List (List (List ℕ)))
+none_behind : (terms : List Term) (supplier : Option (List ℕ)) (held : GivenPrice → ComputedPrice → Bool) (given : List GivenPrice) (records : List (List (List ℕ)))
     → AllByRecursion (λ g. fitting supplier g terms ≡ None) given → with_all terms supplier held records given ≡ records
 unfolding behind
 none_behind terms supplier held given [] none = refl
@@ -49,12 +48,14 @@ none_behind terms supplier held (g ∷ given) (fields ∷ records) (is, none) =
 pub none-fits : (o : Opening) (terms : List Term) (preferred : List ℕ) (nodes : Nodes) → NoneFits o terms preferred nodes
     → priced_records o (Some terms) false preferred nodes ≡ priced_records o None false preferred nodes
 none-fits o terms preferred nodes none =
-    let given = all_given (context_in o nodes) (prices_in nodes) in
-    none_behind terms (supplier_of (supplier_id preferred nodes)) (is_held_back (closed_kinds (context_in o nodes).closed) given) given (all_records (price_in o nodes) (prices_in nodes)) none
+    let context = context_in o nodes in
+    let given = all_given context (prices_in nodes) in
+    let supplier = supplier_of (supplier_id preferred nodes) in
+    none_behind terms supplier (is_held_back terms supplier given (closed_kinds context (prices_in nodes))) given (all_records (price_in o nodes) (prices_in nodes)) none
 
 -- ---- a table of no term
 
-no_remarks : (supplier : Option (List ℕ)) (held : Price → ComputedPrice → Bool) (is_plain : Bool) (elements : List Element) (given : List GivenPrice)
+no_remarks : (supplier : Option (List ℕ)) (held : GivenPrice → ComputedPrice → Bool) (is_plain : Bool) (elements : List Element) (given : List GivenPrice)
     → all_remark_notes is_plain elements (map (remarks_of [] supplier held) given) ≡ []
 no_remarks supplier held is_plain [] given = refl
 no_remarks supplier held is_plain (element ∷ elements) [] = refl
@@ -65,14 +66,15 @@ module _ (nothing : NothingByNoTerms) (o : Opening) where
   records_same : (is_plain : Bool) (preferred : List ℕ) (nodes : Nodes) → priced_records o (Some []) is_plain preferred nodes ≡ priced_records o None is_plain preferred nodes
   records_same true preferred nodes = refl
   records_same false preferred nodes =
-      nothing (supplier_of (supplier_id preferred nodes)) (closed_kinds (context_in o nodes).closed) (all_given (context_in o nodes) (prices_in nodes))
+      nothing (supplier_of (supplier_id preferred nodes)) (closed_kinds (context_in o nodes) (prices_in nodes)) (all_given (context_in o nodes) (prices_in nodes))
       (all_records (price_in o nodes) (prices_in nodes))
 
   notes_same : (is_plain : Bool) (preferred : List ℕ) (nodes : Nodes) → priced_notes o (Some []) is_plain preferred nodes ≡ priced_notes o None is_plain preferred nodes
   notes_same is_plain preferred nodes =
       let context = context_in o nodes in
       let given = all_given context (prices_in nodes) in
-      no_remarks (supplier_of (supplier_id preferred nodes)) (is_held_back (closed_kinds context.closed) given) is_plain (flat_map (elements_in context) (prices_in nodes)) given
+      let supplier = supplier_of (supplier_id preferred nodes) in
+      no_remarks supplier (is_held_back [] supplier given (closed_kinds context (prices_in nodes))) is_plain (flat_map (elements_in context) (prices_in nodes)) given
 
   details_same : (choices : SupplyChoices) → detail_outcome o (by_terms (Some []) choices) ≡ detail_outcome o (by_terms None choices)
   details_same choices =

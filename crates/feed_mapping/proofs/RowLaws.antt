@@ -79,7 +79,7 @@ priced-rows laws o choices nodes may = go choices.terms choices.is_plain may
     go (Some terms) false (two, coded) = (
       _,
       all-with laws (context_in o nodes) two terms coded (supplier_of (supplier_id choices.preferred nodes))
-          (is_held_back (closed_kinds (context_in o nodes).closed) (all_given (context_in o nodes) (prices_in nodes))) (prices_in nodes),
+          (is_held_back terms (supplier_of (supplier_id choices.preferred nodes)) (all_given (context_in o nodes) (prices_in nodes)) (closed_kinds (context_in o nodes) (prices_in nodes))) (prices_in nodes),
     )
 
 detail-rows : TermLaws → (o : Opening) (choices : SupplyChoices) (nodes : Nodes) → MayCompute o choices.terms → (notes : List Note) (kind : Option Reason) → detail_reason choices.preferred nodes ≡ kind

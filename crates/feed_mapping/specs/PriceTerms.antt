@@ -1,6 +1,6 @@
 -- What the terms of the shop see of the Prices of a SupplyDetail, and what comes of them by these.
 use Rattle.std.specs.Prelude.{◌≡◌, ℕ, Bool, true, false, ◌&&◌, ◌||◌, List, [], ◌∷◌, ◌++◌, Option, Some, None}
-use Rattle.std.specs.Prelude.{if◌then◌else◌, codes, is_none, is_some, length, map, nat_lt, replicate, drop, take}
+use Rattle.std.specs.Prelude.{if◌then◌else◌, codes, length, map, nat_lt, replicate, drop, take}
 use Rattle.std.specs.List.{flat_map, list_any}
 use Rattle.std.specs.Option.{option_to_list}
 use Rattle.std.specs.Str.{bytes_eq, is_utf8}
@@ -68,16 +68,14 @@ discount_in c =
     (text_at "DiscountPercent" c.below)
     else None
 
--- whether a Tax says the zero rate by its code, and no percent
-abbrev pub is_zero_rated : Nodes → Bool
-is_zero_rated tax =
-    is_none (some_at "TaxRatePercent" tax) && bytes_eq (text_at "TaxRateCode" tax) (codes "Z")
+-- the rate that a Tax says by its percent, or where it has none, the zero rate by its code
+abbrev pub rate_by : Option (List ℕ) → Nodes → Option ℕ
+rate_by None tax = if bytes_eq (text_at "TaxRateCode" tax) (codes "Z") then Some 0 else None
+rate_by (Some percent) tax = parsed_term feed_percent_of percent
 
 -- the rate that a Tax says
 abbrev pub rate_in : Nodes → Option ℕ
-rate_in tax =
-    if is_zero_rated tax then Some 0
-    else parsed_term feed_percent_of (text_at "TaxRatePercent" tax)
+rate_in tax = rate_by (some_at "TaxRatePercent" tax) tax
 
 -- the rate of a Tax, where there is just one
 abbrev pub tax_in : List Composite → Option ℕ
@@ -111,6 +109,10 @@ kind_in o nodes = record {
   currency = (key_in o nodes).currency;
 }
 
+-- the same, unless it is for others
+abbrev pub kinds_closed : Opening → Nodes → List Kind
+kinds_closed o nodes = if is_for_others nodes then [] else kind_in o nodes ∷ []
+
 module _ (context : PriceContext) where
   -- what they see of a Price
   abbrev pub given_in : Nodes → List GivenPrice
@@ -133,8 +135,7 @@ module _ (context : PriceContext) where
 
   -- the type and the currency of a Price that gives no record, unless it is for others
   abbrev pub closed_by : Composite → List Kind
-  closed_by c =
-      if is_seen c || is_for_others c.below then [] else kind_in context.opening c.below ∷ []
+  closed_by c = if is_seen c then [] else kinds_closed context.opening c.below
 
   -- those of some Prices
   abbrev pub closed_kinds : List Composite → List Kind

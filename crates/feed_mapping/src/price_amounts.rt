@@ -1,6 +1,6 @@
 //! Amounts of Prices, as they are written.
 
-ghost use Rattle.std.specs.Prelude.{◌≡◌, ◌<◌, IfOk, IfSome, Some, option_map};
+ghost use Rattle.std.specs.Prelude.{◌≡◌, ◌<◌, ◌^◌, IfOk, IfSome, Some, option_map};
 ghost use Rattle.feed_mapping.specs.Amounts.{amount_said, cut_zeros, is_zero, long_part_of, point_in, rounded_amount, written_amount};
 ghost use Rattle.feed_mapping.specs.PriceViews.{text_view};
 ghost use Rattle.feed_mapping.specs.Records.{option_filter};
@@ -47,7 +47,7 @@ pub(crate) fn amount_said<'a>(elements: &Elements<'a>) -> &'a [u8]
 // The thousandths of more than three digits behind the point: to the third, halves up.
 fn long_part_of(part: &str) -> Option<u64>
     ensures value { result ≡ long_part_of part.now }
-    ensures below { IfSome result (λ n. n < 1001) }
+    ensures below { IfSome result (λ n. n < 2 ^ 32) }
 {
     let bytes = part.as_bytes();
     if bytes.len() <= 3 || !are_digits(bytes) {

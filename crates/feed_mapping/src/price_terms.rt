@@ -10,7 +10,7 @@ ghost use Rattle.feed_mapping.specs.Notes.{foreign, note, note_views};
 ghost use Rattle.feed_mapping.specs.Outcomes.{all_notes, outcome_notes, outcome_records};
 ghost use Rattle.feed_mapping.specs.PartyViews.{pair_view};
 ghost use Rattle.feed_mapping.specs.Prices.{PriceContext as Seen, context_view};
-ghost use Rattle.feed_mapping.specs.PriceTerms.{AreWritten, all_given, area_text, closed_by, code_in, discount_in, elements_in, given_in, given_of, is_garbled, is_mixed, is_of_terms, is_seen, kind_in, outcome_in, rate_in, records_with, all_remark_notes, remark_notes, supplier_of, tax_in, terms_notes};
+ghost use Rattle.feed_mapping.specs.PriceTerms.{AreWritten, all_given, area_text, closed_by, code_in, discount_in, elements_in, given_in, given_of, is_garbled, is_mixed, is_of_terms, is_seen, kind_in, kinds_closed, outcome_in, rate_in, records_with, all_remark_notes, remark_notes, supplier_of, tax_in, terms_notes};
 ghost use Rattle.feed_mapping.specs.declared.notes.Foreign.TheVariants as other;
 ghost use Rattle.feed_terms.specs.HeldBack.{is_held_back};
 ghost use Rattle.feed_terms.specs.WithTerms.{HavePrices, remarks_of, with_terms};
@@ -173,18 +173,15 @@ fn discounts_in(alloc: Global, elements: &Elements<'_>) -> Result<Items<Discount
     Ok(all)
 }
 
-// The rate that a Tax says: by its code Z, where it says no percent, none at all.
+// The rate that a Tax says: where it says no percent, none at all by the code Z.
 fn rate_in(tax: &Elements<'_>) -> Option<Percent>
     ensures { result ≡ rate_in tax.now }
 {
-    match text_in(b"TaxRatePercent", tax) {
-        Some(percent) => Percent::read_of_feed(utf8_text(percent)?),
-        None => if text_or_empty(b"TaxRateCode", tax) == b"Z".as_slice() {
-            Some(Percent::zero())
-        } else {
-            None
-        },
-    }
+    let Some(percent) = text_in(b"TaxRatePercent", tax) else {
+        let is_zero = text_or_empty(b"TaxRateCode", tax) == b"Z".as_slice();
+        return if is_zero { Some(Percent::zero()) } else { None };
+    };
+    Percent::read_of_feed(utf8_text(percent)?)
 }
 
 // The rate of the Tax of a Price, where it has just one.
@@ -250,6 +247,22 @@ fn kind_in(opening: &Opening, elements: &Elements<'_>) -> Kind
     }
 }
 
+// Adds the type and the currency of a Price that gives no record, unless it is for others.
+fn push_closed(
+    opening: &Opening,
+    elements: &Elements<'_>,
+    closed: &mut Vec<Kind>,
+) -> Result<(), AllocError>
+    ensures { OnOk result
+        (closed.new.items ≡ closed.old.items ++ kinds_closed opening.now elements.now) }
+{
+    if is_for_others(elements) {
+        return Ok(());
+    }
+    closed.push(kind_in(opening, elements))?;
+    Ok(())
+}
+
 // Of the Prices of a SupplyDetail those that are written: the record of each and what the terms see
 // of it; of all Prices whether they are; and the type and currency of those that are not, unless
 // they are for others.
@@ -285,9 +298,7 @@ fn add_written<'a>(
     add_price(alloc, context, price, fields, &mut written.records, notes)?;
     if written.records.len() == count {
         written.are_written.push(false)?;
-        if !is_for_others(&price.below) {
-            written.closed.push(kind_in(context.opening, &price.below))?;
-        }
+        push_closed(context.opening, &price.below, &mut written.closed)?;
         return Ok(());
     }
     // A record that is written is that of a Price, so it is memory that ran out.

@@ -503,11 +503,13 @@ fn take_texts(
     fields: &mut FieldBuffer,
 ) -> Result<bool, AllocError>
     ensures record { area_view area.now ≡ area_in elements.now
+        → owned.now.amount ≡ option_map amount_text (rounded_amount (amount_said elements.now))
         → AreRenamed owned.now.renamed (area_view area.now)
         → owned.now.first ≡ day_field (right_days elements.now).first
         → owned.now.last ≡ day_field (right_days elements.now).last → IfOk result (λ is. is ≡ true
         → fields.new ≡ codes "Price" ∷ price_fields (context_view context.now) elements.now) }
     ensures taken { area_view area.now ≡ area_in elements.now
+        → owned.now.amount ≡ option_map amount_text (rounded_amount (amount_said elements.now))
         → AreRenamed owned.now.renamed (area_view area.now)
         → owned.now.first ≡ day_field (right_days elements.now).first
         → owned.now.last ≡ day_field (right_days elements.now).last → IfOk result (λ is. is

@@ -1,3 +1,5 @@
+pub mod Keys
+pub mod AnyOf
 pub mod ComputedAmounts
 pub mod Stands
 pub mod Without
@@ -12,4 +14,4 @@ pub mod FirstFitting
 pub mod CodeLists
 pub mod ReadBack
 pub mod Writable
-pub mod TermTypes
+pub mod TermKinds

@@ -3,7 +3,6 @@ use Rattle.std.proofs.Common.{◌≡◌, ◌<◌, ◌≤◌, ◌+◌, ℕ, suc, 
 use Rattle.std.proofs.lemmas.List.{map-append, take_all, take_more}
 use Rattle.std.proofs.Math.Seq.{drop-cons}
 use Rattle.std.proofs.lemmas.Option.{get_or_from_slice_get}
-use Rattle.onix_records.specs.declared.parts.Price.{Price}
 use Rattle.feed_terms.specs.WithTerms.{with_all, with_computed}
 use Rattle.feed_terms.specs.declared.computed.ComputedPrice.{ComputedPrice}
 use Rattle.feed_terms.specs.declared.price.GivenPrice.{GivenPrice}
@@ -27,7 +26,7 @@ all_mapped f g xs n ys is past same = is ∙ ap (map f) (take_all n xs past) ∙
 
 module _ (terms : List Term) (supplier : Option (List ℕ)) where
   -- one more record with those behind it
-  pub with_step : (held : Price → ComputedPrice → Bool) (before after : List (List (List ℕ))) (records : List (List (List ℕ))) (given : List GivenPrice) (i : ℕ) (r : List (List ℕ)) (g : GivenPrice)
+  pub with_step : (held : GivenPrice → ComputedPrice → Bool) (before after : List (List (List ℕ))) (records : List (List (List ℕ))) (given : List GivenPrice) (i : ℕ) (r : List (List ℕ)) (g : GivenPrice)
       → i < length records → i < length given → slice_get records i ≡ Some r → g ≡ get_or given i g → after ≡ before ++ with_computed terms supplier held r g
       → after ++ with_all terms supplier held (drop (i + 1) records) (drop (i + 1) given) ≡ before ++ with_all terms supplier held (drop i records) (drop i given)
   with_step held before after records given i r g lr lg ar ag is =

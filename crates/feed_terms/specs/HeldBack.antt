@@ -1,5 +1,5 @@
 -- Which computed prices are held back by what the feed gives.
-use Rattle.std.specs.Prelude.{ℕ, ℤ, List, Bool, true, not, ◌&&◌, ◌||◌, ◌==◌, Option, nat_lt, filter, is_none}
+use Rattle.std.specs.Prelude.{ℕ, ℤ, List, Bool, true, not, ◌&&◌, ◌||◌, ◌==◌, ◌++◌, Option, nat_lt, filter, is_none}
 use Rattle.std.specs.List.{list_any}
 use Rattle.std.specs.Option.{option_map_or}
 use Rattle.std.specs.Str.{bytes_eq}
@@ -38,10 +38,14 @@ module _ (closed : List Kind) (given : List GivenPrice) where
       || list_any (λ g. is_of_kind price_type currency g.price
       && is_no_higher g.price.minimum g.price.from minimum from) given
 
+-- the type, the currency and the territory of a price, one behind the other: a type has two digits,
+-- and a currency three letters
+abbrev pub place_text : GivenPrice → List ℕ
+place_text g = g.price.price_type ++ g.price.currency ++ g.area
+
 -- whether a price has the type, the currency and the territory of another
 abbrev pub is_beside : GivenPrice → GivenPrice → Bool
-is_beside g other =
-    is_of_kind g.price.price_type g.price.currency other.price && bytes_eq g.area other.area
+is_beside g other = bytes_eq (place_text g) (place_text other)
 
 module _ (terms : List Term) (supplier : Option (List ℕ)) (given : List GivenPrice) where
   -- the prices of the feed that no term fits

@@ -38,7 +38,7 @@ AmountIsRounded =
 -- a computed price is never more than the price that it comes from
 abbrev pub ComputedIsNoMore : Type 0
 ComputedIsNoMore =
-    (terms : List Term) (supplier : Option (List ℕ)) (held : Price → ComputedPrice → Bool)
+    (terms : List Term) (supplier : Option (List ℕ)) (held : GivenPrice → ComputedPrice → Bool)
     (g : GivenPrice) → All (λ c. c.amount ≤ g.price.amount) (written_of terms supplier held g)
 
 -- an empty table computes nothing
@@ -113,7 +113,7 @@ pub record IsWritable (c : ComputedPrice) : Type 0 where
 -- what a table computes of a price of the feed is such
 abbrev pub WrittenAreWritable : Type 0
 WrittenAreWritable =
-    (terms : List Term) (supplier : Option (List ℕ)) (held : Price → ComputedPrice → Bool)
+    (terms : List Term) (supplier : Option (List ℕ)) (held : GivenPrice → ComputedPrice → Bool)
     (g : GivenPrice) → HasCodes terms → IsInRange g
     → AllByRecursion IsWritable (written_of terms supplier held g)
 

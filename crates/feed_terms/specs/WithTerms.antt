@@ -6,11 +6,11 @@ use Rattle.std.specs.List.{flat_map, list_any}
 use Rattle.onix_records.specs.Price.{minimum_fields}
 use Rattle.onix_records.specs.declared.parts.Price.{Price}
 use Rattle.feed_terms.specs.Amounts.{two_decimals}
-use Rattle.feed_terms.specs.Barred.{is_barred_by}
+use Rattle.feed_terms.specs.Barred.{has_place}
 use Rattle.feed_terms.specs.Computed.{computed_by}
 use Rattle.feed_terms.specs.Fits.{fitting, is_of_table}
 use Rattle.feed_terms.specs.GivenStarts.{held_by}
-use Rattle.feed_terms.specs.HeldBack.{is_held_back}
+use Rattle.feed_terms.specs.HeldBack.{is_held_back, place_text}
 use Rattle.feed_terms.specs.declared.computed.ComputedPrice.{ComputedPrice}
 use Rattle.feed_terms.specs.declared.price.GivenPrice.{GivenPrice}
 use Rattle.feed_terms.specs.declared.price.Kind.{Kind}
@@ -33,7 +33,8 @@ price_of_computed price c =
 
 -- whether a computed price is held back by what the SupplyDetail gives
 abbrev pub is_held_beside : Beside → GivenPrice → ComputedPrice → Bool
-is_held_beside beside g c = is_barred_by beside.barred g || held_by beside.starts g.price c
+is_held_beside beside g c =
+    has_place beside.barred (place_text g) || held_by beside.starts g.price c
 
 -- Prices of that supplier, where those that are computed of a price are held back by this test.
 module _ (terms : List Term) (supplier : Option (List ℕ))

@@ -1,9 +1,12 @@
 //! Which prices are not computed, since the shop does not know what another beside them costs.
 
-ghost use Rattle.std.specs.Prelude.{◌≡◌, IfOk, is_none};
+ghost use Rattle.std.specs.Prelude.{◌≡◌, ◌||◌, ◌&&◌, ℕ, List, IfOk, OnOk, false, is_none};
 ghost use Rattle.std.specs.Option.{option_copied};
-ghost use Rattle.feed_terms.specs.Barred.{AreBarred, beside_text, is_barred_by};
+ghost use Rattle.std.specs.Str.{bytes_eq};
+ghost use Rattle.std.specs.String.{string_bytes};
+ghost use Rattle.feed_terms.specs.Barred.{AreBarred, has_place};
 ghost use Rattle.feed_terms.specs.Fits.{fitting};
+ghost use Rattle.feed_terms.specs.HeldBack.{place_text};
 
 use crate::price::GivenPrice;
 use crate::table::Terms;
@@ -14,23 +17,58 @@ use std::collections::BTreeMap;
 /// The types, currencies and territories of the prices of a SupplyDetail that no term fits.
 #[derive(Drop)]
 pub(crate) struct Barred {
-    beside: BTreeMap<String, bool>,
+    places: BTreeMap<String, bool>,
 }
 
 // The type, the currency and the territory of a price.
-fn beside_text(alloc: Global, given: &GivenPrice) -> Result<String, AllocError>
-    ensures { IfOk result (λ text. text ≡ beside_text given.now) }
+fn place_text(alloc: Global, given: &GivenPrice) -> Result<String, AllocError>
+    ensures { IfOk result (λ text. string_bytes text ≡ place_text given.now) }
 {
     let mut text = String::from_str(alloc, given.price.price_type.as_str())?;
-    text.push_str(",")?;
     text.push_str(given.price.currency.as_str())?;
-    text.push_str(",")?;
     text.push_str(given.area.as_str())?;
     Ok(text)
 }
 
 impl Barred {
-    /// Those of the prices of a SupplyDetail of this supplier.
+    // Those of no price.
+    fn new(alloc: Global) -> Barred
+        ensures { (text : List ℕ) → has_place result text ≡ false }
+    {
+        Barred {
+            places: BTreeMap::new(alloc),
+        }
+    }
+
+    // Adds that of a price.
+    fn put(&mut self, alloc: Global, price: &GivenPrice) -> Result<(), AllocError>
+        ensures { OnOk result ((text : List ℕ) → has_place self.new text
+            ≡ (has_place self.old text || bytes_eq text (place_text price.now))) }
+    {
+        self.places.insert(place_text(alloc, price)?, true)?;
+        Ok(())
+    }
+
+    // Adds that of a price which no term fits.
+    fn add(
+        &mut self,
+        alloc: Global,
+        terms: &Terms,
+        supplier: Option<&Text>,
+        price: &GivenPrice,
+    ) -> Result<(), AllocError>
+        ensures { OnOk result ((text : List ℕ) → has_place self.new text
+            ≡ (has_place self.old text
+            || (is_none (fitting (option_copied supplier.entry) price.now terms.now)
+            && bytes_eq text (place_text price.now)))) }
+    {
+        if terms.fitting(supplier, price).is_some() {
+            return Ok(());
+        }
+        self.put(alloc, price)
+    }
+
+    /// Those of the prices of a SupplyDetail of this supplier that no term fits.
     pub(crate) fn of(
         alloc: Global,
         terms: &Terms,
@@ -40,23 +78,18 @@ impl Barred {
         ensures { IfOk result
             (AreBarred terms.now (option_copied supplier.entry) given.now) }
     {
-        let mut beside = BTreeMap::new(alloc);
+        let mut barred = Barred::new(alloc);
         for price in given {
-            if terms.fitting(supplier, price).is_none() {
-                beside.insert(beside_text(alloc, price)?, true)?;
-            }
+            barred.add(alloc, terms, supplier, price)?;
         }
-        Ok(Barred { beside })
+        Ok(barred)
     }
 
     /// Whether one of them is that of a price.
     pub(crate) fn has(&self, alloc: Global, given: &GivenPrice) -> Result<bool, AllocError>
-        ensures { IfOk result (λ has. has ≡ is_barred_by self.now given.now) }
+        ensures { IfOk result (λ has. has ≡ has_place self.now (place_text given.now)) }
     {
-        if self.beside.is_empty() {
-            return Ok(false);
-        }
-        let text = beside_text(alloc, given)?;
-        Ok(self.beside.contains_key(text.as_str()))
+        let text = place_text(alloc, given)?;
+        Ok(self.places.contains_key(text.as_str()))
     }
 }

@@ -4,7 +4,7 @@ ghost use Rattle.std.specs.Prelude.{◌≡◌, ◌≤◌, ◌||◌, ℕ, List, I
 ghost use Rattle.std.specs.Option.{option_copied};
 ghost use Rattle.std.specs.Str.{bytes_eq};
 ghost use Rattle.feed_terms.specs.Codes.{first_in, passes_at};
-ghost use Rattle.feed_terms.specs.Fits.{AreKinds, fits_by, has_kind, is_among, is_asked};
+ghost use Rattle.feed_terms.specs.Fits.{AreKinds, fits_by, has_kind, is_among, is_asked, takes_scheme};
 
 use crate::codes::CodeIndex;
 use crate::fits::{fits_besides, is_text};
@@ -17,8 +17,18 @@ use std::alloc::{AllocError, Global};
 use std::collections::BTreeMap;
 use std::marker::Model;
 
-// Whether there is a term at that index that fits a price by a code of this scheme, but for the
-// code.
+// Whether a term takes the scheme of a DiscountCoded, where it goes by one.
+fn takes_scheme(term: &Term, scheme: Option<&Text>) -> bool
+    ensures { result ≡ takes_scheme term.now.scheme (option_copied scheme.entry) }
+{
+    match scheme {
+        None => true,
+        Some(_) => is_text(term.scheme.as_ref(), scheme),
+    }
+}
+
+// Whether there is a term at that index that fits a price by a DiscountCoded of this scheme, or by
+// none, but for the code.
 fn fits_at(
     terms: &[Term],
     index: usize,
@@ -30,15 +40,12 @@ fn fits_at(
         (option_copied scheme.entry) given.now) terms.now index }
 {
     match terms.get(index) {
-        Some(term) => {
-            is_text(term.scheme.as_ref(), scheme) && fits_besides(term, supplier, given)
-        }
+        Some(term) => takes_scheme(term, scheme) && fits_besides(term, supplier, given),
         None => false,
     }
 }
 
-// The first of some indexes of a term that fits a price by a code of this scheme, but for the code,
-// where that is below another, else that.
+// The first of some indexes of a term that fits a price so, where that is below another, else that.
 fn first_of(
     terms: &[Term],
     indexes: &[usize],
@@ -140,8 +147,8 @@ impl Terms {
     }
 
     /// The table that a TOML text writes: an array `term` of tables, each with `types`, `net` and
-    /// `percent`, and optionally `codes`, `scheme`, `supplier`, `currency` and `tax`. An empty text has no
-    /// terms.
+    /// `percent`, and optionally `codes`, `scheme`, `supplier`, `currency` and `tax`. An empty text
+    /// has no terms.
     ///
     /// `NotToml` comes exactly where the text is no TOML document, or its top-level table has
     /// another key than `term`, or `term` is no array. Else `BadTerm` names the first item, from 1,

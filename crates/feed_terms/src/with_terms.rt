@@ -119,7 +119,8 @@ fn left_beside(
         ≡ filter (λ c. not (is_held_beside beside.now given.now c)) prices.now) }
     ensures no_more { IfOk result (λ left. length left.items ≤ length prices.now) }
 {
-    if beside.barred.has(alloc, given)? {
+    let is_barred = beside.barred.has(alloc, given)?;
+    if is_barred {
         return Ok(Vec::new(alloc));
     }
     left_of(alloc, &beside.starts, &given.price, prices)
@@ -242,12 +243,12 @@ pub fn add_with_terms(
     ensures records { OnOk result (output.new ≡ output.old
         ++ with_terms terms.now (option_copied supplier.entry) closed.now given.now records.now) }
     ensures remarks { IfOk result (λ r. r.items ≡ map (remarks_of terms.now
-        (option_copied supplier.entry) (is_held_back terms.now (option_copied supplier.entry) given.now closed.now)) given.now) }
+        (option_copied supplier.entry) (is_held_back terms.now (option_copied supplier.entry)
+        given.now closed.now)) given.now) }
 {
-    let beside = Beside {
-        starts: GivenStarts::of(alloc, closed, given)?,
-        barred: Barred::of(alloc, terms, supplier, given)?,
-    };
+    let starts = GivenStarts::of(alloc, closed, given)?;
+    let barred = Barred::of(alloc, terms, supplier, given)?;
+    let beside = Beside { starts, barred };
     let mut fields = FieldBuffer::new(alloc);
     let mut remarks = Vec::new(alloc);
     for place in 0..given.len() {
@@ -264,19 +265,4 @@ pub fn add_with_terms(
         remarks.push(remark)?;
     }
     Ok(remarks)
-}
-
-/// Whether records are those of so many Prices, each with the nine fields that a Price has.
-pub fn have_prices(records: &RecordBuffer, given: &[GivenPrice]) -> bool
-    ensures { result ≡ true → HavePrices records.now given.now }
-{
-    if records.len() != given.len() {
-        return false;
-    }
-    for place in 0..records.len() {
-        if records.record(place).len() < 9 {
-            return false;
-        }
-    }
-    true
 }

@@ -1,9 +1,10 @@
-use Rattle.std.proofs.Common.{◌≡◌, ◌<◌, length, ap, arith, ◌∙◌}
+use Rattle.std.proofs.Common.{◌≡◌, ◌<◌, ◌≤◌, ◌||◌, ◌++◌, List, drop, length, ap, arith, ◌∙◌}
 use Rattle.std.proofs.Math.Path.{fun_ext}
 use Rattle.std.specs.Option.{option_copied}
+use Rattle.feed_terms.specs.Barred.{has_place}
 use Rattle.feed_terms.specs.GivenStarts.{held_by}
-use Rattle.feed_terms.specs.HeldBack.{is_held_back}
-use Rattle.feed_terms.specs.WithTerms.{remarks_of}
+use Rattle.feed_terms.specs.HeldBack.{is_barred, is_held_back, place_text}
+use Rattle.feed_terms.specs.WithTerms.{is_held_beside, remarks_of}
 use Rattle.feed_terms.proofs.WithRecords.{all_mapped, mapped_more, with_step}
 use Rattle.feed_terms.proofs.with_terms.add_with_terms.Goals as goal
 
@@ -11,7 +12,7 @@ pub loop-place-preserved : goal.loop-place-preserved
 loop-place-preserved c =
     let terms = c.args.terms.now in
     let supplier = option_copied c.args.supplier in
-    let held = held_by c.in_ok-starts.starts in
+    let held = is_held_beside c.loop-place.beside in
     let given = c.args.given.now in
     let i = c.loop-place.place in
     let in_records : i < length c.args.records.now = omega (arith, c.requires.count) in record {
@@ -24,9 +25,14 @@ loop-place-preserved c =
 
 pub returns-clause-remarks : goal.returns-clause-remarks
 returns-clause-remarks c =
-    let remarks = remarks_of c.args.terms.now (option_copied c.args.supplier) in
+    let terms = c.args.terms.now in
+    let supplier = option_copied c.args.supplier in
+    let remarks = remarks_of terms supplier in
     let given = c.args.given.now in
-    let held = held_by c.in_ok-starts.starts in
-    let is_held = is_held_back c.args.closed.now given in
-    let same : held ≡ is_held = fun_ext (λ p. fun_ext (λ x. c.in_ok-starts.ensures x.price_type p.currency x.minimum p.from)) in
+    let barred = c.in_ok-barred.barred in
+    let starts = c.in_ok-starts.starts in
+    let is_held = is_held_back terms supplier given c.args.closed.now in
+    let held = is_held_beside (record { starts = starts; barred = barred }) in
+    let same : held ≡ is_held =
+    fun_ext (λ g. fun_ext (λ x. ap (λ b. b || held_by starts g.price x) (c.in_ok-barred.ensures (place_text g)) ∙ ap (λ b. is_barred terms supplier given g || b) (c.in_ok-starts.ensures x.price_type g.price.currency x.minimum g.price.from))) in
     all_mapped (remarks held) (remarks is_held) given c.loop-place.place c.loop-place.remarks.items c.loop-place.invariant.remarks c.loop-place-test.false (ap remarks same)

@@ -1,7 +1,7 @@
 //! Amounts of Prices, as they are written.
 
 ghost use Rattle.std.specs.Prelude.{◌≡◌, ◌<◌, ◌^◌, IfOk, IfSome, Some, option_map};
-ghost use Rattle.feed_mapping.specs.Amounts.{amount_said, cut_zeros, is_zero, long_part_of, point_in, rounded_amount, written_amount};
+ghost use Rattle.feed_mapping.specs.Amounts.{amount_said, cut_zeros, is_zero, long_part_of, point_in, rounded_amount, rounded_of, written_amount};
 ghost use Rattle.feed_mapping.specs.PriceViews.{text_view};
 ghost use Rattle.feed_mapping.specs.Records.{option_filter};
 ghost use Rattle.onix_terms.specs.Amount.{amount_text};
@@ -60,13 +60,25 @@ fn long_part_of(part: &str) -> Option<u64>
     }
 }
 
+// The amount of one to nine digits, a point and more than three others.
+fn rounded_of(text: &str) -> Option<Amount>
+    ensures { result ≡ rounded_of text.now }
+{
+    match text.split_once('.') {
+        Some((whole, part)) => {
+            let whole = read_digits(whole)?;
+            let part = long_part_of(part)?;
+            Amount::from_thousandths(u64::from(whole) * 1000 + part)
+        }
+        None => None,
+    }
+}
+
 /// The amount that is written in place of one with more than three decimals.
 pub(crate) fn rounded_amount(said: &[u8]) -> Option<Amount>
     ensures { result ≡ rounded_amount said.now }
 {
-    let (whole, part) = utf8_text(said)?.split_once('.')?;
-    let whole = read_digits(whole)?;
-    Amount::from_thousandths(u64::from(whole) * 1000 + long_part_of(part)?)
+    rounded_of(utf8_text(said)?)
 }
 
 /// The text of that amount.

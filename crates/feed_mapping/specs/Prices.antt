@@ -150,16 +150,22 @@ module _ (dated : Option Reason) (nodes : Nodes) where
       ∷ option_map (foreign EpubLicenseWithDate) (mark_in nodes "EpubLicenseWithDate")
       ∷ late_reasons
 
--- whether a Price is for others than the shop, for another unit than a copy, or of 0
-abbrev pub is_for_others : Nodes → Bool
-is_for_others nodes =
-    is_some (option_filter is_other_qualifier (some_at "PriceQualifier" nodes))
-    || is_some (option_filter is_other (some_at "PricePer" nodes))
-    || is_some (other_type nodes "PriceCondition" "PriceConditionType")
-    || is_some (other_type nodes "PriceConstraint" "PriceConstraintType")
-    || is_some (mark_in nodes "EpubLicense")
-    || is_some (mark_in nodes "EpubLicenseWithDate")
-    || is_zero (amount_said nodes)
+module _ (nodes : Nodes) where
+  -- whether a Price is for others than the shop, or for another unit than a copy
+  abbrev pub is_limited : Bool
+  is_limited =
+      is_some (option_filter is_other_qualifier (some_at "PriceQualifier" nodes))
+      || is_some (option_filter is_other (some_at "PricePer" nodes))
+      || is_some (other_type nodes "PriceCondition" "PriceConditionType")
+      || is_some (other_type nodes "PriceConstraint" "PriceConstraintType")
+
+  -- whether it is for those who have a licence
+  abbrev pub is_licensed : Bool
+  is_licensed = is_some (mark_in nodes "EpubLicense") || is_some (mark_in nodes "EpubLicenseWithDate")
+
+  -- whether it is one of these, or of 0
+  abbrev pub is_for_others : Bool
+  is_for_others = is_limited || is_licensed || is_zero (amount_said nodes)
 
 -- Which fields of a Price the desk does not take, each where it does not: it is outside its
 -- grammar, or it is empty and has no default in the header.
@@ -237,10 +243,14 @@ discount_notes nodes =
     unread_notes (codes "Discount") Discount nodes
     ++ unread_notes (codes "DiscountCoded") DiscountCoded nodes
 
+-- notes on what is counted alone
+abbrev pub counted_notes : Nodes → List Note
+counted_notes nodes = discount_notes nodes ++ rounded_notes nodes
+
 abbrev pub outcome_of : Option Reason → PriceContext → Nodes → Outcome
 outcome_of reason context nodes =
     written_unless reason ((codes "Price" ∷ price_fields context nodes) ∷ [])
-    (territory_notes (area_in nodes) ++ (discount_notes nodes ++ rounded_notes nodes))
+    (territory_notes (area_in nodes) ++ counted_notes nodes)
 
 module _ (context : PriceContext) (nodes : Nodes) where
   -- A Price without an amount and without PriceCoded is nothing, whatever else stands in it, where

@@ -2,7 +2,7 @@
 
 ghost use Rattle.std.specs.Prelude.{◌≡◌, ◌++◌, OnOk};
 ghost use Rattle.feed_mapping.specs.Notes.{note_views};
-ghost use Rattle.feed_mapping.specs.Prices.{discount_notes, rounded_notes, unread_notes};
+ghost use Rattle.feed_mapping.specs.Prices.{counted_notes, discount_notes, rounded_notes, unread_notes};
 
 use crate::elements::{first_composite, next_composite};
 use crate::notes::{Foreign, Note, Reason, push_note};
@@ -28,8 +28,8 @@ fn push_unread<'a>(
     Ok(())
 }
 
-/// Adds a note on each Discount and each DiscountCoded of a Price.
-pub(crate) fn push_discounts<'a>(
+// Adds a note on each Discount and each DiscountCoded of a Price.
+fn push_discounts<'a>(
     notes: &mut Vec<Note<'a>>,
     elements: &Elements<'a>,
 ) -> Result<(), AllocError>
@@ -40,8 +40,8 @@ pub(crate) fn push_discounts<'a>(
     push_unread(notes, b"DiscountCoded", Foreign::DiscountCoded, elements)
 }
 
-/// Adds a note where the amount of a Price is rounded.
-pub(crate) fn push_rounded<'a>(
+// Adds a note where the amount of a Price is rounded.
+fn push_rounded<'a>(
     notes: &mut Vec<Note<'a>>,
     elements: &Elements<'a>,
 ) -> Result<(), AllocError>
@@ -55,4 +55,16 @@ pub(crate) fn push_rounded<'a>(
         Some(amount) => push_note(notes, amount.line, Reason::foreign(Foreign::Rounded, b"")),
         None => Ok(()),
     }
+}
+
+/// Adds the notes on what of a Price is counted alone.
+pub(crate) fn push_counted<'a>(
+    notes: &mut Vec<Note<'a>>,
+    elements: &Elements<'a>,
+) -> Result<(), AllocError>
+    ensures { OnOk result (note_views notes.new.items
+        ≡ note_views notes.old.items ++ counted_notes elements.now) }
+{
+    push_discounts(notes, elements)?;
+    push_rounded(notes, elements)
 }

@@ -104,7 +104,8 @@ pub(crate) fn written_amount(said: &[u8]) -> Option<Amount>
     }
 }
 
-fn is_zero(said: &[u8]) -> bool
+/// Whether an amount is 0.
+pub(crate) fn is_zero(said: &[u8]) -> bool
     ensures { result ≡ is_zero said.now }
 {
     match written_amount(said) {

@@ -90,10 +90,10 @@ fn code_in(alloc: Global, coded: &Composite<'_>) -> Result<Option<SaidCode>, All
     let Some(code_type) = utf8_text(text_or_empty(b"DiscountCodeType", &coded.below)) else {
         return Ok(None);
     };
-    let Some(code) = utf8_text(text_or_empty(b"DiscountCode", &coded.below)) else {
+    let Some(scheme) = utf8_text(text_or_empty(b"DiscountCodeTypeName", &coded.below)) else {
         return Ok(None);
     };
-    let Some(scheme) = utf8_text(text_or_empty(b"DiscountCodeTypeName", &coded.below)) else {
+    let Some(code) = utf8_text(text_or_empty(b"DiscountCode", &coded.below)) else {
         return Ok(None);
     };
     code_said(alloc, code_type, scheme, code)

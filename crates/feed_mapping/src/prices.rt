@@ -13,7 +13,7 @@ ghost use Rattle.feed_mapping.specs.Outcomes.{notes_below, outcome_notes, outcom
 ghost use Rattle.feed_mapping.specs.PriceViews.{reason_read, text_view};
 ghost use Rattle.feed_mapping.specs.Amounts.{amount_said, amount_written, rounded_amount};
 ghost use Rattle.onix_terms.specs.Amount.{amount_text};
-ghost use Rattle.feed_mapping.specs.Prices.{closed_reason, closing_key, closing_keys, context_view, first_with_text, greater_of, is_greater, is_other_qualifier, is_taken, key_in, last_reason, early_reasons, eight_fields, is_for_others, is_nothing, is_other, late_reasons, old_element, outcome_of, own_minimum, price_fields, price_outcome, price_reasons, right_days};
+ghost use Rattle.feed_mapping.specs.Prices.{closed_reason, closing_key, closing_keys, context_view, first_with_text, greater_of, is_greater, is_other_qualifier, is_taken, key_in, last_reason, early_reasons, eight_fields, is_for_others, is_licensed, is_limited, is_nothing, is_other, late_reasons, old_element, outcome_of, own_minimum, price_fields, price_outcome, price_reasons, right_days};
 ghost use Rattle.feed_mapping.specs.Records.{first_some, option_filter, parsed};
 ghost use Rattle.feed_mapping.specs.Territories.{AreRenamed, area_in, area_view};
 ghost use Rattle.feed_mapping.specs.declared.notes.Wrong.TheVariants.{OldElement};
@@ -23,10 +23,10 @@ ghost use Rattle.feed_outline.specs.Composites.{text_in};
 ghost use Rattle.feed_outline.specs.Nodes.{Nodes};
 
 use crate::dates::{Dated, Days, days_in};
-use crate::discounts::{push_discounts, push_rounded};
+use crate::discounts::push_counted;
 use crate::elements::{Composite, first_composite, next_composite, text_or_empty};
 use crate::notes::{Foreign, Note, Reason, Wrong, push_reason};
-use crate::price_amounts::{amount_said, no_charge, rounded_text};
+use crate::price_amounts::{amount_said, is_zero, no_charge, rounded_text};
 use crate::price_keys::{Key, has_key, key_in};
 use crate::reasons::{field_reason, or_price};
 use crate::records::{are_zeros, former, parsed_quantity, push_texts};
@@ -272,17 +272,29 @@ fn early_reason<'a>(
     former(qualifier, former(per, typed))
 }
 
-/// Whether a Price is for others than the shop, for another unit than a copy, or of 0.
-pub(crate) fn is_for_others(elements: &Elements<'_>) -> bool
-    ensures { result ≡ is_for_others elements.now }
+// Whether a Price is for others than the shop, or for another unit than a copy.
+fn is_limited(elements: &Elements<'_>) -> bool
+    ensures { result ≡ is_limited elements.now }
 {
     other_qualifier(elements).is_some()
         || other_in(b"PricePer", elements).is_some()
         || other_type(b"PriceCondition", b"PriceConditionType", elements).is_some()
         || other_type(b"PriceConstraint", b"PriceConstraintType", elements).is_some()
-        || mark_in(b"EpubLicense", elements).is_some()
+}
+
+// Whether a Price is for those who have a licence.
+fn is_licensed(elements: &Elements<'_>) -> bool
+    ensures { result ≡ is_licensed elements.now }
+{
+    mark_in(b"EpubLicense", elements).is_some()
         || mark_in(b"EpubLicenseWithDate", elements).is_some()
-        || no_charge(amount_said(elements)).is_some()
+}
+
+/// Whether a Price is for others than the shop, for another unit than a copy, or of 0.
+pub(crate) fn is_for_others(elements: &Elements<'_>) -> bool
+    ensures { result ≡ is_for_others elements.now }
+{
+    is_limited(elements) || is_licensed(elements) || is_zero(amount_said(elements))
 }
 
 // Whether a Price is nothing: it has no amount and no PriceCoded, and the record of its
@@ -600,8 +612,7 @@ fn add_known<'a>(
     let left_out = write_price(alloc, context, elements, area, days, fields, records)?;
     if left_out.is_none() {
         push_territory_notes(notes, area)?;
-        push_discounts(notes, elements)?;
-        push_rounded(notes, elements)?;
+        push_counted(notes, elements)?;
     }
     Ok(left_out)
 }

@@ -41,7 +41,7 @@ module _ (closed : List Kind) (given : List GivenPrice) where
 -- the type, the currency and the territory of a price, one behind the other: a type has two digits,
 -- and a currency three letters
 abbrev pub place_text : GivenPrice → List ℕ
-place_text g = g.price.price_type ++ g.price.currency ++ g.area
+place_text g = (g.price.price_type ++ g.price.currency) ++ g.area
 
 -- whether a price has the type, the currency and the territory of another
 abbrev pub is_beside : GivenPrice → GivenPrice → Bool

@@ -1,5 +1,5 @@
 -- Which terms a shop should look at again, since their types of prices do not fit their tax.
-use Rattle.std.specs.Prelude.{ℕ, Bool, true, false, not, ◌||◌, ◌==◌, List, [], ◌∷◌, Option, Some, None}
+use Rattle.std.specs.Prelude.{ℕ, Bool, not, ◌&&◌, ◌==◌, List, [], ◌∷◌, Option, Some, None}
 use Rattle.std.specs.Prelude.{codes, if◌then◌else◌}
 use Rattle.std.specs.List.{list_all}
 use Rattle.feed_terms.specs.Fits.{is_among}
@@ -18,16 +18,21 @@ includes_tax price_type =
 abbrev pub excludes_tax : List ℕ → Bool
 excludes_tax price_type = not (includes_tax price_type)
 
+-- whether the types of a term and that of its net prices are all of prices with tax, or all of
+-- others
+abbrev pub are_of_one_kind : Term → Bool
+are_of_one_kind term =
+    if includes_tax term.net then list_all includes_tax term.types
+    else list_all excludes_tax term.types
+
 -- of a term that takes no tax out: it makes prices with tax of prices without, or the other way
 abbrev pub doubt_without : Term → Option TaxDoubt
-doubt_without term =
-    if list_all includes_tax (term.net ∷ term.types) || list_all excludes_tax (term.net ∷ term.types)
-    then None else Some doubt.Mixed
+doubt_without term = if are_of_one_kind term then None else Some doubt.Mixed
 
 -- of a term that takes a tax out: one of its types has none, or its net prices have one
 abbrev pub doubt_with : Term → Option TaxDoubt
 doubt_with term =
-    if list_all includes_tax term.types then (if includes_tax term.net then Some doubt.NoTaxToTake else None)
+    if list_all includes_tax term.types && excludes_tax term.net then None
     else Some doubt.NoTaxToTake
 
 -- why a term is to be looked at again; one with a tax of 0 says that it knows

@@ -102,11 +102,15 @@ codes_at (Some value) = option_map (λ found. Some found) (array_at (typed_behin
 abbrev pub scheme_of : List ℕ → Option (List ℕ)
 scheme_of text = if is_clean text && is_spaced text then Some text else None
 
+-- the scheme that a value is
+abbrev pub scheme_in : Data → Option (List ℕ)
+scheme_in value = as_str value >>= scheme_of
+
 -- the scheme of the codes of a term, which may be absent, and stands where codes do
 abbrev pub scheme_at : Bool → Option Data → Option (Option (List ℕ))
 scheme_at has_codes None = Some None
 scheme_at has_codes (Some value) =
-    if has_codes then optional_at scheme_of (Some value) else None
+    if has_codes then option_map (λ found. Some found) (scheme_in value) else None
 
 -- a type of net prices, which is none of these
 abbrev pub net_of : List (List ℕ) → List ℕ → Option (List ℕ)

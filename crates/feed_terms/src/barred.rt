@@ -3,7 +3,6 @@
 ghost use Rattle.std.specs.Prelude.{◌≡◌, ◌||◌, ◌&&◌, ℕ, List, IfOk, OnOk, false, is_none};
 ghost use Rattle.std.specs.Option.{option_copied};
 ghost use Rattle.std.specs.Str.{bytes_eq};
-ghost use Rattle.std.specs.String.{string_bytes};
 ghost use Rattle.feed_terms.specs.Barred.{AreBarred, has_place};
 ghost use Rattle.feed_terms.specs.Fits.{fitting};
 ghost use Rattle.feed_terms.specs.HeldBack.{place_text};
@@ -21,10 +20,10 @@ pub(crate) struct Barred {
 }
 
 // The type, the currency and the territory of a price.
-fn place_text(alloc: Global, given: &GivenPrice) -> Result<String, AllocError>
-    ensures { IfOk result (λ text. string_bytes text ≡ place_text given.now) }
+fn place_text(alloc: Global, given: &GivenPrice) -> Result<Text, AllocError>
+    ensures { IfOk result (λ text. text ≡ place_text given.now) }
 {
-    let mut text = String::from_str(alloc, given.price.price_type.as_str())?;
+    let mut text = Text::from_str(alloc, given.price.price_type.as_str())?;
     text.push_str(given.price.currency.as_str())?;
     text.push_str(given.area.as_str())?;
     Ok(text)
@@ -45,7 +44,9 @@ impl Barred {
         ensures { OnOk result ((text : List ℕ) → has_place self.new text
             ≡ (has_place self.old text || bytes_eq text (place_text price.now))) }
     {
-        self.places.insert(place_text(alloc, price)?, true)?;
+        let text = place_text(alloc, price)?;
+        let key = String::from_str(alloc, text.as_str())?;
+        self.places.insert(key, true)?;
         Ok(())
     }
 
@@ -62,10 +63,13 @@ impl Barred {
             || (is_none (fitting (option_copied supplier.entry) price.now terms.now)
             && bytes_eq text (place_text price.now)))) }
     {
-        if terms.fitting(supplier, price).is_some() {
-            return Ok(());
+        match terms.fitting(supplier, price) {
+            Some(_) => Ok(()),
+            None => {
+                self.put(alloc, price)?;
+                Ok(())
+            }
         }
-        self.put(alloc, price)
     }
 
     /// Those of the prices of a SupplyDetail of this supplier that no term fits.

@@ -27,8 +27,20 @@ fn takes_scheme(term: &Term, scheme: Option<&Text>) -> bool
     }
 }
 
-// Whether there is a term at that index that fits a price by a DiscountCoded of this scheme, or by
-// none, but for the code.
+// Whether a term fits a price by a DiscountCoded of this scheme, or by none, but for the code.
+fn fits_by(
+    term: &Term,
+    supplier: Option<&Text>,
+    scheme: Option<&Text>,
+    given: &GivenPrice,
+) -> bool
+    ensures { result ≡ fits_by (option_copied supplier.entry) given.now
+        (option_copied scheme.entry) term.now }
+{
+    takes_scheme(term, scheme) && fits_besides(term, supplier, given)
+}
+
+// Whether there is a term at that index that does.
 fn fits_at(
     terms: &[Term],
     index: usize,
@@ -36,11 +48,11 @@ fn fits_at(
     scheme: Option<&Text>,
     given: &GivenPrice,
 ) -> bool
-    ensures { result ≡ passes_at (fits_by (option_copied supplier.entry)
-        (option_copied scheme.entry) given.now) terms.now index }
+    ensures { result ≡ passes_at (fits_by (option_copied supplier.entry) given.now
+        (option_copied scheme.entry)) terms.now index }
 {
     match terms.get(index) {
-        Some(term) => takes_scheme(term, scheme) && fits_besides(term, supplier, given),
+        Some(term) => fits_by(term, supplier, scheme, given),
         None => false,
     }
 }
@@ -55,8 +67,8 @@ fn first_of(
     given: &GivenPrice,
 ) -> usize
     ensures { result ≡ first_in
-        (passes_at (fits_by (option_copied supplier.entry) (option_copied scheme.entry)
-        given.now) terms.now)
+        (passes_at (fits_by (option_copied supplier.entry) given.now
+        (option_copied scheme.entry)) terms.now)
         below indexes.now }
 {
     for index in indexes {
@@ -97,6 +109,17 @@ fn kinds_of(
         add_kinds(&mut kinds, term.types.as_slice(), term.currency)?;
     }
     Ok(kinds)
+}
+
+// Whether a type is among them, with this currency or with each.
+fn has_kind(
+    kinds: &BTreeMap<(Code2, Option<Currency>), bool>,
+    price_type: Code2,
+    currency: Currency,
+) -> bool
+    ensures { result ≡ has_kind kinds.now price_type currency }
+{
+    kinds.contains_key(&(price_type, Some(currency))) || kinds.contains_key(&(price_type, None))
 }
 
 /// The terms of the shop with a wholesaler, which contracts see as the list of them, of which there
@@ -189,8 +212,6 @@ impl Terms {
     pub fn is_for(&self, given: &GivenPrice) -> bool
         ensures { result ≡ is_of_table self.now given.now }
     {
-        let price_type = given.price.price_type;
-        self.kinds.contains_key(&(price_type, Some(given.price.currency)))
-            || self.kinds.contains_key(&(price_type, None))
+        has_kind(&self.kinds, given.price.price_type, given.price.currency)
     }
 }

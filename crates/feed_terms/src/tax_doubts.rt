@@ -2,7 +2,7 @@
 
 ghost use Rattle.std.specs.Prelude.{◌≡◌};
 ghost use Rattle.std.specs.List.{list_all};
-ghost use Rattle.feed_terms.specs.TaxDoubts.{doubt_of, doubt_with, doubt_without, excludes_tax, includes_tax};
+ghost use Rattle.feed_terms.specs.TaxDoubts.{are_of_one_kind, doubt_of, doubt_with, doubt_without, excludes_tax, includes_tax};
 
 use crate::term::{Rate, Term};
 use onix_terms::code::Code2;
@@ -22,10 +22,19 @@ pub enum TaxDoubt {
 fn includes_tax(price_type: Code2) -> bool
     ensures { result ≡ includes_tax price_type }
 {
-    matches!(
-        price_type.as_str(),
-        "02" | "04" | "07" | "09" | "12" | "14" | "17" | "22" | "24" | "27" | "34" | "42"
-    )
+    let text = price_type.as_str();
+    text == "02"
+        || text == "04"
+        || text == "07"
+        || text == "09"
+        || text == "12"
+        || text == "14"
+        || text == "17"
+        || text == "22"
+        || text == "24"
+        || text == "27"
+        || text == "34"
+        || text == "42"
 }
 
 fn all_include(types: &[Code2]) -> bool
@@ -40,16 +49,22 @@ fn all_exclude(types: &[Code2]) -> bool
     types.iter().all(|price_type| !includes_tax(*price_type))
 }
 
+// Whether the types of a term and that of its net prices are all of prices with tax, or all of
+// others.
+fn are_of_one_kind(term: &Term) -> bool
+    ensures { result ≡ are_of_one_kind term.now }
+{
+    if includes_tax(term.net) {
+        all_include(term.types.as_slice())
+    } else {
+        all_exclude(term.types.as_slice())
+    }
+}
+
 fn doubt_without(term: &Term) -> Option<TaxDoubt>
     ensures { result ≡ doubt_without term.now }
 {
-    let types = term.types.as_slice();
-    let is_of_one_kind = if includes_tax(term.net) {
-        all_include(types)
-    } else {
-        all_exclude(types)
-    };
-    if is_of_one_kind {
+    if are_of_one_kind(term) {
         None
     } else {
         Some(TaxDoubt::Mixed)

@@ -6,7 +6,7 @@ ghost use Rattle.price_rules.specs.RulesFile.{code_of, keys_pass};
 ghost use Rattle.onix_terms.specs.Code.{currency_of};
 ghost use Rattle.toml.specs.Data.{get_member};
 ghost use Rattle.toml.specs.View.{items_view, table_view, view};
-ghost use Rattle.feed_terms.specs.TermsFile.{Explains, any_percent, array_at, codes_at, is_discount, is_spaced, is_term_key, is_top_key, net_of, optional_at, rate_of, scheme_at, scheme_of, table_of, term_in, term_of, terms_behind, terms_of, text_at, top_items, typed_behind, typed_in, typed_of, types_behind};
+ghost use Rattle.feed_terms.specs.TermsFile.{Explains, any_percent, array_at, codes_at, is_discount, is_spaced, is_term_key, is_top_key, net_of, optional_at, rate_of, scheme_at, scheme_in, scheme_of, table_of, term_in, term_of, terms_behind, terms_of, text_at, top_items, typed_behind, typed_in, typed_of, types_behind};
 
 use crate::fits::has_type;
 use crate::percent::Percent;
@@ -218,6 +218,26 @@ fn is_scheme(text: &str) -> bool
     is_clean(bytes) && is_spaced(bytes)
 }
 
+// The name of a scheme.
+fn read_scheme(alloc: Global, text: &str) -> Result<Option<Text>, AllocError>
+    ensures { IfOk result (λ found. found ≡ scheme_of text.now) }
+{
+    if !is_scheme(text) {
+        return Ok(None);
+    }
+    Ok(Some(Text::from_str(alloc, text)?))
+}
+
+// The scheme that a value is.
+fn scheme_in(alloc: Global, value: &Value) -> Result<Option<Text>, AllocError>
+    ensures { IfOk result (λ found. found ≡ scheme_in (view value.now)) }
+{
+    match value.as_str() {
+        Some(text) => read_scheme(alloc, text),
+        None => Ok(None),
+    }
+}
+
 // The scheme of the codes of a term, if it has one: it has codes then.
 fn scheme_at(
     alloc: Global,
@@ -230,13 +250,12 @@ fn scheme_at(
     let Some(value) = member(table, "scheme") else {
         return Ok(Some(None));
     };
-    let Some(text) = value.as_str() else {
+    if !has_codes {
         return Ok(None);
-    };
-    if has_codes && is_scheme(text) {
-        Ok(Some(Some(Text::from_str(alloc, text)?)))
-    } else {
-        Ok(None)
+    }
+    match scheme_in(alloc, value)? {
+        Some(text) => Ok(Some(Some(text))),
+        None => Ok(None),
     }
 }
 

@@ -12,7 +12,7 @@ pub loop-place-preserved : goal.loop-place-preserved
 loop-place-preserved c =
     let terms = c.args.terms.now in
     let supplier = option_copied c.args.supplier in
-    let held = is_held_beside c.loop-place.beside in
+    let held = is_held_beside (record { starts = c.in_ok-starts.starts; barred = c.in_ok-barred.barred }) in
     let given = c.args.given.now in
     let i = c.loop-place.place in
     let in_records : i < length c.args.records.now = omega (arith, c.requires.count) in record {

@@ -4,7 +4,6 @@ use Rattle.std.proofs.lemmas.Bool.Decides.{nat_tests}
 use Rattle.std.proofs.lemmas.List.{append-nil}
 use Rattle.onix_records.specs.declared.parts.Price.{Price}
 use Rattle.feed_terms.specs.declared.price.GivenPrice.{GivenPrice}
-use Rattle.feed_terms.specs.declared.price.Kind.{Kind}
 use Rattle.feed_mapping.specs.Elements.{Composite}
 use Rattle.feed_mapping.specs.Prices.{context_view, price_fields}
 use Rattle.feed_mapping.specs.PriceTerms.{given_in, given_of, kinds_closed}

@@ -1,7 +1,6 @@
-use Rattle.std.proofs.Common.{◌≡◌, ◌<◌, ◌≤◌, ◌||◌, ◌++◌, List, drop, length, ap, arith, ◌∙◌}
+use Rattle.std.proofs.Common.{◌≡◌, ◌<◌, ◌≤◌, ◌||◌, ◌++◌, length, ap, arith, ◌∙◌}
 use Rattle.std.proofs.Math.Path.{fun_ext}
 use Rattle.std.specs.Option.{option_copied}
-use Rattle.feed_terms.specs.Barred.{has_place}
 use Rattle.feed_terms.specs.GivenStarts.{held_by}
 use Rattle.feed_terms.specs.HeldBack.{is_barred, is_held_back, place_text}
 use Rattle.feed_terms.specs.WithTerms.{is_held_beside, remarks_of}

@@ -7,7 +7,7 @@ use Rattle.std.proofs.lemmas.List.{take_all}
 use Rattle.feed_terms.specs.Fits.{fitting}
 use Rattle.feed_terms.specs.HeldBack.{place_text}
 use Rattle.feed_terms.specs.declared.price.GivenPrice.{GivenPrice}
-use Rattle.feed_terms.proofs.AnyOf.{any_kept, more_any, or_more}
+use Rattle.feed_terms.proofs.AnyOf.{any_kept, or_more}
 use Rattle.feed_terms.proofs.barred.Barred.of.Goals as goal
 
 pub loop-price-preserved : goal.loop-price-preserved

@@ -1,6 +1,6 @@
 -- A Price: the record that is written of it, or why it is left out.
 use Prim.Native.String.{String}
-use Rattle.std.specs.Prelude.{ℕ, Bool, false, ◌+◌, ◌&&◌, ◌||◌, ◌==◌, nat_lt}
+use Rattle.std.specs.Prelude.{ℕ, Bool, false, ◌&&◌, ◌||◌, nat_lt}
 use Rattle.std.specs.Prelude.{List, [], ◌∷◌, ◌++◌, Option, Some, None, if◌then◌else◌, codes}
 use Rattle.std.specs.Prelude.{find, map, not, option_map, is_none, is_some}
 use Rattle.std.specs.List.{flat_map, list_any}

@@ -1,8 +1,7 @@
 //! The table of terms.
 
-ghost use Rattle.std.specs.Prelude.{◌≡◌, ◌≤◌, ◌||◌, ℕ, List, IfOk, OnOk, length, []};
+ghost use Rattle.std.specs.Prelude.{◌≡◌, ◌≤◌, ◌&&◌, ◌||◌, ℕ, List, IfOk, OnOk, length, []};
 ghost use Rattle.std.specs.Option.{option_copied};
-ghost use Rattle.std.specs.Str.{bytes_eq};
 ghost use Rattle.feed_terms.specs.Codes.{first_in, passes_at};
 ghost use Rattle.feed_terms.specs.Fits.{AreKinds, fits_by, has_kind, is_among, is_asked, takes_scheme};
 

@@ -1,6 +1,6 @@
 //! The records of a SupplyDetail with the prices that are computed.
 
-ghost use Rattle.std.specs.Prelude.{◌≡◌, ◌≤◌, ◌==◌, ◌++◌, true, OnOk, IfOk, ◌&&◌, filter, is_none, length, map, not};
+ghost use Rattle.std.specs.Prelude.{◌≡◌, ◌≤◌, ◌==◌, ◌++◌, OnOk, IfOk, ◌&&◌, filter, is_none, length, map, not};
 ghost use Rattle.std.specs.Option.{option_copied};
 ghost use Rattle.onix_records.specs.Price.{minimum_fields};
 ghost use Rattle.std.specs.List.{list_any};

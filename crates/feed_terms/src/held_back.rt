@@ -61,16 +61,11 @@ impl GivenStarts {
     }
 
     // Whether what is kept of this type and currency does not outrank a price that starts so.
-    fn has_lower_at(
-        &self,
-        price_type: Option<Code2>,
-        currency: Option<Currency>,
-        start: &Start,
-    ) -> bool
+    fn has_lower_at(&self, kind: &(Option<Code2>, Option<Currency>), start: &Start) -> bool
         ensures { result
-            ≡ holds_at self.now price_type currency start.now.minimum start.now.from }
+            ≡ holds_at self.now kind.now.0 kind.now.1 start.now.minimum start.now.from }
     {
-        match self.first.get(&(price_type, currency)) {
+        match self.first.get(kind) {
             Some(first) => is_no_higher(first, start),
             None => false,
         }
@@ -81,30 +76,29 @@ impl GivenStarts {
         ensures { result
             ≡ holds self.now price_type currency start.now.minimum start.now.from }
     {
-        self.has_lower_at(Some(price_type), Some(currency), start)
-            || self.has_lower_at(None, Some(currency), start)
-            || self.has_lower_at(Some(price_type), None, start)
-            || self.has_lower_at(None, None, start)
+        self.has_lower_at(&(Some(price_type), Some(currency)), start)
+            || self.has_lower_at(&(None, Some(currency)), start)
+            || self.has_lower_at(&(Some(price_type), None), start)
+            || self.has_lower_at(&(None, None), start)
     }
 
     // Adds the start of a price of this type and currency.
     fn add(
         &mut self,
-        price_type: Option<Code2>,
-        currency: Option<Currency>,
+        kind: (Option<Code2>, Option<Currency>),
         minimum: u32,
         from: Option<Day>,
     ) -> Result<(), AllocError>
         ensures { OnOk result ((t c : List ℕ) (m : ℕ) (f : Option ℤ) → holds self.new t c m f
-            ≡ (holds self.old t c m f || ((option_map_or (bytes_eq t) price_type true
-            && option_map_or (bytes_eq c) currency true)
+            ≡ (holds self.old t c m f || ((option_map_or (bytes_eq t) kind.0 true
+            && option_map_or (bytes_eq c) kind.1 true)
             && is_no_higher minimum from m f))) }
     {
         let start = Start { minimum, from };
-        if self.has_lower_at(price_type, currency, &start) {
+        if self.has_lower_at(&kind, &start) {
             return Ok(());
         }
-        self.first.insert((price_type, currency), start)?;
+        self.first.insert(kind, start)?;
         Ok(())
     }
 
@@ -119,13 +113,13 @@ impl GivenStarts {
     {
         let mut starts = GivenStarts::new(alloc);
         for kind in closed {
-            starts.add(kind.price_type, kind.currency, 0, None)?;
+            starts.add((kind.price_type, kind.currency), 0, None)?;
         }
         for given in prices {
             let price = &given.price;
             let minimum = price.minimum.value();
-            let price_type = Some(price.price_type);
-            starts.add(price_type, Some(price.currency), minimum, price.from)?;
+            let kind = (Some(price.price_type), Some(price.currency));
+            starts.add(kind, minimum, price.from)?;
         }
         Ok(starts)
     }

@@ -85,13 +85,13 @@ fn first_of(
 fn add_kinds(
     kinds: &mut BTreeMap<(Code2, Option<Currency>), bool>,
     types: &[Code2],
-    currency: Option<Currency>,
+    currency: &Option<Currency>,
 ) -> Result<(), AllocError>
     ensures { OnOk result ((t c : List ℕ) → has_kind kinds.new t c
-        ≡ (has_kind kinds.old t c || (is_among types.now t && is_asked currency (Some c)))) }
+        ≡ (has_kind kinds.old t c || (is_among types.now t && is_asked currency.now (Some c)))) }
 {
     for code in types {
-        kinds.insert((*code, currency), true)?;
+        kinds.insert((*code, *currency), true)?;
     }
     Ok(())
 }
@@ -105,7 +105,7 @@ fn kinds_of(
 {
     let mut kinds = BTreeMap::new(alloc);
     for term in terms {
-        add_kinds(&mut kinds, term.types.as_slice(), term.currency)?;
+        add_kinds(&mut kinds, term.types.as_slice(), &term.currency)?;
     }
     Ok(kinds)
 }

@@ -9,7 +9,7 @@ use Rattle.feed_terms.proofs.table.add_kinds.Goals as goal
 pub loop-code-preserved : goal.loop-code-preserved
 loop-code-preserved c = λ t k.
     let code = c.code-item.result in
-    let currency = c.args.currency in
+    let currency = c.args.currency.now in
     let there = λ (x : List ℕ) (y : Option (List ℕ)). is_some (get typed_cmp c.loop-code.kinds (x, y)) in
     let now = λ (x : List ℕ) (y : Option (List ℕ)). is_some (get typed_cmp c.insert.new.self (x, y)) in
     kinds_next (has_kind c.args.kinds.now t k) c.args.types.now c.loop-code.code-index code (is_asked currency (Some k)) (has_kind c.loop-code.kinds t k) _ t c.loop-code-test.true c.code-item.is (c.loop-code.invariant t k)

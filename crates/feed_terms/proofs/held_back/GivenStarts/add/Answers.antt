@@ -9,12 +9,12 @@ pub returns-then-has_lower_at : goal.returns-then-has_lower_at
 returns-then-has_lower_at c = λ t k m f.
     let start : Start = record { minimum = c.args.minimum; from = c.args.from } in
     let there = λ (x y : Option (List ℕ)). get kind_cmp c.args.self.now.first (x, y) in
-    kept there c.args.price_type c.args.currency start (sym c.has_lower_at.ensures ∙ c.if-has_lower_at.true) t k (record { minimum = m; from = f })
+    kept there c.args.kind.0 c.args.kind.1 start (sym c.has_lower_at.ensures ∙ c.if-has_lower_at.true) t k (record { minimum = m; from = f })
 
 pub returns : goal.returns
 returns c = λ t k m f.
     let start : Start = record { minimum = c.args.minimum; from = c.args.from } in
     let there = λ (x y : Option (List ℕ)). get kind_cmp c.args.self.now.first (x, y) in
     let now = λ (x y : Option (List ℕ)). get kind_cmp c.insert.new.self (x, y) in
-    put there c.args.price_type c.args.currency start now (sym c.has_lower_at.ensures ∙ c.if-has_lower_at.false)
-    (λ x y. c.in_ok-insert.ensures.updates.0 (x, y) ∙ ap (λ b. cond b (Some start) (there x y)) (same_kind c.args.price_type c.args.currency x y)) t k (record { minimum = m; from = f })
+    put there c.args.kind.0 c.args.kind.1 start now (sym c.has_lower_at.ensures ∙ c.if-has_lower_at.false)
+    (λ x y. c.in_ok-insert.ensures.updates.0 (x, y) ∙ ap (λ b. cond b (Some start) (there x y)) (same_kind c.args.kind.0 c.args.kind.1 x y)) t k (record { minimum = m; from = f })

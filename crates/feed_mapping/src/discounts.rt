@@ -29,10 +29,7 @@ fn push_unread<'a>(
 }
 
 // Adds a note on each Discount and each DiscountCoded of a Price.
-fn push_discounts<'a>(
-    notes: &mut Vec<Note<'a>>,
-    elements: &Elements<'a>,
-) -> Result<(), AllocError>
+fn push_discounts<'a>(notes: &mut Vec<Note<'a>>, elements: &Elements<'a>) -> Result<(), AllocError>
     ensures { OnOk result (note_views notes.new.items
         ≡ note_views notes.old.items ++ discount_notes elements.now) }
 {
@@ -41,10 +38,7 @@ fn push_discounts<'a>(
 }
 
 // Adds a note where the amount of a Price is rounded.
-fn push_rounded<'a>(
-    notes: &mut Vec<Note<'a>>,
-    elements: &Elements<'a>,
-) -> Result<(), AllocError>
+fn push_rounded<'a>(notes: &mut Vec<Note<'a>>, elements: &Elements<'a>) -> Result<(), AllocError>
     ensures { OnOk result (note_views notes.new.items
         ≡ note_views notes.old.items ++ rounded_notes elements.now) }
 {

@@ -520,14 +520,7 @@ pub(crate) fn add_computed_prices<'a>(
 {
     let alloc = *notes.allocator();
     let written = written_in(alloc, context, elements, fields, notes)?;
-    let remarks = add_records(
-        alloc,
-        terms,
-        supplier,
-        is_plain,
-        &written,
-        records,
-    )?;
+    let remarks = add_records(alloc, terms, supplier, is_plain, &written, records)?;
     push_all_remarks(
         is_plain,
         elements,

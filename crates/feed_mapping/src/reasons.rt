@@ -13,8 +13,7 @@ use crate::notes::{Reason, Wrong};
 use crate::price_amounts::{amount_said, written_amount};
 use crate::prices::own_minimum;
 use crate::records::{
-    first_of, may_be_empty, parsed_code, parsed_currency, parsed_quantity, unless,
-    value_or_default,
+    first_of, may_be_empty, parsed_code, parsed_currency, parsed_quantity, unless, value_or_default,
 };
 use crate::territories::{Area, Renamed, area_reason};
 use feed_outline::Elements;

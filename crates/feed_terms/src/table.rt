@@ -27,12 +27,7 @@ fn takes_scheme(term: &Term, scheme: Option<&Text>) -> bool
 }
 
 // Whether a term fits a price by a DiscountCoded of this scheme, or by none, but for the code.
-fn fits_by(
-    term: &Term,
-    supplier: Option<&Text>,
-    scheme: Option<&Text>,
-    given: &GivenPrice,
-) -> bool
+fn fits_by(term: &Term, supplier: Option<&Text>, scheme: Option<&Text>, given: &GivenPrice) -> bool
     ensures { result ≡ fits_by (option_copied supplier.entry) given.now
         (option_copied scheme.entry) term.now }
 {

@@ -17,7 +17,8 @@ use std::io::Write;
 
 fn text_of(doubt: TaxDoubt) -> &'static str {
     match doubt {
-        TaxDoubt::Mixed => "its types and net are of prices with tax and without, and it has no tax",
+        TaxDoubt::Mixed =>
+            "its types and net are of prices with tax and without, and it has no tax",
         TaxDoubt::NoTaxToTake => "it has a tax, and a type is of prices without, or net with it",
     }
 }

@@ -218,7 +218,8 @@ fn term_cause(value: &Value) -> Cause<'_> {
         return Cause::Item("is no table");
     };
     if let Some(key) = other_key(table) {
-        let said = "has another key than types, codes, scheme, supplier, currency, net, percent and tax";
+        let said =
+            "has another key than types, codes, scheme, supplier, currency, net, percent and tax";
         return Cause::Other(key, said);
     }
     if let Some(cause) = asked_cause(table) {

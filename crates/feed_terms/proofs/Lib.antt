@@ -4,10 +4,8 @@ pub mod ComputedAmounts
 pub mod Stands
 pub mod Without
 pub mod TermTables
-pub mod TakenPrices
 pub mod Digits
 pub mod LeastPrices
-pub mod BadTerms
 pub mod Starts
 pub mod WithRecords
 pub mod FirstFitting

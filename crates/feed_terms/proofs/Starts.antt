@@ -1,6 +1,7 @@
 -- The starts of given prices: what one more holds back.
-use Rattle.std.proofs.Common.{◌≡◌, ◌<◌, ℕ, ℤ, List, Bool, true, false, cond, ◌&&◌, ◌||◌, ◌⊎◌, inl, inr, Option, Some, None, refl, sym, ap, subst, arith, ◌≤◌, ◌+◌, length, get_or, take, ◌∙◌}
+use Rattle.std.proofs.Common.{◌≡◌, ◌<◌, ℕ, zero, suc, ℤ, List, Bool, true, false, cond, ◌&&◌, ◌||◌, ◌⊎◌, inl, inr, Option, Some, None, refl, sym, ap, subst, arith, ◌≤◌, ◌+◌, length, get_or, take, ◌∙◌}
 use Rattle.std.specs.Bool.{Decides}
+use Rattle.std.specs.Prelude.{◌==◌, not}
 use Rattle.std.specs.Cmp.Lexicographic.{slice_cmp}
 use Rattle.std.specs.List.{list_any}
 use Rattle.std.specs.Option.{option_cmp, option_map_or}
@@ -105,6 +106,16 @@ held_anew (Some f) start s e = by_test (no_higher f s) refl
     by_test true n =
         let never : NoHigher f start → ⊥ = λ h. not_both (no_higher f start) e ((no_higher_decides f start).1 h) in
         (no_higher_decides start s).1 (no_higher_chain start f s (no_higher_back f start never) ((no_higher_decides f s).0 n))
+
+-- a start of no copies and no day is not after any
+start_of_all : (m : ℕ) (f : Option ℤ) → is_no_higher 0 None m f ≡ true
+start_of_all zero f = refl
+start_of_all (suc m) f = ap (λ (b : Bool). b || ((0 == suc m) && not (is_later None f))) ((Decides-ltb 0 (suc m)).1 (omega arith))
+
+-- so what is closed holds back whatever it is of
+pub closed_holds : (was is : Bool) (m : ℕ) (f : Option ℤ) → (was || (is && is_no_higher 0 None m f)) ≡ (was || is)
+closed_holds was true m f = ap (λ (b : Bool). was || b) (start_of_all m f)
+closed_holds was false m f = refl
 
 -- keys are the same by their order where both parts are
 pub same_kind : (k l t c : Option (List ℕ)) → is_eq (kind_cmp (k, l) (t, c)) ≡ (same_text t k && same_text c l)

@@ -1,11 +1,11 @@
 -- The terms that the text of a table has.
 use Rattle.std.specs.Prelude.{ℕ, ◌+◌, ◌==◌, List, [], ◌∷◌, ◌++◌, Bool, true, ◌&&◌, ◌||◌, not}
 use Rattle.std.specs.Prelude.{Option, Some, None, Result, Ok, Err, nat_le, nat_lt, length, codes}
-use Rattle.std.specs.Prelude.{is_some, option_map, ◌≡◌, ◌⊎◌, ◌<◌, if◌then◌else◌}
+use Rattle.std.specs.Prelude.{is_some, option_map, ◌≡◌, ◌⊎◌, if◌then◌else◌}
 use Rattle.std.specs.Char.{is_ascii_digit}
 use Rattle.std.specs.List.{list_any}
 use Rattle.std.specs.Str.{bytes_eq}
-use Rattle.toml.specs.Data.{Data, Items, Members, as_array, as_str, as_table, get_item, get_member}
+use Rattle.toml.specs.Data.{Data, Items, Members, as_array, as_str, as_table, get_member}
 use Rattle.toml.specs.Data.{item, no_items}
 use Rattle.toml.specs.Parse.{parse_document}
 use Rattle.onix_terms.specs.Code.{code2_of, currency_of}
@@ -194,9 +194,3 @@ table_of text = terms_of (parse_document text >>= top_items)
 -- a call failed as reading does, or where memory ran out
 abbrev pub Explains : Result (List Term) TermsFault → TermsFault → Type 0
 Explains read e = (e ≡ fault.Memory) ⊎ (read ≡ Err e)
-
--- the item at this number, counted from 1, is past number 1,000 or is no term
-abbrev pub IsBadItem : Items → ℕ → Type 0
-IsBadItem items number =
-    (k : ℕ) × (value : Data) × (number ≡ 1 + k) × (get_item k items ≡ Some value)
-    × ((1_000 < number) ⊎ (term_of value ≡ None))

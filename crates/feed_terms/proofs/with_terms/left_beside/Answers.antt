@@ -11,7 +11,7 @@ none_left held (c ∷ prices) = none_left held prices
 pub returns-then-is_barred-clause-left : goal.returns-then-is_barred-clause-left
 returns-then-is_barred-clause-left c =
     let held = held_by c.args.beside.now.starts c.args.given.now.price in
-    subst (λ (b : Bool). [] ≡ filter (λ c. not (b || held c)) c.args.prices.now) (sym c.if-is_barred.true ∙ c.in_ok-is_barred.ensures) (none_left held c.args.prices.now)
+    c.new.ensures.items ∙ subst (λ (b : Bool). [] ≡ filter (λ c. not (b || held c)) c.args.prices.now) (sym c.if-is_barred.true ∙ c.in_ok-is_barred.ensures) (none_left held c.args.prices.now)
 
 pub returns-clause-left : goal.returns-clause-left
 returns-clause-left c =

@@ -12,6 +12,6 @@ returns-in-Some c = λ text.
     sym (or_none (has_place c.args.self.now text))
     ∙ ap (λ (f : Option Term). has_place c.args.self.now text || (is_none f && bytes_eq text (place_text c.args.price.now))) c.in-Some.ensures
 
-pub returns-in-None : goal.returns-in-None
-returns-in-None c = λ text.
-    c.in_ok-put.ensures text ∙ ap (λ (f : Option Term). has_place c.args.self.now text || (is_none f && bytes_eq text (place_text c.args.price.now))) c.in-None.ensures
+pub returns-in_ok-put-in-None : goal.returns-in_ok-put-in-None
+returns-in_ok-put-in-None c = λ text.
+    c.in_ok-put-in-None.ensures text ∙ ap (λ (f : Option Term). has_place c.args.self.now text || (is_none f && bytes_eq text (place_text c.args.price.now))) c.in-None.ensures

@@ -1,6 +1,6 @@
 //! Elements that come again though they do not repeat.
 
-ghost use Rattle.std.specs.Prelude.{◌≡◌, codes};
+ghost use Rattle.std.specs.Prelude.{◌≡◌};
 ghost use Rattle.feed_mapping.specs.Again.{again_in, comes_again, is_again, is_composite, is_read_apart, is_repeatable};
 ghost use Rattle.feed_mapping.specs.PriceViews.{text_view};
 

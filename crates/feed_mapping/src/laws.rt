@@ -1,7 +1,7 @@
 //! What the definitions of the mapping come to. Each law is the contract of a function that does
 //! nothing.
 
-ghost use Rattle.std.specs.Prelude.{◌≡◌, ◌+◌, ◌<◌, ◌≤◌, ◌∷◌, ◌++◌, [], ℕ, List, None, Ok, Some, false, length};
+ghost use Rattle.std.specs.Prelude.{◌≡◌, ◌+◌, ◌<◌, ◌≤◌, ◌++◌, [], ℕ, List, None, Ok, Some, false, length};
 ghost use Rattle.feed_mapping.specs.Header.{Choices, Heading, heading_in};
 ghost use Rattle.std.specs.List.{AllByRecursion};
 ghost use Rattle.feed_mapping.specs.Elements.{Composite};

@@ -1,6 +1,6 @@
 -- The laws of the definitions.
 use Rattle.std.specs.Prelude.{◌≡◌, ℕ, ◌≤◌, ◌<◌, ◌+◌, ◌*◌, ◌-◌, List, [], ◌∷◌}
-use Rattle.std.specs.Prelude.{◌%◌, Option, Some, Ok, drop, length, map}
+use Rattle.std.specs.Prelude.{◌%◌, Bool, Option, Some, Ok, drop, length, map}
 use Rattle.std.specs.List.{All, AllByRecursion}
 use Rattle.onix_terms.specs.Code.{code2_of}
 use Rattle.onix_records.specs.Price.{price_of}

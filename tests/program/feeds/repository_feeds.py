@@ -18,9 +18,7 @@ from tests.program.serving import serving
 from tests.running import Outcome
 from tools.root import ROOT
 
-FEEDS = sorted(
-    path for folder in ("examples/shop/onix", "tests/feeds", "tests/titles") for path in (ROOT / folder).glob("*.xml")
-)
+FEEDS = sorted(path for folder in ("examples/shop/onix", "tests/feeds") for path in (ROOT / folder).glob("*.xml"))
 
 PARTS = [1, 3, 40]
 

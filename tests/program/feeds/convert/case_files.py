@@ -23,7 +23,6 @@ without a namespace and, but for whole files and `each`, in short tags in their 
 """
 
 import re
-from collections.abc import Mapping
 from pathlib import Path
 from typing import NamedTuple
 
@@ -189,12 +188,11 @@ def said(lines: list[str]) -> bytes:
     return "".join(f"onixdesk: {line}\n" for line in lines).encode()
 
 
-def in_short_tags(text: str, others: Mapping[str, str] | None = None) -> str:
-    """The XML with the short tags of these names, and of others."""
-    tags = SHORT_TAGS | dict(others or {})
+def in_short_tags(text: str) -> str:
+    """The XML with the short tags of these names."""
 
     def short(found: re.Match[str]) -> str:
-        return f"{found[1]}{tags.get(found[2], found[2])}"
+        return f"{found[1]}{SHORT_TAGS.get(found[2], found[2])}"
 
     namespace = ' xmlns="http://ns.editeur.org/onix/3.0/short"'
     text = re.sub(r"(</?(?:[a-z]+:)?)([A-Za-z]+)", short, text)

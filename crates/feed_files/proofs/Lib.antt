@@ -1,4 +1,3 @@
 pub mod KeptLemmas
 pub mod EndLemmas
 pub mod RunLemmas
-pub mod TitleLemmas

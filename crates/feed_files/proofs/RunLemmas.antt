@@ -1,15 +1,14 @@
 -- A run over FILEs, one after the other.
-use Rattle.std.proofs.Common.{◌≡◌, ◌≢◌, ◌<◌, ◌++◌, ◌∷◌, ◌∙◌, ℕ, zero, suc, List, [], Option, Bool, true, false, refl, sym, ap, subst, arith, append-nil, append_assoc, length, map, drop}
+use Rattle.std.proofs.Common.{◌≡◌, ◌≢◌, ◌<◌, ◌++◌, ◌∷◌, ◌∙◌, ℕ, zero, suc, List, [], Option, refl, sym, ap, subst, arith, append-nil, append_assoc, length, map, drop}
 use Rattle.std.specs.Borrow.{Bor}
-use Rattle.std.specs.Prelude.{◌&&◌, codes, max, slice_index_or}
+use Rattle.std.specs.Prelude.{codes, max, slice_index_or}
 use Rattle.std.specs.List.{concat}
 use Rattle.std.proofs.lemmas.List.{map-append}
 use Rattle.std.proofs.lemmas.List.Folds.{concat-append}
 use Rattle.std.proofs.lemmas.List.Sums.{fold-append}
 use Rattle.program_files.specs.Holdings.{Holdings}
-use Rattle.feed_files.specs.Ends.{Asking, FileEnd, IsEnd, is_converted, status_of}
+use Rattle.feed_files.specs.Ends.{Asking, FileEnd, IsEnd, status_of}
 use Rattle.feed_files.specs.Runs.{AreEnds, outputs, status_of_all}
-use Rattle.feed_files.specs.Titles.{are_converted}
 
 -- the names from one on
 pub names_from : (files : List (Bor (List ℕ))) (i : ℕ) (other : Bor (List ℕ)) → i < length files
@@ -47,16 +46,6 @@ continues_more a told before names left mid rest ends name others bytes still e 
     let one : AreEnds a left mid after (name ∷ others) (e ∷ more) = (bytes, still, input, other, was, ended, are) in
     subst (AreEnds a told before after names) (sym (append_assoc ends (e ∷ []) more))
     (so_far (e ∷ more) after (subst (λ r. AreEnds a left mid after r (e ∷ more)) (sym is) one))
-
--- each was converted, and one FILE more
-pub all_more : (ends : List FileEnd) (e : FileEnd) → are_converted (ends ++ e ∷ []) ≡ (is_converted e.ended && are_converted ends)
-all_more [] e = refl
-all_more (f ∷ ends) e = ap (λ b. is_converted f.ended && b) (all_more ends e) ∙ turned (is_converted f.ended) (is_converted e.ended) (are_converted ends)
-  where
-    turned : (a b c : Bool) → (a && (b && c)) ≡ (b && (a && c))
-    turned true b c = refl
-    turned false true c = refl
-    turned false false c = refl
 
 -- behind the last FILE all have ended
 pub all_ended : (a : Asking) (told : Option (List ℕ)) (before : Holdings) (names : List (List ℕ)) (left : Option (List ℕ)) (after : Holdings) (i : ℕ) (ends : List FileEnd) → i ≡ length names

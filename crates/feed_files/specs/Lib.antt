@@ -1,5 +1,3 @@
 pub mod Kept
 pub mod Ends
 pub mod Runs
-pub mod Titles
-pub mod private

@@ -1,13 +1,12 @@
 //! A run over FILEs.
 
-ghost use Rattle.std.specs.Prelude.{◌≡◌, ◌≢◌, ◌⊎◌, ◌≤◌, ◌&&◌, ℕ, List, [], Option, IfErr, IfOk, OnOk, codes, is_some, map, max, option_map, true, false};
+ghost use Rattle.std.specs.Prelude.{◌≡◌, ◌≢◌, ◌⊎◌, ◌≤◌, ℕ, List, [], Option, IfErr, IfOk, codes, is_some, map, max, true, false};
 ghost use Rattle.std.specs.Io.KnownBytes.{Appends};
 ghost use Rattle.program_files.specs.Holdings.{MayName, Names};
 ghost use Rattle.program_files.specs.PartFiles.{files_of, place};
 ghost use Rattle.feed_conversion.specs.Views.{options_view};
 ghost use Rattle.feed_files.specs.Ends.{IsEnd, IsOfWrong, IsUnconverted, asking, file_end, is_converted};
-ghost use Rattle.feed_files.specs.Runs.{run_asking};
-ghost use Rattle.feed_files.specs.Titles.{EndsWith, TitlesEnd};
+ghost use Rattle.feed_files.specs.Runs.{RunEnds, outputs, run_asking};
 
 use crate::collected::Collected;
 use crate::ended::Ended;
@@ -15,7 +14,6 @@ use crate::fault::write_fault;
 use crate::notes::{Notes, PREFIX};
 use crate::refusal::{RefusedFile, push_packed, push_refusal};
 use crate::summary::Summary;
-use crate::titles::write_titles;
 use crate::watched::{Seen, Watched};
 use feed_conversion::{Fault, Options, Outcome, convert};
 use program_files::{
@@ -350,29 +348,6 @@ fn convert_file<F: NamedFiles, R: Read, W: Write, E: Write>(
     }
 }
 
-// Writes the titles of FILEs, where each of these was converted.
-fn titles_behind<F: NamedFiles, E: Write>(
-    alloc: Global,
-    titles: &str,
-    are_converted: bool,
-    names: &[&str],
-    files: &mut F,
-    errors: &mut E,
-) -> u8
-    ensures end { are_converted ≡ true
-        → TitlesEnd F.is_told titles.now (map (λ name. name.now) names.now)
-        (F.holds files.old) (F.holds files.new) result }
-    ensures none { are_converted ≡ false
-        → (F.holds files.new ≡ F.holds files.old) × (result ≡ 0) }
-    ensures most { result ≤ 3 }
-{
-    if are_converted {
-        write_titles(alloc, titles, names, files, errors)
-    } else {
-        0
-    }
-}
-
 // Writes the summary of a run. Where memory runs out, it is lost.
 fn write_summary<E: Write>(alloc: Global, summary: &Summary, errors: &mut E) {
     let mut text = String::new(alloc);
@@ -386,12 +361,6 @@ fn greater(one: u8, other: u8) -> u8
     ensures most { one ≤ 3 → other ≤ 3 → result ≤ 3 }
 {
     if one < other { other } else { one }
-}
-
-fn both(one: bool, other: bool) -> bool
-    ensures { result ≡ (one && other) }
-{
-    one && other
 }
 
 // Whether the folder that is to take messages is one; a line says so where it is none.
@@ -416,24 +385,18 @@ fn has_folder<F: NamedFiles, E: Write>(
 /// name, and gives the status: 0, or 1 where one was refused or a wrong product left out, or 3
 /// where a file could not be read or written or memory ran out, which outweighs 1. What one ends
 /// in does not keep the others from being converted.
-///
-/// Where titles are asked for and each FILE was converted, their titles then go into a new file of
-/// that path, each FILE opened again by its name. Where that cannot be, the records stand, a line
-/// says why, and the status is 3.
 pub fn convert_files<F: NamedFiles, R: Read, W: Write, E: Write>(
     rt: &HostRuntime,
     run: &Run<'_>,
-    titles: Option<&str>,
     names: &[&str],
     files: &mut F,
     input: &mut R,
     output: &mut W,
     errors: &mut E,
 ) -> u8
-    ensures end { EndsWith (run_asking F.is_told run.now) (R.remaining input.old)
+    ensures end { RunEnds (run_asking F.is_told run.now) (R.remaining input.old)
         (F.holds files.old) (F.holds files.new) (map (λ name. name.now) names.now)
-        (Appends (W.contents output.old) (W.contents output.new)) result
-        (option_map (λ file. file.now) titles.entry) }
+        (λ ends. Appends (W.contents output.old) (W.contents output.new) (outputs ends)) result }
     ensures most { result ≤ 3 }
 {
     let alloc = rt.alloc();
@@ -445,19 +408,11 @@ pub fn convert_files<F: NamedFiles, R: Read, W: Write, E: Write>(
         summary: Summary::new(alloc),
     };
     let mut status = 0;
-    let mut are_converted = true;
     for file in names {
         let ended = convert_file(rt, run, file, files, input, output, &mut telling);
         status = greater(status, ended.status());
-        are_converted = both(ended.is_converted(), are_converted);
     }
     let Telling { errors, summary } = telling;
     write_summary(alloc, &summary, errors);
-    match titles {
-        None => status,
-        Some(titles) => {
-            let titled = titles_behind(alloc, titles, are_converted, names, files, errors);
-            greater(status, titled)
-        }
-    }
+    status
 }

@@ -19,7 +19,6 @@ mod shown;
 mod store;
 mod stuck;
 mod summary;
-mod titles;
 mod unread;
 mod watched;
 

@@ -2,7 +2,7 @@
 use Rattle.std.specs.Prelude.{◌≡◌, ◌⊎◌, ℕ, Bool, List, [], Option, Some, None, Ok}
 use Rattle.program_files.specs.Holdings.{Holdings}
 use Rattle.feed_files.specs.Ends.{asking}
-use Rattle.feed_files.specs.Titles.{EndsWith}
+use Rattle.feed_files.specs.Runs.{RunEnds, outputs}
 use Rattle.feed_terms.specs.declared.term.Term.{Term}
 use Rattle.program_rules.specs.TermsRead.{IsUnreadTable, ReadsTerms}
 use Rattle.program_words.specs.ConvertWords.{Asked}
@@ -14,8 +14,8 @@ module _ (is_told : Bool) (before after : Holdings) (told : Option (List ℕ))
   -- how `convert` can end with this status by these terms or by none: as a run over its FILEs
   abbrev pub ConvertsBy : Option (List Term) → ℕ → Type 0
   ConvertsBy terms status =
-      EndsWith (asking (record asked.options { terms = terms }) asked.folder is_told) told before
-      after asked.files written status asked.titles
+      RunEnds (asking (record asked.options { terms = terms }) asked.folder is_told) told before
+      after asked.files (λ ends. written (outputs ends)) status
 
   -- the same where a file of terms is named, or none: by its terms; or there are none in it, and
   -- nothing is written, and each name holds what it held

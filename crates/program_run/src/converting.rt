@@ -32,7 +32,7 @@ fn copied<'a>(choices: &Choices<'a>) -> Choices<'a>
     }
 }
 
-// Converts FILEs by these terms or by none, and writes their titles where they are asked for.
+// Converts FILEs by these terms or by none.
 fn convert_by<F: NamedFiles, R: Read, W: Write, E: Write>(
     rt: &HostRuntime,
     conversion: &Conversion<'_>,
@@ -59,7 +59,6 @@ fn convert_by<F: NamedFiles, R: Read, W: Write, E: Write>(
     let status = convert_files(
         rt,
         &run,
-        conversion.titles,
         names,
         files,
         &mut streams.input,
@@ -70,8 +69,8 @@ fn convert_by<F: NamedFiles, R: Read, W: Write, E: Write>(
     status
 }
 
-/// Converts FILEs, by the terms of a file where one is named, and writes their titles where they
-/// are asked for. Where there are no terms in that file, that is reported, and no FILE is opened.
+/// Converts FILEs, by the terms of a file where one is named. Where there are no terms in that file,
+/// that is reported, and no FILE is opened.
 pub(crate) fn convert<F: NamedFiles, R: Read, W: Write, E: Write>(
     rt: &HostRuntime,
     conversion: &Conversion<'_>,

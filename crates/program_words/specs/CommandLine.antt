@@ -56,8 +56,7 @@ abbrev pub command_of : String → List Rule → Shape
 command_of name words = record (new_shape (codes name)) { rules = words }
 
 -- convert [--parts P] [--number N | --number-offset K] [--sender TYPE,VALUE]
--- [--addressee TYPE,VALUE] [--id-type TT] [--wrong none|few|all] [--terms FILE] [-o FOLDER]
--- [--titles TITLES] [FILE..]
+-- [--addressee TYPE,VALUE] [--id-type TT] [--wrong none|few|all] [--terms FILE] [-o FOLDER] [FILE..]
 abbrev pub convert_command : Shape
 convert_command = command_of "convert" (
     number_option (codes "parts") 1 9999
@@ -69,7 +68,6 @@ convert_command = command_of "convert" (
     ∷ text_option (codes "wrong")
     ∷ text_option (codes "terms")
     ∷ short_option (codes "folder") 111
-    ∷ text_option (codes "titles")
     ∷ some_operands (codes "file") 0
     ∷ [])
 

@@ -2,7 +2,6 @@
 use Rattle.std.specs.Prelude.{◌≡◌, ◌<◌, ℕ, List, [], ◌∷◌, Bool, true, false, Option, Some, None, ◌&&◌, ◌==◌, if◌then◌else◌, codes, is_some, length, map, nat_lt, option_map, unwrap_or}
 use Rattle.std.specs.Char.{is_ascii_digit}
 use Rattle.std.specs.Option.{option_map_or}
-use Rattle.std.specs.List.{list_any}
 use Rattle.std.specs.Str.{bytes_eq}
 use Rattle.clap.specs.Walk.{Row}
 use Rattle.onix_terms.specs.Code.{code2_of}
@@ -22,12 +21,11 @@ use Rattle.program_words.specs.declared.convert_words.OptionName.{OptionName}
 use Rattle.program_words.specs.declared.convert_words.OptionName.TheVariants as named
 
 -- What is asked: how each message is converted, the folder that takes the messages, the file of the
--- shop's terms, the file that takes the titles, and the names of the FILEs
+-- shop's terms, and the names of the FILEs
 pub record Asked : Type 0 where
   pub options : Options
   pub folder : Option (List ℕ)
   pub terms : Option (List ℕ)
-  pub titles : Option (List ℕ)
   pub files : List (List ℕ)
 
 -- what is asked, without where it lies in memory
@@ -36,7 +34,6 @@ asked_view c = record {
   options = options_view c.options;
   folder = option_map (λ name. name.now) c.folder;
   terms = option_map (λ name. name.now) c.terms;
-  titles = option_map (λ name. name.now) c.titles;
   files = map (λ name. name.now) c.files.items;
 }
 
@@ -86,16 +83,10 @@ AreOptions own o =
     × (word_or allowed_of FewWrong own (codes "wrong") ≡ Some o.wrong)
     × (o.terms ≡ None)
 
--- standard input is among these FILEs
-abbrev pub has_input : List (List ℕ) → Bool
-has_input files = list_any (λ name. bytes_eq name (codes "-")) files
-
--- several FILEs need a folder, and no number is for all of them; the titles of standard input are
--- not to be had
+-- several FILEs need a folder, and no number is for all of them
 abbrev pub AreForFiles : Asked → Type 0
 AreForFiles a =
-    (1 < length a.files → (is_some a.folder ≡ true) × (a.options.choices.number ≡ None))
-    × (is_some a.titles ≡ true → has_input a.files ≡ false)
+    1 < length a.files → (is_some a.folder ≡ true) × (a.options.choices.number ≡ None)
 
 -- What the options and operands ask for.
 abbrev pub AsksFor : List Row → Asked → Type 0
@@ -103,7 +94,6 @@ AsksFor own a =
     AreOptions own a.options
     × (a.folder ≡ text_in own (codes "folder"))
     × (a.terms ≡ text_in own (codes "terms"))
-    × (a.titles ≡ text_in own (codes "titles"))
     × (a.files ≡ files_named own)
     × AreForFiles a
 
@@ -127,14 +117,12 @@ abbrev pub IsOf : OptionName → (List ℕ → Type 0) → BadWords → Type 0
 IsOf option such (bad.Value told word) = (told ≡ option) × such word.now
 IsOf option such other = ⊥
 
--- Why words ask for nothing: one breaks its rule, or they are not for several FILEs or for standard
--- input; or memory ran out.
+-- Why words ask for nothing: one breaks its rule, or they are not for several FILEs; or memory ran
+-- out.
 abbrev pub AsksNothing : List Row → BadWords → Type 0
 AsksNothing own (bad.Value option word) = IsWrongWord own option word.now
 AsksNothing own bad.NoFolder =
     (1 < length (files_named own)) × (text_in own (codes "folder") ≡ None)
 AsksNothing own bad.OneNumber =
     (1 < length (files_named own)) × (is_some (text_in own (codes "number")) ≡ true)
-AsksNothing own bad.InputTitles =
-    (is_some (text_in own (codes "titles")) ≡ true) × (has_input (files_named own) ≡ true)
 AsksNothing own bad.Memory = Unit {0}

@@ -421,17 +421,6 @@ fn terms<'a>(alloc: Global) -> Arg<'a>
     )
 }
 
-fn titles<'a>(alloc: Global) -> Arg<'a>
-    ensures { IsWord (text_option (codes "titles")) result }
-{
-    text_option(
-        alloc,
-        "titles",
-        "TITLES",
-        "After the records, open each FILE that was converted again by its name, and write what it says of each product with an ISBN - title, contributors, publisher, form and date - as CSV into the file TITLES; it gets its name when it is whole, and an existing one is never overwritten. Not for standard input",
-    )
-}
-
 fn feeds<'a>(alloc: Global) -> Arg<'a>
     ensures { IsWord (some_operands (codes "file") 0) result }
 {
@@ -456,7 +445,6 @@ fn convert<'a>(alloc: Global) -> Result<Command<'a>, AllocError>
     let convert = with_word(convert, Ok(wrong(alloc)));
     let convert = with_word(convert, Ok(terms(alloc)));
     let convert = with_word(convert, Ok(folder(alloc)));
-    let convert = with_word(convert, Ok(titles(alloc)));
     with_word(convert, Ok(feeds(alloc)))
 }
 

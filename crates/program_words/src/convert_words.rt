@@ -75,8 +75,6 @@ pub struct Conversion<'a> {
     pub folder: Option<&'a str>,
     /// The file of the shop's terms, where they are given.
     pub terms: Option<&'a str>,
-    /// The file that takes the titles, where they are asked for.
-    pub titles: Option<&'a str>,
     pub files: Vec<&'a str>,
 }
 
@@ -89,8 +87,6 @@ pub enum BadWords<'a> {
     NoFolder,
     /// `--number` with several FILEs.
     OneNumber,
-    /// `--titles` with standard input, which cannot be read again.
-    InputTitles,
     /// Memory ran out.
     Memory,
 }
@@ -118,10 +114,6 @@ impl<'a> BadWords<'a> {
             BadWords::OneNumber => {
                 String::from_str(alloc, "error: --number is for one FILE alone\n")
             }
-            BadWords::InputTitles => String::from_str(
-                alloc,
-                "error: --titles is for FILEs with names, not for standard input\n",
-            ),
             BadWords::Memory => Err(AllocError),
         }
     }
@@ -302,23 +294,9 @@ fn options_of<'a>(words: &ArgMatches<'a>) -> Result<Options<'a>, BadWords<'a>>
     })
 }
 
-// Whether standard input is among FILEs.
-fn has_input(files: &[&str]) -> bool
-    ensures { result ≡ has_input (map (λ name. name.now) files.now) }
-{
-    let mut rest = files;
-    while let [first, tail @ ..] = rest {
-        if *first == STANDARD_INPUT {
-            return true;
-        }
-        rest = tail;
-    }
-    false
-}
-
 /// What words that clap let pass ask of `convert`: each is read by its rule, and what is not there has
 /// its default. Of words that break their rules it tells one, and else that several FILEs need a folder
-/// or have no number in common, or that the titles of standard input are not to be had.
+/// or have no number in common.
 pub fn conversion_of<'a>(
     alloc: Global,
     words: &ArgMatches<'a>,
@@ -338,15 +316,10 @@ pub fn conversion_of<'a>(
     if files.len() > 1 && options.choices.number.is_some() {
         return Err(BadWords::OneNumber);
     }
-    let titles = text_in(words, "titles");
-    if titles.is_some() && has_input(files.as_slice()) {
-        return Err(BadWords::InputTitles);
-    }
     Ok(Conversion {
         options,
         folder,
         terms: text_in(words, "terms"),
-        titles,
         files,
     })
 }

@@ -1,15 +1,13 @@
 use Rattle.std.proofs.Common.{◌≡◌, ◌++◌, ◌∷◌, ◌∙◌, ℕ, suc, List, [], Option, Some, None, ap, arith, drop, inl, inr, map, refl, subst, sym, true}
 use Rattle.std.specs.Borrow.{Bor}
-use Rattle.std.specs.Prelude.{◌&&◌, is_some, max, option_map, slice_index_or}
+use Rattle.std.specs.Prelude.{is_some, max, option_map, slice_index_or}
 use Rattle.std.specs.Io.KnownBytes.{Appends}
 use Rattle.std.proofs.Math.Numerals.{add-one}
 use Rattle.std.proofs.KnownBytes.{Appends-nil, Appends-trans}
 use Rattle.std.proofs.lemmas.List.{length-map}
-use Rattle.program_files.specs.Holdings.{Holdings}
-use Rattle.feed_files.specs.Ends.{Asking, file_end, is_converted}
+use Rattle.feed_files.specs.Ends.{file_end}
 use Rattle.feed_files.specs.Runs.{run_asking, status_of_all}
-use Rattle.feed_files.specs.Titles.{EndsWith}
-use Rattle.feed_files.proofs.RunLemmas.{Continues, all_ended, all_more, continues_more, names_from, outputs_more, status_more}
+use Rattle.feed_files.proofs.RunLemmas.{Continues, all_ended, continues_more, names_from, outputs_more, status_more}
 use Rattle.feed_files.proofs.converting.convert_files.Goals as goal
 
 abbrev nameless : Bor (List ℕ)
@@ -20,7 +18,6 @@ loop-file-init g c = record {
   ends = [];
   so_far = λ more after are. are;
   written = Appends-nil (g.W.Write.contents c.args.output.now);
-  all = refl;
   status_is = refl;
   most = omega arith;
 }
@@ -47,8 +44,6 @@ loop-file-preserved g c =
           (names_from c.args.names.now i nameless c.loop-file-test.true) ran.2
           (λ other. (ap g.R.Read.remaining (c.convert_file-ended.ensures.untouched other), ran.3 other)) refl ran.5);
       written = rw (outputs_more inv.ends e) (Appends-trans _ _ _ _ _ inv.written ran.4);
-      all = c.both-are_converted.ensures ∙ ap (λ b. b && c.loop-file.are_converted) c.is_converted.ensures
-          ∙ ap (λ b. is_converted c.convert_file-ended.result && b) inv.all ∙ sym (all_more inv.ends e);
       status_is = c.greater-status.ensures.is ∙ ap (λ s. max s c.status.result) inv.status_is ∙ ap (λ s. max (status_of_all inv.ends) s) c.status.ensures.is ∙ sym (status_more inv.ends e);
       most = c.greater-status.ensures.most inv.most c.status.ensures.most;
     }
@@ -57,33 +52,14 @@ named : (folder : Option (Bor (List ℕ))) → is_some folder ≡ true → is_so
 named None is = is
 named (Some f) is = refl
 
--- before the first FILE, where the folder is none
-unconverted : (a : Asking) (told : Option (List ℕ)) (holds : Holdings) (names : List (List ℕ)) (written : List ℕ → Type 0) (titles : Option (List ℕ))
-    → is_some a.folder ≡ true → written [] → EndsWith a told holds holds names written 3 titles
-unconverted a told holds names written None folder none = inr (folder, refl, none, refl)
-unconverted a told holds names written (Some file) folder none = inr (folder, refl, none, refl)
-
 pub returns-then-not-has_folder-clause-end : goal.returns-then-not-has_folder-clause-end
 returns-then-not-has_folder-clause-end g c =
-    unconverted (run_asking g.F.NamedFiles.is_told c.args.run.now) (g.R.Read.remaining c.args.input.now) (g.F.NamedFiles.holds c.args.files.now)
-    (map (λ (f : Bor (List ℕ)). f.now) c.args.names.now) (Appends (g.W.Write.contents c.args.output.now) (g.W.Write.contents c.args.output.now)) (option_map (λ (f : Bor (List ℕ)). f.now) c.args.titles)
-    (named c.args.run.now.folder (c.has_folder.ensures c.if-not-has_folder.true))
-    (Appends-nil (g.W.Write.contents c.args.output.now))
-
-pub returns-in-None-clause-end : goal.returns-in-None-clause-end
-returns-in-None-clause-end g c =
-    let inv = c.loop-file.invariant in
-    let count = length-map c.args.names.now (λ (f : Bor (List ℕ)). f.now) in
-    let ends = all_ended (run_asking g.F.NamedFiles.is_told c.args.run.now) (g.R.Read.remaining c.args.input.now) (g.F.NamedFiles.holds c.args.files.now) (map (λ (f : Bor (List ℕ)). f.now) c.args.names.now)
-    (g.R.Read.remaining c.loop-file.input) (g.F.NamedFiles.holds c.loop-file.files) c.loop-file.file-index inv.ends (omega (arith, count)) inv.so_far in
-    rw c.in-None.is (inl (inv.ends, ends, inv.written, inv.status_is))
+    inr (named c.args.run.now.folder (c.has_folder.ensures c.if-not-has_folder.true), refl, Appends-nil (g.W.Write.contents c.args.output.now), refl)
 
 pub returns-clause-end : goal.returns-clause-end
 returns-clause-end g c =
     let inv = c.loop-file.invariant in
     let count = length-map c.args.names.now (λ (f : Bor (List ℕ)). f.now) in
-    let between = g.F.NamedFiles.holds c.loop-file.files in
     let ends = all_ended (run_asking g.F.NamedFiles.is_told c.args.run.now) (g.R.Read.remaining c.args.input.now) (g.F.NamedFiles.holds c.args.files.now) (map (λ (f : Bor (List ℕ)). f.now) c.args.names.now)
-    (g.R.Read.remaining c.loop-file.input) between c.loop-file.file-index inv.ends (omega (arith, count)) inv.so_far in
-    let titled = c.titles_behind-titled.ensures in
-    rw c.in-Some.is (inl (between, c.loop-file.status, c.titles_behind-titled.result, (inv.ends, ends, (inv.written, (λ each. titled.end (inv.all ∙ each), λ other. titled.none (inv.all ∙ other))), inv.status_is), c.greater.ensures.is))
+    (g.R.Read.remaining c.loop-file.input) (g.F.NamedFiles.holds c.loop-file.files) c.loop-file.file-index inv.ends (omega (arith, count)) inv.so_far in
+    inl (inv.ends, ends, inv.written, inv.status_is)

@@ -11,5 +11,4 @@ returns c =
     let seven = c.with_word-convert-7.ensures _ _ six c.wrong.ensures in
     let eight = c.with_word-convert-8.ensures _ _ seven c.terms.ensures in
     let nine = c.with_word-convert-9.ensures _ _ eight c.folder.ensures in
-    let ten = c.with_word-convert-10.ensures _ _ nine c.titles.ensures in
-    c.with_word.ensures _ _ ten c.feeds.ensures
+    c.with_word.ensures _ _ nine c.feeds.ensures

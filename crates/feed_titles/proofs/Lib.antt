@@ -1,4 +1,0 @@
-pub mod OrderLaws
-pub mod IsbnLaws
-pub mod RowLaws
-pub mod StateLaws

@@ -240,6 +240,7 @@ fn supply_choices<'a>(options: &Options<'a>) -> SupplyChoices<'a>
     ensures { supply_choices_view result ≡ supply_choices (options_view options.now) }
 {
     SupplyChoices {
+        supplier: options.choices.supplier,
         id_type: options.choices.id_type,
         terms: options.terms,
         is_plain: false,

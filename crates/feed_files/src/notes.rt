@@ -90,8 +90,9 @@ fn push_first_reason(
     let Some(supply) = supply_at(product, note.line.place) else {
         return Ok(());
     };
-    let preferred = scope.choices.id_type;
-    match first_reason(scope.alloc, preferred, note.reason.kind, &supply.below)? {
+    let kind = note.reason.kind;
+    let choices = scope.choices;
+    match first_reason(scope.alloc, choices.supplier, choices.id_type, kind, &supply.below)? {
         Some(first) => push_first(text, first),
         None => Ok(()),
     }

@@ -12,6 +12,8 @@ pub mod Dates
 pub mod DateViews
 pub mod Prices
 pub mod PriceViews
+pub mod OtherSuppliers
+pub mod Strangers
 pub mod Details
 pub mod PartyViews
 pub mod Header

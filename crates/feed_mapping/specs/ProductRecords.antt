@@ -1,6 +1,6 @@
 -- What a Product comes to: the records of it and of its supplies, and the notes on it.
-use Rattle.std.specs.Prelude.{ℕ, Bool, true, ◌||◌, List, [], ◌∷◌, ◌++◌, Option, Some, None, if◌then◌else◌}
-use Rattle.std.specs.Prelude.{codes}
+use Rattle.std.specs.Prelude.{ℕ, Bool, true, not, ◌&&◌, ◌||◌, List, [], ◌∷◌, ◌++◌}
+use Rattle.std.specs.Prelude.{Option, Some, None, if◌then◌else◌, codes}
 use Rattle.std.specs.List.{list_any}
 use Rattle.std.specs.Option.{option_map_or, option_or}
 use Rattle.std.specs.Str.{bytes_eq}
@@ -9,10 +9,12 @@ use Rattle.onix_records.specs.declared.row.Opening.{Opening}
 use Rattle.feed_terms.specs.declared.term.Term.{Term}
 use Rattle.feed_mapping.specs.Elements.{Composite, Element, each_at}
 use Rattle.feed_mapping.specs.Notes.{Note, Reason, foreign, is_wrong, note, reason_notes, wrong}
+use Rattle.feed_mapping.specs.OtherSuppliers.{is_of_others}
 use Rattle.feed_mapping.specs.Outcomes.{all_notes, all_records}
-use Rattle.feed_mapping.specs.Products.{bare_record, emptied_record, has_isbn, identifier_notes}
-use Rattle.feed_mapping.specs.Products.{is_deletion, notification_in, own_reason, product_record}
-use Rattle.feed_mapping.specs.Products.{reference_in, right_pairs}
+use Rattle.feed_mapping.specs.Parties.{Pair}
+use Rattle.feed_mapping.specs.Products.{bare_record, dropping, emptied_record, has_isbn}
+use Rattle.feed_mapping.specs.Products.{identifier_notes, is_deletion, notification_in, own_reason}
+use Rattle.feed_mapping.specs.Products.{product_record, reference_in, right_pairs}
 use Rattle.feed_mapping.specs.Records.{Records, is_field}
 use Rattle.feed_mapping.specs.SupplyChoices.{SupplyChoices}
 use Rattle.feed_mapping.specs.Supplies.{supplies_reason, supply_in}
@@ -48,6 +50,13 @@ module _ (nodes : Nodes) where
   abbrev pub written_notes : Element → List Note
   written_notes product = reason_notes product isbn_reason ++ reason_notes product ignored_reason
 
+-- the NotificationType of one that stands: of one of other suppliers alone it is such that the desk
+-- drops the supplies that it has
+abbrev pub notification_written : Option Pair → Nodes → List ℕ
+notification_written supplier nodes =
+    if not (is_deletion nodes) && is_of_others supplier nodes then dropping (notification_in nodes)
+    else notification_in nodes
+
 -- whether it is emptied for such a reason or stands
 abbrev pub fate_by : Option Reason → Fate
 fate_by None = fate.Written
@@ -58,13 +67,13 @@ module _ (o : Opening) (choices : SupplyChoices) where
   -- is left
   abbrev pub why_emptied : Nodes → Option Reason
   why_emptied nodes =
-      option_or (own_reason nodes) (supplies_reason o choices (supplies_in nodes))
+      option_or (own_reason choices.supplier nodes) (supplies_reason o choices (supplies_in nodes))
 
   -- its records, where it is emptied for such a reason or stands
   abbrev pub records_by : Option Reason → Nodes → Records
   records_by (Some reason) nodes = emptied_record nodes ∷ []
   records_by None nodes =
-      product_record (notification_in nodes) (right_pairs nodes) nodes
+      product_record (notification_written choices.supplier nodes) (right_pairs nodes) nodes
       ∷ all_records (supply_in o choices) (supplies_in nodes)
 
   -- its records: none of one without a RecordReference that the desk would take
@@ -84,7 +93,8 @@ module _ (o : Opening) (choices : SupplyChoices) where
   product_notes c =
       if is_field (reference_in c.below)
       then identifier_notes c.below
-      ++ option_map_or (λ reason. note c.element reason ∷ []) (own_reason c.below) (notes_behind c)
+      ++ option_map_or (λ reason. note c.element reason ∷ [])
+      (own_reason choices.supplier c.below) (notes_behind c)
       else note c.element (wrong bad.RecordReference (reference_in c.below)) ∷ []
 
   -- whether it is written as it stands, emptied or left out

@@ -1,11 +1,12 @@
 //! The records of a Product and of its supplies.
 
-ghost use Rattle.std.specs.Prelude.{◌≡◌, ◌++◌, ◌∷◌, ◌<◌, [], None, IfOk, OnOk};
+ghost use Rattle.std.specs.Prelude.{◌≡◌, ◌++◌, ◌∷◌, ◌<◌, [], None, IfOk, OnOk, option_map};
 ghost use Rattle.feed_mapping.specs.Elements.{element_view};
 ghost use Rattle.feed_mapping.specs.Notes.{note, note_views};
 ghost use Rattle.feed_mapping.specs.Outcomes.{all_notes, all_records};
+ghost use Rattle.feed_mapping.specs.PartyViews.{pair_view};
 ghost use Rattle.feed_mapping.specs.PriceViews.{reason_read};
-ghost use Rattle.feed_mapping.specs.ProductRecords.{fate_of, ignored_reason, is_followed, isbn_reason, notes_behind, plain_choices, plain_notes, product_notes, product_records, fate_by, records_by, supplies_in, too_large_notes, why_emptied, written_notes};
+ghost use Rattle.feed_mapping.specs.ProductRecords.{fate_of, ignored_reason, is_followed, isbn_reason, notes_behind, notification_written, plain_choices, plain_notes, product_notes, product_records, fate_by, records_by, supplies_in, too_large_notes, why_emptied, written_notes};
 ghost use Rattle.feed_mapping.specs.Supplies.{supplies_reason, supply_in};
 ghost use Rattle.std.specs.Option.{option_map_or};
 ghost use Rattle.feed_mapping.specs.Products.{bare_record, emptied_record, has_isbn, dropping, notification_in, own_reason, product_record, right_pairs};
@@ -13,6 +14,8 @@ ghost use Rattle.feed_mapping.specs.SupplyChoices.{supply_choices_view};
 
 use crate::elements::Composite;
 use crate::notes::{Foreign, Note, Reason, Wrong, push_note, push_reason};
+use crate::other_suppliers::is_of_others;
+use crate::parties::Pair;
 use crate::products::{
     Identifiers, dropping, fill_product, is_deletion, notification_in, own_reason, reference_in,
     take_identifiers,
@@ -100,17 +103,34 @@ fn add_emptied(
     records.push(&fields.as_record())
 }
 
-// Adds the record of a Product as it stands, with these types and values.
+// The NotificationType of a Product that stands: of one of other suppliers alone it is such that the
+// desk drops the supplies that it has.
+fn notification_written<'a>(supplier: Option<Pair<'_>>, elements: &Elements<'a>) -> &'a [u8]
+    ensures { result.now
+        ≡ notification_written (option_map pair_view supplier.entry) elements.now }
+{
+    let notification = notification_in(elements);
+    if !is_deletion(elements) && is_of_others(supplier, elements) {
+        dropping(notification)
+    } else {
+        notification
+    }
+}
+
+// Adds the record of a Product that stands, with these types and values.
 fn add_own(
+    supplier: Option<Pair<'_>>,
     pairs: &FieldBuffer,
     elements: &Elements<'_>,
     fields: &mut FieldBuffer,
     records: &mut RecordBuffer,
 ) -> Result<(), AllocError>
     ensures { OnOk result (records.new ≡ records.old
-        ++ product_record (notification_in elements.now) pairs.now elements.now ∷ []) }
+        ++ product_record (notification_written (option_map pair_view supplier.entry) elements.now)
+        pairs.now elements.now ∷ []) }
 {
-    fill_product(notification_in(elements), pairs, elements, fields)?;
+    let notification = notification_written(supplier, elements);
+    fill_product(notification, pairs, elements, fields)?;
     records.push(&fields.as_record())
 }
 
@@ -167,7 +187,7 @@ fn add_sound<'a>(
     let alloc = *notes.allocator();
     let count = records.len();
     let elements = &product.below;
-    add_own(&identifiers.pairs, elements, fields, records)?;
+    add_own(choices.supplier, &identifiers.pairs, elements, fields, records)?;
     match add_below(alloc, opening, choices, elements, fields, records, notes)? {
         None => {
             push_written_notes(identifiers.has_isbn, product, notes)?;
@@ -203,10 +223,10 @@ fn add_standing<'a>(
         → identifiers.now.has_isbn ≡ has_isbn product.now.below
         → OnOk result (note_views notes.new.items ≡ note_views notes.old.items
         ++ option_map_or (λ reason. note product.now.element reason ∷ [])
-        (own_reason product.now.below)
+        (own_reason (supply_choices_view choices.now).supplier product.now.below)
         (notes_behind opening.now (supply_choices_view choices.now) product.now)) }
 {
-    match own_reason(&identifiers.pairs, &product.below) {
+    match own_reason(choices.supplier, &identifiers.pairs, &product.below) {
         Some(reason) => {
             add_emptied(&identifiers.pairs, &product.below, fields, records)?;
             push_note(notes, product.line, reason)?;
@@ -281,6 +301,7 @@ pub fn add_plain<'a>(
         ++ plain_notes opening.now (supply_choices_view choices.now) product.now) }
 {
     let plain = SupplyChoices {
+        supplier: choices.supplier,
         id_type: choices.id_type,
         terms: choices.terms,
         is_plain: true,

@@ -284,6 +284,7 @@ fn options_of<'a>(words: &ArgMatches<'a>) -> Result<Options<'a>, BadWords<'a>>
         offset,
         sender,
         addressee,
+        supplier: None,
         id_type,
     };
     let terms = None;

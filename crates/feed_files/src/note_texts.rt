@@ -176,7 +176,6 @@ fn words_of_foreign(kind: Foreign, text: &[u8]) -> Words {
         Foreign::NoTerm => plain("that no term fits"),
         Foreign::NothingToPay => plain("an amount of 0"),
         Foreign::HeldBack => plain("held back"),
-        Foreign::TooManyComputed => plain("with them the Product is too large for a message"),
         Foreign::NoSupplyDetail => plain("no SupplyDetail"),
         Foreign::NoMarketLeft => plain("every Market is left out"),
         Foreign::LongMarkets => plain(LONG_MARKETS),
@@ -397,7 +396,6 @@ fn thing_of(note: Note<'_>) -> &'static str {
         ReasonKind::Foreign(Foreign::RegionExcluded) => "region of RegionsExcluded",
         ReasonKind::Foreign(Foreign::CountryName) => "country",
         ReasonKind::Foreign(Foreign::NothingToPay | Foreign::HeldBack) => "computed price",
-        ReasonKind::Foreign(Foreign::TooManyComputed) => "computed prices",
         ReasonKind::Wrong(Wrong::CountryAsRegion) => thing_with_region(note.line.name),
         _ => name_of(note.line.name),
     }

@@ -38,7 +38,7 @@ use Rattle.feed_mapping.specs.Markets.{early_market_reasons, first_kept, kept_ar
 use Rattle.feed_mapping.proofs.MarketLaws.{joined_outcome}
 use Rattle.feed_mapping.specs.Notes.{Note, Reason, foreign, wrong}
 use Rattle.feed_mapping.specs.Outcomes.{Outcome, all_records, left_out, nothing, outcome_reason, outcome_records, written_unless}
-use Rattle.feed_mapping.specs.ProductRecords.{Variant, notification_written, plain_choices, plain_variants, variants, small_variants, smaller_variants, fate_by, records_by, supplies_in, too_large_notes, why_emptied}
+use Rattle.feed_mapping.specs.ProductRecords.{notification_written, variants, smaller_variants, fate_by, records_by, supplies_in, why_emptied}
 use Rattle.feed_mapping.specs.Products.{dropping, identifier_reason, identifiers_in, is_code, is_deletion, is_there, notification_in, or_reference, own_reason, pair_reason, product_record, reference_in, right_pair, right_pairs, type_of, value_of, value_written}
 use Rattle.feed_mapping.specs.OtherSuppliers.{is_of_others}
 use Rattle.feed_mapping.specs.Parties.{Pair}
@@ -419,34 +419,22 @@ product-rows laws o choices c may = go (is_field (reference_in c.below)) refl
     nodes : Nodes
     nodes = c.below
 
-    whole : IsField (reference_in nodes) → (chosen : SupplyChoices) → MayCompute o chosen.terms → AreOf o (records_by o chosen (why_emptied o chosen nodes) nodes) (reference_in nodes ∷ [])
-    whole f chosen may = own-rows laws o chosen may nodes f (why_emptied o chosen nodes) refl
-
-    small : IsField (reference_in nodes) → (notes : List Note) → AllByRecursion (λ f. AreOf o f.records (reference_in nodes ∷ [])) (small_variants notes nodes)
-    small f notes = (emptied-rows o nodes f (right_pairs nodes) (right-pairs (identifiers_in nodes)), (emptied-rows o nodes f [] no-pairs, tt))
+    whole : IsField (reference_in nodes) → AreOf o (records_by o choices (why_emptied o choices nodes) nodes) (reference_in nodes ∷ [])
+    whole f = own-rows laws o choices may nodes f (why_emptied o choices nodes) refl
 
     standing : IsField (reference_in nodes) → (kind : Option Reason) (notes : List Note) → AllByRecursion (λ f. AreOf o f.records (reference_in nodes ∷ [])) (smaller_variants (fate_by kind) notes c)
-    standing f None notes = small f (too_large_notes c)
-    standing f (Some kind) notes = small f notes
-
-    plain : is_field (reference_in nodes) ≡ true → (terms : Option (List Term)) (rest : List Variant) → AllByRecursion (λ f. AreOf o f.records (reference_in nodes ∷ [])) rest
-        → AllByRecursion (λ f. AreOf o f.records (reference_in nodes ∷ [])) (plain_variants terms o choices c ++ rest)
-    plain e None rest all = all
-    plain e (Some terms) rest all = (rw e (whole (field-is (reference_in nodes) e) (plain_choices choices) may), all)
-
-    bare : is_field (reference_in nodes) ≡ false → (terms : Option (List Term)) → AllByRecursion (λ f. AreOf o f.records []) (plain_variants terms o choices c ++ [])
-    bare e None = tt
-    bare e (Some terms) = (rw e (none-rows o), tt)
+    standing f None notes = (emptied-rows o nodes f [] no-pairs, tt)
+    standing f (Some kind) notes = (emptied-rows o nodes f [] no-pairs, tt)
 
     go : (stands : Bool) → is_field (reference_in nodes) ≡ stands → AllByRecursion (λ f. AreOf o f.records (references_of nodes)) (variants o choices c)
     go true e =
         let f = field-is (reference_in nodes) e in
         let names : references_of nodes ≡ reference_in nodes ∷ [] = rw e refl in
         subst (λ (rs : List (List ℕ)). AllByRecursion (λ f. AreOf o f.records rs) (variants o choices c)) (sym names)
-        (rw e (whole f choices may, plain e choices.terms _ (standing f (why_emptied o choices nodes) _)))
+        (rw e (whole f, standing f (why_emptied o choices nodes) _))
     go false e =
         let names : references_of nodes ≡ [] = rw e refl in
-        subst (λ (rs : List (List ℕ)). AllByRecursion (λ f. AreOf o f.records rs) (variants o choices c)) (sym names) (rw e (none-rows o, bare e choices.terms))
+        subst (λ (rs : List (List ℕ)). AllByRecursion (λ f. AreOf o f.records rs) (variants o choices c)) (sym names) (rw e (none-rows o, tt))
 
 -- products one after the other
 pub products-joined : (o : Opening) (a b : Records) (c d : List Product) → AreProducts o a c → AreProducts o b d → AreProducts o (a ++ b) (c ++ d)

@@ -6,7 +6,6 @@ use Rattle.std.specs.Option.{option_map_or, option_or}
 use Rattle.std.specs.Str.{bytes_eq}
 use Rattle.feed_outline.specs.Nodes.{Nodes}
 use Rattle.onix_records.specs.declared.row.Opening.{Opening}
-use Rattle.feed_terms.specs.declared.term.Term.{Term}
 use Rattle.feed_mapping.specs.Elements.{Composite, Element, each_at}
 use Rattle.feed_mapping.specs.Notes.{Note, Reason, foreign, is_wrong, note, reason_notes, wrong}
 use Rattle.feed_mapping.specs.OtherSuppliers.{is_of_others}
@@ -116,42 +115,23 @@ pub record Variant : Type 0 where
 abbrev pub variant : Records → List Note → Variant
 variant records notes = record { records = records; notes = notes }
 
--- one that is emptied with its identifiers, and one with its reference in their place
-abbrev pub small_variants : List Note → Nodes → List Variant
-small_variants notes nodes =
-    variant (emptied_record nodes ∷ []) notes ∷ variant (bare_record nodes ∷ []) notes ∷ []
+-- a product without supplies, whose reference stands for its identifiers
+abbrev pub smallest_variant : Nodes → List Note → Variant
+smallest_variant nodes notes = variant (bare_record nodes ∷ []) notes
 
--- the variants of a product behind that with these notes
+-- the variants of a product that is too large with these notes: one that is emptied for another
+-- reason than its size has the notes that it has without
 abbrev pub smaller_variants : Fate → List Note → Composite → List Variant
-smaller_variants fate.Written notes c = small_variants (too_large_notes c) c.below
-smaller_variants fate.Emptied notes c = small_variants notes c.below
+smaller_variants fate.Written notes c = smallest_variant c.below (too_large_notes c) ∷ []
+smaller_variants fate.Emptied notes c = smallest_variant c.below notes ∷ []
 smaller_variants fate.LeftOut notes c = []
 
--- without the prices that the terms compute
-abbrev pub plain_choices : SupplyChoices → SupplyChoices
-plain_choices choices = record choices { is_plain = true }
-
--- the notes on a product that is written without them, since it is too large with them
-abbrev pub plain_notes : Opening → SupplyChoices → Composite → List Note
-plain_notes o choices c =
-    product_notes o (plain_choices choices) c
-    ++ note c.element (foreign other.TooManyComputed []) ∷ []
-
--- where there are terms, a product without the prices that they compute
-abbrev pub plain_variants : Option (List Term) → Opening → SupplyChoices → Composite → List Variant
-plain_variants None o choices c = []
-plain_variants (Some terms) o choices c =
-    variant (product_records o (plain_choices choices) c.below) (plain_notes o choices c) ∷ []
-
 -- The variants of a product, of which the first counts that is not too large for a message: as it
--- is, without the prices that the terms compute, emptied, and emptied with its reference in place
--- of its identifiers. One that is emptied for another reason than its size has the notes that it
--- has without.
+-- is, and emptied with its reference in place of its identifiers.
 abbrev pub variants : Opening → SupplyChoices → Composite → List Variant
 variants o choices c =
     variant (product_records o choices c.below) (product_notes o choices c)
-    ∷ (plain_variants choices.terms o choices c
-    ++ smaller_variants (fate_of o choices c.below) (product_notes o choices c) c)
+    ∷ smaller_variants (fate_of o choices c.below) (product_notes o choices c) c
 
 -- whether one of some notes says that something is wrong
 abbrev pub has_wrong : List Note → Bool

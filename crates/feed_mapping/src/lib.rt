@@ -36,7 +36,7 @@ pub use header::{Choices, HeaderFault, HeaderRefusal, Heading, fill_message, rea
 pub use malformed::{HeaderField, WrongField, malformed_field};
 pub use notes::{Foreign, Note, Reason, ReasonKind, Wrong};
 pub use parties::Pair;
-pub use product_records::{Fate, add_bare, add_large, add_plain, add_product};
+pub use product_records::{Fate, add_bare, add_product, push_too_large};
 pub use supplies::first_reason;
 pub use supply_choices::SupplyChoices;
 pub use territories::{Area, area_in, unsupported};

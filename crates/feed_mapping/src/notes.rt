@@ -59,8 +59,6 @@ pub enum Foreign {
     /// A price that the terms compute of a Price, and that is held back: the feed gives one in its
     /// place, or closes its type and currency.
     HeldBack,
-    /// A Product that with the prices that the terms compute is too large for a message.
-    TooManyComputed,
     /// A ProductSupply without SupplyDetail.
     NoSupplyDetail,
     /// A ProductSupply whose Markets are all left out, one of them as foreign.

@@ -6,7 +6,7 @@ ghost use Rattle.feed_mapping.specs.Notes.{note, note_views};
 ghost use Rattle.feed_mapping.specs.Outcomes.{all_notes, all_records};
 ghost use Rattle.feed_mapping.specs.PartyViews.{pair_view};
 ghost use Rattle.feed_mapping.specs.PriceViews.{reason_read};
-ghost use Rattle.feed_mapping.specs.ProductRecords.{fate_of, ignored_reason, is_followed, isbn_reason, notes_behind, notification_written, plain_choices, plain_notes, product_notes, product_records, fate_by, records_by, supplies_in, too_large_notes, why_emptied, written_notes};
+ghost use Rattle.feed_mapping.specs.ProductRecords.{fate_of, ignored_reason, is_followed, isbn_reason, notes_behind, notification_written, product_notes, product_records, fate_by, records_by, supplies_in, too_large_notes, why_emptied, written_notes};
 ghost use Rattle.feed_mapping.specs.Supplies.{supplies_reason, supply_in};
 ghost use Rattle.std.specs.Option.{option_map_or};
 ghost use Rattle.feed_mapping.specs.Products.{bare_record, emptied_record, has_isbn, dropping, notification_in, own_reason, product_record, right_pairs};
@@ -284,54 +284,21 @@ pub fn add_product<'a>(
     )
 }
 
-/// Adds what comes of a Product without the prices that the terms of the shop compute, since it is
-/// too large for a message with them, and the notes on it then.
-pub fn add_plain<'a>(
-    alloc: Global,
-    opening: &Opening,
-    choices: &SupplyChoices<'_>,
-    product: &Composite<'a>,
-    fields: &mut FieldBuffer,
-    records: &mut RecordBuffer,
-    notes: &mut Vec<Note<'a>>,
-) -> Result<(), AllocError>
-    ensures records { OnOk result (records.new ≡ records.old ++ product_records opening.now
-        (plain_choices (supply_choices_view choices.now)) product.now.below) }
-    ensures notes { OnOk result (note_views notes.new.items ≡ note_views notes.old.items
-        ++ plain_notes opening.now (supply_choices_view choices.now) product.now) }
-{
-    let plain = SupplyChoices {
-        supplier: choices.supplier,
-        id_type: choices.id_type,
-        terms: choices.terms,
-        is_plain: true,
-    };
-    add_product(alloc, opening, &plain, product, fields, records, notes)?;
-    let reason = Reason::foreign(Foreign::TooManyComputed, b"");
-    push_note(notes, product.line, reason)
-}
-
-/// Adds the record of a Product that is emptied since it is too large for a message, and the notes
-/// on it then.
-pub fn add_large<'a>(
+/// Adds the notes on a Product that is emptied since it is too large for a message.
+pub fn push_too_large<'a>(
     alloc: Global,
     product: &Composite<'a>,
-    fields: &mut FieldBuffer,
-    records: &mut RecordBuffer,
     notes: &mut Vec<Note<'a>>,
 ) -> Result<(), AllocError>
-    ensures record { OnOk result
-        (records.new ≡ records.old ++ emptied_record product.now.below ∷ []) }
-    ensures notes { OnOk result (note_views notes.new.items
+    ensures { OnOk result (note_views notes.new.items
         ≡ note_views notes.old.items ++ too_large_notes product.now) }
 {
-    let identifiers = take_identifiers(alloc, &product.below, notes)?;
-    add_emptied(&identifiers.pairs, &product.below, fields, records)?;
+    take_identifiers(alloc, &product.below, notes)?;
     push_note(notes, product.line, Reason::wrong(Wrong::TooLarge, b""))
 }
 
-/// Adds the record of a Product that is too large even without supplies: its reference stands for
-/// its identifiers.
+/// Adds the record of a Product that is emptied since it is too large for a message, or too large
+/// even so: its reference stands for its identifiers.
 pub fn add_bare(
     alloc: Global,
     product: &Composite<'_>,

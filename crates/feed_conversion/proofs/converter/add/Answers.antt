@@ -1,6 +1,6 @@
 use Rattle.std.proofs.Common.{◌≡◌, ◌++◌, ◌∙◌, List, ap, subst}
 use Rattle.feed_mapping.specs.Notes.{Note, note_views}
-use Rattle.feed_mapping.specs.ProductRecords.{fate_of, plain_variants, product_notes, product_records, smaller_variants}
+use Rattle.feed_mapping.specs.ProductRecords.{fate_of, product_notes, product_records, smaller_variants}
 use Rattle.feed_mapping.specs.Records.{Records}
 use Rattle.feed_mapping.specs.SupplyChoices.{SupplyChoices, supply_choices_view}
 use Rattle.feed_mapping.specs.declared.notes.Note.{Note as Lent}
@@ -30,7 +30,7 @@ returns-then-is_kept g c =
     let by_records = subst (λ (rs : Records). IsKept c.in_ok-is_kept.is_kept old new (with_variant g.T.Target.keeping c.args.options.now.choices.parts old product rs (note_views c.deref.result.now))) records c.in_ok-is_kept.ensures in
     let kept = subst (λ (ns : List Note). IsKept c.in_ok-is_kept.is_kept old new (with_variant g.T.Target.keeping c.args.options.now.choices.parts old product (product_records opening chosen product.below) ns)) notes by_records in
     first-kept g.T.Target.keeping c.args.options.now.choices.parts c.in_ok-is_kept.is_kept old new product (product_records opening chosen product.below) (product_notes opening chosen product)
-    (plain_variants chosen.terms opening chosen product ++ smaller_variants (fate_of opening chosen product.below) (product_notes opening chosen product) product) c.if-is_kept.true kept
+    (smaller_variants (fate_of opening chosen product.below) (product_notes opening chosen product) product) c.if-is_kept.true kept
 
 pub returns : goal.returns
 unfolding after_product
@@ -54,7 +54,7 @@ returns g c =
     let kept = subst (λ (ns : List Note). IsKept c.in_ok-is_kept.is_kept old mid (with_variant g.T.Target.keeping most old product (product_records opening chosen product.below) ns)) notes by_records in
     let same : c.keep_variant.new.begun.opening ≡ opening =
     ap (λ (s : Stored g.row.T-Parts.Denot g.row.T-Notes.Denot). s.begun.opening) (kept-same c.in_ok-is_kept.is_kept old mid (with_variant g.T.Target.keeping most old product (product_records opening chosen product.below) (product_notes opening chosen product)) c.if-is_kept.false kept) in
-    let rest = λ (o : Opening) (f : Fate) (ns : List Note). plain_variants chosen.terms o chosen product ++ smaller_variants f ns product in
+    let rest = λ (o : Opening) (f : Fate) (ns : List Note). smaller_variants f ns product in
     let forms = ap (λ (o : Opening). rest o c.in_ok-fate.fate (note_views c.deref-2.result.now)) same ∙ ap (λ (f : Fate). rest opening f (note_views c.deref-2.result.now)) fate
     ∙ ap (λ (ns : List Note). rest opening (fate_of opening chosen product.below) ns) (ap note_views c.deref-2.ensures.value ∙ views) in
     on-ok c.add_smaller.result

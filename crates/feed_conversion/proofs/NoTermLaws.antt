@@ -14,7 +14,7 @@ use Rattle.feed_mapping.specs.SupplyChoices.{SupplyChoices}
 use Rattle.feed_mapping.specs.TermsLaws.{by_terms as choices_by}
 use Rattle.feed_mapping.specs.declared.header.HeaderRefusal.{HeaderRefusal}
 use Rattle.feed_conversion.specs.Conversion.{Options, after_header, by_terms, conversion, products_in, refused_behind, settings, supply_choices}
-use Rattle.feed_conversion.specs.Packing.{Packing, after_product, ended, no_packing, with_variants}
+use Rattle.feed_conversion.specs.Packing.{Packing, after_product, ended, no_packing, seen, with_variants}
 use Rattle.feed_conversion.specs.declared.refusal.Refusal.TheVariants as why
 
 -- what is known of each Product
@@ -35,7 +35,7 @@ module _ (says : SaysNothing) (o : Options) where
       λ i.
       let records = says.records h.opening chosen c i in
       let notes = says.notes h.opening chosen c i in
-      with_variants t w c (variant records notes ∷ smaller_variants (says.fate h.opening chosen c i) notes c)
+      with_variants t (seen t w c) c (variant records notes ∷ smaller_variants (says.fate h.opening chosen c i) notes c)
 
   header_same : (header : Composite) (rest : Nodes) (r : Result Heading HeaderRefusal)
       → after_header (by_terms (Some []) o) header rest r ≡ after_header (by_terms None o) header rest r

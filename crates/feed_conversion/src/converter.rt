@@ -1,13 +1,14 @@
 //! The state of a conversion, which takes the Header and the Products of a message.
 
-ghost use Rattle.std.specs.Prelude.{◌≡◌, ◌∷◌, [], ℕ, IfOk, OnOk};
+ghost use Rattle.std.specs.Prelude.{◌≡◌, ◌∷◌, [], ℕ, IfOk, OnOk, option_map};
 ghost use Rattle.feed_mapping.specs.Header.{heading_in};
 ghost use Rattle.feed_mapping.specs.HeaderViews.{choices_view, heading_view};
 ghost use Rattle.feed_mapping.specs.Notes.{note_views};
+ghost use Rattle.feed_mapping.specs.PartyViews.{pair_view};
 ghost use Rattle.feed_mapping.specs.SupplyChoices.{supply_choices_view};
 ghost use Rattle.feed_mapping.specs.ProductRecords.{smaller_variants, smallest_variant};
 ghost use Rattle.feed_mapping.specs.Products.{bare_record};
-ghost use Rattle.feed_conversion.specs.private.Stages.{IsKept, after_element, after_product, at_stage, begun_by, first_begun, first_state, stored, noted, stage_after_header, stage_after_stranger, unbegun, with_variant, with_variants, with_product};
+ghost use Rattle.feed_conversion.specs.private.Stages.{IsKept, after_element, after_product, at_stage, begun_by, first_begun, first_state, seen_by, stored, noted, stage_after_header, stage_after_stranger, unbegun, with_variant, with_variants, with_product};
 ghost use Rattle.feed_conversion.specs.Conversion.{Options as Chosen, supply_choices};
 ghost use Rattle.feed_conversion.specs.Views.{options_view};
 ghost use Rattle.feed_conversion.specs.private.StageViews.{begun_view, stage_view};
@@ -22,8 +23,8 @@ use crate::words::Words;
 use csv_records::buffer::RecordBuffer;
 use csv_records::fields::FieldBuffer;
 use feed_mapping::{
-    Choices, Composite, Fate, HeaderFault, Heading, Note, Reason, ReasonKind, SupplyChoices, Wrong,
-    add_bare, add_product, fill_message, push_too_large, read_heading, text_or_empty,
+    Choices, Composite, Fate, HeaderFault, Heading, Note, Pair, Reason, ReasonKind, SupplyChoices,
+    Wrong,    add_bare, add_product, fill_message, push_too_large, read_heading, text_or_empty,
 };
 use feed_outline::{Elements, Line, Taker, Vocabulary, has_stranger, outlined};
 use onix_records::row::RowFault;
@@ -170,6 +171,14 @@ fn add_smaller<T: Target>(
     }
 }
 
+// Takes notice of whose SupplyDetails a product has, where a supplier is named.
+fn see_suppliers(begun: &mut OpenParts, named: Option<Pair<'_>>, product: &Composite<'_>)
+    ensures { begun_view begun.new
+        ≡ seen_by (option_map pair_view named.entry) product.now.below (begun_view begun.old) }
+{
+    begun.tally.see_suppliers(named, &product.below);
+}
+
 // What is chosen for the supplies of a product.
 fn supply_choices<'a>(options: &Options<'a>) -> SupplyChoices<'a>
     ensures { supply_choices_view result ≡ supply_choices (options_view options.now) }
@@ -208,6 +217,7 @@ fn add<T: Target>(
         &mut records,
         &mut notes,
     )?;
+    see_suppliers(begun, options.choices.supplier, product);
     let most = options.choices.parts;
     let is_kept = keep_variant(alloc, most, begun, target, product, &records, &notes)?;
     if is_kept {

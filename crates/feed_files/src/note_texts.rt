@@ -172,7 +172,8 @@ fn words_of_foreign(kind: Foreign, text: &[u8]) -> Words {
         Foreign::RegionExcluded => with_text("", " is a part of a country"),
         Foreign::CountryName => country(text),
         Foreign::Discount | Foreign::DiscountCoded => plain("of a Price, not read"),
-        Foreign::Rounded => plain("rounded to 3 decimals"),
+        Foreign::Rounded => plain("rounded"),
+        Foreign::OfOthers => plain("of other suppliers alone"),
         Foreign::NoTerm => plain("that no term fits"),
         Foreign::NothingToPay => plain("an amount of 0"),
         Foreign::HeldBack => plain("held back"),
@@ -396,6 +397,7 @@ fn thing_of(note: Note<'_>) -> &'static str {
         ReasonKind::Foreign(Foreign::RegionExcluded) => "region of RegionsExcluded",
         ReasonKind::Foreign(Foreign::CountryName) => "country",
         ReasonKind::Foreign(Foreign::NothingToPay | Foreign::HeldBack) => "computed price",
+        ReasonKind::Foreign(Foreign::Rounded) => "PriceAmount",
         ReasonKind::Wrong(Wrong::CountryAsRegion) => thing_with_region(note.line.name),
         _ => name_of(note.line.name),
     }
@@ -412,7 +414,8 @@ fn verb_of(kind: ReasonKind) -> &'static str {
             | Foreign::DiscountCoded
             | Foreign::Rounded
             | Foreign::NoTerm
-            | Foreign::HeldBack,
+            | Foreign::HeldBack
+            | Foreign::OfOthers,
         ) => " ",
         _ if is_emptied(kind) => " emptied: ",
         _ => " left out: ",

@@ -8,7 +8,7 @@ use crate::note_texts::{
 use crate::shown::{SHOWN, push_called, push_shown_bytes};
 use crate::summary::Summary;
 use csv_records::buffer::RecordBuffer;
-use feed_conversion::Options;
+use feed_conversion::{Counted, Options};
 use feed_mapping::{
     Choices, Composite, Note, ReasonKind, Wrong, first_reason, malformed_field, next_composite,
     text_or_empty,
@@ -247,13 +247,14 @@ impl<'a> Notes<'a> {
         written: &RecordBuffer,
         notes: &[Note<'_>],
     ) -> Result<(), AllocError> {
-        let is_wrong = has_wrong(notes);
+        let named = self.scope.choices.supplier;
+        let counts = ProductCounts::of(named, product, written, notes);
+        let is_wrong = has_wrong(notes) && !counts.is_of_others;
         self.has_products = true;
         self.scope.product = self.scope.product.saturating_add(1);
-        self.summary
-            .count_product(&ProductCounts::of(product, written, notes));
+        self.summary.count_product(&counts);
         for note in notes.iter() {
-            if self.scope.has_terms && is_of_discount(note.reason.kind) {
+            if !self.is_said(note.reason.kind) {
                 continue;
             }
             let saying = saying_of(*note);
@@ -264,6 +265,12 @@ impl<'a> Notes<'a> {
             }
         }
         Ok(())
+    }
+
+    // Whether a reason is said, by a line or in the summary: discounts are not where terms read
+    // them, and products of other suppliers alone are counted as products.
+    fn is_said(&self, kind: ReasonKind) -> bool {
+        !(self.scope.has_terms && is_of_discount(kind)) && !kind.is_of_others()
     }
 
     // Adds the lines of a note on a product, which is wrong or not.
@@ -281,9 +288,9 @@ impl<'a> Notes<'a> {
         Ok(())
     }
 
-    /// Nothing follows in the FILE, of which so many products are wrong.
-    pub(crate) fn end(&mut self, wrong: u32) {
-        self.summary.count_file(wrong, self.has_products);
+    /// Nothing follows in the FILE, of whose products this is told.
+    pub(crate) fn end(&mut self, told: Counted) {
+        self.summary.count_file(told, self.has_products);
     }
 
     /// The FILE that they are on.

@@ -122,7 +122,7 @@ module _ (supplier : Option Pair) (supply : Nodes → Outcome) where
       ++ option_map_or (λ reason. note c.element reason ∷ [])
       (own_reason supplier c.below)
       (all_notes (λ s. supply s.below) (supplies_in c.below)
-      ++ option_map_or (λ reason. note c.element reason ∷ []) (supplies_reason_by (supplies_in c.below)) (written_notes c.below c.element))
+      ++ option_map_or (λ reason. note c.element reason ∷ []) (supplies_reason_by (supplies_in c.below)) (written_notes supplier c.below c.element))
       else note c.element (wrong bad.RecordReference (reference_in c.below)) ∷ []
 
 module _ (by_none : NothingByNoTerms) (o : Opening) (choices : SupplyChoices) (c : Composite) where

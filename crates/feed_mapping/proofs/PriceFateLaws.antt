@@ -68,7 +68,7 @@ product-has o choices c e = go (is_field (reference_in c.below)) refl (own_reaso
     go true f None w None b = record {
       own = product_record (notification_written choices.supplier c.below) (right_pairs c.below) c.below;
       before = identifier_notes c.below;
-      behind = written_notes c.below c.element;
+      behind = written_notes choices.supplier c.below c.element;
       records = rw (f, w, b) refl;
       notes = rw (f, w, b) refl;
     }

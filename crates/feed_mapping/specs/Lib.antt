@@ -24,6 +24,7 @@ pub mod Products
 pub mod Supplies
 pub mod PriceFates
 pub mod ProductRecords
+pub mod SupplierCounts
 pub mod Rows
 pub mod Vocabulary
 pub mod SupplyChoices

@@ -46,15 +46,23 @@ module _ (nodes : Nodes) where
       if is_followed (notification_in nodes) then None
       else Some (foreign other.Ignored (notification_in nodes))
 
-  abbrev pub written_notes : Element → List Note
-  written_notes product = reason_notes product isbn_reason ++ reason_notes product ignored_reason
+module _ (supplier : Option Pair) (nodes : Nodes) where
+  -- of other suppliers alone: it has SupplyDetails, and all of them are of others
+  abbrev pub is_alone : Bool
+  is_alone = not (is_deletion nodes) && is_of_others supplier nodes
 
--- the NotificationType of one that stands: of one of other suppliers alone it is such that the desk
--- drops the supplies that it has
-abbrev pub notification_written : Option Pair → Nodes → List ℕ
-notification_written supplier nodes =
-    if not (is_deletion nodes) && is_of_others supplier nodes then dropping (notification_in nodes)
-    else notification_in nodes
+  abbrev pub others_reason : Option Reason
+  others_reason = if is_alone then Some (foreign other.OfOthers []) else None
+
+  abbrev pub written_notes : Element → List Note
+  written_notes product =
+      reason_notes product (isbn_reason nodes) ++ reason_notes product (ignored_reason nodes)
+      ++ reason_notes product others_reason
+
+  -- the NotificationType of one that stands: of one of other suppliers alone it is such that the
+  -- desk drops the supplies that it has
+  abbrev pub notification_written : List ℕ
+  notification_written = if is_alone then dropping (notification_in nodes) else notification_in nodes
 
 -- whether it is emptied for such a reason or stands
 abbrev pub fate_by : Option Reason → Fate
@@ -85,7 +93,8 @@ module _ (o : Opening) (choices : SupplyChoices) where
   notes_behind c =
       all_notes (supply_in o choices) (supplies_in c.below)
       ++ option_map_or (λ reason. note c.element reason ∷ [])
-      (supplies_reason o choices (supplies_in c.below)) (written_notes c.below c.element)
+      (supplies_reason o choices (supplies_in c.below))
+      (written_notes choices.supplier c.below c.element)
 
   -- all notes on it
   abbrev pub product_notes : Composite → List Note

@@ -24,6 +24,7 @@ mod reasons;
 pub mod records;
 mod regions;
 mod strangers;
+pub mod supplier_counts;
 pub mod supplies;
 pub mod supply_choices;
 pub mod territories;
@@ -35,8 +36,10 @@ pub use elements::{Composite, elements_in, first_composite, next_composite, text
 pub use header::{Choices, HeaderFault, HeaderRefusal, Heading, fill_message, read_heading};
 pub use malformed::{HeaderField, WrongField, malformed_field};
 pub use notes::{Foreign, Note, Reason, ReasonKind, Wrong};
+pub use other_suppliers::{is_of_other, is_of_others, next_detail};
 pub use parties::Pair;
 pub use product_records::{Fate, add_bare, add_product, push_too_large};
+pub use supplier_counts::{has_named, has_other};
 pub use supplies::first_reason;
 pub use supply_choices::SupplyChoices;
 pub use territories::{Area, area_in, unsupported};

@@ -2,7 +2,7 @@
 
 ghost use Rattle.std.specs.Prelude.{◌≡◌, ◌++◌, ◌∷◌, [], OnOk, option_map};
 ghost use Rattle.feed_mapping.specs.Elements.{element_view};
-ghost use Rattle.feed_mapping.specs.Notes.{foreign, is_wrong, note, note_views, reason_notes, reason_view, wrong};
+ghost use Rattle.feed_mapping.specs.Notes.{foreign, is_of_others, is_wrong, note, note_views, reason_notes, reason_view, wrong};
 
 use feed_outline::Line;
 use std::alloc::AllocError;
@@ -33,6 +33,9 @@ pub enum Foreign {
     /// A Price of a type and a currency of which another Price beside it is left out for its
     /// PriceDates alone, and may stand in its place.
     BesideDates,
+    /// A Product that is written without supplies, since all of its SupplyDetails are of others than
+    /// the supplier that is named. It is counted alone.
+    OfOthers,
     /// A Price or Market that holds in a region, the text, without a country and without the
     /// world.
     RegionAlone,
@@ -179,6 +182,13 @@ impl ReasonKind {
             ReasonKind::Foreign(_) => false,
             ReasonKind::Wrong(_) => true,
         }
+    }
+
+    /// Whether a product is of other suppliers alone.
+    pub fn is_of_others(self) -> bool
+        ensures { result ≡ is_of_others self }
+    {
+        matches!(self, ReasonKind::Foreign(Foreign::OfOthers))
     }
 }
 

@@ -19,7 +19,7 @@ fn says_who(supplier: &Elements<'_>) -> bool
 }
 
 /// Whether a SupplyDetail is of another than the supplier that is named.
-pub(crate) fn is_of_other(named: Option<Pair<'_>>, detail: &Elements<'_>) -> bool
+pub fn is_of_other(named: Option<Pair<'_>>, detail: &Elements<'_>) -> bool
     ensures { result ≡ is_of_other (option_map pair_view named.entry) detail.now }
 {
     let Some(named) = named else {
@@ -30,7 +30,7 @@ pub(crate) fn is_of_other(named: Option<Pair<'_>>, detail: &Elements<'_>) -> boo
 }
 
 /// The first SupplyDetail that counts, and the elements behind it.
-pub(crate) fn next_detail<'a>(
+pub fn next_detail<'a>(
     named: Option<Pair<'_>>,
     supply: &Elements<'a>,
 ) -> Option<(Composite<'a>, Elements<'a>)>

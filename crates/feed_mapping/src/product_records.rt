@@ -6,7 +6,7 @@ ghost use Rattle.feed_mapping.specs.Notes.{note, note_views};
 ghost use Rattle.feed_mapping.specs.Outcomes.{all_notes, all_records};
 ghost use Rattle.feed_mapping.specs.PartyViews.{pair_view};
 ghost use Rattle.feed_mapping.specs.PriceViews.{reason_read};
-ghost use Rattle.feed_mapping.specs.ProductRecords.{fate_of, ignored_reason, is_followed, isbn_reason, notes_behind, notification_written, product_notes, product_records, fate_by, records_by, supplies_in, too_large_notes, why_emptied, written_notes};
+ghost use Rattle.feed_mapping.specs.ProductRecords.{fate_of, ignored_reason, is_alone, is_followed, isbn_reason, notes_behind, notification_written, others_reason, product_notes, product_records, fate_by, records_by, supplies_in, too_large_notes, why_emptied, written_notes};
 ghost use Rattle.feed_mapping.specs.Supplies.{supplies_reason, supply_in};
 ghost use Rattle.std.specs.Option.{option_map_or};
 ghost use Rattle.feed_mapping.specs.Products.{bare_record, emptied_record, has_isbn, dropping, notification_in, own_reason, product_record, right_pairs};
@@ -73,18 +73,40 @@ fn ignored_reason<'a>(elements: &Elements<'a>) -> Option<Reason<'a>>
     }
 }
 
+// Whether a Product is of other suppliers alone.
+fn is_alone(supplier: Option<Pair<'_>>, elements: &Elements<'_>) -> bool
+    ensures { result ≡ is_alone (option_map pair_view supplier.entry) elements.now }
+{
+    !is_deletion(elements) && is_of_others(supplier, elements)
+}
+
+// That it is.
+fn others_reason(supplier: Option<Pair<'_>>, elements: &Elements<'_>) -> Option<Reason<'static>>
+    ensures { reason_read result
+        ≡ others_reason (option_map pair_view supplier.entry) elements.now }
+{
+    if is_alone(supplier, elements) {
+        Some(Reason::foreign(Foreign::OfOthers, b""))
+    } else {
+        None
+    }
+}
+
 // Adds the notes on a Product that is written.
 fn push_written_notes<'a>(
+    supplier: Option<Pair<'_>>,
     is_found: bool,
     product: &Composite<'a>,
     notes: &mut Vec<Note<'a>>,
 ) -> Result<(), AllocError>
     ensures { is_found ≡ has_isbn product.now.below
-        → OnOk result (note_views notes.new.items
-        ≡ note_views notes.old.items ++ written_notes product.now.below product.now.element) }
+        → OnOk result (note_views notes.new.items ≡ note_views notes.old.items
+        ++ written_notes (option_map pair_view supplier.entry)
+        product.now.below product.now.element) }
 {
     push_reason(notes, product.line, isbn_reason(is_found, &product.below))?;
-    push_reason(notes, product.line, ignored_reason(&product.below))
+    push_reason(notes, product.line, ignored_reason(&product.below))?;
+    push_reason(notes, product.line, others_reason(supplier, &product.below))
 }
 
 // Adds the record of a Product that is emptied, with these types and values.
@@ -110,7 +132,7 @@ fn notification_written<'a>(supplier: Option<Pair<'_>>, elements: &Elements<'a>)
         ≡ notification_written (option_map pair_view supplier.entry) elements.now }
 {
     let notification = notification_in(elements);
-    if !is_deletion(elements) && is_of_others(supplier, elements) {
+    if is_alone(supplier, elements) {
         dropping(notification)
     } else {
         notification
@@ -190,7 +212,7 @@ fn add_sound<'a>(
     add_own(choices.supplier, &identifiers.pairs, elements, fields, records)?;
     match add_below(alloc, opening, choices, elements, fields, records, notes)? {
         None => {
-            push_written_notes(identifiers.has_isbn, product, notes)?;
+            push_written_notes(choices.supplier, identifiers.has_isbn, product, notes)?;
             Ok(Fate::Written)
         }
         Some(reason) => {

@@ -15,7 +15,7 @@ struct Kind {
 }
 
 #[derive(Clone, Copy)]
-struct Counted {
+struct ReasonCount {
     kind: Kind,
     count: u64,
 }
@@ -75,7 +75,7 @@ const NO_PRODUCTS: Products = Products {
 #[derive(Drop)]
 pub struct Summary {
     alloc: Global,
-    counts: Vec<Counted>,
+    counts: Vec<ReasonCount>,
     products: Products,
 }
 
@@ -128,7 +128,7 @@ impl Summary {
                 return Ok(());
             }
         }
-        self.counts.push(Counted { kind, count: more })?;
+        self.counts.push(ReasonCount { kind, count: more })?;
         Ok(())
     }
 
@@ -224,7 +224,7 @@ impl Summary {
     }
 
     // The line of a reason, with what is to stand first first: the greater count, then the text.
-    fn line_of(&self, counted: Counted) -> Result<(u64, String), AllocError> {
+    fn line_of(&self, counted: ReasonCount) -> Result<(u64, String), AllocError> {
         let mut text = String::new(self.alloc);
         push_kind(&mut text, counted.kind)?;
         Ok((u64::MAX - counted.count, text))

@@ -17,9 +17,8 @@ use std::io::Write;
 
 fn text_of(doubt: TaxDoubt) -> &'static str {
     match doubt {
-        TaxDoubt::Mixed =>
-            "its types and net are of prices with tax and without, and it has no tax",
-        TaxDoubt::NoTaxToTake => "it has a tax, and a type is of prices without, or net with it",
+        TaxDoubt::Mixed => "has no tax, and its types and net are of prices with tax and without",
+        TaxDoubt::NoTaxToTake => "has a tax, and a type is of prices without, or net with it",
     }
 }
 
@@ -36,7 +35,7 @@ fn write_doubts<E: Write>(terms: &[Term], errors: &mut E) {
             );
         } else if let Some(doubt) = doubt_of(&terms[at]) {
             let why = text_of(doubt);
-            let _ = write!(errors, "onixdesk: terms: term {number}: {why}\n");
+            let _ = write!(errors, "onixdesk: terms: term {number} {why}\n");
         }
     }
 }

@@ -24,11 +24,11 @@ def doubt(term: dict[str, Any]) -> str:
     have_tax = {kind in WITH_TAX for kind in term["types"]}
     net_has_tax = term["net"] in WITH_TAX
     if "tax" not in term:
-        mixed = "its types and net are of prices with tax and without, and it has no tax"
+        mixed = "has no tax, and its types and net are of prices with tax and without"
         return "" if have_tax == {net_has_tax} else mixed
     takes_none = term["tax"] != "feed" and float(term["tax"]) == 0
     fits = have_tax == {True} and not net_has_tax
-    return "" if takes_none or fits else "it has a tax, and a type is of prices without, or net with it"
+    return "" if takes_none or fits else "has a tax, and a type is of prices without, or net with it"
 
 
 def lines(text: str, earlier: dict[int, int]) -> Iterator[bytes]:
@@ -36,7 +36,7 @@ def lines(text: str, earlier: dict[int, int]) -> Iterator[bytes]:
         if number in earlier:
             yield preceded(number, earlier[number])
         elif doubt(term):
-            yield f"onixdesk: terms: term {number}: {doubt(term)}\n".encode()
+            yield f"onixdesk: terms: term {number} {doubt(term)}\n".encode()
 
 
 def wanted(case: Written) -> Ran:

@@ -24,7 +24,7 @@ use csv_records::buffer::RecordBuffer;
 use csv_records::fields::FieldBuffer;
 use feed_mapping::{
     Choices, Composite, Fate, HeaderFault, Heading, Note, Pair, Reason, ReasonKind, SupplyChoices,
-    Wrong,    add_bare, add_product, fill_message, push_too_large, read_heading, text_or_empty,
+    Wrong, add_bare, add_product, fill_message, push_too_large, read_heading, text_or_empty,
 };
 use feed_outline::{Elements, Line, Taker, Vocabulary, has_stranger, outlined};
 use onix_records::row::RowFault;

@@ -4,8 +4,7 @@ use crate::note_texts::is_emptied;
 use csv_records::buffer::RecordBuffer;
 use csv_records::record::Record;
 use feed_mapping::{
-    Composite, Note, Pair, first_composite, is_of_other, next_composite, next_detail,
-    text_or_empty,
+    Composite, Note, Pair, first_composite, is_of_other, next_composite, next_detail, text_or_empty,
 };
 use feed_outline::{Elements, Line, Node, text_in};
 
@@ -181,11 +180,7 @@ fn is_of_world(named: Option<Pair<'_>>, supply: &Composite<'_>, notes: &[Note<'_
 }
 
 // Whether one of the ProductSupplys of a Product is such.
-fn has_world_supply(
-    named: Option<Pair<'_>>,
-    product: &Elements<'_>,
-    notes: &[Note<'_>],
-) -> bool {
+fn has_world_supply(named: Option<Pair<'_>>, product: &Elements<'_>, notes: &[Note<'_>]) -> bool {
     let mut rest = product.copy();
     while let Some((supply, behind)) = next_composite(b"ProductSupply", &rest) {
         if is_of_world(named, &supply, notes) {
@@ -300,7 +295,11 @@ impl ProductCounts {
                 && has_sales_rights(below)
                 && has_world_supply(named, below, notes),
             is_of_others: is_of_others(notes),
-            details_of_others: if stands { count_others(named, below) } else { 0 },
+            details_of_others: if stands {
+                count_others(named, below)
+            } else {
+                0
+            },
             is_of_several: named.is_none() && are_of_several(written),
         }
     }

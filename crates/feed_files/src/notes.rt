@@ -92,7 +92,13 @@ fn push_first_reason(
     };
     let kind = note.reason.kind;
     let choices = scope.choices;
-    match first_reason(scope.alloc, choices.supplier, choices.id_type, kind, &supply.below)? {
+    match first_reason(
+        scope.alloc,
+        choices.supplier,
+        choices.id_type,
+        kind,
+        &supply.below,
+    )? {
         Some(first) => push_first(text, first),
         None => Ok(()),
     }

@@ -199,8 +199,9 @@ impl Summary {
         all.again = all.again.saturating_add(more.again);
         all.details_of_others = all.details_of_others.saturating_add(more.details_of_others);
         all.files_without = all.files_without.saturating_add(more.files_without);
-        all.files_without_supplier =
-            all.files_without_supplier.saturating_add(more.files_without_supplier);
+        all.files_without_supplier = all
+            .files_without_supplier
+            .saturating_add(more.files_without_supplier);
     }
 
     /// Counts all that another has counted.
@@ -278,7 +279,12 @@ impl Summary {
     /// one for each reason, the most frequent first, what is counted of products, and, where there
     /// are notes, the count of all and of wrong products.
     pub(crate) fn push_lines(&self, prefix: &str, text: &mut String) -> Result<(), AllocError> {
-        push_count(text, prefix, NO_SUPPLIER, self.products.files_without_supplier)?;
+        push_count(
+            text,
+            prefix,
+            NO_SUPPLIER,
+            self.products.files_without_supplier,
+        )?;
         self.push_reasons(prefix, text)?;
         self.push_products(prefix, text)?;
         let total = self.total();

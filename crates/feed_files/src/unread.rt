@@ -57,7 +57,11 @@ pub(crate) fn push_encoding(line: &mut String, name: &[u8]) -> Result<(), AllocE
     push_shown_bytes(line, name)?;
     line.push_str("\"")?;
     line.push_str(ENCODINGS)?;
-    line.push_str(if name == b"UTF-16".as_slice() { RECODED } else { "" })
+    line.push_str(if name == b"UTF-16".as_slice() {
+        RECODED
+    } else {
+        ""
+    })
 }
 
 // Why a reference stands for nothing, by what stands between `&` and `;`.

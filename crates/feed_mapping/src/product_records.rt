@@ -209,7 +209,13 @@ fn add_sound<'a>(
     let alloc = *notes.allocator();
     let count = records.len();
     let elements = &product.below;
-    add_own(choices.supplier, &identifiers.pairs, elements, fields, records)?;
+    add_own(
+        choices.supplier,
+        &identifiers.pairs,
+        elements,
+        fields,
+        records,
+    )?;
     match add_below(alloc, opening, choices, elements, fields, records, notes)? {
         None => {
             push_written_notes(choices.supplier, identifiers.has_isbn, product, notes)?;

@@ -284,11 +284,7 @@ fn read_head<R: Read>(alloc: Global, reader: &mut R) -> Result<Vec<u8>, Fault>
 }
 
 // A window with the text of the bytes that were read before, and where the next byte stands.
-fn begin(
-    alloc: Global,
-    encoding: Encoding,
-    head: &[u8],
-) -> Result<(Vec<u8>, Option<Part>), Fault>
+fn begin(alloc: Global, encoding: Encoding, head: &[u8]) -> Result<(Vec<u8>, Option<Part>), Fault>
     ensures grows { IfOk result (λ x. Grows [] x.0.items Part.Whole
         (decoded encoding head.now) x.1) }
     ensures fault { IfErr result IsOfReading }

@@ -33,9 +33,6 @@ pub enum Foreign {
     /// A Price of a type and a currency of which another Price beside it is left out for its
     /// PriceDates alone, and may stand in its place.
     BesideDates,
-    /// A Product that is written without supplies, since all of its SupplyDetails are of others than
-    /// the supplier that is named. It is counted alone.
-    OfOthers,
     /// A Price or Market that holds in a region, the text, without a country and without the
     /// world.
     RegionAlone,
@@ -78,6 +75,9 @@ pub enum Foreign {
     NoIsbn,
     /// A Product of a NotificationType, the text, that the desk ignores.
     Ignored,
+    /// A Product that is written without supplies, since all of its SupplyDetails are of others than
+    /// the supplier that is named. It is counted alone.
+    OfOthers,
 }
 
 /// What the desk would not take.

@@ -34,12 +34,15 @@ const OF_SEVERAL: &str = "of several suppliers";
 
 const DETAILS_OF_OTHERS: &str = "SupplyDetail of another supplier, not read";
 
+const DOUBLETS: &str = "Price beside another of another amount";
+
 const NO_SUPPLIER: &str = "no SupplyDetail of the supplier of --supplier in a FILE with others";
 
 // How many products there are, and how many of them are wrong, are emptied, have lost all their
 // prices, are for the world though they have SalesRights, are of other suppliers alone, and are of
-// several; how many elements come again; how many SupplyDetails are of others; and how many FILEs
-// have no Product, and no SupplyDetail of the supplier that is named.
+// several; how many elements come again; how many SupplyDetails are of others; how many Prices stand
+// beside another of another amount; and how many FILEs have no Product, and no SupplyDetail of the
+// supplier that is named.
 #[derive(Clone, Copy)]
 struct Products {
     all: u64,
@@ -51,6 +54,7 @@ struct Products {
     of_several: u64,
     again: u64,
     details_of_others: u64,
+    doublets: u64,
     files_without: u64,
     files_without_supplier: u64,
 }
@@ -65,6 +69,7 @@ const NO_PRODUCTS: Products = Products {
     of_several: 0,
     again: 0,
     details_of_others: 0,
+    doublets: 0,
     files_without: 0,
     files_without_supplier: 0,
 };
@@ -171,6 +176,14 @@ impl Summary {
         });
     }
 
+    /// Counts so many Prices that stand beside another of another amount.
+    pub(crate) fn count_doublets(&mut self, doublets: u64) {
+        self.add_products(Products {
+            doublets,
+            ..NO_PRODUCTS
+        });
+    }
+
     /// Counts a product, and what is counted of it.
     pub(crate) fn count_product(&mut self, counts: &ProductCounts) {
         self.add_products(Products {
@@ -198,6 +211,7 @@ impl Summary {
         all.of_several = all.of_several.saturating_add(more.of_several);
         all.again = all.again.saturating_add(more.again);
         all.details_of_others = all.details_of_others.saturating_add(more.details_of_others);
+        all.doublets = all.doublets.saturating_add(more.doublets);
         all.files_without = all.files_without.saturating_add(more.files_without);
         all.files_without_supplier = all
             .files_without_supplier
@@ -271,6 +285,7 @@ impl Summary {
         push_of(text, prefix, products.of_others, all, OF_OTHERS)?;
         push_of(text, prefix, products.of_several, all, OF_SEVERAL)?;
         push_count(text, prefix, DETAILS_OF_OTHERS, products.details_of_others)?;
+        push_count(text, prefix, DOUBLETS, products.doublets)?;
         push_count(text, prefix, COMING_AGAIN, products.again)?;
         push_count(text, prefix, NO_PRODUCT, products.files_without)
     }

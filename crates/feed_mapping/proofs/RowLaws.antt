@@ -38,9 +38,8 @@ use Rattle.feed_mapping.specs.Markets.{early_market_reasons, first_kept, kept_ar
 use Rattle.feed_mapping.proofs.MarketLaws.{joined_outcome}
 use Rattle.feed_mapping.specs.Notes.{Note, Reason, foreign, wrong}
 use Rattle.feed_mapping.specs.Outcomes.{Outcome, all_records, left_out, nothing, outcome_reason, outcome_records, written_unless}
-use Rattle.feed_mapping.specs.ProductRecords.{notification_written, variants, smaller_variants, fate_by, records_by, supplies_in, why_emptied}
-use Rattle.feed_mapping.specs.Products.{dropping, identifier_reason, identifiers_in, is_code, is_deletion, is_there, notification_in, or_reference, own_reason, pair_reason, product_record, reference_in, right_pair, right_pairs, type_of, value_of, value_written}
-use Rattle.feed_mapping.specs.OtherSuppliers.{is_of_others}
+use Rattle.feed_mapping.specs.ProductRecords.{is_alone, notification_written, variants, smaller_variants, fate_by, records_by, supplies_in, why_emptied}
+use Rattle.feed_mapping.specs.Products.{dropping, identifier_reason, identifiers_in, is_code, is_there, notification_in, or_reference, own_reason, pair_reason, product_record, reference_in, right_pair, right_pairs, type_of, value_of, value_written}
 use Rattle.feed_mapping.specs.Parties.{Pair}
 use Rattle.feed_mapping.specs.Records.{clean, first_some, if_empty, is_field, parsed, parsed_term, unless, invalid}
 use Rattle.feed_mapping.specs.Rows.{AreOf, AreProducts, MayCompute, references_of}
@@ -390,7 +389,7 @@ own-code supplier nodes e = go (invalid (parsed_term code2_of) bad.NotificationT
     go (Some r) is f = let no = rw is at f in cc no
 
 written-code : (supplier : Option Pair) (nodes : Nodes) → own_reason supplier nodes ≡ None → IsCode (notification_written supplier nodes)
-written-code supplier nodes e = go (not (is_deletion nodes) && is_of_others supplier nodes)
+written-code supplier nodes e = go (is_alone supplier nodes)
   where
     go : (drops : Bool) → IsCode (if drops then dropping (notification_in nodes) else notification_in nodes)
     go true = dropping-code (notification_in nodes)

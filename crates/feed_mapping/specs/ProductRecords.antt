@@ -1,6 +1,6 @@
 -- What a Product comes to: the records of it and of its supplies, and the notes on it.
 use Rattle.std.specs.Prelude.{ℕ, Bool, true, not, ◌&&◌, ◌||◌, List, [], ◌∷◌, ◌++◌}
-use Rattle.std.specs.Prelude.{Option, Some, None, if◌then◌else◌, codes}
+use Rattle.std.specs.Prelude.{Option, Some, None, if◌then◌else◌, codes, is_some}
 use Rattle.std.specs.List.{list_any}
 use Rattle.std.specs.Option.{option_map_or, option_or}
 use Rattle.std.specs.Str.{bytes_eq}
@@ -49,7 +49,7 @@ module _ (nodes : Nodes) where
 module _ (supplier : Option Pair) (nodes : Nodes) where
   -- of other suppliers alone: it has SupplyDetails, and all of them are of others
   abbrev pub is_alone : Bool
-  is_alone = not (is_deletion nodes) && is_of_others supplier nodes
+  is_alone = is_some supplier && not (is_deletion nodes) && is_of_others supplier nodes
 
   abbrev pub others_reason : Option Reason
   others_reason = if is_alone then Some (foreign other.OfOthers []) else None

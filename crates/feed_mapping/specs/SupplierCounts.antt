@@ -17,11 +17,12 @@ has_detail such product =
 abbrev pub is_of : Pair → Nodes → Bool
 is_of named detail = list_any (same_pair named) (supplier_ids (below_at "Supplier" detail))
 
-module _ (named : Option Pair) (product : Nodes) where
-  abbrev pub has_other : Bool
-  has_other = has_detail (is_of_other named) product
-
 -- whether one is of the supplier that is named
 abbrev pub has_named : Option Pair → Nodes → Bool
 has_named None product = false
 has_named (Some named) product = has_detail (is_of named) product
+
+-- whether one is of another
+abbrev pub has_other : Option Pair → Nodes → Bool
+has_other None product = false
+has_other (Some named) product = has_detail (is_of_other (Some named)) product

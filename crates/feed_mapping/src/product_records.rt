@@ -77,7 +77,7 @@ fn ignored_reason<'a>(elements: &Elements<'a>) -> Option<Reason<'a>>
 fn is_alone(supplier: Option<Pair<'_>>, elements: &Elements<'_>) -> bool
     ensures { result ≡ is_alone (option_map pair_view supplier.entry) elements.now }
 {
-    !is_deletion(elements) && is_of_others(supplier, elements)
+    supplier.is_some() && !is_deletion(elements) && is_of_others(supplier, elements)
 }
 
 // That it is.

@@ -1,6 +1,6 @@
 //! Whether a Product has SupplyDetails of the supplier that is named, and of others.
 
-ghost use Rattle.std.specs.Prelude.{◌≡◌, option_map};
+ghost use Rattle.std.specs.Prelude.{◌≡◌, Some, option_map};
 ghost use Rattle.std.specs.List.{list_any};
 ghost use Rattle.feed_mapping.specs.Elements.{each_at};
 ghost use Rattle.feed_mapping.specs.OtherSuppliers.{is_of_other};
@@ -57,13 +57,13 @@ pub fn has_named(named: Option<Pair<'_>>, product: &Elements<'_>) -> bool
 }
 
 // Whether a ProductSupply has a SupplyDetail of another than the supplier that is named.
-fn is_other_in(named: Option<Pair<'_>>, supply: &Elements<'_>) -> bool
-    ensures { result ≡ list_any (λ d. is_of_other (option_map pair_view named.entry) d.below)
+fn is_other_in(named: Pair<'_>, supply: &Elements<'_>) -> bool
+    ensures { result ≡ list_any (λ d. is_of_other (Some (pair_view named.entry)) d.below)
         (each_at "SupplyDetail" supply.now) }
 {
     let mut rest = supply.copy();
     while let Some((detail, behind)) = next_composite(b"SupplyDetail", &rest) {
-        if is_of_other(named, &detail.below) {
+        if is_of_other(Some(named), &detail.below) {
             return true;
         }
         rest = behind;
@@ -76,6 +76,9 @@ fn is_other_in(named: Option<Pair<'_>>, supply: &Elements<'_>) -> bool
 pub fn has_other(named: Option<Pair<'_>>, product: &Elements<'_>) -> bool
     ensures { result ≡ has_other (option_map pair_view named.entry) product.now }
 {
+    let Some(named) = named else {
+        return false;
+    };
     if is_deletion(product) {
         return false;
     }

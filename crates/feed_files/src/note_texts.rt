@@ -397,7 +397,6 @@ fn thing_of(note: Note<'_>) -> &'static str {
         ReasonKind::Foreign(Foreign::RegionExcluded) => "region of RegionsExcluded",
         ReasonKind::Foreign(Foreign::CountryName) => "country",
         ReasonKind::Foreign(Foreign::NothingToPay | Foreign::HeldBack) => "computed price",
-        ReasonKind::Foreign(Foreign::Rounded) => "PriceAmount",
         ReasonKind::Wrong(Wrong::CountryAsRegion) => thing_with_region(note.line.name),
         _ => name_of(note.line.name),
     }

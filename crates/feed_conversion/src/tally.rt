@@ -1,6 +1,6 @@
 //! How many products there are, how many of them are wrong, and whose SupplyDetails they have.
 
-ghost use Rattle.std.specs.Prelude.{◌≡◌, IfOk, OnOk, option_map};
+ghost use Rattle.std.specs.Prelude.{◌≡◌, ◌||◌, IfOk, OnOk, option_map};
 ghost use Rattle.feed_mapping.specs.Notes.{note_views};
 ghost use Rattle.feed_mapping.specs.PartyViews.{pair_view};
 ghost use Rattle.feed_mapping.specs.ProductRecords.{has_wrong};
@@ -85,9 +85,15 @@ impl Tally {
         ensures { self.new
             ≡ with_suppliers (option_map pair_view named.entry) product.now self.old }
     {
-        self.has_named = self.has_named || has_named(named, product);
-        self.has_other = self.has_other || has_other(named, product);
+        self.has_named = either(self.has_named, has_named(named, product));
+        self.has_other = either(self.has_other, has_other(named, product));
     }
+}
+
+fn either(one: bool, other: bool) -> bool
+    ensures { result ≡ (one || other) }
+{
+    one || other
 }
 
 // Whether one of the notes says that something is wrong.
@@ -146,7 +152,7 @@ pub(crate) fn count_product(
     ensures { OnOk result (tally.new ≡ tallied tally.old product.now (note_views notes.now)) }
 {
     if is_of_others(notes) {
-        tally.has_wrong_others = tally.has_wrong_others || has_wrong(notes);
+        tally.has_wrong_others = either(tally.has_wrong_others, has_wrong(notes));
         return Ok(());
     }
     if has_wrong(notes) {

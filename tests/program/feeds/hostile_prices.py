@@ -66,6 +66,17 @@ def cases() -> Iterator[Case]:
         [record("12.00", "")] * 9_999,
         f'{{ {TERM}, codes = ["02,A"] }}',
     )
+    # The first net price is the feed's for four copies: what is computed for as many or more is held back.
+    nets = [at % 4 == 0 for at in range(8_001)]
+    yield Case(
+        "8,000 least quantities, of which each fourth has a net price",
+        [price("12.00", "", at, "<PriceType>05</PriceType>" * nets[at]) for at in range(1, 8_001)],
+        [
+            record("12.00", "", at, "05" * nets[at]) + (f"Price,05,6.00,,,,,,{f',{at}' * (at > 1)}\n" if at < 4 else "")
+            for at in range(1, 8_001)
+        ],
+        f"{{ {TERM} }}",
+    )
     others = f'{{ {TERM}, codes = ["02,B"] }}, ' * 999
     yield Case(
         "1,000 terms, of which the last fits",

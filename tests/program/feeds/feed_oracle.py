@@ -33,7 +33,6 @@ from tests.program.feeds.feed_trees import (
     Identifier,
     Market,
     Message,
-    Price,
     Product,
     Supply,
     Territory,

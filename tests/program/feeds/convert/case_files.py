@@ -119,10 +119,6 @@ FRAMES["epilog"] = Frame(PRODUCTS.before + PRODUCTS.behind, "", PRODUCTS.records
 FRAMES["price"] = within(FRAMES["prices"], "<Price><PriceAmount>12.99</PriceAmount>", "</Price>")
 
 
-# 340 countries of two letters, none of which is read as another: as many, and one more, fit into a field.
-LETTERS = "ABCDEFGHIJKLMNOPQRSTUVWXYZ"
-COUNTRIES = " ".join([first + second for first in LETTERS for second in LETTERS if first + second != "EL"][:340])
-
 PLACE = re.compile("([0-9]+):(?:([0-9]+)|(<[A-Za-z]+))>?(.*)", re.DOTALL)
 
 # The place of a refusal that is not compared.
@@ -244,8 +240,7 @@ def case_of(written: Written) -> Case:
     parts = {}
     for head, body in written.parts:
         key, _, value = (head, "", "") if head.startswith(EACH) else head.partition(" ")
-        text = repeated(value or (body.rstrip("\n") + "\n" if body.strip() else ""))
-        parts[key] = text.replace("COUNTRIES", COUNTRIES)
+        parts[key] = repeated(value or (body.rstrip("\n") + "\n" if body.strip() else ""))
     place = next(key for key in parts if key in FRAMES or key == WHOLE_FILE or key.startswith(EACH))
     words = parts.get("words", "").split()
     table = parts.get("table", f'[{{ types = ["02"], net = "05", {parts["term"]} }}]' if "term" in parts else "")

@@ -2,7 +2,7 @@
 feed that fails shrinks to one that is short and right but for what makes it fail."""
 
 import re
-from typing import TypeVar
+from typing import Any, TypeVar
 
 from hypothesis import strategies as st
 from hypothesis.strategies import SearchStrategy
@@ -360,15 +360,17 @@ NUMBERS = [("", ""), ("7", ""), ("", "1000"), ("", "007")]
 def words(tables: SearchStrategy[tuple[Term, ...] | None], more: int) -> SearchStrategy[Words]:
     """Words that let through what is wrong, or, once in so many, any."""
 
-    def of(parts: int, numbers: tuple[str, str], id_type: str, wrong: str, table: tuple[Term, ...] | None) -> Words:
-        return Words(parts, *numbers, SENDER, SHOP, id_type, wrong, table)
+    def of(parts: int, numbers: tuple[str, str], id_type: str, wrong: str, *others: Any) -> Words:
+        return Words(parts, *numbers, SENDER, SHOP, id_type, wrong, *others)
 
     wrong = rarely(some_of("", "few", "none"), some_of("all"), more)
-    return st.builds(of, st.sampled_from([1, 2, 100]), st.sampled_from(NUMBERS), some_of("", "01"), wrong, tables)
+    choices = st.sampled_from([1, 2, 100]), st.sampled_from(NUMBERS), some_of("", "01"), wrong, tables
+    return st.builds(of, *choices, st.sampled_from([None, THESE[0]]))
 
 
-def term(types: tuple[str, ...], percent: str, codes: set[str], *others: str) -> Term:
-    return Term(types, "07" if "05" in types else "05", percent, tuple(sorted(codes)), *others)
+def term(types: tuple[str, ...], percent: str, codes: set[str], scheme: str, *others: str) -> Term:
+    net = "07" if "05" in types else "05"
+    return Term(types, net, percent, tuple(sorted(codes)), scheme if codes else "", *others)
 
 
 TERM = st.builds(
@@ -376,6 +378,7 @@ TERM = st.builds(
     st.sampled_from([("02",), ("02", "42"), ("04", "02"), ("05",), ("01", "02")]),
     some_of("50", "feed", "0", "42.5", "33.33", "007.5", "100"),
     st.sets(some_of("02,A", "01,A", "02,B C", "02,é,1"), max_size=2),
+    some_of("", "", "House"),
     some_of("", "", ",".join(THESE[0])),
     some_of("", "", "GBP", "EUR"),
     some_of("", "", "20", "5.5", "250", "feed", "0"),

@@ -1,7 +1,7 @@
 -- What comes of a message with a table of no term.
-use Rattle.std.proofs.Common.{◌≡◌, true, [], ◌∷◌, Option, Some, None, fold, refl, sym, ap, ◌∙◌}
-use Rattle.std.specs.Prelude.{Result, Ok, Err, codes, if◌then◌else◌, option_map}
-use Rattle.std.specs.Option.{option_map_or, unwrap_or}
+use Rattle.std.proofs.Common.{◌≡◌, [], ◌∷◌, Some, None, fold, refl}
+use Rattle.std.specs.Prelude.{Result, Ok, Err, codes, if◌then◌else◌}
+use Rattle.std.specs.Option.{option_map_or}
 use Rattle.std.specs.Str.{bytes_eq}
 use Rattle.feed_outline.specs.Composites.{has_stranger}
 use Rattle.feed_outline.specs.Names.{stranger}
@@ -9,14 +9,12 @@ use Rattle.feed_outline.specs.Nodes.{Nodes, no_nodes, node}
 use Rattle.onix_records.specs.declared.row.Opening.{Opening}
 use Rattle.feed_mapping.specs.Elements.{Composite, composite}
 use Rattle.feed_mapping.specs.Header.{Heading, heading_in}
-use Rattle.feed_mapping.specs.ProductRecords.{fate_of, plain_notes, product_notes, product_records, smaller_variants, variant}
-use Rattle.feed_mapping.specs.Records.{Records}
+use Rattle.feed_mapping.specs.ProductRecords.{fate_of, product_notes, product_records, smaller_variants, variant}
 use Rattle.feed_mapping.specs.SupplyChoices.{SupplyChoices}
 use Rattle.feed_mapping.specs.TermsLaws.{by_terms as choices_by}
 use Rattle.feed_mapping.specs.declared.header.HeaderRefusal.{HeaderRefusal}
 use Rattle.feed_conversion.specs.Conversion.{Options, after_header, by_terms, conversion, products_in, refused_behind, settings, supply_choices}
-use Rattle.feed_conversion.specs.Packing.{Packing, after_product, ended, no_packing, noted, packed, with_variants}
-use Rattle.feed_conversion.specs.Tallies.{place_of}
+use Rattle.feed_conversion.specs.Packing.{Packing, after_product, ended, no_packing, seen, with_variants}
 use Rattle.feed_conversion.specs.declared.refusal.Refusal.TheVariants as why
 
 -- what is known of each Product
@@ -28,31 +26,16 @@ pub record SaysNothing : Type 0 where
   pub fate : (o : Opening) (choices : SupplyChoices) (c : Composite)
       → fate_of o (choices_by (Some []) choices) c.below ≡ fate_of o (choices_by None choices) c.below
 
--- a second variant with the records of the first has no room where that has none
-tried_once : (first second : Packing → Packing) (kept : Option Packing) (rest : Packing)
-    → unwrap_or (option_map first kept) (unwrap_or (option_map second kept) rest) ≡ unwrap_or (option_map first kept) rest
-tried_once first second None rest = refl
-tried_once first second (Some w) rest = refl
-
 module _ (says : SaysNothing) (o : Options) where
   product_same : (h : Heading) (header : Nodes) (w : Packing) (c : Composite)
       → after_product (settings (by_terms (Some []) o) h header) w c ≡ after_product (settings (by_terms None o) h header) w c
   product_same h header w c =
       let t = settings (by_terms None o) h header in
-      let empty = supply_choices (by_terms (Some []) o) in
       let chosen = supply_choices (by_terms None o) in
-      let plain = plain_notes h.opening empty c in
-      let rest = with_variants t w c (smaller_variants (fate_of h.opening empty c.below) (product_notes h.opening empty c) c) in
-      let again : product_records h.opening (record empty { is_plain = true }) c.below ≡ product_records h.opening empty c.below =
-      says.records h.opening (record chosen { is_plain = true }) c ∙ sym (says.records h.opening chosen c) in
-      ap (λ (records : Records).
-      unwrap_or (option_map (noted c (product_notes h.opening empty c)) (packed t w (place_of c) (product_records h.opening empty c.below)))
-      (unwrap_or (option_map (noted c plain) (packed t w (place_of c) records)) rest)) again
-      ∙ tried_once (noted c (product_notes h.opening empty c)) (noted c plain) (packed t w (place_of c) (product_records h.opening empty c.below)) rest
-      ∙ (λ i.
+      λ i.
       let records = says.records h.opening chosen c i in
       let notes = says.notes h.opening chosen c i in
-      with_variants t w c (variant records notes ∷ smaller_variants (says.fate h.opening chosen c i) notes c))
+      with_variants t (seen t w c) c (variant records notes ∷ smaller_variants (says.fate h.opening chosen c i) notes c)
 
   header_same : (header : Composite) (rest : Nodes) (r : Result Heading HeaderRefusal)
       → after_header (by_terms (Some []) o) header rest r ≡ after_header (by_terms None o) header rest r

@@ -9,6 +9,7 @@ use Rattle.feed_outline.specs.Message.{IsMessage}
 use Rattle.feed_outline.specs.Nodes.{nodes_in}
 use Rattle.feed_outline.specs.Outline.{parts_of}
 use Rattle.feed_outline.specs.Names.{Word}
+use Rattle.feed_conversion.specs.declared.tally.Counted.{Counted}
 use Rattle.feed_conversion.specs.declared.refusal.Fault.{Fault}
 use Rattle.feed_conversion.specs.declared.refusal.Fault.TheVariants as fault
 use Rattle.feed_conversion.specs.declared.refusal.Refusal.{Refusal}
@@ -29,13 +30,13 @@ reason : {A E : Type 0} → E → Result A E → E
 reason other (Ok x) = other
 reason other (Err e) = e
 
-comes : {P N : Type 0} (k : Keeping P N) (bytes : Option (List ℕ)) (o : Options) (before : Taken P N) (parts : P) (notes : N) (ended : Result ℕ Fault) (told : Result Converted Refusal)
+comes : {P N : Type 0} (k : Keeping P N) (bytes : Option (List ℕ)) (o : Options) (before : Taken P N) (parts : P) (notes : N) (ended : Result Counted Fault) (told : Result Converted Refusal)
     → ((found : Result Converted Refusal) → told ≡ found → Yields bytes o found)
     → Ends ended parts notes (result_map (behind k before) told) → Comes k bytes o before ended parts notes
 unfolding value reason
 comes {P} {N} k bytes o before parts notes (Ok wrong) (Ok made) says e =
     let is : taken parts notes wrong ≡ behind k before made = sym (ap (value (taken parts notes wrong)) e) in (
-      (made, says (Ok made) refl, ap (λ (c : Taken P N). c.wrong) is, ap (λ (c : Taken P N). c.parts) is, ap (λ (c : Taken P N). c.notes) is),
+      (made, says (Ok made) refl, ap (λ (c : Taken P N). c.counted) is, ap (λ (c : Taken P N). c.parts) is, ap (λ (c : Taken P N). c.notes) is),
       tt,
     )
 comes k bytes o before parts notes (Ok wrong) (Err refused) says e = absurd cc
@@ -47,7 +48,7 @@ comes k bytes o before parts notes (Err fault.Memory) told says e = (tt, tt)
 read : {P N : Type 0} (k : Keeping P N) → Tell → (bytes : Option (List ℕ)) (o : Options) (before : Taken P N) (parts : P) (notes : N) (text : List ℕ) (d : Dialect) (place : Position) (inside : Content)
     → IsTextOf bytes text → IsMessage (vocabulary_by o.terms) text d place inside
     → (first s : State P N) → first ≡ start o before → s ≡ fold (after_lines k) first (parts_of (nodes_in (vocabulary_by o.terms) d [] place inside))
-    → (ended : Result ℕ Fault) → Ends ended parts notes (finished k s) → Comes k bytes o before ended parts notes
+    → (ended : Result Counted Fault) → Ends ended parts notes (finished k s) → Comes k bytes o before ended parts notes
 read {P} {N} k tell bytes o before parts notes text d place inside encoded message first s begins is ended e =
     let told : finished k s ≡ result_map (behind k before) (conversion o (nodes_in (vocabulary_by o.terms) d [] place inside)) =
     ap (finished k) (is ∙ ap (λ (t : State P N). fold (after_lines k) t (parts_of (nodes_in (vocabulary_by o.terms) d [] place inside))) begins) ∙ conversion_is k tell o before (nodes_in (vocabulary_by o.terms) d [] place inside) in
@@ -66,7 +67,7 @@ read {P} {N} k tell bytes o before parts notes text d place inside encoded messa
 pub read-by : {P N : Type 0} (k : Keeping P N) → Tell → (bytes : Option (List ℕ)) (o : Options) (vocabulary : List Word) → vocabulary_by o.terms ≡ vocabulary → (before : Taken P N) (parts : P) (notes : N) (text : List ℕ) (d : Dialect) (place : Position) (inside : Content)
     → IsTextOf bytes text → IsMessage vocabulary text d place inside
     → (first s : State P N) → first ≡ start o before → s ≡ fold (after_lines k) first (parts_of (nodes_in vocabulary d [] place inside))
-    → (ended : Result ℕ Fault) → Ends ended parts notes (finished k s) → Comes k bytes o before ended parts notes
+    → (ended : Result Counted Fault) → Ends ended parts notes (finished k s) → Comes k bytes o before ended parts notes
 read-by k tell bytes o vocabulary same before parts notes text d place inside encoded message first s begins is ended e =
     read k tell bytes o before parts notes text d place inside encoded (subst (λ (v : List Word). IsMessage v text d place inside) (sym same) message) first s begins
     (is ∙ ap (λ (v : List Word). fold (after_lines k) first (parts_of (nodes_in v d [] place inside))) (sym same)) ended e

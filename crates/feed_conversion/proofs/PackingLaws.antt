@@ -21,7 +21,7 @@ use Rattle.feed_conversion.specs.Packing as defined
 use Rattle.feed_conversion.specs.private.Stages.{OpenParts, Stored, Taken, empty_parts, end_text, first_fields, first_text, has_room, stored, kept, taken, with_part}
 use Rattle.feed_conversion.specs.private.Stages.{after_product as product_taken}
 use Rattle.feed_conversion.specs.private.Stages as run
-use Rattle.feed_conversion.specs.Tallies.{place_of, refused_for}
+use Rattle.feed_conversion.specs.Tallies.{counted, place_of, refused_for}
 use Rattle.feed_conversion.specs.declared.refusal.Refusal.{Refusal}
 use Rattle.feed_conversion.proofs.Endings.{ended_at, ended_by, joined}
 use Rattle.feed_conversion.proofs.TextLaws.{closed, grown, room, text_first}
@@ -124,7 +124,7 @@ forms_are {P} {N} k o h header before w c (f ∷ fs) =
 pub product_is : {P N : Type 0} (k : Keeping P N) (o : Options) (h : Heading) (header : Nodes) (before : Taken P N) (w : Packing) (c : Composite)
     → product_taken k o (seen k h header before w) c ≡ seen k h header before (defined.after_product (settings o h header) w c)
 unfolding product_taken
-product_is k o h header before w c = forms_are k o h header before w c (variants h.opening (supply_choices o) c)
+product_is k o h header before w c = forms_are k o h header before (defined.seen (settings o h header) w c) c (variants h.opening (supply_choices o) c)
 
 -- ---- the end
 
@@ -151,7 +151,7 @@ one_more {P} {N} k b most before old new all text lt is added rest =
 
 -- what the target makes of what comes of a message, behind what it had taken before
 abbrev pub behind : {P N : Type 0} → Keeping P N → Taken P N → Converted → Taken P N
-behind k before made = taken (fold k.with_part before.parts made.parts) (fold k.with_note before.notes made.notes) made.wrong
+behind k before made = taken (fold k.with_part before.parts made.parts) (fold k.with_note before.notes made.notes) made.counted
 
 all_written_is : {P N : Type 0} (k : Keeping P N) (o : Options) (h : Heading) (header : Nodes) (before : Taken P N) (w : Packing)
     → run.all_parts k o.choices.parts (seen k h header before w) ≡ fold k.with_part before.parts (defined.all_parts (settings o h header) w)
@@ -168,7 +168,7 @@ ended_is {P} {N} k o h header before w = by (refused_for o.wrong w.tally)
         → run.ended_at k o.choices.parts (seen k h header before w) w.beyond ≡ result_map (behind k before) (ended_at (settings o h header) w w.beyond)
     go (Some place) e = rw e refl
     go None e =
-        rw e (ap (λ (ps : P). Ok (taken ps (fold k.with_note before.notes w.notes) w.tally.wrong)) (all_written_is k o h header before w))
+        rw e (ap (λ (ps : P). Ok (taken ps (fold k.with_note before.notes w.notes) (counted w.tally))) (all_written_is k o h header before w))
 
     by : (refused : Option Refusal)
         → run.ended_by k o.choices.parts (seen k h header before w) refused ≡ result_map (behind k before) (ended_by (settings o h header) w refused)

@@ -17,10 +17,10 @@ use Rattle.feed_mapping.specs.declared.header.HeaderRefusal.TheVariants as denie
 use Rattle.feed_mapping.specs.declared.notes.Wrong.TheVariants.{TooLarge}
 use Rattle.feed_conversion.specs.declared.refusal.Refusal.{Refusal}
 use Rattle.feed_conversion.specs.Messages.{fits, message_text}
-use Rattle.feed_conversion.specs.Packing.{Converted, ProductNote, Settings, Packing, after_product, after_products, all_parts, beyond_at, ended, noted, in_next_part, with_variants, with_part, with_begun}
+use Rattle.feed_conversion.specs.Packing.{Converted, ProductNote, Settings, Packing, after_product, after_products, all_parts, beyond_at, ended, noted, in_next_part, seen, with_variants, with_part, with_begun}
 use Rattle.feed_conversion.specs.Parts.{AreFull, Placing, IsFirst, IsFull, IsRight, Placed, is_placed_wrong, notes_by, placing_notes, part_texts, placed, placed_records, placed_of}
 use Rattle.feed_conversion.proofs.Endings.{converted, ended_at, ended_by, joined}
-use Rattle.feed_conversion.specs.Tallies.{place_of, refused_for, tallied}
+use Rattle.feed_conversion.specs.Tallies.{counted, counts_wrong, is_of_others, place_of, refused_for, tallied}
 use Rattle.feed_conversion.specs.declared.tally.Tally.{Tally}
 
 -- ---- texts of parts
@@ -112,11 +112,14 @@ one_more_note placings f notes is =
 
 one_more_wrong : (placings : List Placing) (c : Composite) (variant : Option Variant) (t : Tally) → count_by is_placed_wrong placings ≡ t.wrong
     → count_by is_placed_wrong (placings ++ placing c variant ∷ []) ≡ (tallied t c (notes_by variant c)).wrong
-one_more_wrong placings c variant t is = sum_by_push (λ f. cond (is_placed_wrong f) 1 0) placings (placing c variant) ∙ go (has_wrong (notes_by variant c)) refl
+one_more_wrong placings c variant t is = sum_by_push (λ f. cond (is_placed_wrong f) 1 0) placings (placing c variant) ∙ go (has_wrong (notes_by variant c)) refl (is_of_others (notes_by variant c)) refl
   where
-    go : (b : Bool) → has_wrong (notes_by variant c) ≡ b → count_by is_placed_wrong placings + cond (has_wrong (notes_by variant c)) 1 0 ≡ (tallied t c (notes_by variant c)).wrong
-    go true e = rw e (omega (arith, is))
-    go false e = rw e (omega (arith, is))
+    go : (b : Bool) → has_wrong (notes_by variant c) ≡ b → (alone : Bool) → is_of_others (notes_by variant c) ≡ alone
+        → count_by is_placed_wrong placings + cond (counts_wrong (notes_by variant c)) 1 0 ≡ (tallied t c (notes_by variant c)).wrong
+    go true e true a = rw (e, a) (omega (arith, is))
+    go false e true a = rw (e, a) (omega (arith, is))
+    go true e false a = rw (e, a) (omega (arith, is))
+    go false e false a = rw (e, a) (omega (arith, is))
 
 one_more_right : (t : Settings) (placings : List Placing) (f : Placing) → AllByRecursion (IsRight t) placings → IsRight t f → AllByRecursion (IsRight t) (placings ++ f ∷ [])
 one_more_right t [] f all is = (is, tt)
@@ -258,8 +261,27 @@ forms_step t w c placings (f ∷ fs) right none =
         let now : (with_variants t w c fs).beyond ≡ None = rw (here, next) at last in
         rw (here, next) (later (λ g is more. right g (inr (next, is)) more) now)
 
+-- whose SupplyDetails a product has changes nothing of that
+seen_holds : (t : Settings) (w : Packing) (c : Composite) (placings : List Placing) → Holds t w placings → Holds t (seen t w c) placings
+seen_holds t w c placings h = record {
+  more = h.more;
+  parts = h.parts;
+  texts = h.texts;
+  count = h.count;
+  begun = h.begun;
+  records = h.records;
+  stand = h.stand;
+  full = h.full;
+  fit = h.fit;
+  notes = h.notes;
+  wrong = h.wrong;
+  right = h.right;
+}
+
 product_step : (t : Settings) (w : Packing) (c : Composite) (placings : List Placing) → (after_product t w c).beyond ≡ None → Step t w c (after_product t w c) placings
-product_step t w c placings none = forms_step t w c placings (variants t.opening t.supplies c) (λ f is more. (w.full + 1, within more, is)) none
+product_step t w c placings none =
+    let s = forms_step t (seen t w c) c placings (variants t.opening t.supplies c) (λ f is more. (w.full + 1, within more, is)) none in
+    record { none = s.none; holds = λ h. s.holds (seen_holds t w c placings h) }
   where
     within : ltb w.full t.most ≡ true → w.full + 1 ≤ t.most
     within more = omega (arith, ltb-true w.full t.most more)
@@ -311,13 +333,13 @@ part_there c nodes h e = go (ltb 0 c.parts) refl
         let other : Err denied.LastNumberTooGreat ≡ Ok n.0 = sym (no_part m.0) ∙ no in absurd cc
 
 -- ended well: no product is beyond the parts
-pub ended_ok : (t : Settings) (z : Packing) (made : Converted) → ended t z ≡ Ok made → (z.beyond ≡ None) × (converted (all_parts t z) z.notes z.tally.wrong ≡ made)
+pub ended_ok : (t : Settings) (z : Packing) (made : Converted) → ended t z ≡ Ok made → (z.beyond ≡ None) × (converted (all_parts t z) z.notes (counted z.tally) ≡ made)
 ended_ok t z made e = by (refused_for t.allowed z.tally) e
   where
-    last : (beyond : Option Position) → z.beyond ≡ beyond → ended_at t z beyond ≡ Ok made → (z.beyond ≡ None) × (converted (all_parts t z) z.notes z.tally.wrong ≡ made)
+    last : (beyond : Option Position) → z.beyond ≡ beyond → ended_at t z beyond ≡ Ok made → (z.beyond ≡ None) × (converted (all_parts t z) z.notes (counted z.tally) ≡ made)
     last (Some place) b now = absurd cc
-    last None b now = (b, ap (value (converted (all_parts t z) z.notes z.tally.wrong)) now)
+    last None b now = (b, ap (value (converted (all_parts t z) z.notes (counted z.tally))) now)
 
-    by : (refused : Option Refusal) → ended_by t z refused ≡ Ok made → (z.beyond ≡ None) × (converted (all_parts t z) z.notes z.tally.wrong ≡ made)
+    by : (refused : Option Refusal) → ended_by t z refused ≡ Ok made → (z.beyond ≡ None) × (converted (all_parts t z) z.notes (counted z.tally) ≡ made)
     by (Some refusal) now = absurd cc
     by None now = last z.beyond refl now

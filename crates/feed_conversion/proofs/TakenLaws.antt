@@ -30,6 +30,7 @@ use Rattle.feed_conversion.specs.Packing.{Converted, Settings, Packing, after_pr
 use Rattle.feed_conversion.proofs.Endings.{converted}
 use Rattle.feed_conversion.specs.Parts.{AreParts, Placing, IsFirst, IsRight, Placed, part_texts, placed_by, placed_records, references_in, placed_of}
 use Rattle.feed_conversion.specs.Taken.{AreTaken, IsTaken}
+use Rattle.feed_conversion.specs.Tallies.{counted}
 use Rattle.feed_conversion.proofs.FirstRecords.{empty_fits, filled_message, no_mark}
 use Rattle.feed_conversion.proofs.PartLaws.{AreFit, Holds, ended_ok, part_there, walk, written_count, written_texts}
 use Rattle.feed_conversion.proofs.Utf8Records.{first_utf8, message_utf8}
@@ -165,7 +166,7 @@ may_compute o (Some terms) two coded = (two, coded)
 
 whole : (l : Laws) (o : Options) → HaveCodes o.terms → (nodes : Nodes) (made : Converted) (header : Composite) (h : Heading) → header_in nodes ≡ Some header → heading_in o.choices header.below ≡ Ok h
     → (z : Packing) → after_products (settings o h header.below) no_packing (products_in nodes) ≡ z → z.beyond ≡ None
-    → converted (all_parts (settings o h header.below) z) z.notes z.tally.wrong ≡ made → AreParts o nodes made
+    → converted (all_parts (settings o h header.below) z) z.notes (counted z.tally) ≡ made → AreParts o nodes made
 whole l o coded nodes made header h counts says z walked none is =
     let t = settings o h header.below in
     let firsts : Firsts t h.number = record {
@@ -209,7 +210,7 @@ whole l o coded nodes made header h counts says z walked none is =
       all = all.1;
       right = held.right;
       notes = held.notes ∙ ap (λ (c : Converted). c.notes) is;
-      wrong = held.wrong ∙ ap (λ (c : Converted). c.wrong) is;
+      wrong = held.wrong ∙ ap (λ (c : Converted). c.counted.wrong) is;
       parts = parts;
       stand = held.stand;
       full = held.full;

@@ -38,7 +38,12 @@ vocabulary_by (Some terms) = terms_vocabulary
 
 -- what is chosen for the supplies of a product
 abbrev pub supply_choices : Options → SupplyChoices
-supply_choices o = record { preferred = o.choices.id_type; terms = o.terms; is_plain = false }
+supply_choices o = record {
+  supplier = o.choices.supplier;
+  preferred = o.choices.id_type;
+  terms = o.terms;
+  is_plain = false;
+}
 
 -- the Header that counts: the first one, where no Product stands before it
 abbrev pub header_in : Nodes → Option Composite

@@ -12,10 +12,12 @@ use Rattle.feed_mapping.specs.Records.{Fields, Records}
 use Rattle.feed_mapping.specs.SupplyChoices.{SupplyChoices}
 use Rattle.feed_mapping.specs.declared.notes.Wrong.TheVariants.{TooLarge}
 use Rattle.feed_conversion.specs.Messages.{empty_messages, fits, message_text}
-use Rattle.feed_conversion.specs.Tallies.{no_tally, place_of, refused_for, tallied}
+use Rattle.feed_conversion.specs.Tallies.{counted, no_tally, place_of, refused_for, tallied}
+use Rattle.feed_conversion.specs.Tallies.{with_suppliers}
 use Rattle.feed_conversion.specs.declared.options.Allowed.{Allowed}
 use Rattle.feed_conversion.specs.declared.refusal.Refusal.{Refusal}
 use Rattle.feed_conversion.specs.declared.refusal.Refusal.TheVariants as why
+use Rattle.feed_conversion.specs.declared.tally.Counted.{Counted}
 use Rattle.feed_conversion.specs.declared.tally.Tally.{Tally}
 
 -- a note, and the RecordReference of the product that it is on
@@ -24,11 +26,11 @@ pub record ProductNote : Type 0 where
   pub note : Note
 
 -- what comes of a message: the texts of its parts, and the notes on what is left out, each in
--- order, and how many of its products are wrong
+-- order, and what is told of its products
 pub record Converted : Type 0 where
   pub parts : List (List ℕ)
   pub notes : List ProductNote
-  pub wrong : ℕ
+  pub counted : Counted
 
 -- What holds for all parts of a message: the record with which the part behind so many begins and
 -- what that says, how many parts there are, what is chosen for the supplies, and how many
@@ -42,7 +44,7 @@ pub record Settings : Type 0 where
 
 -- What the products so far have come to: how many parts are full, the records of products in the
 -- part behind them, the place of the first product for which there is no part, the texts of the
--- full parts, the notes, and how many products there are and are wrong.
+-- full parts, the notes, and what is counted of the products.
 pub record Packing : Type 0 where
   pub full : ℕ
   pub begun : Records
@@ -112,9 +114,6 @@ module _ (t : Settings) (w : Packing) where
       unwrap_or (option_map (noted c v.notes) (packed (place_of c) v.records))
       (with_variants c more)
 
-  abbrev pub after_product : Composite → Packing
-  after_product c = with_variants c (variants t.opening t.supplies c)
-
   -- ---- the end
 
   -- the texts of all parts: those that are left over are messages without products
@@ -127,7 +126,15 @@ module _ (t : Settings) (w : Packing) where
   ended =
       option_map_or Err (refused_for t.allowed w.tally)
       (option_map_or (λ place. Err (why.Parts (w.full + 1) place)) w.beyond
-      (Ok (record { parts = all_parts; notes = w.notes; wrong = w.tally.wrong })))
+      (Ok (record { parts = all_parts; notes = w.notes; counted = counted w.tally })))
+
+-- with the suppliers of one more product
+abbrev pub seen : Settings → Packing → Composite → Packing
+seen t w c = record w { tally = with_suppliers t.supplies.supplier c.below w.tally }
+
+-- after one more product
+abbrev pub after_product : Settings → Packing → Composite → Packing
+after_product t w c = with_variants t (seen t w c) c (variants t.opening t.supplies c)
 
 -- the products in order
 abbrev pub after_products : Settings → Packing → List Composite → Packing

@@ -6,7 +6,7 @@ use Rattle.feed_outline.specs.Nodes.{Nodes}
 use Rattle.feed_mapping.specs.Elements.{Composite}
 use Rattle.feed_mapping.specs.Header.{Heading, heading_in}
 use Rattle.feed_mapping.specs.Notes.{Note, note, wrong}
-use Rattle.feed_mapping.specs.ProductRecords.{Variant, has_wrong, variants}
+use Rattle.feed_mapping.specs.ProductRecords.{Variant, variants}
 use Rattle.feed_mapping.specs.Products.{reference_in}
 use Rattle.feed_mapping.specs.Rows.{references_of}
 use Rattle.feed_mapping.specs.declared.notes.Wrong.TheVariants.{TooLarge}
@@ -14,6 +14,7 @@ use Rattle.feed_conversion.specs.Conversion.{Options, header_in, products_in, se
 use Rattle.feed_conversion.specs.Messages.{empty_messages, fits, message_text}
 use Rattle.feed_conversion.specs.Packing.{Converted, ProductNote, Settings, product_notes}
 use Rattle.feed_conversion.specs.Taken.{AreTaken}
+use Rattle.feed_conversion.specs.Tallies.{counts_wrong}
 
 -- what has become of a product: it stands in a part in one of its variants, or in none
 pub record Placing : Type 0 where
@@ -63,9 +64,9 @@ HasRoom t c =
     (v : Variant) × Contains (variants t.opening t.supplies c) v
     × ((before : ℕ) → before ≤ t.most → fits (t.first before) v.records ≡ true)
 
--- a product is wrong as it is placed: one of its notes says so
+-- a product counts as a wrong one as it is placed
 abbrev pub is_placed_wrong : Placing → Bool
-is_placed_wrong f = has_wrong (notes_by f.variant f.product)
+is_placed_wrong f = counts_wrong (notes_by f.variant f.product)
 
 -- the records of a part behind its first one
 abbrev pub placed_records : List Placed → List (List (List ℕ))
@@ -108,7 +109,7 @@ pub record AreParts (o : Options) (nodes : Nodes) (made : Converted) : Type 0 wh
   pub all : map (λ f. f.product) placings ≡ products_in nodes
   pub right : AllByRecursion (IsRight (settings o heading header.below)) placings
   pub notes : flat_map placing_notes placings ≡ made.notes
-  pub wrong : count_by is_placed_wrong placings ≡ made.wrong
+  pub wrong : count_by is_placed_wrong placings ≡ made.counted.wrong
   pub parts : List (List Placed)
   pub stand : flat_map (λ p. p) parts ≡ flat_map placed_of placings
   pub full : AreFull (settings o heading header.below) 0 parts

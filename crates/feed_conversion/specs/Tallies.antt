@@ -1,16 +1,21 @@
--- How many products are wrong, and how many may be.
-use Rattle.std.specs.Prelude.{ℕ, ◌+◌, ◌*◌, Bool, false, ◌&&◌, ◌||◌, nat_lt, List, Option, Some}
-use Rattle.std.specs.Prelude.{None, if◌then◌else◌, option_map}
+-- How many products are wrong, and how many may be; whose SupplyDetails they have.
+use Rattle.std.specs.Prelude.{ℕ, ◌+◌, ◌*◌, Bool, false, not, ◌&&◌, ◌||◌, nat_lt, List}
+use Rattle.std.specs.Prelude.{Option, Some, None, if◌then◌else◌, option_map}
+use Rattle.std.specs.List.{list_any}
 use Rattle.std.specs.Option.{option_or}
 use Rattle.feed_xml.specs.declared.position.Position.{Position}
+use Rattle.feed_outline.specs.Nodes.{Nodes}
 use Rattle.feed_mapping.specs.Elements.{Composite}
-use Rattle.feed_mapping.specs.Notes.{Note}
+use Rattle.feed_mapping.specs.Notes.{Note, is_of_others as says_others}
+use Rattle.feed_mapping.specs.Parties.{Pair}
 use Rattle.feed_mapping.specs.ProductRecords.{has_wrong}
 use Rattle.feed_mapping.specs.Products.{reference_in}
+use Rattle.feed_mapping.specs.SupplierCounts.{has_named, has_other}
 use Rattle.feed_conversion.specs.declared.options.Allowed.{Allowed}
 use Rattle.feed_conversion.specs.declared.options.Allowed.TheVariants.{AllWrong, FewWrong, NoWrong}
 use Rattle.feed_conversion.specs.declared.refusal.Refusal.{Refusal}
 use Rattle.feed_conversion.specs.declared.refusal.Refusal.TheVariants as why
+use Rattle.feed_conversion.specs.declared.tally.Counted.{Counted}
 use Rattle.feed_conversion.specs.declared.tally.Tally.{Tally}
 
 abbrev pub place_of : Composite → Position
@@ -18,7 +23,14 @@ place_of c = c.element.tag.place
 
 -- before the first product
 abbrev pub no_tally : Tally
-no_tally = record { products = 0; wrong = 0; first = None }
+no_tally = record {
+  products = 0;
+  wrong = 0;
+  first = None;
+  has_wrong_others = false;
+  has_named = false;
+  has_other = false;
+}
 
 -- with one more that is wrong
 abbrev pub with_wrong : Tally → Composite → Tally
@@ -28,11 +40,41 @@ with_wrong t c = record t {
       (Some (record { reference = reference_in c.below; place = place_of c }));
 }
 
--- with one more that has these notes: it is wrong where one of them says so
+-- whether one of the notes on a product says that it is of other suppliers alone
+abbrev pub is_of_others : List Note → Bool
+is_of_others notes = list_any (λ n. says_others n.reason.kind) notes
+
+-- whether a product with these notes is wrong, and counts as one
+abbrev pub counts_wrong : List Note → Bool
+counts_wrong notes = has_wrong notes && not (is_of_others notes)
+
+-- with one more that has these notes: it is wrong where one of them says so. One of other suppliers
+-- alone is none of those that are counted.
 abbrev pub tallied : Tally → Composite → List Note → Tally
 tallied t c notes =
-    let next = if has_wrong notes then with_wrong t c else t in
-    record next { products = next.products + 1 }
+    if is_of_others notes then record t { has_wrong_others = t.has_wrong_others || has_wrong notes }
+    else (let next = if has_wrong notes then with_wrong t c else t in
+    record next { products = next.products + 1 })
+
+-- with the suppliers of one more product
+abbrev pub with_suppliers : Option Pair → Nodes → Tally → Tally
+with_suppliers named product t = record t {
+  has_named = t.has_named || has_named named product;
+  has_other = t.has_other || has_other named product;
+}
+
+-- What is told of all products at the end: how many are wrong, whether one of other suppliers alone
+-- is, and whether SupplyDetails are of others, and none is of the supplier that is named.
+abbrev pub counted : Tally → Counted
+counted t = record {
+  wrong = t.wrong;
+  has_wrong_others = t.has_wrong_others;
+  lacks_supplier = t.has_other && not t.has_named;
+}
+
+-- whether any of that is so
+abbrev pub is_flawed : Counted → Bool
+is_flawed c = nat_lt 0 c.wrong || c.has_wrong_others || c.lacks_supplier
 
 -- Few are up to ten, or one in a hundred; and up to one, or half of all.
 abbrev pub too_many : Allowed → ℕ → ℕ → Bool

@@ -2,6 +2,7 @@
 
 ghost use Rattle.std.specs.Prelude.{◌≡◌, ◌+◌, ◌-◌, IfErr, IfOk, Ok, OnOk, fold};
 ghost use Rattle.feed_conversion.specs.Outcomes.{ExplainsFault, Yields};
+ghost use Rattle.feed_conversion.specs.Tallies.{counted, no_tally};
 ghost use Rattle.feed_conversion.specs.private.Endings.{Comes, Ends, IsUnread};
 ghost use Rattle.feed_conversion.specs.Packing.{Converted};
 ghost use Rattle.feed_conversion.specs.Conversion.{Options as Chosen, vocabulary_by};
@@ -13,7 +14,7 @@ use crate::converter::{Converter, WordConverter};
 use crate::options::Options;
 use crate::packing::{OpenParts, Stage, first_text, hand_on};
 use crate::refusal::{Fault, Refusal};
-use crate::tally::refused_for;
+use crate::tally::{Counted, refused_for};
 use crate::target::Target;
 use crate::words::{DeskWords, TermsWords, Words};
 use feed_outline::{RefusalHints, Stopped, outlines_tell, read_message};
@@ -22,12 +23,11 @@ use std::alloc::{AllocError, Global};
 use std::io::Read;
 use std::marker::PhantomData;
 
-/// What has come of a feed: the target, and how many of its products are wrong, or why nothing came
-/// of it.
+/// What has come of a feed: the target, and what is told of its products, or why nothing came of it.
 #[derive(Drop)]
 pub struct Outcome<T> {
     pub target: T,
-    pub ended: Result<u32, Fault>,
+    pub ended: Result<Counted, Fault>,
 }
 
 // Hands on the parts behind so many, which are messages without products.
@@ -83,12 +83,12 @@ fn end_parts<T: Target>(
     most: u32,
     begun: &mut OpenParts,
     target: &mut T,
-) -> Result<u32, Fault>
+) -> Result<Counted, Fault>
     ensures { Ends result (T.parts target.new) (T.notes target.new) (ended_at T.keeping most
         (stored (begun_view begun.old) (T.parts target.old) (T.notes target.old))
         begun.old.beyond) }
 {
-    let wrong = begun.tally.wrong;
+    let counted = begun.tally.counted();
     if let Some(place) = begun.beyond {
         return match begun.full.checked_add(1) {
             Some(needed) => Err(Fault::Refused(Refusal::Parts(needed, place))),
@@ -96,7 +96,7 @@ fn end_parts<T: Target>(
         };
     }
     match hand_rest(alloc, most, begun, target) {
-        Ok(()) => Ok(wrong),
+        Ok(()) => Ok(counted),
         Err(_) => Err(Fault::Memory),
     }
 }
@@ -107,7 +107,7 @@ fn end<T: Target>(
     options: &Options<'_>,
     begun: &mut OpenParts,
     target: &mut T,
-) -> Result<u32, Fault>
+) -> Result<Counted, Fault>
     ensures { Ends result (T.parts target.new) (T.notes target.new)
         (ended T.keeping (options_view options.now)
         (stored (begun_view begun.old) (T.parts target.old) (T.notes target.old))) }
@@ -162,7 +162,7 @@ fn convert_by<R: Read, T: Target + Drop, W: Words + Drop>(
 ) -> Outcome<T>
     ensures { (o : Chosen) (parts : T.Parts) (notes : T.Notes)
         → vocabulary_by o.terms ≡ W.words → converter.entry ≡ first_state o parts notes
-        → Comes T.keeping (R.remaining reader.old) o (taken parts notes 0) result.ended
+        → Comes T.keeping (R.remaining reader.old) o (taken parts notes (counted no_tally)) result.ended
         (T.parts result.target) (T.notes result.target) }
 {
     outlines_tell();
@@ -190,9 +190,9 @@ pub fn convert<'a, R: Read, T: Target + Drop>(
     options: &'a Options<'a>,
     target: T,
 ) -> Outcome<T>
-    ensures converted { IfOk result.ended (λ wrong. (made : Converted)
+    ensures converted { IfOk result.ended (λ told. (made : Converted)
         × Yields (R.remaining reader.old) (options_view options.now) (Ok made)
-        × (wrong ≡ made.wrong)
+        × (told ≡ made.counted)
         × (T.parts result.target ≡ fold T.keeping.with_part (T.parts target) made.parts)
         × (T.notes result.target ≡ fold T.keeping.with_note (T.notes target) made.notes)) }
     ensures fault { IfErr result.ended

@@ -1,13 +1,14 @@
 //! The state of a conversion, which takes the Header and the Products of a message.
 
-ghost use Rattle.std.specs.Prelude.{◌≡◌, ◌++◌, ◌∷◌, [], ℕ, IfOk, OnOk};
+ghost use Rattle.std.specs.Prelude.{◌≡◌, ◌∷◌, [], ℕ, IfOk, OnOk, option_map};
 ghost use Rattle.feed_mapping.specs.Header.{heading_in};
 ghost use Rattle.feed_mapping.specs.HeaderViews.{choices_view, heading_view};
 ghost use Rattle.feed_mapping.specs.Notes.{note_views};
+ghost use Rattle.feed_mapping.specs.PartyViews.{pair_view};
 ghost use Rattle.feed_mapping.specs.SupplyChoices.{supply_choices_view};
-ghost use Rattle.feed_mapping.specs.ProductRecords.{plain_variants, variant, small_variants, smaller_variants};
-ghost use Rattle.feed_mapping.specs.Products.{bare_record, emptied_record};
-ghost use Rattle.feed_conversion.specs.private.Stages.{IsKept, after_element, after_product, at_stage, begun_by, first_begun, first_state, stored, noted, stage_after_header, stage_after_stranger, unbegun, with_variant, with_variants, with_product};
+ghost use Rattle.feed_mapping.specs.ProductRecords.{smaller_variants, smallest_variant};
+ghost use Rattle.feed_mapping.specs.Products.{bare_record};
+ghost use Rattle.feed_conversion.specs.private.Stages.{IsKept, after_element, after_product, at_stage, begun_by, first_begun, first_state, seen_by, stored, noted, stage_after_header, stage_after_stranger, unbegun, with_variant, with_variants, with_product};
 ghost use Rattle.feed_conversion.specs.Conversion.{Options as Chosen, supply_choices};
 ghost use Rattle.feed_conversion.specs.Views.{options_view};
 ghost use Rattle.feed_conversion.specs.private.StageViews.{begun_view, stage_view};
@@ -22,8 +23,8 @@ use crate::words::Words;
 use csv_records::buffer::RecordBuffer;
 use csv_records::fields::FieldBuffer;
 use feed_mapping::{
-    Choices, Composite, Fate, HeaderFault, Heading, Note, Reason, ReasonKind, SupplyChoices, Wrong,
-    add_bare, add_large, add_plain, add_product, fill_message, read_heading, text_or_empty,
+    Choices, Composite, Fate, HeaderFault, Heading, Note, Pair, Reason, ReasonKind, SupplyChoices,
+    Wrong, add_bare, add_product, fill_message, push_too_large, read_heading, text_or_empty,
 };
 use feed_outline::{Elements, Line, Taker, Vocabulary, has_stranger, outlined};
 use onix_records::row::RowFault;
@@ -131,7 +132,7 @@ fn add_smallest<T: Target>(
         (stored (begun_view begun.new) (T.parts target.new) (T.notes target.new)
         ≡ with_variants T.keeping most
         (stored (begun_view begun.old) (T.parts target.old) (T.notes target.old))
-        product.now (variant (bare_record product.now.below ∷ []) (note_views notes.now) ∷ [])) }
+        product.now (smallest_variant product.now.below (note_views notes.now) ∷ [])) }
 {
     let mut fields = FieldBuffer::new(alloc);
     let mut records = RecordBuffer::new(alloc);
@@ -143,31 +144,8 @@ fn add_smallest<T: Target>(
     leave_out(alloc, begun, target, product)
 }
 
-// Takes a product without supplies, with these notes.
-fn add_small<T: Target>(
-    alloc: Global,
-    most: u32,
-    begun: &mut OpenParts,
-    target: &mut T,
-    product: &Composite<'_>,
-    records: &RecordBuffer,
-    notes: &[Note<'_>],
-) -> Result<(), AllocError>
-    ensures { records.now ≡ emptied_record product.now.below ∷ []
-        → OnOk result (stored (begun_view begun.new) (T.parts target.new) (T.notes target.new)
-        ≡ with_variants T.keeping most
-        (stored (begun_view begun.old) (T.parts target.old) (T.notes target.old))
-        product.now (small_variants (note_views notes.now) product.now.below)) }
-{
-    let is_kept = keep_variant(alloc, most, begun, target, product, records, notes)?;
-    if is_kept {
-        return Ok(());
-    }
-    add_smallest(alloc, most, begun, target, product, notes)
-}
-
 // Takes a product that is too large as it is.
-fn add_large_product<T: Target>(
+fn add_smaller<T: Target>(
     alloc: Global,
     most: u32,
     begun: &mut OpenParts,
@@ -182,57 +160,23 @@ fn add_large_product<T: Target>(
         (stored (begun_view begun.old) (T.parts target.old) (T.notes target.old))
         product.now (smaller_variants fate (note_views notes.now) product.now)) }
 {
-    let mut fields = FieldBuffer::new(alloc);
-    let mut records = RecordBuffer::new(alloc);
-    let mut large = Vec::new(alloc);
-    add_large(alloc, product, &mut fields, &mut records, &mut large)?;
     match fate {
-        Fate::Written => add_small(alloc, most, begun, target, product, &records, &large),
-        Fate::Emptied => add_small(alloc, most, begun, target, product, &records, notes),
+        Fate::Written => {
+            let mut large = Vec::new(alloc);
+            push_too_large(alloc, product, &mut large)?;
+            add_smallest(alloc, most, begun, target, product, &large)
+        }
+        Fate::Emptied => add_smallest(alloc, most, begun, target, product, notes),
         Fate::LeftOut => leave_out(alloc, begun, target, product),
     }
 }
 
-// Takes a product that is too large as it is: without the prices that the terms of the shop
-// compute, or smaller still.
-fn add_smaller<T: Target>(
-    alloc: Global,
-    options: &Options<'_>,
-    begun: &mut OpenParts,
-    target: &mut T,
-    product: &Composite<'_>,
-    fate: Fate,
-    notes: &[Note<'_>],
-) -> Result<(), AllocError>
-    ensures { OnOk result
-        (stored (begun_view begun.new) (T.parts target.new) (T.notes target.new)
-        ≡ with_variants T.keeping options.now.choices.parts
-        (stored (begun_view begun.old) (T.parts target.old) (T.notes target.old)) product.now
-        (plain_variants (options_view options.now).terms begun.old.opening
-        (supply_choices (options_view options.now)) product.now
-        ++ smaller_variants fate (note_views notes.now) product.now)) }
+// Takes notice of whose SupplyDetails a product has, where a supplier is named.
+fn see_suppliers(begun: &mut OpenParts, named: Option<Pair<'_>>, product: &Composite<'_>)
+    ensures { begun_view begun.new
+        ≡ seen_by (option_map pair_view named.entry) product.now.below (begun_view begun.old) }
 {
-    let most = options.choices.parts;
-    if options.terms.is_none() {
-        return add_large_product(alloc, most, begun, target, product, fate, notes);
-    }
-    let mut fields = FieldBuffer::new(alloc);
-    let mut records = RecordBuffer::new(alloc);
-    let mut plain = Vec::new(alloc);
-    add_plain(
-        alloc,
-        &begun.opening,
-        &supply_choices(options),
-        product,
-        &mut fields,
-        &mut records,
-        &mut plain,
-    )?;
-    let is_kept = keep_variant(alloc, most, begun, target, product, &records, &plain)?;
-    if is_kept {
-        return Ok(());
-    }
-    add_large_product(alloc, most, begun, target, product, fate, notes)
+    begun.tally.see_suppliers(named, &product.below);
 }
 
 // What is chosen for the supplies of a product.
@@ -240,6 +184,7 @@ fn supply_choices<'a>(options: &Options<'a>) -> SupplyChoices<'a>
     ensures { supply_choices_view result ≡ supply_choices (options_view options.now) }
 {
     SupplyChoices {
+        supplier: options.choices.supplier,
         id_type: options.choices.id_type,
         terms: options.terms,
         is_plain: false,
@@ -272,12 +217,13 @@ fn add<T: Target>(
         &mut records,
         &mut notes,
     )?;
+    see_suppliers(begun, options.choices.supplier, product);
     let most = options.choices.parts;
     let is_kept = keep_variant(alloc, most, begun, target, product, &records, &notes)?;
     if is_kept {
         return Ok(());
     }
-    add_smaller(alloc, options, begun, target, product, fate, &notes)
+    add_smaller(alloc, most, begun, target, product, fate, &notes)
 }
 
 // The parts of a message with this heading, before the first product. The list takes the fields of

@@ -15,5 +15,5 @@ pub mod words;
 pub use conversion::{Outcome, convert};
 pub use options::{Allowed, Options};
 pub use refusal::{Fault, Refusal};
-pub use tally::{Tally, WrongProduct};
+pub use tally::{Counted, Tally, WrongProduct};
 pub use target::Target;

@@ -1,13 +1,15 @@
-//! How many products there are, and how many of them are wrong.
+//! How many products there are, how many of them are wrong, and whose SupplyDetails they have.
 
-ghost use Rattle.std.specs.Prelude.{◌≡◌, IfOk, OnOk};
+ghost use Rattle.std.specs.Prelude.{◌≡◌, ◌||◌, IfOk, OnOk, option_map};
 ghost use Rattle.feed_mapping.specs.Notes.{note_views};
+ghost use Rattle.feed_mapping.specs.PartyViews.{pair_view};
 ghost use Rattle.feed_mapping.specs.ProductRecords.{has_wrong};
-ghost use Rattle.feed_conversion.specs.Tallies.{no_tally, refused_for, tallied, too_many, with_wrong};
+ghost use Rattle.feed_conversion.specs.Tallies.{counted, is_flawed, is_of_others, no_tally, refused_for, tallied, too_many, with_suppliers, with_wrong};
 
 use crate::options::Allowed;
 use crate::refusal::Refusal;
-use feed_mapping::{Composite, Note, text_or_empty};
+use feed_mapping::{Composite, Note, Pair, has_named, has_other, text_or_empty};
+use feed_outline::Elements;
 use feed_xml::Position;
 use onix_terms::items::Items;
 use std::alloc::{AllocError, Global};
@@ -19,12 +21,37 @@ pub struct WrongProduct {
     pub place: Position,
 }
 
-/// How many products there are, how many of them are wrong, and the first of these.
+/// How many products there are, how many of them are wrong, and the first of these; whether one of
+/// other suppliers alone is wrong, which is none of them; and whether SupplyDetails are of the
+/// supplier that is named, and of others.
 #[derive(Debug, Drop)]
 pub struct Tally {
     pub products: u32,
     pub wrong: u32,
     pub first: Option<WrongProduct>,
+    pub has_wrong_others: bool,
+    pub has_named: bool,
+    pub has_other: bool,
+}
+
+/// What is told of all products at the end.
+#[derive(Clone, Copy, Debug, PartialEq, Eq)]
+pub struct Counted {
+    /// How many are wrong, but for those of other suppliers alone.
+    pub wrong: u32,
+    /// Whether one of other suppliers alone is wrong.
+    pub has_wrong_others: bool,
+    /// Whether no SupplyDetail is of the supplier that is named, though some are of others.
+    pub lacks_supplier: bool,
+}
+
+impl Counted {
+    /// Whether any of that is so.
+    pub fn is_flawed(self) -> bool
+        ensures { result ≡ is_flawed self }
+    {
+        self.wrong > 0 || self.has_wrong_others || self.lacks_supplier
+    }
 }
 
 impl Tally {
@@ -36,8 +63,37 @@ impl Tally {
             products: 0,
             wrong: 0,
             first: None,
+            has_wrong_others: false,
+            has_named: false,
+            has_other: false,
         }
     }
+
+    /// What is told of the products at the end.
+    pub(crate) fn counted(&self) -> Counted
+        ensures { result ≡ counted self.now }
+    {
+        Counted {
+            wrong: self.wrong,
+            has_wrong_others: self.has_wrong_others,
+            lacks_supplier: self.has_other && !self.has_named,
+        }
+    }
+
+    /// Takes notice of whose SupplyDetails a product has, where a supplier is named.
+    pub(crate) fn see_suppliers(&mut self, named: Option<Pair<'_>>, product: &Elements<'_>)
+        ensures { self.new
+            ≡ with_suppliers (option_map pair_view named.entry) product.now self.old }
+    {
+        self.has_named = either(self.has_named, has_named(named, product));
+        self.has_other = either(self.has_other, has_other(named, product));
+    }
+}
+
+fn either(one: bool, other: bool) -> bool
+    ensures { result ≡ (one || other) }
+{
+    one || other
 }
 
 // Whether one of the notes says that something is wrong.
@@ -47,6 +103,20 @@ fn has_wrong(notes: &[Note<'_>]) -> bool
     let mut rest = notes;
     while let [note, tail @ ..] = rest {
         if note.reason.kind.is_wrong() {
+            return true;
+        }
+        rest = tail;
+    }
+    false
+}
+
+// Whether one of the notes says that a product is of other suppliers alone.
+fn is_of_others(notes: &[Note<'_>]) -> bool
+    ensures { result ≡ is_of_others (note_views notes.now) }
+{
+    let mut rest = notes;
+    while let [note, tail @ ..] = rest {
+        if note.reason.kind.is_of_others() {
             return true;
         }
         rest = tail;
@@ -81,6 +151,10 @@ pub(crate) fn count_product(
 ) -> Result<(), AllocError>
     ensures { OnOk result (tally.new ≡ tallied tally.old product.now (note_views notes.now)) }
 {
+    if is_of_others(notes) {
+        tally.has_wrong_others = either(tally.has_wrong_others, has_wrong(notes));
+        return Ok(());
+    }
     if has_wrong(notes) {
         count_wrong(alloc, tally, product)?;
     }

@@ -9,8 +9,10 @@ use Rattle.program_files.specs.Texts.{IsWritten, with_file, with_text}
 use Rattle.feed_conversion.specs.Conversion.{Options}
 use Rattle.feed_conversion.specs.Outcomes.{ExplainsFault, Yields}
 use Rattle.feed_conversion.specs.Packing.{Converted}
+use Rattle.feed_conversion.specs.Tallies.{is_flawed}
+use Rattle.feed_conversion.specs.declared.tally.Counted.{Counted}
 use Rattle.feed_conversion.specs.declared.refusal.Fault.{Fault}
-use Rattle.feed_files.specs.Ends.{AreTold, Asking, IsEnd, IsOfWrong, IsRefusal, IsUnconverted, asking, file_end, is_converted}
+use Rattle.feed_files.specs.Ends.{AreTold, Asking, IsEnd, IsOfCounted, IsRefusal, IsUnconverted, asking, file_end, is_converted}
 use Rattle.feed_files.specs.declared.ended.Ended.{Ended}
 use Rattle.feed_files.specs.declared.ended.Ended.TheVariants as ended
 use Rattle.feed_files.proofs.KeptLemmas.{all_told, files_told}
@@ -24,17 +26,17 @@ IsTaken with_part o bytes before after ended.Refused =
 IsTaken with_part o bytes before after ended.Packed = ⊥
 IsTaken with_part o bytes before after ended.Fault = ⊤
 IsTaken with_part o bytes before after converted =
-    (made : Converted) × Yields bytes o (Ok made) × IsOfWrong made.wrong converted
+    (made : Converted) × Yields bytes o (Ok made) × IsOfCounted made.counted converted
     × (after ≡ fold with_part before made.parts)
 
--- a FILE that was converted, so many of whose products are wrong
-pub converted_taken : {T : Type 0} (with_part : T → List ℕ → T) (o : Options) (bytes : Option (List ℕ)) (before after : T) (wrong : ℕ) (e : Ended) (made : Converted)
-    → Yields bytes o (Ok made) → after ≡ fold with_part before made.parts → wrong ≡ made.wrong → IsOfWrong wrong e → IsTaken with_part o bytes before after e
-converted_taken with_part o bytes before after wrong ended.Done made says kept is none = (made, says, sym is ∙ none, kept)
-converted_taken with_part o bytes before after wrong ended.LeftOut made says kept is some = (made, says, subst (λ k. 0 < k) is some, kept)
-converted_taken with_part o bytes before after wrong ended.Refused made says kept is h = absurd h
-converted_taken with_part o bytes before after wrong ended.Packed made says kept is h = absurd h
-converted_taken with_part o bytes before after wrong ended.Fault made says kept is h = absurd h
+-- a FILE that was converted, of whose products this is told
+pub converted_taken : {T : Type 0} (with_part : T → List ℕ → T) (o : Options) (bytes : Option (List ℕ)) (before after : T) (told : Counted) (e : Ended) (made : Converted)
+    → Yields bytes o (Ok made) → after ≡ fold with_part before made.parts → told ≡ made.counted → IsOfCounted told e → IsTaken with_part o bytes before after e
+converted_taken with_part o bytes before after told ended.Done made says kept is none = (made, says, subst (λ k. is_flawed k ≡ false) is none, kept)
+converted_taken with_part o bytes before after told ended.LeftOut made says kept is some = (made, says, subst (λ k. is_flawed k ≡ true) is some, kept)
+converted_taken with_part o bytes before after told ended.Refused made says kept is h = absurd h
+converted_taken with_part o bytes before after told ended.Packed made says kept is h = absurd h
+converted_taken with_part o bytes before after told ended.Fault made says kept is h = absurd h
 
 -- a FILE that was not converted
 pub stopped_taken : {T : Type 0} (with_part : T → List ℕ → T) (o : Options) (bytes : Option (List ℕ)) (before after : T) (e : Ended) (f : Fault)
@@ -43,15 +45,15 @@ stopped_taken with_part o bytes before after e f (inl is) explains = subst (IsTa
 stopped_taken with_part o bytes before after e f (inr refused) explains = subst (IsTaken with_part o bytes before after) (sym refused.0) (f, refused.1, explains)
 
 -- a FILE that was read so
-pub read_taken : {T : Type 0} (with_part : T → List ℕ → T) (o : Options) (bytes : Option (List ℕ)) (before after : T) (r : Result ℕ Fault) (e : Ended)
-    → IfOk r (λ wrong. (made : Converted) × Yields bytes o (Ok made) × (wrong ≡ made.wrong) × (after ≡ fold with_part before made.parts)
+pub read_taken : {T : Type 0} (with_part : T → List ℕ → T) (o : Options) (bytes : Option (List ℕ)) (before after : T) (r : Result Counted Fault) (e : Ended)
+    → IfOk r (λ told. (made : Converted) × Yields bytes o (Ok made) × (told ≡ made.counted) × (after ≡ fold with_part before made.parts)
     × (◌≡◌ {A = Unit {0}} tt (fold (λ kept n. kept) tt made.notes)))
     → IfErr r (λ f. ExplainsFault bytes o f)
-    → IfOk r (λ wrong. IsOfWrong wrong e) → IfErr r (λ f. IsUnconverted f e)
+    → IfOk r (λ told. IsOfCounted told e) → IfErr r (λ f. IsUnconverted f e)
     → IsTaken with_part o bytes before after e
-read_taken with_part o bytes before after (Ok wrong) e converted explains of_wrong stopped =
-    converted_taken with_part o bytes before after wrong e converted.0 converted.1 converted.3 converted.2 of_wrong
-read_taken with_part o bytes before after (Err f) e converted explains of_wrong stopped = stopped_taken with_part o bytes before after e f stopped explains
+read_taken with_part o bytes before after (Ok told) e converted explains of_told stopped =
+    converted_taken with_part o bytes before after told e converted.0 converted.1 converted.3 converted.2 of_told
+read_taken with_part o bytes before after (Err f) e converted explains of_told stopped = stopped_taken with_part o bytes before after e f stopped explains
 
 -- what was written of all texts
 written_all : {E : Type 0} (told : Bool) (parts : List (List ℕ)) (texts : Option (List ℕ)) (r : Result (Unit {0}) E) (written : List ℕ)

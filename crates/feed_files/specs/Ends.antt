@@ -1,5 +1,5 @@
 -- How one FILE ends.
-use Rattle.std.specs.Prelude.{◌≡◌, ◌<◌, ◌≤◌, ◌⊎◌, ℕ, ◌++◌, Bool, true, false, List, [], Option}
+use Rattle.std.specs.Prelude.{◌≡◌, ◌≤◌, ◌⊎◌, ℕ, ◌++◌, Bool, true, false, List, [], Option}
 use Rattle.std.specs.Prelude.{Some, None, ⊤, length}
 use Rattle.std.specs.Prelude.{Ok}
 use Rattle.std.specs.List.{concat}
@@ -12,6 +12,8 @@ use Rattle.feed_outline.specs.declared.message_reading.Fault.TheVariants as unre
 use Rattle.feed_conversion.specs.Conversion.{Options}
 use Rattle.feed_conversion.specs.Outcomes.{ExplainsFault, Yields}
 use Rattle.feed_conversion.specs.Packing.{Converted}
+use Rattle.feed_conversion.specs.Tallies.{is_flawed}
+use Rattle.feed_conversion.specs.declared.tally.Counted.{Counted}
 use Rattle.feed_conversion.specs.declared.refusal.Fault.{Fault}
 use Rattle.feed_conversion.specs.declared.refusal.Fault.TheVariants as fault
 use Rattle.feed_files.specs.declared.ended.Ended.{Ended}
@@ -31,11 +33,11 @@ is_converted ended.Done = true
 is_converted ended.LeftOut = true
 is_converted other = false
 
--- one that was converted, so many of whose products are wrong, ended so
-abbrev pub IsOfWrong : ℕ → Ended → Type 0
-IsOfWrong wrong ended.Done = wrong ≡ 0
-IsOfWrong wrong ended.LeftOut = 0 < wrong
-IsOfWrong wrong other = ⊥
+-- one that was converted, of whose products this is told, ended so
+abbrev pub IsOfCounted : Counted → Ended → Type 0
+IsOfCounted told ended.Done = is_flawed told ≡ false
+IsOfCounted told ended.LeftOut = is_flawed told ≡ true
+IsOfCounted told other = ⊥
 
 -- the fault is of what the bytes say: no read failed, memory did not run out, and nothing but the
 -- bytes was refused
@@ -121,7 +123,7 @@ EndsAs ended.Fault a name bytes e =
     ⊎ ((made : Converted) × Yields bytes a.options (Ok made)
     × MayWriteTo a name a.folder made.parts e)
 EndsAs converted a name bytes e =
-    (made : Converted) × Yields bytes a.options (Ok made) × IsOfWrong made.wrong converted
+    (made : Converted) × Yields bytes a.options (Ok made) × IsOfCounted made.counted converted
     × WritesTo a name a.folder made.parts e
 
 -- How a FILE of this name and of these bytes, where they are told, ends: its messages are written,

@@ -5,7 +5,7 @@ ghost use Rattle.std.specs.Io.KnownBytes.{Appends};
 ghost use Rattle.program_files.specs.Holdings.{MayName, Names};
 ghost use Rattle.program_files.specs.PartFiles.{files_of, place};
 ghost use Rattle.feed_conversion.specs.Views.{options_view};
-ghost use Rattle.feed_files.specs.Ends.{IsEnd, IsOfWrong, IsUnconverted, asking, file_end, is_converted};
+ghost use Rattle.feed_files.specs.Ends.{IsEnd, IsOfCounted, IsUnconverted, asking, file_end, is_converted};
 ghost use Rattle.feed_files.specs.Runs.{RunEnds, outputs, run_asking};
 
 use crate::collected::Collected;
@@ -16,7 +16,7 @@ use crate::progress::{Progress, Showing, size_of};
 use crate::refusal::{RefusedFile, push_packed, push_refusal};
 use crate::summary::Summary;
 use crate::watched::{Seen, Watched};
-use feed_conversion::{Fault, Options, Outcome, convert};
+use feed_conversion::{Counted, Fault, Options, Outcome, convert};
 use program_files::{
     FileFault, MadeFiles, NamedFiles, PartFiles, STANDARD_INPUT, Spool, is_packed, name_of,
 };
@@ -127,15 +127,15 @@ fn report_stopped<E: Write>(
 fn end_of<E: Write>(
     alloc: Global,
     known: &RefusedFile<'_>,
-    read: &Result<u32, Fault>,
+    read: &Result<Counted, Fault>,
     kept: &Option<FileFault>,
     errors: &mut E,
 ) -> Ended
-    ensures ok { IfOk read.now (λ wrong. IsOfWrong wrong result) }
+    ensures ok { IfOk read.now (λ told. IsOfCounted told result) }
     ensures err { IfErr read.now (λ f. IsUnconverted f result) }
 {
     match read {
-        Ok(wrong) => Ended::of_converted(*wrong),
+        Ok(told) => Ended::of_converted(*told),
         Err(fault) => report_stopped(alloc, known, fault, kept, errors),
     }
 }
@@ -146,11 +146,11 @@ fn end_of_seen<E: Write>(
     notes: &Notes<'_>,
     seen: Seen,
     options: &Options<'_>,
-    read: Result<u32, Fault>,
+    read: Result<Counted, Fault>,
     kept: Option<FileFault>,
     errors: &mut E,
 ) -> Ended
-    ensures ok { IfOk read (λ wrong. IsOfWrong wrong result) }
+    ensures ok { IfOk read (λ told. IsOfCounted told result) }
     ensures err { IfErr read (λ f. IsUnconverted f result) }
 {
     let known = RefusedFile {
@@ -163,9 +163,9 @@ fn end_of_seen<E: Write>(
 }
 
 // Counts a FILE that was converted.
-fn end_notes(notes: &mut Notes<'_>, read: &Result<u32, Fault>) {
-    if let Ok(wrong) = read {
-        notes.end(*wrong);
+fn end_notes(notes: &mut Notes<'_>, read: &Result<Counted, Fault>) {
+    if let Ok(told) = read {
+        notes.end(*told);
     }
 }
 

@@ -1,14 +1,17 @@
 //! How a FILE ends.
 
 ghost use Rattle.std.specs.Prelude.{◌≡◌, ◌≤◌};
-ghost use Rattle.feed_files.specs.Ends.{IsOfWrong, is_converted, status_of};
+ghost use Rattle.feed_files.specs.Ends.{IsOfCounted, is_converted, status_of};
+
+use feed_conversion::Counted;
 
 /// How a FILE ended.
 #[derive(Clone, Copy, Debug, PartialEq, Eq)]
 pub enum Ended {
     /// It was converted.
     Done,
-    /// It was converted, though some of its products are wrong.
+    /// It was converted, though some of its products are wrong, or none has a SupplyDetail of the
+    /// supplier that is named.
     LeftOut,
     /// It was refused.
     Refused,
@@ -38,14 +41,14 @@ impl Ended {
         matches!(self, Ended::Done | Ended::LeftOut)
     }
 
-    /// That of a FILE that was converted, so many of whose products are wrong.
-    pub fn of_converted(wrong: u32) -> Ended
-        ensures { IsOfWrong wrong result }
+    /// That of a FILE that was converted, of whose products this is told.
+    pub fn of_converted(told: Counted) -> Ended
+        ensures { IsOfCounted told result }
     {
-        if wrong == 0 {
-            Ended::Done
-        } else {
+        if told.is_flawed() {
             Ended::LeftOut
+        } else {
+            Ended::Done
         }
     }
 }

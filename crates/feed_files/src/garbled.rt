@@ -20,10 +20,9 @@ fn is_unmarked(head: &[u8]) -> bool {
     matches!(head, [b'<', 0, ..] | [0, b'<', ..])
 }
 
-// Whether a FILE that begins so is in another encoding than UTF-8, by its mark or declaration.
+// Whether a FILE that begins so is in another encoding than UTF-8, by its declaration.
 fn is_of_other(head: &[u8]) -> bool {
     match head {
-        [0xff, 0xfe, ..] | [0xfe, 0xff, ..] => true,
         [b'<', b'?', ..] => declares_other(head),
         _ => false,
     }

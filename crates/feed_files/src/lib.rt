@@ -6,6 +6,7 @@
 mod collected;
 mod converting;
 mod counts;
+mod doublets;
 pub mod ended;
 mod fault;
 mod garbled;

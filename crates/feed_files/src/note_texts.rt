@@ -162,7 +162,6 @@ fn words_of_foreign(kind: Foreign, text: &[u8]) -> Words {
         Foreign::EpubLicense => plain("EpubLicense"),
         Foreign::EpubLicenseWithDate => plain("EpubLicenseWithDate"),
         Foreign::DateFormat => with_text("PriceDate in format", ""),
-        Foreign::MoreDecimals => with_text("PriceAmount", " has more than 3 decimals"),
         Foreign::NoCharge => with_text("PriceAmount", " is no price"),
         Foreign::BesideDates => plain(BESIDE_DATES),
         Foreign::RegionAlone => with_text("RegionsIncluded", " without a country or WORLD"),
@@ -173,10 +172,11 @@ fn words_of_foreign(kind: Foreign, text: &[u8]) -> Words {
         Foreign::RegionExcluded => with_text("", " is a part of a country"),
         Foreign::CountryName => country(text),
         Foreign::Discount | Foreign::DiscountCoded => plain("of a Price, not read"),
+        Foreign::Rounded => plain("rounded"),
+        Foreign::OfOthers => plain("of other suppliers alone"),
         Foreign::NoTerm => plain("that no term fits"),
         Foreign::NothingToPay => plain("an amount of 0"),
         Foreign::HeldBack => plain("held back"),
-        Foreign::TooManyComputed => plain("with them the Product is too large for a message"),
         Foreign::NoSupplyDetail => plain("no SupplyDetail"),
         Foreign::NoMarketLeft => plain("every Market is left out"),
         Foreign::LongMarkets => plain(LONG_MARKETS),
@@ -336,7 +336,11 @@ pub(crate) fn is_counted_alone(kind: ReasonKind) -> bool {
     matches!(
         kind,
         ReasonKind::Foreign(
-            Foreign::Discount | Foreign::DiscountCoded | Foreign::NoTerm | Foreign::HeldBack
+            Foreign::Discount
+                | Foreign::DiscountCoded
+                | Foreign::Rounded
+                | Foreign::NoTerm
+                | Foreign::HeldBack
         )
     )
 }
@@ -393,7 +397,6 @@ fn thing_of(note: Note<'_>) -> &'static str {
         ReasonKind::Foreign(Foreign::RegionExcluded) => "region of RegionsExcluded",
         ReasonKind::Foreign(Foreign::CountryName) => "country",
         ReasonKind::Foreign(Foreign::NothingToPay | Foreign::HeldBack) => "computed price",
-        ReasonKind::Foreign(Foreign::TooManyComputed) => "computed prices",
         ReasonKind::Wrong(Wrong::CountryAsRegion) => thing_with_region(note.line.name),
         _ => name_of(note.line.name),
     }
@@ -408,8 +411,10 @@ fn verb_of(kind: ReasonKind) -> &'static str {
             | Foreign::Ignored
             | Foreign::Discount
             | Foreign::DiscountCoded
+            | Foreign::Rounded
             | Foreign::NoTerm
-            | Foreign::HeldBack,
+            | Foreign::HeldBack
+            | Foreign::OfOthers,
         ) => " ",
         _ if is_emptied(kind) => " emptied: ",
         _ => " left out: ",

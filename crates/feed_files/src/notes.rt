@@ -1,6 +1,7 @@
 //! Notes on what is left out of the message of a FILE.
 
 use crate::counts::{ProductCounts, again_in_header};
+use crate::doublets::{Defaults, count_doublets};
 use crate::note_texts::{
     Saying, is_counted_alone, is_of_discount, is_of_product, push_first, push_header_field,
     push_saying, saying_of,
@@ -8,13 +9,15 @@ use crate::note_texts::{
 use crate::shown::{SHOWN, push_called, push_shown_bytes};
 use crate::summary::Summary;
 use csv_records::buffer::RecordBuffer;
-use feed_conversion::Options;
+use csv_records::fields::FieldBuffer;
+use feed_conversion::{Counted, Options};
 use feed_mapping::{
-    Choices, Composite, Note, ReasonKind, Wrong, first_reason, malformed_field, next_composite,
-    text_or_empty,
+    Choices, Composite, Note, ReasonKind, SupplyChoices, Wrong, add_product, first_reason,
+    malformed_field, next_composite, read_heading, text_or_empty,
 };
-use feed_outline::first_called;
+use feed_outline::{Elements, first_called};
 use feed_xml::Position;
+use onix_records::row::Opening;
 use std::alloc::{AllocError, Global};
 use watched_output::shown_texts::push_shown;
 
@@ -59,6 +62,9 @@ pub struct Notes<'a> {
     header: String,
     // How the first stranger in the root or in a Header is called.
     stranger: String,
+    // What a message begins with, behind its Header, and what it gives to Prices.
+    opening: Option<Opening>,
+    defaults: Defaults,
 }
 
 /// Adds the beginning of a line on what stands at a place of a FILE.
@@ -90,8 +96,15 @@ fn push_first_reason(
     let Some(supply) = supply_at(product, note.line.place) else {
         return Ok(());
     };
-    let preferred = scope.choices.id_type;
-    match first_reason(scope.alloc, preferred, note.reason.kind, &supply.below)? {
+    let kind = note.reason.kind;
+    let choices = scope.choices;
+    match first_reason(
+        scope.alloc,
+        choices.supplier,
+        choices.id_type,
+        kind,
+        &supply.below,
+    )? {
         Some(first) => push_first(text, first),
         None => Ok(()),
     }
@@ -207,6 +220,11 @@ impl<'a> Notes<'a> {
             has_products: false,
             header: String::new(alloc),
             stranger: String::new(alloc),
+            opening: None,
+            defaults: Defaults {
+                price_type: String::new(alloc),
+                currency: String::new(alloc),
+            },
         }
     }
 
@@ -217,8 +235,53 @@ impl<'a> Notes<'a> {
         }
     }
 
+    // Takes notice of what a Header gives to Prices. Without memory less is counted of them.
+    fn notice_defaults(&mut self, header: &Elements<'_>) {
+        if self.opening.is_some() {
+            return;
+        }
+        let alloc = self.scope.alloc;
+        let mut fields = FieldBuffer::new(alloc);
+        if let Ok(heading) = read_heading(alloc, self.scope.choices, header, &mut fields) {
+            self.opening = Some(heading.opening);
+            let price_type = text_or_empty(b"DefaultPriceType", header);
+            let currency = text_or_empty(b"DefaultCurrencyCode", header);
+            let _ = push_shown_bytes(&mut self.defaults.price_type, price_type);
+            let _ = push_shown_bytes(&mut self.defaults.currency, currency);
+        }
+    }
+
+    // How many Prices of a product, of which these records are written, stand beside another of
+    // another amount. Where terms compute prices, those count that are written without.
+    fn count_doublets(
+        &self,
+        product: &Composite<'_>,
+        written: &RecordBuffer,
+    ) -> Result<u64, AllocError> {
+        let alloc = self.scope.alloc;
+        let count = count_doublets(alloc, &self.defaults, written)?;
+        let Some(opening) = &self.opening else {
+            return Ok(count);
+        };
+        if count == 0 || !self.scope.has_terms {
+            return Ok(count);
+        }
+        let choices = SupplyChoices {
+            supplier: self.scope.choices.supplier,
+            id_type: self.scope.choices.id_type,
+            terms: None,
+            is_plain: false,
+        };
+        let mut fields = FieldBuffer::new(alloc);
+        let mut records = RecordBuffer::new(alloc);
+        let mut notes = Vec::new(alloc);
+        add_product(alloc, opening, &choices, product, &mut fields, &mut records, &mut notes)?;
+        count_doublets(alloc, &self.defaults, &records)
+    }
+
     // Takes notice of a Header. Without memory less is said of it.
     fn notice_header(&mut self, header: &Composite<'_>) {
+        self.notice_defaults(&header.below);
         self.summary.count_again(again_in_header(header));
         self.notice_stranger(first_called(&header.below));
         if self.header.is_empty() {
@@ -246,13 +309,16 @@ impl<'a> Notes<'a> {
         written: &RecordBuffer,
         notes: &[Note<'_>],
     ) -> Result<(), AllocError> {
-        let is_wrong = has_wrong(notes);
+        let named = self.scope.choices.supplier;
+        let counts = ProductCounts::of(named, product, written, notes);
+        let is_wrong = has_wrong(notes) && !counts.is_of_others;
         self.has_products = true;
         self.scope.product = self.scope.product.saturating_add(1);
-        self.summary
-            .count_product(&ProductCounts::of(product, written, notes));
+        self.summary.count_product(&counts);
+        let doublets = self.count_doublets(product, written)?;
+        self.summary.count_doublets(doublets);
         for note in notes.iter() {
-            if self.scope.has_terms && is_of_discount(note.reason.kind) {
+            if !self.is_said(note.reason.kind) {
                 continue;
             }
             let saying = saying_of(*note);
@@ -263,6 +329,12 @@ impl<'a> Notes<'a> {
             }
         }
         Ok(())
+    }
+
+    // Whether a reason is said, by a line or in the summary: discounts are not where terms read
+    // them, and products of other suppliers alone are counted as products.
+    fn is_said(&self, kind: ReasonKind) -> bool {
+        !(self.scope.has_terms && is_of_discount(kind)) && !kind.is_of_others()
     }
 
     // Adds the lines of a note on a product, which is wrong or not.
@@ -280,9 +352,9 @@ impl<'a> Notes<'a> {
         Ok(())
     }
 
-    /// Nothing follows in the FILE, of which so many products are wrong.
-    pub(crate) fn end(&mut self, wrong: u32) {
-        self.summary.count_file(wrong, self.has_products);
+    /// Nothing follows in the FILE, of whose products this is told.
+    pub(crate) fn end(&mut self, told: Counted) {
+        self.summary.count_file(told, self.has_products);
     }
 
     /// The FILE that they are on.

@@ -2,6 +2,7 @@
 
 use crate::counts::ProductCounts;
 use crate::note_texts::{Saying, push_saying};
+use feed_conversion::Counted;
 use std::alloc::{AllocError, Global};
 
 /// What is counted as one: what the lines say, the text of the reason where that is a code of two
@@ -14,7 +15,7 @@ struct Kind {
 }
 
 #[derive(Clone, Copy)]
-struct Counted {
+struct ReasonCount {
     kind: Kind,
     count: u64,
 }
@@ -27,9 +28,21 @@ const COMING_AGAIN: &str = "an element comes again, not read";
 
 const NO_PRODUCT: &str = "a FILE without a Product";
 
+const OF_OTHERS: &str = "of other suppliers alone";
+
+const OF_SEVERAL: &str = "of several suppliers";
+
+const DETAILS_OF_OTHERS: &str = "SupplyDetail of another supplier, not read";
+
+const DOUBLETS: &str = "Price beside another of another amount";
+
+const NO_SUPPLIER: &str = "no SupplyDetail of the supplier of --supplier in a FILE with others";
+
 // How many products there are, and how many of them are wrong, are emptied, have lost all their
-// prices, and are for the world though they have SalesRights; how many elements come again; and how
-// many FILEs have no Product.
+// prices, are for the world though they have SalesRights, are of other suppliers alone, and are of
+// several; how many elements come again; how many SupplyDetails are of others; how many Prices stand
+// beside another of another amount; and how many FILEs have no Product, and no SupplyDetail of the
+// supplier that is named.
 #[derive(Clone, Copy)]
 struct Products {
     all: u64,
@@ -37,8 +50,13 @@ struct Products {
     emptied: u64,
     without_price: u64,
     with_rights: u64,
+    of_others: u64,
+    of_several: u64,
     again: u64,
+    details_of_others: u64,
+    doublets: u64,
     files_without: u64,
+    files_without_supplier: u64,
 }
 
 const NO_PRODUCTS: Products = Products {
@@ -47,8 +65,13 @@ const NO_PRODUCTS: Products = Products {
     emptied: 0,
     without_price: 0,
     with_rights: 0,
+    of_others: 0,
+    of_several: 0,
     again: 0,
+    details_of_others: 0,
+    doublets: 0,
     files_without: 0,
+    files_without_supplier: 0,
 };
 
 /// How many notes there are for each reason, how often there is what is counted without a line, and
@@ -57,7 +80,7 @@ const NO_PRODUCTS: Products = Products {
 #[derive(Drop)]
 pub struct Summary {
     alloc: Global,
-    counts: Vec<Counted>,
+    counts: Vec<ReasonCount>,
     products: Products,
 }
 
@@ -110,7 +133,7 @@ impl Summary {
                 return Ok(());
             }
         }
-        self.counts.push(Counted { kind, count: more })?;
+        self.counts.push(ReasonCount { kind, count: more })?;
         Ok(())
     }
 
@@ -134,12 +157,13 @@ impl Summary {
         self.count(kind, 1)
     }
 
-    /// Counts a FILE of which so many products are wrong, and whether it has products, or says that
-    /// it has none.
-    pub(crate) fn count_file(&mut self, wrong: u32, has_products: bool) {
+    /// Counts a FILE of whose products this is told, and whether it has products, or says that it
+    /// has none.
+    pub(crate) fn count_file(&mut self, told: Counted, has_products: bool) {
         self.add_products(Products {
-            wrong: u64::from(wrong),
+            wrong: u64::from(told.wrong),
             files_without: u64::from(!has_products),
+            files_without_supplier: u64::from(told.lacks_supplier),
             ..NO_PRODUCTS
         });
     }
@@ -152,6 +176,14 @@ impl Summary {
         });
     }
 
+    /// Counts so many Prices that stand beside another of another amount.
+    pub(crate) fn count_doublets(&mut self, doublets: u64) {
+        self.add_products(Products {
+            doublets,
+            ..NO_PRODUCTS
+        });
+    }
+
     /// Counts a product, and what is counted of it.
     pub(crate) fn count_product(&mut self, counts: &ProductCounts) {
         self.add_products(Products {
@@ -159,7 +191,10 @@ impl Summary {
             emptied: u64::from(counts.is_emptied),
             without_price: u64::from(counts.has_lost_prices),
             with_rights: u64::from(counts.has_rights),
+            of_others: u64::from(counts.is_of_others),
+            of_several: u64::from(counts.is_of_several),
             again: counts.again,
+            details_of_others: counts.details_of_others,
             ..NO_PRODUCTS
         });
     }
@@ -172,8 +207,15 @@ impl Summary {
         all.emptied = all.emptied.saturating_add(more.emptied);
         all.without_price = all.without_price.saturating_add(more.without_price);
         all.with_rights = all.with_rights.saturating_add(more.with_rights);
+        all.of_others = all.of_others.saturating_add(more.of_others);
+        all.of_several = all.of_several.saturating_add(more.of_several);
         all.again = all.again.saturating_add(more.again);
+        all.details_of_others = all.details_of_others.saturating_add(more.details_of_others);
+        all.doublets = all.doublets.saturating_add(more.doublets);
         all.files_without = all.files_without.saturating_add(more.files_without);
+        all.files_without_supplier = all
+            .files_without_supplier
+            .saturating_add(more.files_without_supplier);
     }
 
     /// Counts all that another has counted.
@@ -197,7 +239,7 @@ impl Summary {
     }
 
     // The line of a reason, with what is to stand first first: the greater count, then the text.
-    fn line_of(&self, counted: Counted) -> Result<(u64, String), AllocError> {
+    fn line_of(&self, counted: ReasonCount) -> Result<(u64, String), AllocError> {
         let mut text = String::new(self.alloc);
         push_kind(&mut text, counted.kind)?;
         Ok((u64::MAX - counted.count, text))
@@ -240,13 +282,24 @@ impl Summary {
         push_of(text, prefix, products.emptied, all, "emptied")?;
         push_of(text, prefix, products.without_price, all, WITHOUT_PRICE)?;
         push_of(text, prefix, products.with_rights, all, WITH_RIGHTS)?;
+        push_of(text, prefix, products.of_others, all, OF_OTHERS)?;
+        push_of(text, prefix, products.of_several, all, OF_SEVERAL)?;
+        push_count(text, prefix, DETAILS_OF_OTHERS, products.details_of_others)?;
+        push_count(text, prefix, DOUBLETS, products.doublets)?;
         push_count(text, prefix, COMING_AGAIN, products.again)?;
         push_count(text, prefix, NO_PRODUCT, products.files_without)
     }
 
-    /// Adds the lines of the summary: one for each reason, the most frequent first, what is counted
-    /// of products, and, where there are notes, the count of all and of wrong products.
+    /// Adds the lines of the summary: where nothing of a FILE is of the supplier that is named, that;
+    /// one for each reason, the most frequent first, what is counted of products, and, where there
+    /// are notes, the count of all and of wrong products.
     pub(crate) fn push_lines(&self, prefix: &str, text: &mut String) -> Result<(), AllocError> {
+        push_count(
+            text,
+            prefix,
+            NO_SUPPLIER,
+            self.products.files_without_supplier,
+        )?;
         self.push_reasons(prefix, text)?;
         self.push_products(prefix, text)?;
         let total = self.total();

@@ -12,7 +12,9 @@ const NO_XML: &str = "the XML is not well-formed";
 const OLD: &str = "; this looks like ONIX 2.1, ask its sender for 3.0 or 3.1";
 
 const ENCODINGS: &str =
-    " is not read; read are UTF-8, UTF-16, US-ASCII, ISO-8859-1, ISO-8859-15 and windows-1252";
+    " is not read; read are UTF-8, US-ASCII, ISO-8859-1, ISO-8859-15 and windows-1252";
+
+const RECODED: &str = "; iconv -f UTF-16 -t UTF-8 recodes it";
 
 // What a FILE ends before, by the names of its root.
 fn cut_of(naming: Option<Naming>) -> &'static str {
@@ -49,12 +51,17 @@ pub(crate) fn push_malformed(
     }
 }
 
-/// Adds that a FILE is in an encoding of this name, and which ones are read.
+/// Adds that a FILE is in an encoding of this name, which ones are read, and how it is recoded.
 pub(crate) fn push_encoding(line: &mut String, name: &[u8]) -> Result<(), AllocError> {
     line.push_str("encoding \"")?;
     push_shown_bytes(line, name)?;
     line.push_str("\"")?;
-    line.push_str(ENCODINGS)
+    line.push_str(ENCODINGS)?;
+    line.push_str(if name == b"UTF-16".as_slice() {
+        RECODED
+    } else {
+        ""
+    })
 }
 
 // Why a reference stands for nothing, by what stands between `&` and `;`.

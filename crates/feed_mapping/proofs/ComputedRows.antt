@@ -53,9 +53,9 @@ use Rattle.feed_mapping.proofs.Utf8Laws.{ascii-field, named-utf8}
 -- nothing, where it is not written; else it, by the fields of its record
 abbrev pub IsSeen : PriceContext → Nodes → Outcome → Type 0
 IsSeen context nodes outcome =
-    ((outcome_records outcome ≡ []) × (given_by outcome (parsed (price_of context.opening) (price_fields context nodes)) nodes ≡ []))
+    ((outcome_records outcome ≡ []) × (given_by outcome (parsed (price_of context.opening) (price_fields context nodes)) (codes "Price" ∷ price_fields context nodes) nodes ≡ []))
     ⊎ ((p : Price) × (outcome_records outcome ≡ (codes "Price" ∷ price_fields context nodes) ∷ [])
-    × (given_by outcome (parsed (price_of context.opening) (price_fields context nodes)) nodes ≡ given_of p nodes ∷ [])
+    × (given_by outcome (parsed (price_of context.opening) (price_fields context nodes)) (codes "Price" ∷ price_fields context nodes) nodes ≡ given_of p (codes "Price" ∷ price_fields context nodes) nodes ∷ [])
     × (parsed (price_of context.opening) (price_fields context nodes) ≡ Some p))
 
 reason-seen : (context : PriceContext) (nodes : Nodes) (kind : Option Reason) → first_some (price_reasons context nodes) ≡ kind → IsSeen context nodes (outcome_of kind context nodes)
@@ -64,7 +64,7 @@ reason-seen context nodes None e =
     let last : last_reason context nodes ≡ None = last-none (early_reasons (date_reason nodes) nodes) (last_reason context nodes) e in
     let none : record_reason context nodes ≡ None = or-first (record_reason context nodes) (closed_reason context nodes) last in
     let (p, read) = taken (parsed (price_of context.opening) (price_fields context nodes)) (unwrap_or (first_some (field_reasons context.opening nodes)) (wrong bad.Price [])) none in
-    inr (p, refl, ap (λ (q : Option Price). given_by (outcome_of None context nodes) q nodes) read, read)
+    inr (p, refl, ap (λ (q : Option Price). given_by (outcome_of None context nodes) q (codes "Price" ∷ price_fields context nodes) nodes) read, read)
 
 pub seen : (context : PriceContext) (nodes : Nodes) → IsSeen context nodes (price_outcome context nodes)
 seen context nodes = go (is_nothing context nodes)
@@ -90,7 +90,7 @@ fit-more a b g h f k = (length-append a b ∙ omega (arith, f.0, k.0, length-app
     all (r ∷ rs) some = (some.0, all rs some.1)
 
 one-fits : (context : PriceContext) (nodes : Nodes) (outcome : Outcome) → IsSeen context nodes outcome
-    → Fit (outcome_records outcome) (given_by outcome (parsed (price_of context.opening) (price_fields context nodes)) nodes)
+    → Fit (outcome_records outcome) (given_by outcome (parsed (price_of context.opening) (price_fields context nodes)) (codes "Price" ∷ price_fields context nodes) nodes)
 one-fits context nodes outcome (inl (bare, none)) = rw (bare, none) (refl, tt)
 one-fits context nodes outcome (inr (p, one, given, read)) = rw (one, given) (refl, (omega arith, tt))
 
@@ -286,8 +286,8 @@ discounts-range (c ∷ cs) = go (discounts-range cs) (discount_in c) refl
     go more None e = more
     go more (Some d) e = (discount-range c d e, more)
 
-given-range : (o : Opening) (fields : List (List ℕ)) (p : Price) (nodes : Nodes) → price_of o fields ≡ Some p → IsInRange (given_of p nodes)
-given-range o fields p nodes e =
+given-range : (o : Opening) (fields whole : List (List ℕ)) (p : Price) (nodes : Nodes) → price_of o fields ≡ Some p → IsInRange (given_of p whole nodes)
+given-range o fields whole p nodes e =
     let (small, minimum) = price-range o fields p e in
     record { below = small; minimum = minimum; discounts = discounts-range (each_at "Discount" nodes) }
 
@@ -295,7 +295,7 @@ given-range o fields p nodes e =
 
 module _ (context : PriceContext) where
   plain-one : (nodes : Nodes) (outcome : Outcome) → IsSeen context nodes outcome → (records : List (List (List ℕ))) (given : List GivenPrice) → Reads context.opening records (map row.Price (map (λ g. g.price) given))
-      → Reads context.opening (outcome_records outcome ++ records) (map row.Price (map (λ g. g.price) (given_by outcome (parsed (price_of context.opening) (price_fields context nodes)) nodes ++ given)))
+      → Reads context.opening (outcome_records outcome ++ records) (map row.Price (map (λ g. g.price) (given_by outcome (parsed (price_of context.opening) (price_fields context nodes)) (codes "Price" ∷ price_fields context nodes) nodes ++ given)))
   plain-one nodes outcome (inl (bare, none)) records given rest = rw (bare, none) rest
   plain-one nodes outcome (inr (p, one, own, read)) records given rest =
       rw (one, own) (price-first context.opening (price_fields context nodes) p records (map (λ g. g.price) given) read rest)
@@ -305,20 +305,20 @@ module _ (context : PriceContext) where
   all-plain [] = no-rows context.opening
   all-plain (c ∷ cs) = plain-one c.below (price_outcome context c.below) (seen context c.below) (all_records (outcome_in context) cs) (all_given context cs) (all-plain cs)
 
-module _ (laws : TermLaws) (context : PriceContext) (two : context.opening.form ≡ form.Two) (terms : List Term) (coded : HasCodes terms) (supplier : Option (List ℕ)) (held : Price → ComputedPrice → Bool) where
+module _ (laws : TermLaws) (context : PriceContext) (two : context.opening.form ≡ form.Two) (terms : List Term) (coded : HasCodes terms) (supplier : Option (List ℕ)) (held : GivenPrice → ComputedPrice → Bool) where
   -- one Price, before what is behind it
   one-with : (nodes : Nodes) (outcome : Outcome) → IsSeen context nodes outcome → (records : List (List (List ℕ))) (given : List GivenPrice)
       → Reads context.opening (with_all terms supplier held records given) (map row.Price (prices_with terms supplier held given))
-      → Reads context.opening (with_all terms supplier held (outcome_records outcome ++ records) (given_by outcome (parsed (price_of context.opening) (price_fields context nodes)) nodes ++ given))
-      (map row.Price (prices_with terms supplier held (given_by outcome (parsed (price_of context.opening) (price_fields context nodes)) nodes ++ given)))
+      → Reads context.opening (with_all terms supplier held (outcome_records outcome ++ records) (given_by outcome (parsed (price_of context.opening) (price_fields context nodes)) (codes "Price" ∷ price_fields context nodes) nodes ++ given))
+      (map row.Price (prices_with terms supplier held (given_by outcome (parsed (price_of context.opening) (price_fields context nodes)) (codes "Price" ∷ price_fields context nodes) nodes ++ given)))
   one-with nodes outcome (inl (bare, none)) records given rest = rw (bare, none) rest
   one-with nodes outcome (inr (p, one, own, read)) records given rest =
       let o = context.opening in
       let fields = price_fields context nodes in
-      let g = given_of p nodes in
+      let g = given_of p (codes "Price" ∷ fields) nodes in
       let s = said-read (price_of o) fields p read in
       let cs = written_of terms supplier held g in
-      let behind = computed-rows laws o two fields p read cs (laws.writable terms supplier held g coded (given-range o fields p nodes s.is)) in
+      let behind = computed-rows laws o two fields p read cs (laws.writable terms supplier held g coded (given-range o fields (codes "Price" ∷ fields) p nodes s.is)) in
       rw (one, own)
       (joined o (with_computed terms supplier held (codes "Price" ∷ fields) g) (with_all terms supplier held records given) (p ∷ map (price_of_computed p) cs) (prices_with terms supplier held given)
       (price-first o fields p (map (computed_record (codes "Price" ∷ fields)) cs) (map (price_of_computed p) cs) read behind) rest)

@@ -1,9 +1,10 @@
 -- What is made of one element more.
-use Rattle.std.proofs.Common.{◌≡◌, ℕ, List, [], ◌∷◌, ◌++◌, Bool, true, false, Option, Some, None, map, refl, sym, ap, ◌∙◌, append_assoc}
+use Rattle.std.proofs.Common.{◌≡◌, ◌+◌, ℕ, zero, suc, List, [], ◌∷◌, ◌++◌, Bool, true, false, Option, Some, None, drop, map, slice_get, refl, sym, ap, ◌∙◌, append_assoc, arith}
 use Rattle.std.specs.Prelude.{◌||◌}
 use Rattle.std.specs.List.{flat_map}
 use Rattle.std.specs.Borrow.{Bor}
 use Rattle.std.specs.Option.{option_or, unwrap_or}
+use Rattle.std.proofs.lemmas.Option.{same_Some}
 use Rattle.feed_mapping.specs.PriceViews.{text_view}
 use Rattle.feed_mapping.specs.Records.{first_some}
 use Rattle.feed_mapping.specs.Elements.{Composite}
@@ -37,3 +38,9 @@ or-false false = refl
 pub text-or-none : (text : Option (Bor (List ℕ))) (none own : Bor (List ℕ)) → none.now ≡ [] → own ≡ unwrap_or text none → own.now ≡ unwrap_or (text_view text) []
 text-or-none None none own empty is = cc
 text-or-none (Some text) none own empty is = cc
+
+-- what is left of a list from an item on
+pub from-item : {A : Type 0} (xs : List A) (k : ℕ) (x : A) → slice_get xs k ≡ Some x → drop k xs ≡ x ∷ drop (k + 1) xs
+from-item [] k x e = cc
+from-item {A} (y ∷ xs) zero x e = ap (λ (z : A). z ∷ xs) (same_Some y x e)
+from-item (y ∷ xs) (suc k) x e = let next : suc k + 1 ≡ suc (k + 1) = omega arith in rw next (from-item xs k x e)

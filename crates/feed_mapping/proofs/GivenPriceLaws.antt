@@ -35,9 +35,10 @@ given-stands laws stands o terms preferred nodes (two, coded) offer with_compute
     let context = context_in o nodes in
     let given = all_given context (prices_in nodes) in
     let supplier = supplier_of (supplier_id preferred nodes) in
-    let held = is_held_back (closed_kinds context.closed) given in
+    let closed = closed_kinds context (prices_in nodes) in
+    let held = is_held_back terms supplier given closed in
     let own : offer.prices ≡ map (λ g. g.price) given = same_prices _ offer.prices (map (λ g. g.price) given) plain (all-plain context (prices_in nodes)).are in
     let all : prices_with terms supplier held given ≡ with_computed =
     same_prices _ (prices_with terms supplier held given) with_computed (all-with laws context two terms coded supplier held (prices_in nodes)).are computed
     in
-    subst (λ (ps : List Price). IsCurrent (record offer { prices = ps }) q (Some amount)) all (stands terms supplier (closed_kinds context.closed) given offer q amount own current)
+    subst (λ (ps : List Price). IsCurrent (record offer { prices = ps }) q (Some amount)) all (stands terms supplier closed given offer q amount own current)

@@ -2,7 +2,6 @@ pub mod WordLaws
 pub mod DateLaws
 pub mod PriceLaws
 pub mod TerritorySets
-pub mod UnionLaws
 pub mod LetterLaws
 pub mod ElementLaws
 pub mod IsbnLaws

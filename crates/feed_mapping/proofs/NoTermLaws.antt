@@ -4,7 +4,6 @@ use Rattle.std.specs.Prelude.{codes, filter, if◌then◌else◌, is_some, not, 
 use Rattle.std.specs.List.{AllByRecursion, flat_map}
 use Rattle.std.specs.Option.{option_map_or, option_or}
 use Rattle.feed_outline.specs.Nodes.{Nodes}
-use Rattle.onix_records.specs.declared.parts.Price.{Price}
 use Rattle.onix_records.specs.declared.row.Opening.{Opening}
 use Rattle.feed_terms.specs.Computed.{computed_by}
 use Rattle.feed_terms.specs.Fits.{fitting}
@@ -15,12 +14,13 @@ use Rattle.feed_terms.specs.declared.computed.ComputedPrice.{ComputedPrice}
 use Rattle.feed_terms.specs.declared.price.GivenPrice.{GivenPrice}
 use Rattle.feed_terms.specs.declared.term.Term.{Term}
 use Rattle.feed_mapping.specs.Details.{context_in, detail_fields, detail_outcome, detail_reason, price_in, priced_notes, priced_records, prices_in, supplier_id}
-use Rattle.feed_mapping.specs.Elements.{Composite, Element, first}
+use Rattle.feed_mapping.specs.Elements.{Composite, Element, each_at, first}
 use Rattle.feed_mapping.specs.Notes.{Note, Reason, foreign, note, wrong}
-use Rattle.feed_mapping.specs.Outcomes.{Outcome, all_notes, all_records, left_out, notes_below, outcome_reason, outcome_records, written_unless}
+use Rattle.feed_mapping.specs.Outcomes.{Outcome, all_notes, all_records, left_out, nothing, notes_below, outcome_reason, outcome_records, written_unless}
+use Rattle.feed_mapping.specs.Parties.{Pair}
 use Rattle.feed_mapping.specs.PriceTerms.{all_given, all_remark_notes, closed_kinds, elements_in, supplier_of}
-use Rattle.feed_mapping.specs.ProductRecords.{fate_by, fate_of, product_notes, product_records, supplies_in, written_notes}
-use Rattle.feed_mapping.specs.Products.{emptied_record, identifier_notes, notification_in, own_reason, product_record, reference_in, right_pairs}
+use Rattle.feed_mapping.specs.ProductRecords.{fate_by, fate_of, notification_written, product_notes, product_records, supplies_in, written_notes}
+use Rattle.feed_mapping.specs.Products.{emptied_record, identifier_notes, own_reason, product_record, reference_in, right_pairs}
 use Rattle.feed_mapping.specs.Records.{Records, first_some, if_empty, is_field, option_filter}
 use Rattle.feed_mapping.specs.Supplies.{details_in, is_lost, none_left, supply_markets, supply_outcome}
 use Rattle.feed_mapping.specs.SupplyChoices.{SupplyChoices}
@@ -33,11 +33,11 @@ use Rattle.feed_mapping.specs.declared.product_records.Fate.TheVariants as fate
 -- ---- no term fits
 
 -- what is written behind a record where this term fits
-behind : (held : Price → ComputedPrice → Bool) (fields : List (List ℕ)) (g : GivenPrice) → Option Term → List (List (List ℕ))
+behind : (held : GivenPrice → ComputedPrice → Bool) (fields : List (List ℕ)) (g : GivenPrice) → Option Term → List (List (List ℕ))
 behind held fields g term =
-    map (computed_record fields) (filter (λ c. not (c.amount == 0)) (filter (λ c. not (held g.price c)) (computed_by term g)))
+    map (computed_record fields) (filter (λ c. not (c.amount == 0)) (filter (λ c. not (held g c)) (computed_by term g)))
 
-none_behind : (terms : List Term) (supplier : Option (List ℕ)) (held : Price → ComputedPrice → Bool) (given : List GivenPrice) (records : List (List (List ℕ)))
+none_behind : (terms : List Term) (supplier : Option (List ℕ)) (held : GivenPrice → ComputedPrice → Bool) (given : List GivenPrice) (records : List (List (List ℕ)))
     → AllByRecursion (λ g. fitting supplier g terms ≡ None) given → with_all terms supplier held records given ≡ records
 unfolding behind
 none_behind terms supplier held given [] none = refl
@@ -49,30 +49,33 @@ none_behind terms supplier held (g ∷ given) (fields ∷ records) (is, none) =
 pub none-fits : (o : Opening) (terms : List Term) (preferred : List ℕ) (nodes : Nodes) → NoneFits o terms preferred nodes
     → priced_records o (Some terms) false preferred nodes ≡ priced_records o None false preferred nodes
 none-fits o terms preferred nodes none =
-    let given = all_given (context_in o nodes) (prices_in nodes) in
-    none_behind terms (supplier_of (supplier_id preferred nodes)) (is_held_back (closed_kinds (context_in o nodes).closed) given) given (all_records (price_in o nodes) (prices_in nodes)) none
+    let context = context_in o nodes in
+    let given = all_given context (prices_in nodes) in
+    let supplier = supplier_of (supplier_id preferred nodes) in
+    none_behind terms supplier (is_held_back terms supplier given (closed_kinds context (prices_in nodes))) given (all_records (price_in o nodes) (prices_in nodes)) none
 
 -- ---- a table of no term
 
-no_remarks : (supplier : Option (List ℕ)) (held : Price → ComputedPrice → Bool) (is_plain : Bool) (elements : List Element) (given : List GivenPrice)
+no_remarks : (supplier : Option (List ℕ)) (held : GivenPrice → ComputedPrice → Bool) (is_plain : Bool) (elements : List Element) (given : List GivenPrice)
     → all_remark_notes is_plain elements (map (remarks_of [] supplier held) given) ≡ []
 no_remarks supplier held is_plain [] given = refl
 no_remarks supplier held is_plain (element ∷ elements) [] = refl
 no_remarks supplier held true (element ∷ elements) (g ∷ given) = no_remarks supplier held true elements given
 no_remarks supplier held false (element ∷ elements) (g ∷ given) = no_remarks supplier held false elements given
 
-module _ (nothing : NothingByNoTerms) (o : Opening) where
+module _ (by_none : NothingByNoTerms) (o : Opening) where
   records_same : (is_plain : Bool) (preferred : List ℕ) (nodes : Nodes) → priced_records o (Some []) is_plain preferred nodes ≡ priced_records o None is_plain preferred nodes
   records_same true preferred nodes = refl
   records_same false preferred nodes =
-      nothing (supplier_of (supplier_id preferred nodes)) (closed_kinds (context_in o nodes).closed) (all_given (context_in o nodes) (prices_in nodes))
+      by_none (supplier_of (supplier_id preferred nodes)) (closed_kinds (context_in o nodes) (prices_in nodes)) (all_given (context_in o nodes) (prices_in nodes))
       (all_records (price_in o nodes) (prices_in nodes))
 
   notes_same : (is_plain : Bool) (preferred : List ℕ) (nodes : Nodes) → priced_notes o (Some []) is_plain preferred nodes ≡ priced_notes o None is_plain preferred nodes
   notes_same is_plain preferred nodes =
       let context = context_in o nodes in
       let given = all_given context (prices_in nodes) in
-      no_remarks (supplier_of (supplier_id preferred nodes)) (is_held_back (closed_kinds context.closed) given) is_plain (flat_map (elements_in context) (prices_in nodes)) given
+      let supplier = supplier_of (supplier_id preferred nodes) in
+      no_remarks supplier (is_held_back [] supplier given (closed_kinds context (prices_in nodes))) is_plain (flat_map (elements_in context) (prices_in nodes)) given
 
   details_same : (choices : SupplyChoices) → detail_outcome o (by_terms (Some []) choices) ≡ detail_outcome o (by_terms None choices)
   details_same choices =
@@ -83,30 +86,31 @@ module _ (nothing : NothingByNoTerms) (o : Opening) where
   supplies_same : (choices : SupplyChoices) → supply_outcome o (by_terms (Some []) choices) ≡ supply_outcome o (by_terms None choices)
   supplies_same choices =
       λ i nodes.
-      let records = all_records (λ c. details_same choices i c.below) (details_in nodes) in
-      if is_some (first (details_in nodes))
+      let records = all_records (λ c. details_same choices i c.below) (details_in choices nodes) in
+      if is_some (first (details_in choices nodes))
       then written_unless (first_some (outcome_reason (supply_markets nodes) ∷ if_empty records (Some (wrong bad.NoDetailLeft [])) ∷ []))
       (outcome_records (supply_markets nodes) ++ records)
-      (notes_below (supply_markets nodes) ++ all_notes (λ c. details_same choices i c.below) (details_in nodes))
+      (notes_below (supply_markets nodes) ++ all_notes (λ c. details_same choices i c.below) (details_in choices nodes))
+      else if is_some (first (each_at "SupplyDetail" nodes)) then nothing
       else left_out (foreign other.NoSupplyDetail [])
 
 -- ---- by what a ProductSupply comes to
 
-module _ (supply : Nodes → Outcome) where
+module _ (supplier : Option Pair) (supply : Nodes → Outcome) where
   supplies_reason_by : List Composite → Option Reason
   supplies_reason_by supplies =
       if_empty (all_records (λ s. supply s.below) supplies)
       (option_map none_left (first_some (map (λ s. option_filter (λ r. is_lost r.kind) (outcome_reason (supply s.below))) supplies)))
 
   why_by : Nodes → Option Reason
-  why_by nodes = option_or (own_reason nodes) (supplies_reason_by (supplies_in nodes))
+  why_by nodes = option_or (own_reason supplier nodes) (supplies_reason_by (supplies_in nodes))
 
   fate_in : Composite → Fate
   fate_in c = if is_field (reference_in c.below) then fate_by (why_by c.below) else fate.LeftOut
 
   written_by : Option Reason → Nodes → Records
   written_by (Some reason) nodes = emptied_record nodes ∷ []
-  written_by None nodes = product_record (notification_in nodes) (right_pairs nodes) nodes ∷ all_records (λ s. supply s.below) (supplies_in nodes)
+  written_by None nodes = product_record (notification_written supplier nodes) (right_pairs nodes) nodes ∷ all_records (λ s. supply s.below) (supplies_in nodes)
 
   records_in : Composite → Records
   records_in c = if is_field (reference_in c.below) then written_by (why_by c.below) c.below else []
@@ -116,20 +120,20 @@ module _ (supply : Nodes → Outcome) where
       if is_field (reference_in c.below)
       then identifier_notes c.below
       ++ option_map_or (λ reason. note c.element reason ∷ [])
-      (own_reason c.below)
+      (own_reason supplier c.below)
       (all_notes (λ s. supply s.below) (supplies_in c.below)
-      ++ option_map_or (λ reason. note c.element reason ∷ []) (supplies_reason_by (supplies_in c.below)) (written_notes c.below c.element))
+      ++ option_map_or (λ reason. note c.element reason ∷ []) (supplies_reason_by (supplies_in c.below)) (written_notes supplier c.below c.element))
       else note c.element (wrong bad.RecordReference (reference_in c.below)) ∷ []
 
-module _ (nothing : NothingByNoTerms) (o : Opening) (choices : SupplyChoices) (c : Composite) where
+module _ (by_none : NothingByNoTerms) (o : Opening) (choices : SupplyChoices) (c : Composite) where
   pub same-fate : fate_of o (by_terms (Some []) choices) c.below ≡ fate_of o (by_terms None choices) c.below
   unfolding fate_in why_by supplies_reason_by
-  same-fate = λ i. fate_in (supplies_same nothing o choices i) c
+  same-fate = λ i. fate_in choices.supplier (supplies_same by_none o choices i) c
 
   pub same-records : product_records o (by_terms (Some []) choices) c.below ≡ product_records o (by_terms None choices) c.below
   unfolding records_in written_by why_by supplies_reason_by
-  same-records = λ i. records_in (supplies_same nothing o choices i) c
+  same-records = λ i. records_in choices.supplier (supplies_same by_none o choices i) c
 
   pub same-notes : product_notes o (by_terms (Some []) choices) c ≡ product_notes o (by_terms None choices) c
   unfolding notes_in supplies_reason_by
-  same-notes = λ i. notes_in (supplies_same nothing o choices i) c
+  same-notes = λ i. notes_in choices.supplier (supplies_same by_none o choices i) c

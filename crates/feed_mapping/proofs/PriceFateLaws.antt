@@ -5,13 +5,13 @@ use Rattle.std.specs.List.{AllByRecursion}
 use Rattle.feed_outline.specs.Nodes.{Nodes}
 use Rattle.onix_records.specs.declared.row.Opening.{Opening}
 use Rattle.feed_mapping.specs.Details.{context_in, detail_fields, detail_outcome, detail_reason, prices_in}
-use Rattle.feed_mapping.specs.Elements.{Composite, first}
+use Rattle.feed_mapping.specs.Elements.{Composite, each_at, first}
 use Rattle.feed_mapping.specs.Notes.{Reason}
 use Rattle.feed_mapping.specs.Outcomes.{all_records, notes_below, nothing, outcome_reason, outcome_records}
 use Rattle.feed_mapping.specs.PriceFates.{HasDetails, HasPrices, HasSupplies, IsPrice}
 use Rattle.feed_mapping.specs.Prices.{PriceContext, is_nothing, outcome_of, price_fields, price_outcome, price_reasons}
-use Rattle.feed_mapping.specs.ProductRecords.{fate_of, supplies_in, written_notes}
-use Rattle.feed_mapping.specs.Products.{identifier_notes, notification_in, own_reason, product_record, reference_in, right_pairs}
+use Rattle.feed_mapping.specs.ProductRecords.{fate_of, notification_written, supplies_in, written_notes}
+use Rattle.feed_mapping.specs.Products.{identifier_notes, own_reason, product_record, reference_in, right_pairs}
 use Rattle.feed_mapping.specs.Records.{first_some, is_field}
 use Rattle.feed_mapping.specs.declared.product_records.Fate.TheVariants as fate
 use Rattle.feed_mapping.specs.SupplyChoices.{SupplyChoices}
@@ -40,14 +40,18 @@ detail-has o choices nodes e = go (detail_reason choices.preferred nodes) refl
     go None is = record { own = codes "SupplyDetail" ∷ detail_fields choices.preferred nodes; records = rw is refl; notes = rw is refl; each = prices-are (context_in o nodes) (prices_in nodes) }
 
 pub supply-has : (o : Opening) (choices : SupplyChoices) (nodes : Nodes) → outcome_reason (supply_outcome o choices nodes) ≡ None → HasDetails o choices nodes
-supply-has o choices nodes e = go (is_some (first (details_in nodes))) refl (outcome_reason (supply_markets nodes)) refl (all_records (detail_in o choices) (details_in nodes)) refl
+supply-has o choices nodes e = go (details_in choices nodes) refl (outcome_reason (supply_markets nodes)) refl (all_records (detail_in o choices) (details_in choices nodes)) refl
   where
-    go : (some : Bool) → is_some (first (details_in nodes)) ≡ some → (kind : Option Reason) → outcome_reason (supply_markets nodes) ≡ kind → (rs : List (List (List ℕ))) → all_records (detail_in o choices) (details_in nodes) ≡ rs
+    none : (some : Bool) → is_some (first (each_at "SupplyDetail" nodes)) ≡ some → details_in choices nodes ≡ [] → HasDetails o choices nodes
+    none false a d = let no' = rw (d, a) at e in absurd cc
+    none true a d = record { own = []; markets = []; records = rw (d, a) refl; notes = rw (d, a) refl }
+
+    go : (ds : List Composite) → details_in choices nodes ≡ ds → (kind : Option Reason) → outcome_reason (supply_markets nodes) ≡ kind → (rs : List (List (List ℕ))) → all_records (detail_in o choices) (details_in choices nodes) ≡ rs
         → HasDetails o choices nodes
-    go false d kind m rs r = let no' = rw d at e in absurd cc
-    go true d (Some reason) m rs r = let no' = rw (d, m) at e in absurd cc
-    go true d None m [] r = let no' = rw (d, m, r) at e in absurd cc
-    go true d None m (y ∷ rs) r = record {
+    go [] d kind m rs r = none (is_some (first (each_at "SupplyDetail" nodes))) refl d
+    go (x ∷ ds) d (Some reason) m rs r = let no' = rw (d, m) at e in absurd cc
+    go (x ∷ ds) d None m [] r = let no' = rw (d, m, r) at e in absurd cc
+    go (x ∷ ds) d None m (y ∷ rs) r = record {
       own = outcome_records (supply_markets nodes);
       markets = notes_below (supply_markets nodes);
       records = rw (d, m, r) refl;
@@ -55,16 +59,16 @@ supply-has o choices nodes e = go (is_some (first (details_in nodes))) refl (out
     }
 
 pub product-has : (o : Opening) (choices : SupplyChoices) (c : Composite) → fate_of o choices c.below ≡ fate.Written → HasSupplies o choices c
-product-has o choices c e = go (is_field (reference_in c.below)) refl (own_reason c.below) refl (supplies_reason o choices (supplies_in c.below)) refl
+product-has o choices c e = go (is_field (reference_in c.below)) refl (own_reason choices.supplier c.below) refl (supplies_reason o choices (supplies_in c.below)) refl
   where
-    go : (stands : Bool) → is_field (reference_in c.below) ≡ stands → (own : Option Reason) → own_reason c.below ≡ own → (below : Option Reason) → supplies_reason o choices (supplies_in c.below) ≡ below → HasSupplies o choices c
+    go : (stands : Bool) → is_field (reference_in c.below) ≡ stands → (own : Option Reason) → own_reason choices.supplier c.below ≡ own → (below : Option Reason) → supplies_reason o choices (supplies_in c.below) ≡ below → HasSupplies o choices c
     go false f own w below b = let no' = rw f at e in absurd cc
     go true f (Some own) w below b = let no' = rw (f, w) at e in absurd cc
     go true f None w (Some below) b = let no' = rw (f, w, b) at e in absurd cc
     go true f None w None b = record {
-      own = product_record (notification_in c.below) (right_pairs c.below) c.below;
+      own = product_record (notification_written choices.supplier c.below) (right_pairs c.below) c.below;
       before = identifier_notes c.below;
-      behind = written_notes c.below c.element;
+      behind = written_notes choices.supplier c.below c.element;
       records = rw (f, w, b) refl;
       notes = rw (f, w, b) refl;
     }

@@ -37,9 +37,10 @@ use Rattle.feed_mapping.specs.Elements.{Composite, each_at, first}
 use Rattle.feed_mapping.specs.Markets.{early_market_reasons, first_kept, kept_area, kept_fields, kept_outcome, market_reason, markets_outcome, supply_record, territories_of, union_fields}
 use Rattle.feed_mapping.proofs.MarketLaws.{joined_outcome}
 use Rattle.feed_mapping.specs.Notes.{Note, Reason, foreign, wrong}
-use Rattle.feed_mapping.specs.Outcomes.{Outcome, all_records, left_out, outcome_reason, outcome_records, written_unless}
-use Rattle.feed_mapping.specs.ProductRecords.{Variant, plain_choices, plain_variants, variants, small_variants, smaller_variants, fate_by, records_by, supplies_in, too_large_notes, why_emptied}
+use Rattle.feed_mapping.specs.Outcomes.{Outcome, all_records, left_out, nothing, outcome_reason, outcome_records, written_unless}
+use Rattle.feed_mapping.specs.ProductRecords.{is_alone, notification_written, variants, smaller_variants, fate_by, records_by, supplies_in, why_emptied}
 use Rattle.feed_mapping.specs.Products.{dropping, identifier_reason, identifiers_in, is_code, is_there, notification_in, or_reference, own_reason, pair_reason, product_record, reference_in, right_pair, right_pairs, type_of, value_of, value_written}
+use Rattle.feed_mapping.specs.Parties.{Pair}
 use Rattle.feed_mapping.specs.Records.{clean, first_some, if_empty, is_field, parsed, parsed_term, unless, invalid}
 use Rattle.feed_mapping.specs.Rows.{AreOf, AreProducts, MayCompute, references_of}
 use Rattle.feed_mapping.specs.SupplyChoices.{SupplyChoices}
@@ -79,7 +80,7 @@ priced-rows laws o choices nodes may = go choices.terms choices.is_plain may
     go (Some terms) false (two, coded) = (
       _,
       all-with laws (context_in o nodes) two terms coded (supplier_of (supplier_id choices.preferred nodes))
-          (is_held_back (closed_kinds (context_in o nodes).closed) (all_given (context_in o nodes) (prices_in nodes))) (prices_in nodes),
+          (is_held_back terms (supplier_of (supplier_id choices.preferred nodes)) (all_given (context_in o nodes) (prices_in nodes)) (closed_kinds (context_in o nodes) (prices_in nodes))) (prices_in nodes),
     )
 
 detail-rows : TermLaws → (o : Opening) (choices : SupplyChoices) (nodes : Nodes) → MayCompute o choices.terms → (notes : List Note) (kind : Option Reason) → detail_reason choices.preferred nodes ≡ kind
@@ -208,22 +209,24 @@ never-empty o fields records [] reads none = let are = reads.are in cc are
 never-empty o fields records (d ∷ ds) reads none = cc none
 
 detailed-rows : TermLaws → (o : Opening) (choices : SupplyChoices) → MayCompute o choices.terms → (nodes : Nodes) (notes : List Note) (kind : Option Reason) → outcome_reason (supply_markets nodes) ≡ kind
-    → (below : Records) → all_records (detail_in o choices) (details_in nodes) ≡ below
+    → (below : Records) → all_records (detail_in o choices) (details_in choices nodes) ≡ below
     → AreSupplies o (outcome_records (written_unless (first_some (kind ∷ if_empty below (Some (wrong bad.NoDetailLeft [])) ∷ [])) (outcome_records (supply_markets nodes) ++ below) notes))
 detailed-rows laws o choices may nodes notes (Some kind) m below d = no-supplies o
 detailed-rows laws o choices may nodes notes None m [] d = no-supplies o
 detailed-rows laws o choices may nodes notes None m (detail ∷ below) d =
     let (fields, same, is) = markets-rows o (each_at "Market" nodes) m in
-    let (ds, reads) = subst (λ (k : Records). AreDetails o k) d (details-rows laws o choices may (details_in nodes)) in
+    let (ds, reads) = subst (λ (k : Records). AreDetails o k) d (details-rows laws o choices may (details_in choices nodes)) in
     subst (λ (k : Records). AreSupplies o (k ++ (detail ∷ below))) (sym same)
     (one-supply o fields is ds (detail ∷ below) (never-empty o detail below ds reads) reads)
 
 supply-rows : TermLaws → (o : Opening) (choices : SupplyChoices) → MayCompute o choices.terms → (nodes : Nodes) → AreSupplies o (outcome_records (supply_outcome o choices nodes))
-supply-rows laws o choices may nodes = go (is_some (first (details_in nodes)))
+supply-rows laws o choices may nodes = go (is_some (first (details_in choices nodes))) (is_some (first (each_at "SupplyDetail" nodes)))
   where
-    go : (some : Bool) → AreSupplies o (outcome_records (if some then detailed_outcome o choices nodes else left_out (foreign other.NoSupplyDetail [])))
-    go true = detailed-rows laws o choices may nodes _ (outcome_reason (supply_markets nodes)) refl (all_records (detail_in o choices) (details_in nodes)) refl
-    go false = no-supplies o
+    go : (counts is_there : Bool) → AreSupplies o (outcome_records
+        (if counts then detailed_outcome o choices nodes else if is_there then nothing else left_out (foreign other.NoSupplyDetail [])))
+    go true is_there = detailed-rows laws o choices may nodes _ (outcome_reason (supply_markets nodes)) refl (all_records (detail_in o choices) (details_in choices nodes)) refl
+    go false true = no-supplies o
+    go false false = no-supplies o
 
 all-joined : {A : Type 0} (P : A → Type 0) (xs ys : List A) → AllByRecursion P xs → AllByRecursion P ys → AllByRecursion P (xs ++ ys)
 all-joined P [] ys f g = g
@@ -378,12 +381,19 @@ emptied-rows : (o : Opening) (nodes : Nodes) → IsField (reference_in nodes) �
     → AreOf o (product_record (dropping (notification_in nodes)) pairs nodes ∷ []) (reference_in nodes ∷ [])
 emptied-rows o nodes f pairs p = standing-rows o nodes f (dropping (notification_in nodes)) (dropping-code (notification_in nodes)) pairs p [] (no-supplies o)
 
-own-code : (nodes : Nodes) → own_reason nodes ≡ None → IsCode (notification_in nodes)
-own-code nodes e = go (invalid (parsed_term code2_of) bad.NotificationType (notification_in nodes)) refl e
+own-code : (supplier : Option Pair) (nodes : Nodes) → own_reason supplier nodes ≡ None → IsCode (notification_in nodes)
+own-code supplier nodes e = go (invalid (parsed_term code2_of) bad.NotificationType (notification_in nodes)) refl e
   where
-    go : (r : Option Reason) → invalid (parsed_term code2_of) bad.NotificationType (notification_in nodes) ≡ r → own_reason nodes ≡ None → IsCode (notification_in nodes)
+    go : (r : Option Reason) → invalid (parsed_term code2_of) bad.NotificationType (notification_in nodes) ≡ r → own_reason supplier nodes ≡ None → IsCode (notification_in nodes)
     go None is f = code-is (notification_in nodes) (unless-none (is_some (parsed_term code2_of (notification_in nodes))) bad.NotificationType (notification_in nodes) is)
     go (Some r) is f = let no = rw is at f in cc no
+
+written-code : (supplier : Option Pair) (nodes : Nodes) → own_reason supplier nodes ≡ None → IsCode (notification_written supplier nodes)
+written-code supplier nodes e = go (is_alone supplier nodes)
+  where
+    go : (drops : Bool) → IsCode (if drops then dropping (notification_in nodes) else notification_in nodes)
+    go true = dropping-code (notification_in nodes)
+    go false = own-code supplier nodes e
 
 former-none : {A : Type 0} (x y : Option A) → option_or x y ≡ None → x ≡ None
 former-none None y e = refl
@@ -393,8 +403,8 @@ own-rows : TermLaws → (o : Opening) (choices : SupplyChoices) → MayCompute o
     → AreOf o (records_by o choices kind nodes) (reference_in nodes ∷ [])
 own-rows laws o choices may nodes f (Some kind) e = emptied-rows o nodes f (right_pairs nodes) (right-pairs (identifiers_in nodes))
 own-rows laws o choices may nodes f None e =
-    let own = former-none (own_reason nodes) (supplies_reason o choices (supplies_in nodes)) e in
-    standing-rows o nodes f (notification_in nodes) (own-code nodes own) (right_pairs nodes) (right-pairs (identifiers_in nodes)) (all_records (supply_in o choices) (supplies_in nodes))
+    let own = former-none (own_reason choices.supplier nodes) (supplies_reason o choices (supplies_in nodes)) e in
+    standing-rows o nodes f (notification_written choices.supplier nodes) (written-code choices.supplier nodes own) (right_pairs nodes) (right-pairs (identifiers_in nodes)) (all_records (supply_in o choices) (supplies_in nodes))
     (supplies-rows laws o choices may (supplies_in nodes))
 
 -- no products of no records
@@ -408,34 +418,22 @@ product-rows laws o choices c may = go (is_field (reference_in c.below)) refl
     nodes : Nodes
     nodes = c.below
 
-    whole : IsField (reference_in nodes) → (chosen : SupplyChoices) → MayCompute o chosen.terms → AreOf o (records_by o chosen (why_emptied o chosen nodes) nodes) (reference_in nodes ∷ [])
-    whole f chosen may = own-rows laws o chosen may nodes f (why_emptied o chosen nodes) refl
-
-    small : IsField (reference_in nodes) → (notes : List Note) → AllByRecursion (λ f. AreOf o f.records (reference_in nodes ∷ [])) (small_variants notes nodes)
-    small f notes = (emptied-rows o nodes f (right_pairs nodes) (right-pairs (identifiers_in nodes)), (emptied-rows o nodes f [] no-pairs, tt))
+    whole : IsField (reference_in nodes) → AreOf o (records_by o choices (why_emptied o choices nodes) nodes) (reference_in nodes ∷ [])
+    whole f = own-rows laws o choices may nodes f (why_emptied o choices nodes) refl
 
     standing : IsField (reference_in nodes) → (kind : Option Reason) (notes : List Note) → AllByRecursion (λ f. AreOf o f.records (reference_in nodes ∷ [])) (smaller_variants (fate_by kind) notes c)
-    standing f None notes = small f (too_large_notes c)
-    standing f (Some kind) notes = small f notes
-
-    plain : is_field (reference_in nodes) ≡ true → (terms : Option (List Term)) (rest : List Variant) → AllByRecursion (λ f. AreOf o f.records (reference_in nodes ∷ [])) rest
-        → AllByRecursion (λ f. AreOf o f.records (reference_in nodes ∷ [])) (plain_variants terms o choices c ++ rest)
-    plain e None rest all = all
-    plain e (Some terms) rest all = (rw e (whole (field-is (reference_in nodes) e) (plain_choices choices) may), all)
-
-    bare : is_field (reference_in nodes) ≡ false → (terms : Option (List Term)) → AllByRecursion (λ f. AreOf o f.records []) (plain_variants terms o choices c ++ [])
-    bare e None = tt
-    bare e (Some terms) = (rw e (none-rows o), tt)
+    standing f None notes = (emptied-rows o nodes f [] no-pairs, tt)
+    standing f (Some kind) notes = (emptied-rows o nodes f [] no-pairs, tt)
 
     go : (stands : Bool) → is_field (reference_in nodes) ≡ stands → AllByRecursion (λ f. AreOf o f.records (references_of nodes)) (variants o choices c)
     go true e =
         let f = field-is (reference_in nodes) e in
         let names : references_of nodes ≡ reference_in nodes ∷ [] = rw e refl in
         subst (λ (rs : List (List ℕ)). AllByRecursion (λ f. AreOf o f.records rs) (variants o choices c)) (sym names)
-        (rw e (whole f choices may, plain e choices.terms _ (standing f (why_emptied o choices nodes) _)))
+        (rw e (whole f, standing f (why_emptied o choices nodes) _))
     go false e =
         let names : references_of nodes ≡ [] = rw e refl in
-        subst (λ (rs : List (List ℕ)). AllByRecursion (λ f. AreOf o f.records rs) (variants o choices c)) (sym names) (rw e (none-rows o, bare e choices.terms))
+        subst (λ (rs : List (List ℕ)). AllByRecursion (λ f. AreOf o f.records rs) (variants o choices c)) (sym names) (rw e (none-rows o, tt))
 
 -- products one after the other
 pub products-joined : (o : Opening) (a b : Records) (c d : List Product) → AreProducts o a c → AreProducts o b d → AreProducts o (a ++ b) (c ++ d)

@@ -19,7 +19,7 @@ use Rattle.feed_mapping.specs.Notes.{Note}
 use Rattle.feed_mapping.specs.Outcomes.{Outcome, all_records, left_out, nothing, outcome_records, written}
 use Rattle.feed_mapping.specs.Prices.{PriceContext, price_fields, price_outcome}
 use Rattle.feed_mapping.specs.PriceTerms.{AreWritten, all_given, all_remark_notes, closed_kinds, elements_in, given_by, given_in, given_of, is_seen, outcome_in, records_with, remark_notes}
-use Rattle.feed_mapping.specs.Records.{Records, parsed}
+use Rattle.feed_mapping.specs.Records.{Fields, Records, parsed}
 use Rattle.feed_mapping.proofs.ComputedRows.{IsSeen, all-fit, long-at, seen}
 use Rattle.feed_mapping.proofs.PriceRows.{said-read}
 
@@ -36,7 +36,7 @@ pub record IsNew (context : PriceContext) (c : Composite) (old new : Records) : 
   pub holds : slice_get new (length old) ≡ Some (codes "Price" ∷ price_fields context c.below)
   pub utf8 : list_all is_utf8 (price_fields context c.below) ≡ true
   pub read : parsed (price_of context.opening) (price_fields context c.below) ≡ Some price
-  pub given : given_in context c.below ≡ given_of price c.below ∷ []
+  pub given : given_in context c.below ≡ given_of price (codes "Price" ∷ price_fields context c.below) c.below ∷ []
 
 module _ (context : PriceContext) (c : Composite) (old new : Records) (added : new ≡ old ++ outcome_records (outcome_in context c)) where
   -- nothing was added: the terms see nothing
@@ -71,8 +71,8 @@ pub one-flag : (seen : Composite → Bool) (old new all : List Bool) (c : Compos
 one-flag seen old new all c whole others parts added before =
     ap (λ k. k ++ map seen others) added ∙ append_assoc old (seen c ∷ []) (map seen others) ∙ ap (λ k. old ++ map seen k) (sym parts) ∙ before
 
-pub have-prices : (context : PriceContext) (cs : List Composite) (records : Records) (given : List GivenPrice) (flags : List Bool) → AreWritten context cs records given flags → HavePrices records given
-have-prices context cs records given flags w =
+pub have-prices : (context : PriceContext) (cs : List Composite) (records : Records) (given : List GivenPrice) (flags : List Bool) (closed : List Kind) → AreWritten context cs records given flags closed → HavePrices records given
+have-prices context cs records given flags closed w =
     let fit = all-fit context cs in record {
       count = ap length w.records ∙ fit.0 ∙ sym (ap length w.given);
       fields = λ k l.
@@ -80,30 +80,31 @@ have-prices context cs records given flags w =
           (long-at (all_records (outcome_in context) cs) k fit.1 (subst (λ (rs : Records). k < length rs) w.records l));
     }
 
-module _ (terms : List Term) (supplier : Option (List ℕ)) (context : PriceContext) (cs : List Composite) (records : Records) (given : List GivenPrice) (flags : List Bool) (are : AreWritten context cs records given flags) (closed : List Kind) (is : closed ≡ closed_kinds context.closed) where
+module _ (terms : List Term) (supplier : Option (List ℕ)) (context : PriceContext) (cs : List Composite) (records : Records) (given : List GivenPrice) (flags : List Bool) (closed : List Kind) (are : AreWritten context cs records given flags closed) where
   -- the records with the terms are those that are defined
   pub records-are : (is_plain : Bool) → (if is_plain then records else with_terms terms supplier closed given records) ≡ records_with terms supplier context cs is_plain
   records-are true = are.records
   records-are false =
-      ap (λ (k : List Kind). with_terms terms supplier k given records) is ∙ ap (λ (g : List GivenPrice). with_terms terms supplier (closed_kinds context.closed) g records) are.given
-      ∙ ap (λ (rs : Records). with_terms terms supplier (closed_kinds context.closed) (all_given context cs) rs) are.records
+      ap (λ (k : List Kind). with_terms terms supplier k given records) are.closed ∙ ap (λ (g : List GivenPrice). with_terms terms supplier (closed_kinds context cs) g records) are.given
+      ∙ ap (λ (rs : Records). with_terms terms supplier (closed_kinds context cs) (all_given context cs) rs) are.records
 
   -- of each Price that the terms see one thing is said
-  pub said-of-each : map (remarks_of terms supplier (is_held_back closed given)) given ≡ map (remarks_of terms supplier (is_held_back (closed_kinds context.closed) (all_given context cs))) (all_given context cs)
+  pub said-of-each : map (remarks_of terms supplier (is_held_back terms supplier given closed)) given
+      ≡ map (remarks_of terms supplier (is_held_back terms supplier (all_given context cs) (closed_kinds context cs))) (all_given context cs)
   said-of-each =
-      ap (λ (k : List Kind). map (remarks_of terms supplier (is_held_back k given)) given) is
-      ∙ ap (λ (g : List GivenPrice). map (remarks_of terms supplier (is_held_back (closed_kinds context.closed) g)) g) are.given
+      ap (λ (k : List Kind). map (remarks_of terms supplier (is_held_back terms supplier given k)) given) are.closed
+      ∙ ap (λ (g : List GivenPrice). map (remarks_of terms supplier (is_held_back terms supplier g (closed_kinds context cs))) g) are.given
 
 -- ---- the notes on Prices that are written
 
-by-outcome : (outcome : Outcome) (price : Option Price) (nodes : Nodes) → length (given_by outcome price nodes) ≤ 1
-by-outcome (written records notes) (Some price) nodes = omega arith
-by-outcome (written records notes) None nodes = omega arith
-by-outcome nothing price nodes = omega arith
-by-outcome (left_out reason) price nodes = omega arith
+by-outcome : (outcome : Outcome) (price : Option Price) (fields : Fields) (nodes : Nodes) → length (given_by outcome price fields nodes) ≤ 1
+by-outcome (written records notes) (Some price) fields nodes = omega arith
+by-outcome (written records notes) None fields nodes = omega arith
+by-outcome nothing price fields nodes = omega arith
+by-outcome (left_out reason) price fields nodes = omega arith
 
 seen-once : (context : PriceContext) (nodes : Nodes) → length (given_in context nodes) ≤ 1
-seen-once context nodes = by-outcome _ _ nodes
+seen-once context nodes = by-outcome _ _ _ nodes
 
 -- what is known of the flags and of what is said of some Prices, before the notes on them
 pub record IsLeft (context : PriceContext) (is_plain : Bool) (cs : List Composite) (fs : List Bool) (left : List Remarks) (noted all : List Note) : Type 0 where

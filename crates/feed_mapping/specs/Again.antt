@@ -4,6 +4,8 @@ use Rattle.std.specs.Prelude.{if◌then◌else◌, codes, is_some}
 use Rattle.std.specs.List.{list_any}
 use Rattle.std.specs.Option.{option_or}
 use Rattle.std.specs.Str.{bytes_eq}
+use Rattle.feed_xml.specs.Grammar.{is_filled}
+use Rattle.feed_outline.specs.Composites.{text_in}
 use Rattle.feed_outline.specs.Names.{stranger, stranger_apart}
 use Rattle.feed_outline.specs.Nodes.{Nodes, no_nodes, node}
 use Rattle.feed_mapping.specs.Elements.{composites, first}
@@ -21,15 +23,28 @@ is_read_apart name =
     list_any (bytes_eq name)
     (codes "PriceDate" ∷ codes "Discount" ∷ codes "DiscountCoded" ∷ codes "Tax" ∷ [])
 
--- whether an element of this name does not repeat, and comes again among these
-abbrev pub is_again : List ℕ → Nodes → Bool
-is_again name rest = not (is_repeatable name) && is_some (first (composites name rest))
+-- a composite that does not repeat
+abbrev pub is_composite : List ℕ → Bool
+is_composite name =
+    list_any (bytes_eq name)
+    (codes "Territory" ∷ codes "PriceCoded" ∷ codes "EpubLicense" ∷ codes "EpubLicenseWithDate" ∷ [])
+
+-- whether an element of this name and text comes again among these: a composite, empty or not; and of
+-- one of text, which has a text, another with one
+abbrev pub comes_again : List ℕ → List ℕ → Nodes → Bool
+comes_again name text rest =
+    if is_composite name then is_some (first (composites name rest))
+    else is_filled text && is_some (text_in name rest)
+
+-- whether an element of this name and text does not repeat, and comes again among these
+abbrev pub is_again : List ℕ → List ℕ → Nodes → Bool
+is_again name text rest = not (is_repeatable name) && comes_again name text rest
 
 -- The name of the first element that comes again though it does not repeat, at whatever depth; what
 -- stands in a PriceDate is looked at with its date.
 abbrev pub again_in : Nodes → Option (List ℕ)
 again_in no_nodes = None
 again_in (node n tag text below rest) =
-    if is_again n rest then Some n
+    if is_again n text rest then Some n
     else option_or (if is_read_apart n then None else again_in below)
     (again_in rest)

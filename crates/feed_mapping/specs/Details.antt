@@ -14,6 +14,7 @@ use Rattle.feed_mapping.specs.Elements.{Composite, below_at, each_at, first, som
 use Rattle.feed_mapping.specs.Identifiers.{chosen, identifiers_in}
 use Rattle.feed_terms.specs.declared.term.Term.{Term}
 use Rattle.feed_mapping.specs.Notes.{Note, Reason, Reasons, wrong}
+use Rattle.feed_mapping.specs.OtherSuppliers.{own_details}
 use Rattle.feed_mapping.specs.Outcomes.{Outcome, all_notes, all_records, written_unless}
 use Rattle.feed_mapping.specs.Parties.{Pair, is_there, pair}
 use Rattle.feed_mapping.specs.PriceTerms.{records_with, supplier_of, terms_notes}
@@ -104,10 +105,10 @@ module _ (preferred : List ℕ) (nodes : Nodes) where
   abbrev pub detail_reason : Option Reason
   detail_reason = option_or (option_map (wrong bad.OldElement) (old_supply nodes)) field_reason
 
--- why the first SupplyDetail among elements is left out, where it is
-abbrev pub first_detail_reason : List ℕ → Nodes → Option Reason
-first_detail_reason preferred nodes =
-    option_and_then (λ c. detail_reason preferred c.below) (first (each_at "SupplyDetail" nodes))
+-- why the first SupplyDetail among elements that counts is left out, where it is
+abbrev pub first_detail_reason : Option Pair → List ℕ → Nodes → Option Reason
+first_detail_reason supplier preferred nodes =
+    option_and_then (λ c. detail_reason preferred c.below) (first (own_details supplier nodes))
 
 module _ (o : Opening) where
   -- the context of the Prices of a SupplyDetail, by what closes them

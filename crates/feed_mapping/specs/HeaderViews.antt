@@ -21,6 +21,7 @@ choices_view c = record {
   offset = c.offset;
   sender = option_map pair_view c.sender;
   addressee = option_map pair_view c.addressee;
+  supplier = option_map pair_view c.supplier;
   id_type = c.id_type.now;
 }
 

@@ -5,12 +5,15 @@ pub mod Again
 pub mod Notes
 pub mod Regions
 pub mod Records
+pub mod Amounts
 pub mod Outcomes
 pub mod Territories
 pub mod Dates
 pub mod DateViews
 pub mod Prices
 pub mod PriceViews
+pub mod OtherSuppliers
+pub mod Strangers
 pub mod Details
 pub mod PartyViews
 pub mod Header
@@ -21,6 +24,7 @@ pub mod Products
 pub mod Supplies
 pub mod PriceFates
 pub mod ProductRecords
+pub mod SupplierCounts
 pub mod Rows
 pub mod Vocabulary
 pub mod SupplyChoices

@@ -5,6 +5,7 @@ use Rattle.feed_mapping.specs.declared.notes.Foreign.{Foreign as ForeignWhy}
 use Rattle.feed_mapping.specs.declared.notes.Note.{Note as Lent}
 use Rattle.feed_mapping.specs.declared.notes.Reason.{Reason as LentReason}
 use Rattle.feed_mapping.specs.declared.notes.ReasonKind.{ReasonKind}
+use Rattle.feed_mapping.specs.declared.notes.Foreign.TheVariants as other
 use Rattle.feed_mapping.specs.declared.notes.ReasonKind.TheVariants.{Foreign, Wrong}
 use Rattle.feed_mapping.specs.declared.notes.Wrong.{Wrong as WrongWhy}
 
@@ -34,6 +35,11 @@ wrong kind text = record { kind = Wrong kind; text = text }
 abbrev pub is_wrong : ReasonKind → Bool
 is_wrong (Foreign kind) = false
 is_wrong (Wrong kind) = true
+
+-- the reason is that a product is of other suppliers alone
+abbrev pub is_of_others : ReasonKind → Bool
+is_of_others (Foreign other.OfOthers) = true
+is_of_others kind = false
 
 -- a note on an element, by its reason
 abbrev pub note : Element → Reason → Note

@@ -37,9 +37,9 @@ pub record HasDetails (o : Opening) (choices : SupplyChoices) (nodes : Nodes) : 
   pub own : List (List (List ℕ))
   pub markets : List Note
   pub records : outcome_records (supply_outcome o choices nodes)
-      ≡ own ++ all_records (detail_in o choices) (details_in nodes)
+      ≡ own ++ all_records (detail_in o choices) (details_in choices nodes)
   pub notes : notes_below (supply_outcome o choices nodes)
-      ≡ markets ++ all_notes (detail_in o choices) (details_in nodes)
+      ≡ markets ++ all_notes (detail_in o choices) (details_in choices nodes)
 
 -- a Product is written with what its ProductSupplys come to, in order
 pub record HasSupplies (o : Opening) (choices : SupplyChoices) (c : Composite) : Type 0 where

@@ -1,6 +1,6 @@
 -- What the terms of the shop see of the Prices of a SupplyDetail, and what comes of them by these.
 use Rattle.std.specs.Prelude.{◌≡◌, ℕ, Bool, true, false, ◌&&◌, ◌||◌, List, [], ◌∷◌, ◌++◌, Option, Some, None}
-use Rattle.std.specs.Prelude.{if◌then◌else◌, codes, is_some, length, map, nat_lt, replicate}
+use Rattle.std.specs.Prelude.{if◌then◌else◌, codes, length, map, nat_lt, replicate, drop, take}
 use Rattle.std.specs.List.{flat_map, list_any}
 use Rattle.std.specs.Option.{option_to_list}
 use Rattle.std.specs.Str.{bytes_eq, is_utf8}
@@ -8,26 +8,27 @@ use Rattle.feed_outline.specs.Names.{stranger_apart}
 use Rattle.feed_outline.specs.Nodes.{Nodes, no_nodes, node}
 use Rattle.onix_records.specs.Price.{price_of}
 use Rattle.onix_records.specs.declared.parts.Price.{Price}
-use Rattle.onix_terms.specs.Code.{code2_of, currency_of}
-use Rattle.onix_terms.specs.Options.{◌>>=◌}
+use Rattle.onix_records.specs.declared.row.Opening.{Opening}
 use Rattle.feed_terms.specs.HeldBack.{is_held_back}
 use Rattle.feed_terms.specs.Percents.{feed_percent_of}
 use Rattle.feed_terms.specs.Prices.{code_said, discount_of}
 use Rattle.feed_terms.specs.WithTerms.{remarks_of, with_terms}
 use Rattle.feed_terms.specs.declared.with_terms.Remarks.{Remarks}
 use Rattle.feed_terms.specs.declared.price.Discount.{Discount}
+use Rattle.feed_terms.specs.declared.price.SaidCode.{SaidCode}
 use Rattle.feed_terms.specs.declared.price.GivenPrice.{GivenPrice}
 use Rattle.feed_terms.specs.declared.price.Kind.{Kind}
 use Rattle.feed_terms.specs.declared.term.Term.{Term}
-use Rattle.feed_mapping.specs.Elements.{Composite, Element, composites, each_at, first}
-use Rattle.feed_mapping.specs.Elements.{text_at}
+use Rattle.feed_mapping.specs.Again.{comes_again}
+use Rattle.feed_mapping.specs.Elements.{Composite, Element, each_at}
+use Rattle.feed_mapping.specs.Elements.{some_at, text_at}
 use Rattle.feed_mapping.specs.Notes.{Note, foreign, note}
 use Rattle.feed_mapping.specs.Outcomes.{Outcome, all_records, written}
 use Rattle.feed_mapping.specs.Parties.{Pair, is_there}
-use Rattle.feed_mapping.specs.Prices.{PriceContext, price_fields, price_outcome}
-use Rattle.feed_mapping.specs.Records.{Records, parsed, parsed_term}
+use Rattle.feed_mapping.specs.Prices.{PriceContext, is_for_others, key_in, price_fields}
+use Rattle.feed_mapping.specs.Prices.{price_outcome}
+use Rattle.feed_mapping.specs.Records.{Fields, Records, parsed, parsed_term}
 use Rattle.feed_mapping.specs.declared.notes.Foreign.TheVariants as other
-use Rattle.feed_mapping.specs.declared.price_keys.Key.{Key}
 
 -- ---- what a Price says to the terms
 
@@ -40,7 +41,7 @@ is_of_terms name =
 abbrev pub is_mixed : Nodes → Bool
 is_mixed no_nodes = false
 is_mixed (node n tag text below rest) =
-    (bytes_eq n stranger_apart || is_some (first (composites n rest))) || is_mixed rest
+    (bytes_eq n stranger_apart || comes_again n text rest) || is_mixed rest
 
 -- a Price is garbled: one of the elements that the terms read is a stranger, or comes again in one
 -- of those
@@ -50,10 +51,13 @@ is_garbled (node n tag text below rest) =
     (bytes_eq n stranger_apart || (is_of_terms n && is_mixed below)) || is_garbled rest
 
 -- the code that a DiscountCoded says
-abbrev pub code_in : Composite → Option (List ℕ)
+abbrev pub code_in : Composite → Option SaidCode
 code_in c =
-    if is_utf8 (text_at "DiscountCodeType" c.below) && is_utf8 (text_at "DiscountCode" c.below)
-    then code_said (text_at "DiscountCodeType" c.below) (text_at "DiscountCode" c.below) else None
+    if is_utf8 (text_at "DiscountCodeType" c.below)
+    && (is_utf8 (text_at "DiscountCodeTypeName" c.below) && is_utf8 (text_at "DiscountCode" c.below))
+    then code_said (text_at "DiscountCodeType" c.below) (text_at "DiscountCodeTypeName" c.below)
+    (text_at "DiscountCode" c.below)
+    else None
 
 -- the discount that a Discount says
 abbrev pub discount_in : Composite → Option Discount
@@ -64,15 +68,29 @@ discount_in c =
     (text_at "DiscountPercent" c.below)
     else None
 
+-- the rate that a Tax says by its percent, or where it has none, the zero rate by its code
+abbrev pub rate_by : Option (List ℕ) → Nodes → Option ℕ
+rate_by None tax = if bytes_eq (text_at "TaxRateCode" tax) (codes "Z") then Some 0 else None
+rate_by (Some percent) tax = parsed_term feed_percent_of percent
+
+-- the rate that a Tax says
+abbrev pub rate_in : Nodes → Option ℕ
+rate_in tax = rate_by (some_at "TaxRatePercent" tax) tax
+
 -- the rate of a Tax, where there is just one
 abbrev pub tax_in : List Composite → Option ℕ
-tax_in (tax ∷ []) = parsed_term feed_percent_of (text_at "TaxRatePercent" tax.below)
+tax_in (tax ∷ []) = rate_in tax.below
 tax_in taxes = None
 
--- a Price that says so, and what it says to the terms besides
-abbrev pub given_of : Price → Nodes → GivenPrice
-given_of price nodes = record {
+-- the fields of a territory, each with a comma behind it
+abbrev pub area_text : Fields → List ℕ
+area_text fields = flat_map (λ f. f ++ 44 ∷ []) fields
+
+-- a Price that says so in the fields of its record, and what it says to the terms besides
+abbrev pub given_of : Price → Fields → Nodes → GivenPrice
+given_of price fields nodes = record {
   price = price;
+  area = area_text (take 3 (drop 4 fields));
   codes = flat_map (λ c. option_to_list (code_in c)) (each_at "DiscountCoded" nodes);
   discounts = flat_map (λ c. option_to_list (discount_in c)) (each_at "Discount" nodes);
   tax = tax_in (each_at "Tax" nodes);
@@ -80,16 +98,28 @@ given_of price nodes = record {
 }
 
 -- what the terms see of what a Price comes to: it, where it is written
-abbrev pub given_by : Outcome → Option Price → Nodes → List GivenPrice
-given_by (written records notes) (Some price) nodes = given_of price nodes ∷ []
-given_by outcome price nodes = []
+abbrev pub given_by : Outcome → Option Price → Fields → Nodes → List GivenPrice
+given_by (written records notes) (Some price) fields nodes = given_of price fields nodes ∷ []
+given_by outcome price fields nodes = []
+
+-- the type and the currency of a Price, or those of the header, each where it is one
+abbrev pub kind_in : Opening → Nodes → Kind
+kind_in o nodes = record {
+  price_type = (key_in o nodes).price_type;
+  currency = (key_in o nodes).currency;
+}
+
+-- the same, unless it is for others
+abbrev pub kinds_closed : Opening → Nodes → List Kind
+kinds_closed o nodes = if is_for_others nodes then [] else kind_in o nodes ∷ []
 
 module _ (context : PriceContext) where
   -- what they see of a Price
   abbrev pub given_in : Nodes → List GivenPrice
   given_in nodes =
       given_by (price_outcome context nodes)
-      (parsed (price_of context.opening) (price_fields context nodes)) nodes
+      (parsed (price_of context.opening) (price_fields context nodes))
+      (codes "Price" ∷ price_fields context nodes) nodes
 
   -- of some Prices
   abbrev pub all_given : List Composite → List GivenPrice
@@ -103,6 +133,14 @@ module _ (context : PriceContext) where
   abbrev pub is_seen : Composite → Bool
   is_seen c = nat_lt 0 (length (given_in c.below))
 
+  -- the type and the currency of a Price that gives no record, unless it is for others
+  abbrev pub closed_by : Composite → List Kind
+  closed_by c = if is_seen c then [] else kinds_closed context.opening c.below
+
+  -- those of some Prices
+  abbrev pub closed_kinds : List Composite → List Kind
+  closed_kinds prices = flat_map closed_by prices
+
   -- the element of a Price that the terms see
   abbrev pub elements_in : Composite → List Element
   elements_in c = map (λ g. c.element) (given_in c.below)
@@ -110,23 +148,11 @@ module _ (context : PriceContext) where
 -- what the terms see of the Prices of a SupplyDetail fits these records, and whether each is
 -- written
 pub record AreWritten (context : PriceContext) (prices : List Composite) (kept : Records)
-    (seen : List GivenPrice) (flags : List Bool) : Type 0 where
+    (seen : List GivenPrice) (flags : List Bool) (closed : List Kind) : Type 0 where
   pub records : kept ≡ all_records (outcome_in context) prices
   pub given : seen ≡ all_given context prices
   pub are_written : flags ≡ map (is_seen context) prices
-
--- a type and a currency that are both there
-abbrev pub kind_of : Key → Option Kind
-kind_of key = do
-  type_letters ← key.price_type
-  currency_letters ← key.currency
-  price_type ← parsed_term code2_of type_letters
-  currency ← parsed_term currency_of currency_letters
-  Some (record { price_type = price_type; currency = currency })
-
--- the types and currencies that are closed
-abbrev pub closed_kinds : List Key → List Kind
-closed_kinds keys = flat_map (λ k. option_to_list (kind_of k)) keys
+  pub closed : closed ≡ closed_kinds context prices
 
 -- a supplier as a term has it, by an identifier that is there and UTF-8
 abbrev pub supplier_of : Pair → Option (List ℕ)
@@ -167,7 +193,7 @@ module _ (terms : List Term) (supplier : Option (List ℕ)) (context : PriceCont
   abbrev pub records_with : Bool → Records
   records_with true = all_records (outcome_in context) prices
   records_with false =
-      with_terms terms supplier (closed_kinds context.closed) (all_given context prices)
+      with_terms terms supplier (closed_kinds context prices) (all_given context prices)
       (all_records (outcome_in context) prices)
 
   -- notes on what else comes of them
@@ -175,5 +201,5 @@ module _ (terms : List Term) (supplier : Option (List ℕ)) (context : PriceCont
   terms_notes is_plain =
       all_remark_notes is_plain (flat_map (elements_in context) prices)
       (map (remarks_of terms supplier
-      (is_held_back (closed_kinds context.closed) (all_given context prices)))
+      (is_held_back terms supplier (all_given context prices) (closed_kinds context prices)))
       (all_given context prices))

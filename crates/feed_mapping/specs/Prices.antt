@@ -1,12 +1,10 @@
 -- A Price: the record that is written of it, or why it is left out.
 use Prim.Native.String.{String}
-use Rattle.std.specs.Prelude.{ℕ, Bool, false, ◌+◌, ◌&&◌, ◌||◌, ◌==◌, nat_lt, drop, length}
-use Rattle.std.specs.Prelude.{position, take}
+use Rattle.std.specs.Prelude.{ℕ, Bool, false, ◌&&◌, ◌||◌, nat_lt}
 use Rattle.std.specs.Prelude.{List, [], ◌∷◌, ◌++◌, Option, Some, None, if◌then◌else◌, codes}
 use Rattle.std.specs.Prelude.{find, map, not, option_map, is_none, is_some}
-use Rattle.std.specs.Char.{is_ascii_digit}
-use Rattle.std.specs.List.{flat_map, list_all, list_any}
-use Rattle.std.specs.Option.{option_map_or, option_or, option_to_list, unwrap_or}
+use Rattle.std.specs.List.{flat_map, list_any}
+use Rattle.std.specs.Option.{option_or, option_to_list, unwrap_or}
 use Rattle.std.specs.Result.{result_err, result_unwrap_or}
 use Rattle.std.specs.Str.{bytes_eq}
 use Rattle.feed_outline.specs.Composites.{text_in}
@@ -14,9 +12,10 @@ use Rattle.feed_outline.specs.Nodes.{Nodes}
 use Rattle.onix_records.specs.Fields.{optional, or_default}
 use Rattle.onix_records.specs.Price.{day_field, price_of}
 use Rattle.onix_records.specs.declared.row.Opening.{Opening}
-use Rattle.onix_terms.specs.Amount.{amount_of}
 use Rattle.onix_terms.specs.Code.{code2_of, currency_of}
 use Rattle.onix_terms.specs.Quantity.{quantity_of}
+use Rattle.feed_mapping.specs.Amounts.{amount_said, amount_written, are_zeros, is_zero}
+use Rattle.feed_mapping.specs.Amounts.{rounded_amount, written_amount}
 use Rattle.feed_mapping.specs.Dates.{days, days_in}
 use Rattle.feed_mapping.specs.declared.dates.Days.{Days}
 use Rattle.feed_mapping.specs.Elements.{Composite, composites, each_at, first, some_at, text_at}
@@ -32,7 +31,7 @@ use Rattle.feed_mapping.specs.declared.notes.Foreign.{Foreign}
 use Rattle.feed_mapping.specs.declared.notes.Foreign.TheVariants.{BesideDates, CurrencyZone}
 use Rattle.feed_mapping.specs.declared.notes.Foreign.TheVariants.{Discount, EpubLicenseWithDate}
 use Rattle.feed_mapping.specs.declared.notes.Foreign.TheVariants.{DiscountCoded, EpubLicense}
-use Rattle.feed_mapping.specs.declared.notes.Foreign.TheVariants.{MoreDecimals, NoCharge}
+use Rattle.feed_mapping.specs.declared.notes.Foreign.TheVariants.{NoCharge, Rounded}
 use Rattle.feed_mapping.specs.declared.notes.Foreign.TheVariants.{PriceCoded, PriceCondition}
 use Rattle.feed_mapping.specs.declared.notes.Foreign.TheVariants.{PriceConstraint, PricePer}
 use Rattle.feed_mapping.specs.declared.notes.Foreign.TheVariants.{PriceQualifier}
@@ -51,27 +50,10 @@ pub record PriceContext : Type 0 where
 
 -- ---- the record
 
-abbrev pub are_zeros : List ℕ → Bool
-are_zeros text = list_all (λ b. b == 48) text
-
--- a text with its point there, without the zeros behind the third decimal
-abbrev pub cut_zeros : Option ℕ → List ℕ → List ℕ
-cut_zeros None text = text
-cut_zeros (Some at) text = if are_zeros (drop (at + 4) text) then take (at + 4) text else text
-
--- where an amount has its point
-abbrev pub point_in : List ℕ → Option ℕ
-point_in text = position (λ b. b == 46) text
-
 module _ (nodes : Nodes) where
   -- the days of a Price whose PriceDates are right
   abbrev pub right_days : Days
   right_days = result_unwrap_or (days_in nodes) (days None None)
-
-  -- an amount, as it is written
-  abbrev pub amount_written : List ℕ
-  amount_written =
-      cut_zeros (point_in (text_at "PriceAmount" nodes)) (text_at "PriceAmount" nodes)
 
   -- the MinimumOrderQuantity of a Price: one of zeros alone is as absent
   abbrev pub own_minimum : Option (List ℕ)
@@ -112,25 +94,6 @@ is_other code = not (bytes_eq code (codes "00"))
 abbrev pub is_other_qualifier : List ℕ → Bool
 is_other_qualifier code = not (bytes_eq code (codes "00") || bytes_eq code (codes "05"))
 
--- what stands behind the digits at the front
-abbrev pub behind_digits : List ℕ → List ℕ
-behind_digits [] = []
-behind_digits (b ∷ text) = if is_ascii_digit b then behind_digits text else b ∷ text
-
--- a point and more than three digits
-abbrev pub is_long_part : List ℕ → Bool
-is_long_part [] = false
-is_long_part (b ∷ part) = (b == 46) && (nat_lt 3 (length part) && list_all is_ascii_digit part)
-
--- digits, a point and more than three digits
-abbrev pub has_more_decimals : List ℕ → Bool
-has_more_decimals [] = false
-has_more_decimals (b ∷ text) = is_ascii_digit b && is_long_part (behind_digits text)
-
--- an amount of 0, which a choice by price would always take
-abbrev pub is_zero : List ℕ → Bool
-is_zero amount = option_map_or (λ n. n == 0) (parsed_term amount_of amount) false
-
 module _ (nodes : Nodes) where
   -- the first type other than 00 of composites of this name, the empty text of one without
   abbrev pub other_type : String → String → Option (List ℕ)
@@ -162,9 +125,7 @@ module _ (dated : Option Reason) (nodes : Nodes) where
   abbrev pub late_reasons : Reasons
   late_reasons =
       unsupported (area_in nodes)
-      ∷ option_map (foreign MoreDecimals)
-      (option_filter has_more_decimals (Some (amount_written nodes)))
-      ∷ option_map (foreign NoCharge) (option_filter is_zero (Some (amount_written nodes)))
+      ∷ option_map (foreign NoCharge) (option_filter is_zero (Some (amount_said nodes)))
       ∷ option_filter (λ r. not (is_wrong r.kind)) dated
       ∷ option_map (wrong bad.OldElement) (old_element nodes)
       ∷ first_some (form_reasons (area_in nodes))
@@ -187,11 +148,28 @@ module _ (dated : Option Reason) (nodes : Nodes) where
       ∷ option_map (foreign EpubLicenseWithDate) (mark_in nodes "EpubLicenseWithDate")
       ∷ late_reasons
 
+module _ (nodes : Nodes) where
+  -- whether a Price is for others than the shop, or for another unit than a copy
+  abbrev pub is_limited : Bool
+  is_limited =
+      is_some (option_filter is_other_qualifier (some_at "PriceQualifier" nodes))
+      || is_some (option_filter is_other (some_at "PricePer" nodes))
+      || is_some (other_type nodes "PriceCondition" "PriceConditionType")
+      || is_some (other_type nodes "PriceConstraint" "PriceConstraintType")
+
+  -- whether it is for those who have a licence
+  abbrev pub is_licensed : Bool
+  is_licensed = is_some (mark_in nodes "EpubLicense") || is_some (mark_in nodes "EpubLicenseWithDate")
+
+  -- whether it is one of these, or of 0
+  abbrev pub is_for_others : Bool
+  is_for_others = is_limited || is_licensed || is_zero (amount_said nodes)
+
 -- Which fields of a Price the desk does not take, each where it does not: it is outside its
 -- grammar, or it is empty and has no default in the header.
 abbrev pub field_reasons : Opening → Nodes → Reasons
 field_reasons o nodes =
-    invalid (parsed_term amount_of) bad.Amount (amount_written nodes)
+    invalid written_amount bad.Amount (amount_said nodes)
     ∷ invalid (or_default (parsed_term code2_of) o.header.default_type) bad.PriceType
     (text_at "PriceType" nodes)
     ∷ invalid (or_default (parsed_term currency_of) o.header.default_currency) bad.Currency
@@ -249,16 +227,28 @@ abbrev pub unread_notes : List ℕ → Foreign → Nodes → List Note
 unread_notes name kind nodes =
     flat_map (λ c. note c.element (foreign kind []) ∷ []) (composites name nodes)
 
+-- that the amount of a Price is rounded
+abbrev pub rounded_notes : Nodes → List Note
+rounded_notes nodes =
+    if is_some (rounded_amount (amount_said nodes))
+    then option_to_list (option_map (λ c. note c.element (foreign Rounded []))
+    (first (each_at "PriceAmount" nodes)))
+    else []
+
 -- notes on what would make another price
 abbrev pub discount_notes : Nodes → List Note
 discount_notes nodes =
     unread_notes (codes "Discount") Discount nodes
     ++ unread_notes (codes "DiscountCoded") DiscountCoded nodes
 
+-- notes on what is counted alone
+abbrev pub counted_notes : Nodes → List Note
+counted_notes nodes = discount_notes nodes ++ rounded_notes nodes
+
 abbrev pub outcome_of : Option Reason → PriceContext → Nodes → Outcome
 outcome_of reason context nodes =
     written_unless reason ((codes "Price" ∷ price_fields context nodes) ∷ [])
-    (territory_notes (area_in nodes) ++ discount_notes nodes)
+    (territory_notes (area_in nodes) ++ counted_notes nodes)
 
 module _ (context : PriceContext) (nodes : Nodes) where
   -- A Price without an amount and without PriceCoded is nothing, whatever else stands in it, where

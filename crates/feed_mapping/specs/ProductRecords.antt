@@ -1,18 +1,19 @@
 -- What a Product comes to: the records of it and of its supplies, and the notes on it.
-use Rattle.std.specs.Prelude.{ℕ, Bool, true, ◌||◌, List, [], ◌∷◌, ◌++◌, Option, Some, None, if◌then◌else◌}
-use Rattle.std.specs.Prelude.{codes}
+use Rattle.std.specs.Prelude.{ℕ, Bool, true, not, ◌&&◌, ◌||◌, List, [], ◌∷◌, ◌++◌}
+use Rattle.std.specs.Prelude.{Option, Some, None, if◌then◌else◌, codes, is_some}
 use Rattle.std.specs.List.{list_any}
 use Rattle.std.specs.Option.{option_map_or, option_or}
 use Rattle.std.specs.Str.{bytes_eq}
 use Rattle.feed_outline.specs.Nodes.{Nodes}
 use Rattle.onix_records.specs.declared.row.Opening.{Opening}
-use Rattle.feed_terms.specs.declared.term.Term.{Term}
 use Rattle.feed_mapping.specs.Elements.{Composite, Element, each_at}
 use Rattle.feed_mapping.specs.Notes.{Note, Reason, foreign, is_wrong, note, reason_notes, wrong}
+use Rattle.feed_mapping.specs.OtherSuppliers.{is_of_others}
 use Rattle.feed_mapping.specs.Outcomes.{all_notes, all_records}
-use Rattle.feed_mapping.specs.Products.{bare_record, emptied_record, has_isbn, identifier_notes}
-use Rattle.feed_mapping.specs.Products.{is_deletion, notification_in, own_reason, product_record}
-use Rattle.feed_mapping.specs.Products.{reference_in, right_pairs}
+use Rattle.feed_mapping.specs.Parties.{Pair}
+use Rattle.feed_mapping.specs.Products.{bare_record, dropping, emptied_record, has_isbn}
+use Rattle.feed_mapping.specs.Products.{identifier_notes, is_deletion, notification_in, own_reason}
+use Rattle.feed_mapping.specs.Products.{product_record, reference_in, right_pairs}
 use Rattle.feed_mapping.specs.Records.{Records, is_field}
 use Rattle.feed_mapping.specs.SupplyChoices.{SupplyChoices}
 use Rattle.feed_mapping.specs.Supplies.{supplies_reason, supply_in}
@@ -45,8 +46,23 @@ module _ (nodes : Nodes) where
       if is_followed (notification_in nodes) then None
       else Some (foreign other.Ignored (notification_in nodes))
 
+module _ (supplier : Option Pair) (nodes : Nodes) where
+  -- of other suppliers alone: it has SupplyDetails, and all of them are of others
+  abbrev pub is_alone : Bool
+  is_alone = is_some supplier && not (is_deletion nodes) && is_of_others supplier nodes
+
+  abbrev pub others_reason : Option Reason
+  others_reason = if is_alone then Some (foreign other.OfOthers []) else None
+
   abbrev pub written_notes : Element → List Note
-  written_notes product = reason_notes product isbn_reason ++ reason_notes product ignored_reason
+  written_notes product =
+      reason_notes product (isbn_reason nodes) ++ reason_notes product (ignored_reason nodes)
+      ++ reason_notes product others_reason
+
+  -- the NotificationType of one that stands: of one of other suppliers alone it is such that the
+  -- desk drops the supplies that it has
+  abbrev pub notification_written : List ℕ
+  notification_written = if is_alone then dropping (notification_in nodes) else notification_in nodes
 
 -- whether it is emptied for such a reason or stands
 abbrev pub fate_by : Option Reason → Fate
@@ -58,13 +74,13 @@ module _ (o : Opening) (choices : SupplyChoices) where
   -- is left
   abbrev pub why_emptied : Nodes → Option Reason
   why_emptied nodes =
-      option_or (own_reason nodes) (supplies_reason o choices (supplies_in nodes))
+      option_or (own_reason choices.supplier nodes) (supplies_reason o choices (supplies_in nodes))
 
   -- its records, where it is emptied for such a reason or stands
   abbrev pub records_by : Option Reason → Nodes → Records
   records_by (Some reason) nodes = emptied_record nodes ∷ []
   records_by None nodes =
-      product_record (notification_in nodes) (right_pairs nodes) nodes
+      product_record (notification_written choices.supplier nodes) (right_pairs nodes) nodes
       ∷ all_records (supply_in o choices) (supplies_in nodes)
 
   -- its records: none of one without a RecordReference that the desk would take
@@ -77,14 +93,16 @@ module _ (o : Opening) (choices : SupplyChoices) where
   notes_behind c =
       all_notes (supply_in o choices) (supplies_in c.below)
       ++ option_map_or (λ reason. note c.element reason ∷ [])
-      (supplies_reason o choices (supplies_in c.below)) (written_notes c.below c.element)
+      (supplies_reason o choices (supplies_in c.below))
+      (written_notes choices.supplier c.below c.element)
 
   -- all notes on it
   abbrev pub product_notes : Composite → List Note
   product_notes c =
       if is_field (reference_in c.below)
       then identifier_notes c.below
-      ++ option_map_or (λ reason. note c.element reason ∷ []) (own_reason c.below) (notes_behind c)
+      ++ option_map_or (λ reason. note c.element reason ∷ [])
+      (own_reason choices.supplier c.below) (notes_behind c)
       else note c.element (wrong bad.RecordReference (reference_in c.below)) ∷ []
 
   -- whether it is written as it stands, emptied or left out
@@ -106,42 +124,23 @@ pub record Variant : Type 0 where
 abbrev pub variant : Records → List Note → Variant
 variant records notes = record { records = records; notes = notes }
 
--- one that is emptied with its identifiers, and one with its reference in their place
-abbrev pub small_variants : List Note → Nodes → List Variant
-small_variants notes nodes =
-    variant (emptied_record nodes ∷ []) notes ∷ variant (bare_record nodes ∷ []) notes ∷ []
+-- a product without supplies, whose reference stands for its identifiers
+abbrev pub smallest_variant : Nodes → List Note → Variant
+smallest_variant nodes notes = variant (bare_record nodes ∷ []) notes
 
--- the variants of a product behind that with these notes
+-- the variants of a product that is too large with these notes: one that is emptied for another
+-- reason than its size has the notes that it has without
 abbrev pub smaller_variants : Fate → List Note → Composite → List Variant
-smaller_variants fate.Written notes c = small_variants (too_large_notes c) c.below
-smaller_variants fate.Emptied notes c = small_variants notes c.below
+smaller_variants fate.Written notes c = smallest_variant c.below (too_large_notes c) ∷ []
+smaller_variants fate.Emptied notes c = smallest_variant c.below notes ∷ []
 smaller_variants fate.LeftOut notes c = []
 
--- without the prices that the terms compute
-abbrev pub plain_choices : SupplyChoices → SupplyChoices
-plain_choices choices = record choices { is_plain = true }
-
--- the notes on a product that is written without them, since it is too large with them
-abbrev pub plain_notes : Opening → SupplyChoices → Composite → List Note
-plain_notes o choices c =
-    product_notes o (plain_choices choices) c
-    ++ note c.element (foreign other.TooManyComputed []) ∷ []
-
--- where there are terms, a product without the prices that they compute
-abbrev pub plain_variants : Option (List Term) → Opening → SupplyChoices → Composite → List Variant
-plain_variants None o choices c = []
-plain_variants (Some terms) o choices c =
-    variant (product_records o (plain_choices choices) c.below) (plain_notes o choices c) ∷ []
-
 -- The variants of a product, of which the first counts that is not too large for a message: as it
--- is, without the prices that the terms compute, emptied, and emptied with its reference in place
--- of its identifiers. One that is emptied for another reason than its size has the notes that it
--- has without.
+-- is, and emptied with its reference in place of its identifiers.
 abbrev pub variants : Opening → SupplyChoices → Composite → List Variant
 variants o choices c =
     variant (product_records o choices c.below) (product_notes o choices c)
-    ∷ (plain_variants choices.terms o choices c
-    ++ smaller_variants (fate_of o choices c.below) (product_notes o choices c) c)
+    ∷ smaller_variants (fate_of o choices c.below) (product_notes o choices c) c
 
 -- whether one of some notes says that something is wrong
 abbrev pub has_wrong : List Note → Bool

@@ -7,14 +7,14 @@ use Rattle.std.specs.Option.{option_map_or}
 use Rattle.std.specs.Str.{bytes_eq, chars, is_utf8}
 use Rattle.feed_xml.specs.Characters.{within}
 use Rattle.feed_xml.specs.Grammar.{is_filled}
-use Rattle.feed_outline.specs.Composites.{has_stranger}
-use Rattle.feed_outline.specs.Names.{stranger}
-use Rattle.feed_outline.specs.Nodes.{Nodes, no_nodes, node}
+use Rattle.feed_outline.specs.Nodes.{Nodes}
 use Rattle.onix_terms.specs.Code.{code2_of, isbn13_of}
 use Rattle.feed_mapping.specs.Elements.{Composite, each_at, text_at}
 use Rattle.feed_mapping.specs.Notes.{Note, Reason, Reasons, note}
+use Rattle.feed_mapping.specs.Parties.{Pair}
 use Rattle.feed_mapping.specs.Records.{Fields, first_some, is_field, parsed_term}
 use Rattle.feed_mapping.specs.Records.{unless, invalid}
+use Rattle.feed_mapping.specs.Strangers.{has_own_stranger, has_stranger_in}
 use Rattle.feed_mapping.specs.declared.notes.Foreign.TheVariants as other
 use Rattle.feed_mapping.specs.declared.notes.ReasonKind.{ReasonKind}
 use Rattle.feed_mapping.specs.declared.notes.ReasonKind.TheVariants.{Foreign, Wrong}
@@ -125,14 +125,6 @@ dropping notification =
     if not (is_code notification) || bytes_eq notification (codes "04") then codes "03"
     else notification
 
--- among the elements of a deletion, or in a ProductIdentifier, one of another namespace that is
--- called as one that counts there
-abbrev pub has_strange_identifier : Nodes → Bool
-has_strange_identifier no_nodes = false
-has_strange_identifier (node n tag text below rest) =
-    (bytes_eq n stranger || (bytes_eq n (codes "ProductIdentifier") && has_stranger below))
-    || has_strange_identifier rest
-
 module _ (nodes : Nodes) where
   -- the RecordReference, empty where there is none
   abbrev pub reference_in : List ℕ
@@ -173,20 +165,22 @@ module _ (nodes : Nodes) where
   abbrev pub bare_record : Fields
   bare_record = product_record (dropping (notification_in nodes)) [] nodes
 
-  -- an element of another namespace is called as one that counts there: nothing of a deletion but
-  -- its identifiers is looked at
-  abbrev pub is_strange : Bool
-  is_strange = if is_deletion nodes then has_strange_identifier nodes else has_stranger nodes
+-- an element of another namespace is called as one that counts there: nothing of a deletion but its
+-- identifiers is looked at
+abbrev pub is_strange : Option Pair → Nodes → Bool
+is_strange supplier nodes =
+    if is_deletion nodes then has_stranger_in (codes "ProductIdentifier") nodes
+    else has_own_stranger supplier nodes
 
 -- why it is emptied, whatever its supplies are
-abbrev pub own_reasons : Fields → Nodes → Reasons
-own_reasons pairs nodes =
+abbrev pub own_reasons : Option Pair → Fields → Nodes → Reasons
+own_reasons supplier pairs nodes =
     invalid (parsed_term code2_of) bad.NotificationType (notification_in nodes)
     ∷ unless (is_deletion nodes || are_some pairs) bad.NoIdentifierLeft []
-    ∷ unless (not (is_strange nodes)) bad.OtherNamespace [] ∷ []
+    ∷ unless (not (is_strange supplier nodes)) bad.OtherNamespace [] ∷ []
 
-abbrev pub own_reason : Nodes → Option Reason
-own_reason nodes = first_some (own_reasons (right_pairs nodes) nodes)
+abbrev pub own_reason : Option Pair → Nodes → Option Reason
+own_reason supplier nodes = first_some (own_reasons supplier (right_pairs nodes) nodes)
 
 -- ---- what a call gives
 

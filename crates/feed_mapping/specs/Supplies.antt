@@ -7,22 +7,24 @@ use Rattle.feed_mapping.specs.Details.{detail_outcome, first_detail_reason}
 use Rattle.feed_mapping.specs.Elements.{Composite, each_at, first}
 use Rattle.feed_mapping.specs.Markets.{first_market_reason, markets_outcome}
 use Rattle.feed_mapping.specs.Notes.{Reason, Reasons, foreign, is_wrong, wrong}
-use Rattle.feed_mapping.specs.SupplyChoices.{SupplyChoices}
+use Rattle.feed_mapping.specs.OtherSuppliers.{own_details}
 use Rattle.feed_mapping.specs.Outcomes.{Outcome, all_notes, all_records, left_out, notes_below}
-use Rattle.feed_mapping.specs.Outcomes.{outcome_reason, outcome_records, written_unless}
+use Rattle.feed_mapping.specs.Outcomes.{nothing, outcome_reason, outcome_records, written_unless}
+use Rattle.feed_mapping.specs.Parties.{Pair}
 use Rattle.feed_mapping.specs.Records.{first_some, if_empty, option_filter}
+use Rattle.feed_mapping.specs.SupplyChoices.{SupplyChoices}
 use Rattle.feed_mapping.specs.declared.notes.Foreign.TheVariants as other
 use Rattle.feed_mapping.specs.declared.notes.ReasonKind.{ReasonKind}
 use Rattle.feed_mapping.specs.declared.notes.ReasonKind.TheVariants.{Foreign, Wrong}
 use Rattle.feed_mapping.specs.declared.notes.Wrong.TheVariants as bad
 
-module _ (nodes : Nodes) where
-  abbrev pub details_in : List Composite
-  details_in = each_at "SupplyDetail" nodes
+-- the SupplyDetails of a ProductSupply that count
+abbrev pub details_in : SupplyChoices → Nodes → List Composite
+details_in choices nodes = own_details choices.supplier nodes
 
-  -- what its Markets come to
-  abbrev pub supply_markets : Outcome
-  supply_markets = markets_outcome (each_at "Market" nodes)
+-- what its Markets come to
+abbrev pub supply_markets : Nodes → Outcome
+supply_markets nodes = markets_outcome (each_at "Market" nodes)
 
 -- whether what is left out for this reason was there: without a SupplyDetail it is as absent
 abbrev pub is_lost : ReasonKind → Bool
@@ -44,19 +46,21 @@ module _ (o : Opening) (choices : SupplyChoices) where
   abbrev pub supply_reasons : Nodes → Reasons
   supply_reasons nodes =
       outcome_reason (supply_markets nodes)
-      ∷ if_empty (all_records detail_in (details_in nodes)) (Some (wrong bad.NoDetailLeft [])) ∷ []
+      ∷ if_empty (all_records detail_in (details_in choices nodes)) (Some (wrong bad.NoDetailLeft [])) ∷ []
 
   -- what it comes to: the record of its Markets and those of its SupplyDetails
   abbrev pub detailed_outcome : Nodes → Outcome
   detailed_outcome nodes =
       written_unless (first_some (supply_reasons nodes))
-      (outcome_records (supply_markets nodes) ++ all_records detail_in (details_in nodes))
-      (notes_below (supply_markets nodes) ++ all_notes detail_in (details_in nodes))
+      (outcome_records (supply_markets nodes) ++ all_records detail_in (details_in choices nodes))
+      (notes_below (supply_markets nodes) ++ all_notes detail_in (details_in choices nodes))
 
-  -- what a ProductSupply comes to; one without a SupplyDetail is as absent
+  -- what a ProductSupply comes to: one without a SupplyDetail is as absent; so is one all of whose
+  -- SupplyDetails are of others, without a note
   abbrev pub supply_outcome : Nodes → Outcome
   supply_outcome nodes =
-      if is_some (first (details_in nodes)) then detailed_outcome nodes
+      if is_some (first (details_in choices nodes)) then detailed_outcome nodes
+      else if is_some (first (each_at "SupplyDetail" nodes)) then nothing
       else left_out (foreign other.NoSupplyDetail [])
 
   -- what a ProductSupply comes to
@@ -78,8 +82,9 @@ module _ (o : Opening) (choices : SupplyChoices) where
 
 -- why the first is left out of the Markets or of the SupplyDetails of a ProductSupply that is left
 -- out since all of them are
-abbrev pub first_reason : List ℕ → ReasonKind → Nodes → Option Reason
-first_reason preferred (Wrong bad.NoDetailLeft) nodes = first_detail_reason preferred nodes
-first_reason preferred (Wrong bad.NoMarketLeft) nodes = first_market_reason nodes
-first_reason preferred (Foreign other.NoMarketLeft) nodes = first_market_reason nodes
-first_reason preferred kind nodes = None
+abbrev pub first_reason : Option Pair → List ℕ → ReasonKind → Nodes → Option Reason
+first_reason supplier preferred (Wrong bad.NoDetailLeft) nodes =
+    first_detail_reason supplier preferred nodes
+first_reason supplier preferred (Wrong bad.NoMarketLeft) nodes = first_market_reason nodes
+first_reason supplier preferred (Foreign other.NoMarketLeft) nodes = first_market_reason nodes
+first_reason supplier preferred kind nodes = None

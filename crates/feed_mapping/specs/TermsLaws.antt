@@ -38,7 +38,8 @@ module _ (o : Opening) (terms : List Term) (preferred : List ℕ) (nodes : Nodes
   computed_counts =
       let given = all_given (context_in o nodes) (prices_in nodes) in
       map (λ g. length (written_of terms (supplier_of (supplier_id preferred nodes))
-      (is_held_back (closed_kinds (context_in o nodes).closed) given) g)) given
+      (is_held_back terms (supplier_of (supplier_id preferred nodes)) given
+      (closed_kinds (context_in o nodes) (prices_in nodes))) g)) given
 
   -- the records less the computed ones behind each are those without terms
   abbrev pub IsAdded : Type 0

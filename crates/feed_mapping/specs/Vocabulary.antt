@@ -47,7 +47,7 @@ terms_vocabulary =
     desk_vocabulary
     ++ apart_of
     ("Price DiscountCoded Discount Tax"
-    ∷ "DiscountCoded DiscountCodeType=j363 DiscountCode=j364"
+    ∷ "DiscountCoded DiscountCodeType=j363 DiscountCodeTypeName=j378 DiscountCode=j364"
     ∷ "Discount DiscountType=x467 Quantity=x320 DiscountPercent=j267"
-    ∷ "Tax TaxRatePercent=x472"
+    ∷ "Tax TaxRateCode=x471 TaxRatePercent=x472"
     ∷ [])

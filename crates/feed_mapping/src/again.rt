@@ -1,11 +1,11 @@
 //! Elements that come again though they do not repeat.
 
-ghost use Rattle.std.specs.Prelude.{◌≡◌, codes};
-ghost use Rattle.feed_mapping.specs.Again.{again_in, is_again, is_read_apart, is_repeatable};
+ghost use Rattle.std.specs.Prelude.{◌≡◌};
+ghost use Rattle.feed_mapping.specs.Again.{again_in, comes_again, is_again, is_composite, is_read_apart, is_repeatable};
 ghost use Rattle.feed_mapping.specs.PriceViews.{text_view};
 
 use crate::elements::first_composite;
-use feed_outline::Elements;
+use feed_outline::{Elements, text_in};
 
 // Whether an element of this name repeats in a Price or a Market, or is counted alone.
 fn is_repeatable(name: &[u8]) -> bool
@@ -31,11 +31,33 @@ fn is_read_apart(name: &[u8]) -> bool
         || name == b"Tax".as_slice()
 }
 
-// Whether an element of this name does not repeat, and comes again among these.
-fn is_again(name: &[u8], rest: &Elements<'_>) -> bool
-    ensures { result ≡ is_again name.now rest.now }
+// Whether an element of this name is a composite that does not repeat.
+fn is_composite(name: &[u8]) -> bool
+    ensures { result ≡ is_composite name.now }
 {
-    !is_repeatable(name) && first_composite(name, rest).is_some()
+    name == b"Territory".as_slice()
+        || name == b"PriceCoded".as_slice()
+        || name == b"EpubLicense".as_slice()
+        || name == b"EpubLicenseWithDate".as_slice()
+}
+
+/// Whether an element of this name and text comes again among these: a composite, empty or not; and
+/// of one of text, which has a text, another with one.
+pub(crate) fn comes_again(name: &[u8], text: &[u8], rest: &Elements<'_>) -> bool
+    ensures { result ≡ comes_again name.now text.now rest.now }
+{
+    if is_composite(name) {
+        first_composite(name, rest).is_some()
+    } else {
+        !text.is_empty() && text_in(name, rest).is_some()
+    }
+}
+
+// Whether an element of this name and text does not repeat, and comes again among these.
+fn is_again(name: &[u8], text: &[u8], rest: &Elements<'_>) -> bool
+    ensures { result ≡ is_again name.now text.now rest.now }
+{
+    !is_repeatable(name) && comes_again(name, text, rest)
 }
 
 /// The name of the first element that comes again though it does not repeat, at whatever depth;
@@ -45,7 +67,7 @@ pub(crate) fn again_in(elements: &Elements<'_>) -> Option<&'static [u8]>
 {
     let mut rest = elements.copy();
     while let Some(node) = rest.first() {
-        if is_again(node.line.name, &node.rest) {
+        if is_again(node.line.name, node.line.text.as_slice(), &node.rest) {
             return Some(node.line.name);
         }
         if !is_read_apart(node.line.name) {

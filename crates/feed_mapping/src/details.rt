@@ -19,9 +19,10 @@ ghost use Rattle.onix_records.specs.Detail.{detail_of};
 ghost use Rattle.onix_records.specs.Gives.{Gives};
 ghost use Rattle.feed_outline.specs.Views.{line_views};
 
-use crate::elements::{elements_in, first_composite, next_composite, text_or_empty};
+use crate::elements::{elements_in, next_composite, text_or_empty};
 use crate::identifiers::{SUPPLIER, choose_identifier, is_there};
 use crate::notes::{Note, Reason, Wrong};
+use crate::other_suppliers::next_detail;
 use crate::parties::{NO_PAIR, Pair};
 use crate::price_keys::Key;
 use crate::price_terms::{add_computed_prices, supplier_of};
@@ -253,17 +254,19 @@ fn detail_reason<'a>(supplier: Pair<'a>, elements: &Elements<'a>) -> Reason<'a>
     }
 }
 
-/// Why the first SupplyDetail among the elements is left out, where it is.
+/// Why the first SupplyDetail among the elements that counts is left out, where it is.
 pub(crate) fn first_detail_reason<'a>(
     alloc: Global,
+    supplier: Option<Pair<'_>>,
     preferred: &[u8],
     elements: &Elements<'a>,
 ) -> Result<Option<Reason<'a>>, AllocError>
     ensures { IfOk result (λ reason. reason_read reason
-        ≡ first_detail_reason preferred.now elements.now) }
+        ≡ first_detail_reason (option_map pair_view supplier.entry) preferred.now
+        elements.now) }
 {
-    match first_composite(b"SupplyDetail", elements) {
-        Some(detail) => {
+    match next_detail(supplier, elements) {
+        Some((detail, _)) => {
             let supplier = supplier_id(preferred, &detail.below);
             let mut fields = FieldBuffer::new(alloc);
             let mut records = RecordBuffer::new(alloc);

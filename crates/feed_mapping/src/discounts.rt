@@ -1,11 +1,12 @@
-//! The discounts of a Price, which are not read.
+//! What of a Price is counted: its discounts, which are not read, and an amount that is rounded.
 
 ghost use Rattle.std.specs.Prelude.{◌≡◌, ◌++◌, OnOk};
 ghost use Rattle.feed_mapping.specs.Notes.{note_views};
-ghost use Rattle.feed_mapping.specs.Prices.{discount_notes, unread_notes};
+ghost use Rattle.feed_mapping.specs.Prices.{counted_notes, discount_notes, rounded_notes, unread_notes};
 
-use crate::elements::next_composite;
+use crate::elements::{first_composite, next_composite};
 use crate::notes::{Foreign, Note, Reason, push_note};
+use crate::price_amounts::{amount_said, rounded_amount};
 use feed_outline::Elements;
 use std::alloc::AllocError;
 
@@ -27,14 +28,37 @@ fn push_unread<'a>(
     Ok(())
 }
 
-/// Adds a note on each Discount and each DiscountCoded of a Price.
-pub(crate) fn push_discounts<'a>(
-    notes: &mut Vec<Note<'a>>,
-    elements: &Elements<'a>,
-) -> Result<(), AllocError>
+// Adds a note on each Discount and each DiscountCoded of a Price.
+fn push_discounts<'a>(notes: &mut Vec<Note<'a>>, elements: &Elements<'a>) -> Result<(), AllocError>
     ensures { OnOk result (note_views notes.new.items
         ≡ note_views notes.old.items ++ discount_notes elements.now) }
 {
     push_unread(notes, b"Discount", Foreign::Discount, elements)?;
     push_unread(notes, b"DiscountCoded", Foreign::DiscountCoded, elements)
+}
+
+// Adds a note where the amount of a Price is rounded.
+fn push_rounded<'a>(notes: &mut Vec<Note<'a>>, elements: &Elements<'a>) -> Result<(), AllocError>
+    ensures { OnOk result (note_views notes.new.items
+        ≡ note_views notes.old.items ++ rounded_notes elements.now) }
+{
+    if rounded_amount(amount_said(elements)).is_none() {
+        return Ok(());
+    }
+    match first_composite(b"PriceAmount", elements) {
+        Some(amount) => push_note(notes, amount.line, Reason::foreign(Foreign::Rounded, b"")),
+        None => Ok(()),
+    }
+}
+
+/// Adds the notes on what of a Price is counted alone.
+pub(crate) fn push_counted<'a>(
+    notes: &mut Vec<Note<'a>>,
+    elements: &Elements<'a>,
+) -> Result<(), AllocError>
+    ensures { OnOk result (note_views notes.new.items
+        ≡ note_views notes.old.items ++ counted_notes elements.now) }
+{
+    push_discounts(notes, elements)?;
+    push_rounded(notes, elements)
 }

@@ -10,12 +10,12 @@ ghost use Rattle.feed_mapping.specs.HeaderViews.{choices_view, pair_read, IsHead
 ghost use Rattle.feed_mapping.specs.PartyViews.{pair_view};
 ghost use Rattle.feed_mapping.specs.Identifiers.{identifiers_in};
 ghost use Rattle.feed_mapping.specs.PriceViews.{text_view};
-ghost use Rattle.feed_mapping.specs.Parties.{is_whole, same_pair};
+ghost use Rattle.feed_mapping.specs.Parties.{is_whole};
 ghost use Rattle.feed_mapping.specs.Records.{parsed_term};
 ghost use Rattle.onix_terms.specs.Number.{number_of};
 
 use crate::elements::{elements_in, next_composite, text_or_empty};
-use crate::identifiers::{ADDRESSEE, Kind, SENDER, choose_identifier, next_identifier};
+use crate::identifiers::{ADDRESSEE, Kind, SENDER, choose_identifier, has_pair, next_identifier};
 use crate::parties::{NO_PAIR, Pair};
 use crate::prices::fill_record;
 use crate::records::utf8_text;
@@ -41,6 +41,8 @@ pub struct Choices<'a> {
     pub sender: Option<Pair<'a>>,
     /// Which of several addressees is meant, by one of its identifiers.
     pub addressee: Option<Pair<'a>>,
+    /// The supplier whose SupplyDetails alone count, by one of its identifiers.
+    pub supplier: Option<Pair<'a>>,
     /// The type of identifier that is preferred.
     pub id_type: &'a [u8],
 }
@@ -160,27 +162,6 @@ fn sender_in<'a>(choices: &Choices<'a>, elements: &Elements<'a>) -> Result<Pair<
     sender_of(choices, &sender)
 }
 
-// Whether two identifiers have the same type and value.
-fn same_pair(pair: Pair<'_>, found: Pair<'_>) -> bool
-    ensures { result ≡ same_pair (pair_view pair.entry) (pair_view found.entry) }
-{
-    pair.id_type == found.id_type && pair.id_value == found.id_value
-}
-
-// Whether one of the identifiers has that type and value.
-fn has_pair(pair: Pair<'_>, elements: &Elements<'_>) -> bool
-    ensures { result ≡ list_any (same_pair (pair_view pair.entry)) (addressee_ids elements.now) }
-{
-    let mut rest = elements.copy();
-    while let Some((found, behind)) = next_identifier(ADDRESSEE, &rest) {
-        if same_pair(pair, found) {
-            return true;
-        }
-        rest = behind;
-    }
-    false
-}
-
 // What stands in the first addressee with such an identifier.
 fn meant<'a>(pair: Pair<'_>, elements: &Elements<'a>) -> Result<Elements<'a>, HeaderRefusal>
     ensures { result
@@ -188,7 +169,7 @@ fn meant<'a>(pair: Pair<'_>, elements: &Elements<'a>) -> Result<Elements<'a>, He
 {
     let mut rest = elements.copy();
     while let Some((found, behind)) = next_composite(b"Addressee", &rest) {
-        if has_pair(pair, &found.below) {
+        if has_pair(ADDRESSEE, pair, &found.below) {
             return Ok(found.below);
         }
         rest = behind;

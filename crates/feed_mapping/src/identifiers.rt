@@ -1,10 +1,11 @@
 //! Identifiers.
 
 ghost use Rattle.std.specs.Prelude.{◌≡◌, find, option_map};
+ghost use Rattle.std.specs.List.{list_any};
 ghost use Rattle.std.specs.Str.{bytes_eq};
 ghost use Rattle.feed_mapping.specs.Elements.{with_others};
 ghost use Rattle.feed_mapping.specs.Identifiers.{identifier_in, identifiers_in, chosen};
-ghost use Rattle.feed_mapping.specs.Parties.{is_there};
+ghost use Rattle.feed_mapping.specs.Parties.{is_there, same_pair};
 ghost use Rattle.feed_mapping.specs.PartyViews.{pair_view};
 
 use crate::elements::text_or_empty;
@@ -73,6 +74,28 @@ pub(crate) fn next_identifier<'a>(
         rest = node.rest;
     }
     None
+}
+
+// Whether two identifiers have the same type and value.
+fn same_pair(pair: Pair<'_>, found: Pair<'_>) -> bool
+    ensures { result ≡ same_pair (pair_view pair.entry) (pair_view found.entry) }
+{
+    pair.id_type == found.id_type && pair.id_value == found.id_value
+}
+
+/// Whether one of the identifiers has that type and value.
+pub(crate) fn has_pair(kind: Kind, pair: Pair<'_>, elements: &Elements<'_>) -> bool
+    ensures { result ≡ list_any (same_pair (pair_view pair.entry))
+        (identifiers_in kind.name.now kind.type_name.now elements.now) }
+{
+    let mut rest = elements.copy();
+    while let Some((found, behind)) = next_identifier(kind, &rest) {
+        if same_pair(pair, found) {
+            return true;
+        }
+        rest = behind;
+    }
+    false
 }
 
 // The first identifier of a type.

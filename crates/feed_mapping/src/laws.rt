@@ -1,7 +1,7 @@
 //! What the definitions of the mapping come to. Each law is the contract of a function that does
 //! nothing.
 
-ghost use Rattle.std.specs.Prelude.{◌≡◌, ◌↔◌, ◌+◌, ◌<◌, ◌≤◌, ◌∷◌, ◌++◌, [], ℕ, List, Any, None, Ok, Some, false, length};
+ghost use Rattle.std.specs.Prelude.{◌≡◌, ◌+◌, ◌<◌, ◌≤◌, ◌++◌, [], ℕ, List, None, Ok, Some, false, length};
 ghost use Rattle.feed_mapping.specs.Header.{Choices, Heading, heading_in};
 ghost use Rattle.std.specs.List.{AllByRecursion};
 ghost use Rattle.feed_mapping.specs.Elements.{Composite};
@@ -13,7 +13,6 @@ ghost use Rattle.feed_mapping.specs.Supplies.{supply_outcome};
 ghost use Rattle.feed_mapping.specs.Rows.{AreOf, AreProducts, MayCompute, message_records, numbered, part_record, references_of};
 ghost use Rattle.feed_mapping.specs.SupplyChoices.{SupplyChoices};
 ghost use Rattle.feed_mapping.specs.TermsLaws.{GivenStands, IsAdded, NoneFits, by_terms};
-ghost use Rattle.feed_mapping.specs.Unions.{union};
 ghost use Rattle.feed_terms.specs.declared.term.Term.{Term};
 ghost use Rattle.onix_records.specs.Grammar.{IsMessage, most_records};
 ghost use Rattle.onix_records.specs.Opening.{opening_of};
@@ -21,9 +20,6 @@ ghost use Rattle.onix_records.specs.Row.{row_of};
 ghost use Rattle.onix_records.specs.declared.parts.Product.{Product};
 ghost use Rattle.onix_records.specs.declared.row.Opening.{Opening};
 ghost use Rattle.feed_outline.specs.Nodes.{Nodes};
-ghost use Rattle.onix_terms.specs.Code.{country_of};
-ghost use Rattle.onix_terms.specs.Territory.{IsIn};
-ghost use Rattle.onix_terms.specs.declared.territory.Territory.{Territory};
 
 use crate::product_records::Fate;
 use feed_terms::laws::{
@@ -31,17 +27,6 @@ use feed_terms::laws::{
 };
 use onix_records::row::Form;
 use onix_terms::laws::number_reads_back;
-
-/// A country lies in the union of territories exactly where it lies in one of them; without a union
-/// none does.
-pub fn unions_have_the_countries_of_all()
-    ensures some { (territories : List Territory) (t : Territory) → union territories ≡ Some t
-        → (country : List ℕ) → country_of country ≡ Some country
-        → IsIn country t ↔ Any (IsIn country) territories }
-    ensures none { (territories : List Territory) → union territories ≡ None
-        → (country : List ℕ) → country_of country ≡ Some country
-        → Any (IsIn country) territories → ⊥ }
-{}
 
 /// The record of each part says what that of the first says, but for its number, and records are
 /// read behind it as behind that; it begins a message of form 2.

@@ -2,7 +2,7 @@
 
 ghost use Rattle.std.specs.Prelude.{◌≡◌, ◌++◌, ◌∷◌, [], OnOk, option_map};
 ghost use Rattle.feed_mapping.specs.Elements.{element_view};
-ghost use Rattle.feed_mapping.specs.Notes.{foreign, is_wrong, note, note_views, reason_notes, reason_view, wrong};
+ghost use Rattle.feed_mapping.specs.Notes.{foreign, is_of_others, is_wrong, note, note_views, reason_notes, reason_view, wrong};
 
 use feed_outline::Line;
 use std::alloc::AllocError;
@@ -28,8 +28,6 @@ pub enum Foreign {
     EpubLicenseWithDate,
     /// A Price with a PriceDate in a format that its role does not have: the format is the text.
     DateFormat,
-    /// A Price whose amount, the text, has more than three decimals.
-    MoreDecimals,
     /// A Price whose amount, the text, is 0.
     NoCharge,
     /// A Price of a type and a currency of which another Price beside it is left out for its
@@ -52,6 +50,8 @@ pub enum Foreign {
     Discount,
     /// A DiscountCoded of a Price, likewise.
     DiscountCoded,
+    /// A Price whose amount has more than three decimals, and is written with three.
+    Rounded,
     /// A Price of a type of the terms of the shop that none of these fits.
     NoTerm,
     /// A Price of which the terms compute an amount of 0.
@@ -59,8 +59,6 @@ pub enum Foreign {
     /// A price that the terms compute of a Price, and that is held back: the feed gives one in its
     /// place, or closes its type and currency.
     HeldBack,
-    /// A Product that with the prices that the terms compute is too large for a message.
-    TooManyComputed,
     /// A ProductSupply without SupplyDetail.
     NoSupplyDetail,
     /// A ProductSupply whose Markets are all left out, one of them as foreign.
@@ -77,6 +75,9 @@ pub enum Foreign {
     NoIsbn,
     /// A Product of a NotificationType, the text, that the desk ignores.
     Ignored,
+    /// A Product that is written without supplies, since all of its SupplyDetails are of others than
+    /// the supplier that is named. It is counted alone.
+    OfOthers,
 }
 
 /// What the desk would not take.
@@ -181,6 +182,13 @@ impl ReasonKind {
             ReasonKind::Foreign(_) => false,
             ReasonKind::Wrong(_) => true,
         }
+    }
+
+    /// Whether a product is of other suppliers alone.
+    pub fn is_of_others(self) -> bool
+        ensures { result ≡ is_of_others self }
+    {
+        matches!(self, ReasonKind::Foreign(Foreign::OfOthers))
     }
 }
 

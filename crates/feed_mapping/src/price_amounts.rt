@@ -1,46 +1,19 @@
 //! Amounts of Prices, as they are written.
 
-ghost use Rattle.std.specs.Prelude.{◌≡◌, Some};
+ghost use Rattle.std.specs.Prelude.{◌≡◌, ◌<◌, ◌^◌, IfOk, IfSome, Some, option_map};
+ghost use Rattle.feed_mapping.specs.Amounts.{amount_said, cut_zeros, is_zero, long_part_of, point_in, rounded_amount, rounded_of, written_amount};
 ghost use Rattle.feed_mapping.specs.PriceViews.{text_view};
-ghost use Rattle.feed_mapping.specs.Prices.{amount_written, behind_digits, cut_zeros, has_more_decimals, is_long_part, is_zero, point_in};
 ghost use Rattle.feed_mapping.specs.Records.{option_filter};
-ghost use Rattle.feed_outline.specs.Nodes.{Nodes};
+ghost use Rattle.onix_terms.specs.Amount.{amount_text};
 
 use crate::elements::text_or_empty;
-use crate::records::{are_zeros, parsed_amount};
+use crate::records::{are_zeros, parsed_amount, utf8_text};
 use feed_outline::Elements;
+use onix_terms::amount::Amount;
 use onix_terms::ascii::are_digits;
-
-fn behind_digits(text: &[u8]) -> &[u8]
-    ensures { result.now ≡ behind_digits text.now }
-{
-    let mut rest = text;
-    while let [byte, tail @ ..] = rest {
-        if !byte.is_ascii_digit() {
-            return rest;
-        }
-        rest = tail;
-    }
-    rest
-}
-
-fn is_long_part(text: &[u8]) -> bool
-    ensures { result ≡ is_long_part text.now }
-{
-    match text {
-        [] => false,
-        [byte, part @ ..] => *byte == b'.' && (part.len() > 3 && are_digits(part)),
-    }
-}
-
-fn has_more_decimals(text: &[u8]) -> bool
-    ensures { result ≡ has_more_decimals text.now }
-{
-    match text {
-        [] => false,
-        [byte, rest @ ..] => byte.is_ascii_digit() && is_long_part(behind_digits(rest)),
-    }
-}
+use onix_terms::digits::read_digits;
+use onix_terms::text::Text;
+use std::alloc::{AllocError, Global};
 
 // A text with its point there, without the zeros behind the third decimal.
 fn cut_zeros(point: Option<usize>, text: &[u8]) -> &[u8]
@@ -63,40 +36,87 @@ fn point_in(text: &[u8]) -> Option<usize>
     text.iter().position(|byte| *byte == b'.')
 }
 
-/// The amount of a Price as it is written, without the zeros behind its third decimal.
-pub(crate) fn amount_written<'a>(elements: &Elements<'a>) -> &'a [u8]
-    ensures { result.now ≡ amount_written elements.now }
+/// The amount of a Price as it stands, without the zeros behind its third decimal.
+pub(crate) fn amount_said<'a>(elements: &Elements<'a>) -> &'a [u8]
+    ensures { result.now ≡ amount_said elements.now }
 {
     let text = text_or_empty(b"PriceAmount", elements);
     cut_zeros(point_in(text), text)
 }
 
-// An amount that has more decimals than the desk knows.
-pub(crate) fn long_amount<'a>(amount: &'a [u8]) -> Option<&'a [u8]>
-    ensures { (nodes : Nodes) → amount.now ≡ amount_written nodes
-        → text_view result
-        ≡ option_filter has_more_decimals (Some (amount_written nodes)) }
+// The thousandths of more than three digits behind the point: to the third, halves up.
+fn long_part_of(part: &str) -> Option<u64>
+    ensures value { result ≡ long_part_of part.now }
+    ensures below { IfSome result (λ n. n < 2 ^ 32) }
 {
-    if has_more_decimals(amount) {
-        Some(amount)
-    } else {
-        None
+    let bytes = part.as_bytes();
+    if bytes.len() <= 3 || !are_digits(bytes) {
+        return None;
+    }
+    let (front, _) = bytes.split_at(4);
+    match str::from_utf8(front) {
+        Ok(front) => Some((u64::from(read_digits(front)?) + 5) / 10),
+        Err(_) => None,
     }
 }
 
-fn is_zero(amount: &[u8]) -> bool
-    ensures { result ≡ is_zero amount.now }
+// The amount of one to nine digits, a point and more than three others.
+fn rounded_of(text: &str) -> Option<Amount>
+    ensures { result ≡ rounded_of text.now }
 {
-    match parsed_amount(amount) {
+    match text.split_once('.') {
+        Some((whole, part)) => {
+            let whole = read_digits(whole)?;
+            let part = long_part_of(part)?;
+            Amount::from_thousandths(u64::from(whole) * 1000 + part)
+        }
+        None => None,
+    }
+}
+
+/// The amount that is written in place of one with more than three decimals.
+pub(crate) fn rounded_amount(said: &[u8]) -> Option<Amount>
+    ensures { result ≡ rounded_amount said.now }
+{
+    rounded_of(utf8_text(said)?)
+}
+
+/// The text of that amount.
+pub(crate) fn rounded_text(alloc: Global, said: &[u8]) -> Result<Option<Text>, AllocError>
+    ensures { IfOk result (λ text. text ≡ option_map amount_text (rounded_amount said.now)) }
+{
+    let Some(amount) = rounded_amount(said) else {
+        return Ok(None);
+    };
+    match amount.text(alloc) {
+        Ok(text) => Ok(Some(text)),
+        Err(_) => Err(AllocError),
+    }
+}
+
+/// The amount that is written.
+pub(crate) fn written_amount(said: &[u8]) -> Option<Amount>
+    ensures { result ≡ written_amount said.now }
+{
+    match rounded_amount(said) {
+        Some(amount) => Some(amount),
+        None => parsed_amount(said),
+    }
+}
+
+/// Whether an amount is 0.
+pub(crate) fn is_zero(said: &[u8]) -> bool
+    ensures { result ≡ is_zero said.now }
+{
+    match written_amount(said) {
         None => false,
         Some(amount) => amount.thousandths() == 0,
     }
 }
 
 // An amount of 0.
-pub(crate) fn no_charge<'a>(amount: &'a [u8]) -> Option<&'a [u8]>
-    ensures { (nodes : Nodes) → amount.now ≡ amount_written nodes
-        → text_view result ≡ option_filter is_zero (Some (amount_written nodes)) }
+pub(crate) fn no_charge<'a>(said: &'a [u8]) -> Option<&'a [u8]>
+    ensures { text_view result ≡ option_filter is_zero (Some said.now) }
 {
-    if is_zero(amount) { Some(amount) } else { None }
+    if is_zero(said) { Some(said) } else { None }
 }

@@ -1,6 +1,6 @@
 //! What the terms of the shop see of the Prices of a SupplyDetail, and what comes of them by these.
 
-ghost use Rattle.std.specs.Prelude.{◌≡◌, ◌≤◌, ◌++◌, ◌∷◌, [], ℕ, List, IfOk, OnOk, true, codes, length, map, replicate, if◌then◌else◌};
+ghost use Rattle.std.specs.Prelude.{◌≡◌, ◌≤◌, ◌++◌, ◌∷◌, [], IfOk, OnOk, true, codes, length, map, replicate, if◌then◌else◌};
 ghost use Rattle.std.specs.List.{flat_map};
 ghost use Rattle.std.specs.Str.{bytes_eq};
 ghost use Rattle.feed_outline.specs.Names.{stranger_apart};
@@ -10,26 +10,28 @@ ghost use Rattle.feed_mapping.specs.Notes.{foreign, note, note_views};
 ghost use Rattle.feed_mapping.specs.Outcomes.{all_notes, outcome_notes, outcome_records};
 ghost use Rattle.feed_mapping.specs.PartyViews.{pair_view};
 ghost use Rattle.feed_mapping.specs.Prices.{PriceContext as Seen, context_view};
-ghost use Rattle.feed_mapping.specs.PriceTerms.{AreWritten, all_given, closed_kinds, code_in, discount_in, elements_in, given_in, given_of, is_garbled, is_mixed, is_of_terms, is_seen, kind_of, outcome_in, records_with, all_remark_notes, remark_notes, supplier_of, tax_in, terms_notes};
+ghost use Rattle.feed_mapping.specs.PriceTerms.{AreWritten, all_given, area_text, closed_by, code_in, discount_in, elements_in, given_in, given_of, is_garbled, is_mixed, is_of_terms, is_seen, kind_in, kinds_closed, outcome_in, rate_in, records_with, all_remark_notes, remark_notes, supplier_of, tax_in, terms_notes};
 ghost use Rattle.feed_mapping.specs.declared.notes.Foreign.TheVariants as other;
 ghost use Rattle.feed_terms.specs.HeldBack.{is_held_back};
 ghost use Rattle.feed_terms.specs.WithTerms.{HavePrices, remarks_of, with_terms};
 
-use crate::elements::{Composite, first_composite, next_composite, text_or_empty};
+use crate::again::comes_again;
+use crate::elements::{Composite, next_composite, text_or_empty};
 use crate::identifiers::is_there;
 use crate::notes::{Foreign, Note, Reason, push_note};
 use crate::parties::Pair;
-use crate::price_keys::Key;
-use crate::prices::{PriceContext, add_price, price_in};
-use crate::records::{parsed_code, parsed_currency, utf8_text};
+use crate::prices::{PriceContext, add_price, is_for_others, price_in};
+use crate::records::{parsed_code, parsed_currency, utf8_text, value_or_default};
 use csv_records::buffer::RecordBuffer;
 use csv_records::fields::FieldBuffer;
-use feed_outline::{Elements, Line};
+use csv_records::record::Record;
+use feed_outline::{Elements, Line, text_in};
 use feed_terms::percent::Percent;
-use feed_terms::price::{Discount, GivenPrice, Kind, code_said};
+use feed_terms::price::{Discount, GivenPrice, Kind, SaidCode, code_said};
 use feed_terms::table::Terms;
 use feed_terms::with_terms::{Remarks, add_with_terms};
 use onix_records::parts::Price;
+use onix_records::row::Opening;
 use onix_terms::items::Items;
 use onix_terms::text::Text;
 use std::alloc::{AllocError, Global};
@@ -57,7 +59,8 @@ fn is_mixed(elements: &Elements<'_>) -> bool
     let mut rest = elements.copy();
     while let Some(node) = rest.first() {
         let name = node.line.name;
-        if is_stranger_apart(name) || first_composite(name, &node.rest).is_some() {
+        let text = node.line.text.as_slice();
+        if is_stranger_apart(name) || comes_again(name, text, &node.rest) {
             return true;
         }
         rest = node.rest;
@@ -81,23 +84,26 @@ fn is_garbled(elements: &Elements<'_>) -> bool
 }
 
 // The code that a DiscountCoded says.
-fn code_in(alloc: Global, coded: &Composite<'_>) -> Result<Option<Text>, AllocError>
+fn code_in(alloc: Global, coded: &Composite<'_>) -> Result<Option<SaidCode>, AllocError>
     ensures { IfOk result (λ code. code ≡ code_in coded.now) }
 {
     let Some(code_type) = utf8_text(text_or_empty(b"DiscountCodeType", &coded.below)) else {
         return Ok(None);
     };
+    let Some(scheme) = utf8_text(text_or_empty(b"DiscountCodeTypeName", &coded.below)) else {
+        return Ok(None);
+    };
     let Some(code) = utf8_text(text_or_empty(b"DiscountCode", &coded.below)) else {
         return Ok(None);
     };
-    code_said(alloc, code_type, code)
+    code_said(alloc, code_type, scheme, code)
 }
 
 // Adds the code that a DiscountCoded says.
 fn push_code(
     alloc: Global,
     coded: &Composite<'_>,
-    codes: &mut Items<Text>,
+    codes: &mut Items<SaidCode>,
 ) -> Result<(), AllocError>
     ensures { OnOk result (codes.new ≡ codes.old ++ option_to_list (code_in coded.now)) }
 {
@@ -111,7 +117,7 @@ fn push_code(
 }
 
 // The codes that the DiscountCodeds of a Price say.
-fn codes_in(alloc: Global, elements: &Elements<'_>) -> Result<Items<Text>, AllocError>
+fn codes_in(alloc: Global, elements: &Elements<'_>) -> Result<Items<SaidCode>, AllocError>
     ensures { IfOk result (λ all. all
         ≡ flat_map (λ c. option_to_list (code_in c))
         (composites (codes "DiscountCoded") elements.now)) }
@@ -167,6 +173,17 @@ fn discounts_in(alloc: Global, elements: &Elements<'_>) -> Result<Items<Discount
     Ok(all)
 }
 
+// The rate that a Tax says: where it says no percent, none at all by the code Z.
+fn rate_in(tax: &Elements<'_>) -> Option<Percent>
+    ensures { result ≡ rate_in tax.now }
+{
+    let Some(percent) = text_in(b"TaxRatePercent", tax) else {
+        let is_zero = text_or_empty(b"TaxRateCode", tax) == b"Z".as_slice();
+        return if is_zero { Some(Percent::zero()) } else { None };
+    };
+    Percent::read_of_feed(utf8_text(percent)?)
+}
+
 // The rate of the Tax of a Price, where it has just one.
 fn tax_in(elements: &Elements<'_>) -> Option<Percent>
     ensures { result ≡ tax_in (composites (codes "Tax") elements.now) }
@@ -175,15 +192,34 @@ fn tax_in(elements: &Elements<'_>) -> Option<Percent>
     if next_composite(b"Tax", &behind).is_some() {
         return None;
     }
-    Percent::read_of_feed(utf8_text(text_or_empty(b"TaxRatePercent", &tax.below))?)
+    rate_in(&tax.below)
+}
+
+// The fields of a territory, each with a comma behind it.
+fn area_text(alloc: Global, fields: &Record<'_>) -> Result<Text, AllocError>
+    ensures { IfOk result (λ text. text ≡ area_text fields.now) }
+{
+    let mut text = Text::new(alloc);
+    for place in 0..fields.len() {
+        text.push_str(fields.at(place))?;
+        text.push_str(",")?;
+    }
+    Ok(text)
 }
 
 // A Price that says so, and what it says to the terms besides.
-fn given_of(alloc: Global, price: Price, elements: &Elements<'_>) -> Result<GivenPrice, AllocError>
-    ensures { IfOk result (λ given. given ≡ given_of price elements.now) }
+fn given_of(
+    alloc: Global,
+    price: Price,
+    fields: &Record<'_>,
+    elements: &Elements<'_>,
+) -> Result<GivenPrice, AllocError>
+    requires { 9 ≤ length fields.now }
+    ensures { IfOk result (λ given. given ≡ given_of price fields.now elements.now) }
 {
     Ok(GivenPrice {
         price,
+        area: area_text(alloc, &fields.part(4, 7))?,
         codes: codes_in(alloc, elements)?,
         discounts: discounts_in(alloc, elements)?,
         tax: tax_in(elements),
@@ -191,13 +227,51 @@ fn given_of(alloc: Global, price: Price, elements: &Elements<'_>) -> Result<Give
     })
 }
 
+// The type and the currency of a Price, or those of the header, each where it is one.
+fn kind_in(opening: &Opening, elements: &Elements<'_>) -> Kind
+    ensures { result ≡ kind_in opening.now elements.now }
+{
+    let price_type = text_or_empty(b"PriceType", elements);
+    let currency = text_or_empty(b"CurrencyCode", elements);
+    Kind {
+        price_type: value_or_default(
+            opening.header.default_type,
+            price_type,
+            parsed_code(price_type),
+        ),
+        currency: value_or_default(
+            opening.header.default_currency,
+            currency,
+            parsed_currency(currency),
+        ),
+    }
+}
+
+// Adds the type and the currency of a Price that gives no record, unless it is for others.
+fn push_closed(
+    opening: &Opening,
+    elements: &Elements<'_>,
+    closed: &mut Vec<Kind>,
+) -> Result<(), AllocError>
+    ensures { OnOk result
+        (closed.new.items ≡ closed.old.items ++ kinds_closed opening.now elements.now) }
+{
+    if is_for_others(elements) {
+        return Ok(());
+    }
+    closed.push(kind_in(opening, elements))?;
+    Ok(())
+}
+
 // Of the Prices of a SupplyDetail those that are written: the record of each and what the terms see
-// of it; and of all Prices whether they are.
+// of it; of all Prices whether they are; and the type and currency of those that are not, unless
+// they are for others.
 #[derive(Drop)]
 struct WrittenPrices {
     records: RecordBuffer,
     given: Vec<GivenPrice>,
     are_written: Vec<bool>,
+    closed: Vec<Kind>,
 }
 
 // Adds what comes of a Price, and what the terms see of it.
@@ -215,6 +289,8 @@ fn add_written<'a>(
         ++ given_in (context_view context.now) price.now.below) }
     ensures are_written { OnOk result (written.new.are_written.items
         ≡ written.old.are_written.items ++ is_seen (context_view context.now) price.now ∷ []) }
+    ensures closed { OnOk result (written.new.closed.items
+        ≡ written.old.closed.items ++ closed_by (context_view context.now) price.now) }
     ensures notes { OnOk result (note_views notes.new.items ≡ note_views notes.old.items
         ++ outcome_notes price.now.element (outcome_in (context_view context.now) price.now)) }
 {
@@ -222,13 +298,15 @@ fn add_written<'a>(
     add_price(alloc, context, price, fields, &mut written.records, notes)?;
     if written.records.len() == count {
         written.are_written.push(false)?;
+        push_closed(context.opening, &price.below, &mut written.closed)?;
         return Ok(());
     }
     // A record that is written is that of a Price, so it is memory that ran out.
     let Some(said) = price_in(alloc, context.opening, &written.records.record(count))? else {
         return Err(AllocError);
     };
-    written.given.push(given_of(alloc, said, &price.below)?)?;
+    let given = given_of(alloc, said, &written.records.record(count), &price.below)?;
+    written.given.push(given)?;
     written.are_written.push(true)?;
     Ok(())
 }
@@ -242,7 +320,8 @@ fn written_in<'a>(
     notes: &mut Vec<Note<'a>>,
 ) -> Result<WrittenPrices, AllocError>
     ensures written { IfOk result (λ w. AreWritten (context_view context.now)
-        (composites (codes "Price") elements.now) w.records w.given.items w.are_written.items) }
+        (composites (codes "Price") elements.now) w.records w.given.items w.are_written.items
+        w.closed.items) }
     ensures notes { OnOk result (note_views notes.new.items ≡ note_views notes.old.items
         ++ all_notes (outcome_in (context_view context.now))
         (composites (codes "Price") elements.now)) }
@@ -251,6 +330,7 @@ fn written_in<'a>(
         records: RecordBuffer::new(alloc),
         given: Vec::new(alloc),
         are_written: Vec::new(alloc),
+        closed: Vec::new(alloc),
     };
     let mut rest = elements.copy();
     while let Some((price, behind)) = next_composite(b"Price", &rest) {
@@ -258,31 +338,6 @@ fn written_in<'a>(
         rest = behind;
     }
     Ok(written)
-}
-
-// The kind of a key that has both.
-fn kind_of(key: &Key) -> Option<Kind>
-    ensures { result ≡ kind_of key.now }
-{
-    let type_letters = key.price_type?;
-    let currency_letters = key.currency?;
-    Some(Kind {
-        price_type: parsed_code(type_letters.as_slice())?,
-        currency: parsed_currency(currency_letters.as_slice())?,
-    })
-}
-
-// The types and currencies that are closed.
-fn closed_kinds(alloc: Global, keys: &[Key]) -> Result<Vec<Kind>, AllocError>
-    ensures { IfOk result (λ kinds. kinds.items ≡ closed_kinds keys.now) }
-{
-    let mut kinds = Vec::new(alloc);
-    for key in keys {
-        if let Some(kind) = kind_of(key) {
-            kinds.push(kind)?;
-        }
-    }
-    Ok(kinds)
 }
 
 /// The supplier of an identifier as a term has it.
@@ -404,19 +459,20 @@ fn add_records(
     terms: &Terms,
     supplier: Option<&Text>,
     is_plain: bool,
-    closed: &[Kind],
     written: &WrittenPrices,
     records: &mut RecordBuffer,
 ) -> Result<Vec<Remarks>, AllocError>
     requires { HavePrices written.now.records written.now.given.items }
     ensures records { OnOk result (records.new ≡ records.old
         ++ (if is_plain then written.now.records else with_terms terms.now
-        (option_copied supplier.entry) closed.now written.now.given.items written.now.records)) }
+        (option_copied supplier.entry) written.now.closed.items written.now.given.items
+        written.now.records)) }
     ensures remarks { IfOk result (λ r. r.items ≡ map (remarks_of terms.now
-        (option_copied supplier.entry) (is_held_back closed.now written.now.given.items))
-        written.now.given.items) }
+        (option_copied supplier.entry) (is_held_back terms.now (option_copied supplier.entry)
+        written.now.given.items written.now.closed.items)) written.now.given.items) }
 {
     let given = written.given.as_slice();
+    let closed = written.closed.as_slice();
     if !is_plain {
         return add_with_terms(
             alloc,
@@ -464,16 +520,7 @@ pub(crate) fn add_computed_prices<'a>(
 {
     let alloc = *notes.allocator();
     let written = written_in(alloc, context, elements, fields, notes)?;
-    let closed = closed_kinds(alloc, context.closed)?;
-    let remarks = add_records(
-        alloc,
-        terms,
-        supplier,
-        is_plain,
-        closed.as_slice(),
-        &written,
-        records,
-    )?;
+    let remarks = add_records(alloc, terms, supplier, is_plain, &written, records)?;
     push_all_remarks(
         is_plain,
         elements,

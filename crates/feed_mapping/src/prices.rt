@@ -11,7 +11,9 @@ ghost use Rattle.feed_mapping.specs.Elements.{composites, first, text_or_empty};
 ghost use Rattle.feed_mapping.specs.Notes.{foreign, is_wrong, note_views, wrong};
 ghost use Rattle.feed_mapping.specs.Outcomes.{notes_below, outcome_notes, outcome_records};
 ghost use Rattle.feed_mapping.specs.PriceViews.{reason_read, text_view};
-ghost use Rattle.feed_mapping.specs.Prices.{amount_written, closed_reason, closing_key, closing_keys, context_view, first_with_text, greater_of, is_greater, is_other_qualifier, is_taken, key_in, last_reason, early_reasons, eight_fields, is_nothing, is_other, late_reasons, old_element, outcome_of, own_minimum, price_fields, price_outcome, price_reasons, right_days};
+ghost use Rattle.feed_mapping.specs.Amounts.{amount_said, amount_written, rounded_amount};
+ghost use Rattle.onix_terms.specs.Amount.{amount_text};
+ghost use Rattle.feed_mapping.specs.Prices.{closed_reason, closing_key, closing_keys, context_view, first_with_text, greater_of, is_greater, is_other_qualifier, is_taken, key_in, last_reason, early_reasons, eight_fields, is_for_others, is_licensed, is_limited, is_nothing, is_other, late_reasons, old_element, outcome_of, own_minimum, price_fields, price_outcome, price_reasons, right_days};
 ghost use Rattle.feed_mapping.specs.Records.{first_some, option_filter, parsed};
 ghost use Rattle.feed_mapping.specs.Territories.{AreRenamed, area_in, area_view};
 ghost use Rattle.feed_mapping.specs.declared.notes.Wrong.TheVariants.{OldElement};
@@ -21,10 +23,10 @@ ghost use Rattle.feed_outline.specs.Composites.{text_in};
 ghost use Rattle.feed_outline.specs.Nodes.{Nodes};
 
 use crate::dates::{Dated, Days, days_in};
-use crate::discounts::push_discounts;
+use crate::discounts::push_counted;
 use crate::elements::{Composite, first_composite, next_composite, text_or_empty};
 use crate::notes::{Foreign, Note, Reason, Wrong, push_reason};
-use crate::price_amounts::{amount_written, long_amount, no_charge};
+use crate::price_amounts::{amount_said, is_zero, no_charge, rounded_text};
 use crate::price_keys::{Key, has_key, key_in};
 use crate::reasons::{field_reason, or_price};
 use crate::records::{are_zeros, former, parsed_quantity, push_texts};
@@ -231,14 +233,12 @@ fn late_reason<'a>(
     ensures { area_view area.now ≡ area_in elements.now → reason_read result
         ≡ first_some (late_reasons (reason_read wrong_date.entry) elements.now) }
 {
-    let amount = amount_written(elements);
     let old = because_old(old_element(elements));
     let formed = former(form_reason(area), former(if_wrong(wrong_date), None));
     let dated = former(old, formed);
-    let free = because(Foreign::NoCharge, no_charge(amount));
+    let free = because(Foreign::NoCharge, no_charge(amount_said(elements)));
     let charged = former(free, former(if_foreign(wrong_date), dated));
-    let long = because(Foreign::MoreDecimals, long_amount(amount));
-    former(unsupported(area), former(long, charged))
+    former(unsupported(area), charged)
 }
 
 // Why a Price that holds there is another than the desk knows.
@@ -272,6 +272,31 @@ fn early_reason<'a>(
     former(qualifier, former(per, typed))
 }
 
+// Whether a Price is for others than the shop, or for another unit than a copy.
+fn is_limited(elements: &Elements<'_>) -> bool
+    ensures { result ≡ is_limited elements.now }
+{
+    other_qualifier(elements).is_some()
+        || other_in(b"PricePer", elements).is_some()
+        || other_type(b"PriceCondition", b"PriceConditionType", elements).is_some()
+        || other_type(b"PriceConstraint", b"PriceConstraintType", elements).is_some()
+}
+
+// Whether a Price is for those who have a licence.
+fn is_licensed(elements: &Elements<'_>) -> bool
+    ensures { result ≡ is_licensed elements.now }
+{
+    mark_in(b"EpubLicense", elements).is_some()
+        || mark_in(b"EpubLicenseWithDate", elements).is_some()
+}
+
+/// Whether a Price is for others than the shop, for another unit than a copy, or of 0.
+pub(crate) fn is_for_others(elements: &Elements<'_>) -> bool
+    ensures { result ≡ is_for_others elements.now }
+{
+    is_limited(elements) || is_licensed(elements) || is_zero(amount_said(elements))
+}
+
 // Whether a Price is nothing: it has no amount and no PriceCoded, and the record of its
 // SupplyDetail an UnpricedItemType.
 fn is_nothing(context: &PriceContext<'_, '_, '_>, elements: &Elements<'_>) -> bool
@@ -292,37 +317,58 @@ fn day_field(alloc: Global, day: Option<Day>) -> Result<Text, AllocError>
     }
 }
 
-// The texts of a Price that do not stand in it as they are written: what is renamed of its
-// countries, and its days.
+// The texts of a Price that do not stand in it as they are written: an amount that is rounded, what
+// is renamed of its countries, and its days.
 #[derive(Drop)]
 struct Owned {
+    amount: Option<Text>,
     renamed: Renamed,
     first: Text,
     last: Text,
 }
 
-fn owned_texts(alloc: Global, area: &Area<'_>, days: Days) -> Result<Owned, AllocError>
+fn owned_texts(
+    alloc: Global,
+    elements: &Elements<'_>,
+    area: &Area<'_>,
+    days: Days,
+) -> Result<Owned, AllocError>
+    ensures amount { IfOk result
+        (λ o. o.amount ≡ option_map amount_text (rounded_amount (amount_said elements.now))) }
     ensures renamed { IfOk result (λ o. AreRenamed o.renamed (area_view area.now)) }
     ensures first { IfOk result (λ o. o.first ≡ day_field days.first) }
     ensures last { IfOk result (λ o. o.last ≡ day_field days.last) }
 {
     Ok(Owned {
+        amount: rounded_text(alloc, amount_said(elements))?,
         renamed: renamed_in(alloc, area)?,
         first: day_field(alloc, days.first)?,
         last: day_field(alloc, days.last)?,
     })
 }
 
+// An amount as it is written.
+fn amount_written<'b>(owned: &'b Owned, elements: &Elements<'b>) -> &'b [u8]
+    ensures { owned.now.amount ≡ option_map amount_text (rounded_amount (amount_said elements.now))
+        → result.now ≡ amount_written elements.now }
+{
+    match &owned.amount {
+        Some(text) => text.as_str().as_bytes(),
+        None => amount_said(elements),
+    }
+}
+
 // The texts of the fields that each Price has.
 fn eight_texts<'b>(owned: &'b Owned, area: &'b Area<'_>, elements: &Elements<'b>) -> [&'b [u8]; 8]
     ensures { (days : Days) → AreRenamed owned.now.renamed (area_view area.now)
+        → owned.now.amount ≡ option_map amount_text (rounded_amount (amount_said elements.now))
         → owned.now.first ≡ day_field days.first → owned.now.last ≡ day_field days.last
         → map (λ t. t.now) result ≡ eight_fields (area_view area.now) days elements.now }
 {
     let [included, world, excluded] = area_fields(area, &owned.renamed);
     [
         text_or_empty(b"PriceType", elements),
-        amount_written(elements),
+        amount_written(owned, elements),
         text_or_empty(b"CurrencyCode", elements),
         included,
         world,
@@ -469,11 +515,13 @@ fn take_texts(
     fields: &mut FieldBuffer,
 ) -> Result<bool, AllocError>
     ensures record { area_view area.now ≡ area_in elements.now
+        → owned.now.amount ≡ option_map amount_text (rounded_amount (amount_said elements.now))
         → AreRenamed owned.now.renamed (area_view area.now)
         → owned.now.first ≡ day_field (right_days elements.now).first
         → owned.now.last ≡ day_field (right_days elements.now).last → IfOk result (λ is. is ≡ true
         → fields.new ≡ codes "Price" ∷ price_fields (context_view context.now) elements.now) }
     ensures taken { area_view area.now ≡ area_in elements.now
+        → owned.now.amount ≡ option_map amount_text (rounded_amount (amount_said elements.now))
         → AreRenamed owned.now.renamed (area_view area.now)
         → owned.now.first ≡ day_field (right_days elements.now).first
         → owned.now.last ≡ day_field (right_days elements.now).last → IfOk result (λ is. is
@@ -522,7 +570,7 @@ fn write_price<'a>(
         (outcome_of (last_reason (context_view context.now) elements.now)
         (context_view context.now) elements.now)) }
 {
-    let owned = owned_texts(alloc, area, days)?;
+    let owned = owned_texts(alloc, elements, area, days)?;
     let is_taken = take_texts(alloc, context, &owned, area, elements, fields)?;
     if is_taken {
         return match closed_reason(context, elements) {
@@ -564,7 +612,7 @@ fn add_known<'a>(
     let left_out = write_price(alloc, context, elements, area, days, fields, records)?;
     if left_out.is_none() {
         push_territory_notes(notes, area)?;
-        push_discounts(notes, elements)?;
+        push_counted(notes, elements)?;
     }
     Ok(left_out)
 }
@@ -616,7 +664,7 @@ fn is_taken_then(
     ensures { area_view area.now ≡ area_in elements.now → days ≡ right_days elements.now
         → IfOk result (λ is. is ≡ is_taken (context_view context.now) elements.now) }
 {
-    let owned = owned_texts(alloc, area, days)?;
+    let owned = owned_texts(alloc, elements, area, days)?;
     take_texts(alloc, context, &owned, area, elements, fields)
 }
 

@@ -1,11 +1,12 @@
 //! The records of a Product and of its supplies.
 
-ghost use Rattle.std.specs.Prelude.{◌≡◌, ◌++◌, ◌∷◌, ◌<◌, [], None, IfOk, OnOk};
+ghost use Rattle.std.specs.Prelude.{◌≡◌, ◌++◌, ◌∷◌, ◌<◌, [], None, IfOk, OnOk, option_map};
 ghost use Rattle.feed_mapping.specs.Elements.{element_view};
 ghost use Rattle.feed_mapping.specs.Notes.{note, note_views};
 ghost use Rattle.feed_mapping.specs.Outcomes.{all_notes, all_records};
+ghost use Rattle.feed_mapping.specs.PartyViews.{pair_view};
 ghost use Rattle.feed_mapping.specs.PriceViews.{reason_read};
-ghost use Rattle.feed_mapping.specs.ProductRecords.{fate_of, ignored_reason, is_followed, isbn_reason, notes_behind, plain_choices, plain_notes, product_notes, product_records, fate_by, records_by, supplies_in, too_large_notes, why_emptied, written_notes};
+ghost use Rattle.feed_mapping.specs.ProductRecords.{fate_of, ignored_reason, is_alone, is_followed, isbn_reason, notes_behind, notification_written, others_reason, product_notes, product_records, fate_by, records_by, supplies_in, too_large_notes, why_emptied, written_notes};
 ghost use Rattle.feed_mapping.specs.Supplies.{supplies_reason, supply_in};
 ghost use Rattle.std.specs.Option.{option_map_or};
 ghost use Rattle.feed_mapping.specs.Products.{bare_record, emptied_record, has_isbn, dropping, notification_in, own_reason, product_record, right_pairs};
@@ -13,6 +14,8 @@ ghost use Rattle.feed_mapping.specs.SupplyChoices.{supply_choices_view};
 
 use crate::elements::Composite;
 use crate::notes::{Foreign, Note, Reason, Wrong, push_note, push_reason};
+use crate::other_suppliers::is_of_others;
+use crate::parties::Pair;
 use crate::products::{
     Identifiers, dropping, fill_product, is_deletion, notification_in, own_reason, reference_in,
     take_identifiers,
@@ -70,18 +73,40 @@ fn ignored_reason<'a>(elements: &Elements<'a>) -> Option<Reason<'a>>
     }
 }
 
+// Whether a Product is of other suppliers alone.
+fn is_alone(supplier: Option<Pair<'_>>, elements: &Elements<'_>) -> bool
+    ensures { result ≡ is_alone (option_map pair_view supplier.entry) elements.now }
+{
+    supplier.is_some() && !is_deletion(elements) && is_of_others(supplier, elements)
+}
+
+// That it is.
+fn others_reason(supplier: Option<Pair<'_>>, elements: &Elements<'_>) -> Option<Reason<'static>>
+    ensures { reason_read result
+        ≡ others_reason (option_map pair_view supplier.entry) elements.now }
+{
+    if is_alone(supplier, elements) {
+        Some(Reason::foreign(Foreign::OfOthers, b""))
+    } else {
+        None
+    }
+}
+
 // Adds the notes on a Product that is written.
 fn push_written_notes<'a>(
+    supplier: Option<Pair<'_>>,
     is_found: bool,
     product: &Composite<'a>,
     notes: &mut Vec<Note<'a>>,
 ) -> Result<(), AllocError>
     ensures { is_found ≡ has_isbn product.now.below
-        → OnOk result (note_views notes.new.items
-        ≡ note_views notes.old.items ++ written_notes product.now.below product.now.element) }
+        → OnOk result (note_views notes.new.items ≡ note_views notes.old.items
+        ++ written_notes (option_map pair_view supplier.entry)
+        product.now.below product.now.element) }
 {
     push_reason(notes, product.line, isbn_reason(is_found, &product.below))?;
-    push_reason(notes, product.line, ignored_reason(&product.below))
+    push_reason(notes, product.line, ignored_reason(&product.below))?;
+    push_reason(notes, product.line, others_reason(supplier, &product.below))
 }
 
 // Adds the record of a Product that is emptied, with these types and values.
@@ -100,17 +125,34 @@ fn add_emptied(
     records.push(&fields.as_record())
 }
 
-// Adds the record of a Product as it stands, with these types and values.
+// The NotificationType of a Product that stands: of one of other suppliers alone it is such that the
+// desk drops the supplies that it has.
+fn notification_written<'a>(supplier: Option<Pair<'_>>, elements: &Elements<'a>) -> &'a [u8]
+    ensures { result.now
+        ≡ notification_written (option_map pair_view supplier.entry) elements.now }
+{
+    let notification = notification_in(elements);
+    if is_alone(supplier, elements) {
+        dropping(notification)
+    } else {
+        notification
+    }
+}
+
+// Adds the record of a Product that stands, with these types and values.
 fn add_own(
+    supplier: Option<Pair<'_>>,
     pairs: &FieldBuffer,
     elements: &Elements<'_>,
     fields: &mut FieldBuffer,
     records: &mut RecordBuffer,
 ) -> Result<(), AllocError>
     ensures { OnOk result (records.new ≡ records.old
-        ++ product_record (notification_in elements.now) pairs.now elements.now ∷ []) }
+        ++ product_record (notification_written (option_map pair_view supplier.entry) elements.now)
+        pairs.now elements.now ∷ []) }
 {
-    fill_product(notification_in(elements), pairs, elements, fields)?;
+    let notification = notification_written(supplier, elements);
+    fill_product(notification, pairs, elements, fields)?;
     records.push(&fields.as_record())
 }
 
@@ -167,10 +209,16 @@ fn add_sound<'a>(
     let alloc = *notes.allocator();
     let count = records.len();
     let elements = &product.below;
-    add_own(&identifiers.pairs, elements, fields, records)?;
+    add_own(
+        choices.supplier,
+        &identifiers.pairs,
+        elements,
+        fields,
+        records,
+    )?;
     match add_below(alloc, opening, choices, elements, fields, records, notes)? {
         None => {
-            push_written_notes(identifiers.has_isbn, product, notes)?;
+            push_written_notes(choices.supplier, identifiers.has_isbn, product, notes)?;
             Ok(Fate::Written)
         }
         Some(reason) => {
@@ -203,10 +251,10 @@ fn add_standing<'a>(
         → identifiers.now.has_isbn ≡ has_isbn product.now.below
         → OnOk result (note_views notes.new.items ≡ note_views notes.old.items
         ++ option_map_or (λ reason. note product.now.element reason ∷ [])
-        (own_reason product.now.below)
+        (own_reason (supply_choices_view choices.now).supplier product.now.below)
         (notes_behind opening.now (supply_choices_view choices.now) product.now)) }
 {
-    match own_reason(&identifiers.pairs, &product.below) {
+    match own_reason(choices.supplier, &identifiers.pairs, &product.below) {
         Some(reason) => {
             add_emptied(&identifiers.pairs, &product.below, fields, records)?;
             push_note(notes, product.line, reason)?;
@@ -264,53 +312,21 @@ pub fn add_product<'a>(
     )
 }
 
-/// Adds what comes of a Product without the prices that the terms of the shop compute, since it is
-/// too large for a message with them, and the notes on it then.
-pub fn add_plain<'a>(
-    alloc: Global,
-    opening: &Opening,
-    choices: &SupplyChoices<'_>,
-    product: &Composite<'a>,
-    fields: &mut FieldBuffer,
-    records: &mut RecordBuffer,
-    notes: &mut Vec<Note<'a>>,
-) -> Result<(), AllocError>
-    ensures records { OnOk result (records.new ≡ records.old ++ product_records opening.now
-        (plain_choices (supply_choices_view choices.now)) product.now.below) }
-    ensures notes { OnOk result (note_views notes.new.items ≡ note_views notes.old.items
-        ++ plain_notes opening.now (supply_choices_view choices.now) product.now) }
-{
-    let plain = SupplyChoices {
-        id_type: choices.id_type,
-        terms: choices.terms,
-        is_plain: true,
-    };
-    add_product(alloc, opening, &plain, product, fields, records, notes)?;
-    let reason = Reason::foreign(Foreign::TooManyComputed, b"");
-    push_note(notes, product.line, reason)
-}
-
-/// Adds the record of a Product that is emptied since it is too large for a message, and the notes
-/// on it then.
-pub fn add_large<'a>(
+/// Adds the notes on a Product that is emptied since it is too large for a message.
+pub fn push_too_large<'a>(
     alloc: Global,
     product: &Composite<'a>,
-    fields: &mut FieldBuffer,
-    records: &mut RecordBuffer,
     notes: &mut Vec<Note<'a>>,
 ) -> Result<(), AllocError>
-    ensures record { OnOk result
-        (records.new ≡ records.old ++ emptied_record product.now.below ∷ []) }
-    ensures notes { OnOk result (note_views notes.new.items
+    ensures { OnOk result (note_views notes.new.items
         ≡ note_views notes.old.items ++ too_large_notes product.now) }
 {
-    let identifiers = take_identifiers(alloc, &product.below, notes)?;
-    add_emptied(&identifiers.pairs, &product.below, fields, records)?;
+    take_identifiers(alloc, &product.below, notes)?;
     push_note(notes, product.line, Reason::wrong(Wrong::TooLarge, b""))
 }
 
-/// Adds the record of a Product that is too large even without supplies: its reference stands for
-/// its identifiers.
+/// Adds the record of a Product that is emptied since it is too large for a message, or too large
+/// even so: its reference stands for its identifiers.
 pub fn add_bare(
     alloc: Global,
     product: &Composite<'_>,

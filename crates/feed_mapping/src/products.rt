@@ -5,21 +5,20 @@ ghost use Rattle.std.specs.Char.{is_ascii_digit};
 ghost use Rattle.std.specs.List.{list_all};
 ghost use Rattle.std.specs.Str.{chars};
 ghost use Rattle.feed_mapping.specs.Notes.{note_views, reason_view};
+ghost use Rattle.feed_mapping.specs.PartyViews.{pair_view};
 ghost use Rattle.feed_mapping.specs.PriceViews.{reason_read};
 ghost use Rattle.std.specs.Prelude.{[], not};
-ghost use Rattle.feed_mapping.specs.Products.{MayBe, are_some, beside_isbn, graded, identifiers_in, digit_byte, dropping, has_isbn, has_strange_identifier, identifier_note, identifier_notes, is_blank, is_deletion, is_gtin_type, is_hyphen, is_isbn, is_strange, is_thirteen, notification_in, or_reference, own_reasons, pair_reason, product_record, reference_in, right_pair, right_pairs, thirteen_of, type_of, value_of, without_marks, written_value};
+ghost use Rattle.feed_mapping.specs.Products.{MayBe, are_some, beside_isbn, graded, identifiers_in, digit_byte, dropping, has_isbn, identifier_note, identifier_notes, is_blank, is_deletion, is_gtin_type, is_hyphen, is_isbn, is_strange, is_thirteen, notification_in, or_reference, own_reasons, pair_reason, product_record, reference_in, right_pair, right_pairs, thirteen_of, type_of, value_of, without_marks, written_value};
 ghost use Rattle.feed_mapping.specs.Records.{first_some, option_filter, unless};
 ghost use Rattle.feed_mapping.specs.declared.notes.Wrong.TheVariants as bad;
-ghost use Rattle.std.specs.Prelude.{◌&&◌, codes};
-ghost use Rattle.std.specs.Str.{bytes_eq};
-ghost use Rattle.feed_outline.specs.Composites.{has_stranger};
-ghost use Rattle.feed_outline.specs.Names.{stranger};
 
 use crate::elements::{Composite, next_composite, text_or_empty};
 use crate::notes::{Foreign, Note, Reason, ReasonKind, Wrong, push_note};
+use crate::parties::Pair;
 use crate::records::{first_of, is_field, parsed_code, push_texts, unless, utf8_text};
+use crate::strangers::{has_own_stranger, has_stranger_in};
 use csv_records::fields::FieldBuffer;
-use feed_outline::{Elements, Line, has_stranger};
+use feed_outline::Elements;
 use onix_terms::ascii::are_digits;
 use std::alloc::{AllocError, Global};
 
@@ -357,38 +356,15 @@ pub(crate) fn dropping<'a>(notification: &'a [u8]) -> &'a [u8]
     }
 }
 
-// Whether an element of a deletion, or one in a ProductIdentifier, is of another namespace.
-fn has_strange_identifier(elements: &Elements<'_>) -> bool
-    ensures { result ≡ has_strange_identifier elements.now }
-{
-    let mut rest = elements.copy();
-    while let Some(node) = rest.first() {
-        if is_strange_element(node.line, &node.below) {
-            return true;
-        }
-        rest = node.rest;
-    }
-    false
-}
-
-// Whether an element is of another namespace, or a ProductIdentifier with such a one.
-fn is_strange_element(line: &Line, below: &Elements<'_>) -> bool
-    ensures { result ≡ (bytes_eq line.now.name.now stranger
-        || (bytes_eq line.now.name.now (codes "ProductIdentifier") && has_stranger below.now)) }
-{
-    line.name == b":".as_slice()
-        || (line.name == b"ProductIdentifier".as_slice() && has_stranger(below))
-}
-
 // Whether an element that is looked at is of another namespace, and called as one that counts
 // there.
-fn is_strange(elements: &Elements<'_>) -> bool
-    ensures { result ≡ is_strange elements.now }
+fn is_strange(supplier: Option<Pair<'_>>, elements: &Elements<'_>) -> bool
+    ensures { result ≡ is_strange (option_map pair_view supplier.entry) elements.now }
 {
     if is_deletion(elements) {
-        has_strange_identifier(elements)
+        has_stranger_in(b"ProductIdentifier", elements)
     } else {
-        has_stranger(elements)
+        has_own_stranger(supplier, elements)
     }
 }
 
@@ -402,13 +378,18 @@ fn left_reason(pairs: &FieldBuffer, elements: &Elements<'_>) -> Option<Reason<'s
 }
 
 /// Why a Product with these types and values is emptied, whatever its supplies are.
-pub(crate) fn own_reason<'a>(pairs: &FieldBuffer, elements: &Elements<'a>) -> Option<Reason<'a>>
-    ensures { reason_read result ≡ first_some (own_reasons pairs.now elements.now) }
+pub(crate) fn own_reason<'a>(
+    supplier: Option<Pair<'_>>,
+    pairs: &FieldBuffer,
+    elements: &Elements<'a>,
+) -> Option<Reason<'a>>
+    ensures { reason_read result ≡ first_some
+        (own_reasons (option_map pair_view supplier.entry) pairs.now elements.now) }
 {
     let text = notification_in(elements);
     first_of(&[
         unless(parsed_code(text).is_some(), Wrong::NotificationType, text),
         left_reason(pairs, elements),
-        unless(!is_strange(elements), Wrong::OtherNamespace, b""),
+        unless(!is_strange(supplier, elements), Wrong::OtherNamespace, b""),
     ])
 }

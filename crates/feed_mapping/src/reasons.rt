@@ -10,11 +10,10 @@ ghost use Rattle.feed_mapping.specs.declared.notes.Wrong.TheVariants as bad;
 
 use crate::elements::text_or_empty;
 use crate::notes::{Reason, Wrong};
-use crate::price_amounts::amount_written;
+use crate::price_amounts::{amount_said, written_amount};
 use crate::prices::own_minimum;
 use crate::records::{
-    first_of, may_be_empty, parsed_amount, parsed_code, parsed_currency, parsed_quantity, unless,
-    value_or_default,
+    first_of, may_be_empty, parsed_code, parsed_currency, parsed_quantity, unless, value_or_default,
 };
 use crate::territories::{Area, Renamed, area_reason};
 use feed_outline::Elements;
@@ -35,7 +34,7 @@ pub(crate) fn field_reason<'a>(
         → IfOk result (λ reason. reason_read reason
         ≡ first_some (field_reasons opening.now elements.now)) }
 {
-    let amount = amount_written(elements);
+    let amount = amount_said(elements);
     let type_text = text_or_empty(b"PriceType", elements);
     let price_type = value_or_default(
         opening.header.default_type,
@@ -51,7 +50,7 @@ pub(crate) fn field_reason<'a>(
     let minimum = own_minimum(elements).unwrap_or(b"");
     let is_minimum = may_be_empty(minimum, parsed_quantity(minimum));
     Ok(first_of(&[
-        unless(parsed_amount(amount).is_some(), Wrong::Amount, amount),
+        unless(written_amount(amount).is_some(), Wrong::Amount, amount),
         unless(price_type.is_some(), Wrong::PriceType, type_text),
         unless(currency.is_some(), Wrong::Currency, currency_text),
         area_reason(alloc, area, renamed)?,

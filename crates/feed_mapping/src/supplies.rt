@@ -1,9 +1,10 @@
 //! The supplies of a Product.
 
-ghost use Rattle.std.specs.Prelude.{◌≡◌, ◌++◌, ◌<◌, None, IfOk, OnOk, codes};
+ghost use Rattle.std.specs.Prelude.{◌≡◌, ◌++◌, ◌<◌, None, IfOk, OnOk, codes, option_map};
 ghost use Rattle.feed_mapping.specs.Elements.{Element, composites, element_view};
 ghost use Rattle.feed_mapping.specs.Notes.{note_views, reason_view};
 ghost use Rattle.feed_mapping.specs.Outcomes.{Outcome, all_notes, all_records, notes_below, outcome_notes, outcome_reason, outcome_records};
+ghost use Rattle.feed_mapping.specs.PartyViews.{pair_view};
 ghost use Rattle.feed_mapping.specs.PriceViews.{reason_read};
 ghost use Rattle.feed_mapping.specs.Records.{option_filter};
 ghost use Rattle.feed_mapping.specs.Supplies.{detail_in, details_in, detailed_outcome, first_lost, first_reason, is_lost, none_left, supplies_reason, supply_in, supply_outcome};
@@ -13,6 +14,8 @@ use crate::details::{add_detail, first_detail_reason};
 use crate::elements::{Composite, next_composite};
 use crate::markets::{add_markets, first_market_reason};
 use crate::notes::{Foreign, Note, Reason, ReasonKind, Wrong, push_note, push_reason};
+use crate::other_suppliers::next_detail;
+use crate::parties::Pair;
 use crate::records::former;
 use crate::supply_choices::SupplyChoices;
 use csv_records::buffer::RecordBuffer;
@@ -62,20 +65,20 @@ fn add_details<'a>(
 ) -> Result<(), AllocError>
     ensures records { OnOk result (records.new ≡ records.old
         ++ all_records (detail_in opening.now (supply_choices_view choices.now))
-        (details_in elements.now)) }
+        (details_in (supply_choices_view choices.now) elements.now)) }
     ensures notes { OnOk result (note_views notes.new.items ≡ note_views notes.old.items
         ++ all_notes (detail_in opening.now (supply_choices_view choices.now))
-        (details_in elements.now)) }
+        (details_in (supply_choices_view choices.now) elements.now)) }
 {
     let mut rest = elements.copy();
-    while let Some((detail, behind)) = next_composite(b"SupplyDetail", &rest) {
+    while let Some((detail, behind)) = next_detail(choices.supplier, &rest) {
         add_one_detail(alloc, opening, choices, &detail, fields, records, notes)?;
         rest = behind;
     }
     Ok(())
 }
 
-// Adds the records of a ProductSupply that has SupplyDetails, and notes on what is left out below
+// Adds the records of a ProductSupply that has SupplyDetails that count, and notes on what is left out below
 // it, or gives the reason for which it is left out: the notes count only where it is not.
 fn add_detailed<'a>(
     alloc: Global,
@@ -132,10 +135,13 @@ fn add_supply<'a>(
         ++ notes_below
         (supply_outcome opening.now (supply_choices_view choices.now) elements.now)) }
 {
-    if next_composite(b"SupplyDetail", elements).is_none() {
-        return Ok(Some(Reason::foreign(Foreign::NoSupplyDetail, b"")));
+    if next_detail(choices.supplier, elements).is_some() {
+        return add_detailed(alloc, opening, choices, elements, fields, records, notes);
     }
-    add_detailed(alloc, opening, choices, elements, fields, records, notes)
+    if next_composite(b"SupplyDetail", elements).is_some() {
+        return Ok(None);
+    }
+    Ok(Some(Reason::foreign(Foreign::NoSupplyDetail, b"")))
 }
 
 // Adds the note on an element that is left out for this reason, else the notes below it.
@@ -282,19 +288,23 @@ pub(crate) fn add_supplies<'a>(
     }
 }
 
-/// Why the first is left out of the Markets or of the SupplyDetails of a ProductSupply, whose
-/// elements these are, where it is left out for a reason of this kind, since all of them are.
+/// Why the first is left out of the Markets or of the SupplyDetails of a ProductSupply that count,
+/// whose elements these are, where it is left out for a reason of this kind, since all of them are.
 pub fn first_reason<'a>(
     alloc: Global,
+    supplier: Option<Pair<'_>>,
     preferred: &[u8],
     kind: ReasonKind,
     elements: &Elements<'a>,
 ) -> Result<Option<Reason<'a>>, AllocError>
     ensures { IfOk result
-        (λ reason. reason_read reason ≡ first_reason preferred.now kind elements.now) }
+        (λ reason. reason_read reason ≡ first_reason (option_map pair_view supplier.entry)
+        preferred.now kind elements.now) }
 {
     match kind {
-        ReasonKind::Wrong(Wrong::NoDetailLeft) => first_detail_reason(alloc, preferred, elements),
+        ReasonKind::Wrong(Wrong::NoDetailLeft) => {
+            first_detail_reason(alloc, supplier, preferred, elements)
+        }
         ReasonKind::Wrong(Wrong::NoMarketLeft) | ReasonKind::Foreign(Foreign::NoMarketLeft) => {
             first_market_reason(alloc, elements)
         }

@@ -64,11 +64,12 @@ pub fn desk_vocabulary() -> Vocabulary
 }
 
 // What the terms of the shop ask of a Price besides.
-static TERMS_WORDS: [Word; 9] = words! {
+static TERMS_WORDS: [Word; 11] = words! {
     b"Price": b"DiscountCoded" ^ b"discountcoded", b"Discount" ^ b"discount", b"Tax" ^ b"tax";
-    b"DiscountCoded": b"DiscountCodeType" ^ b"j363", b"DiscountCode" ^ b"j364";
+    b"DiscountCoded": b"DiscountCodeType" ^ b"j363", b"DiscountCodeTypeName" ^ b"j378",
+        b"DiscountCode" ^ b"j364";
     b"Discount": b"DiscountType" ^ b"x467", b"Quantity" ^ b"x320", b"DiscountPercent" ^ b"j267";
-    b"Tax": b"TaxRatePercent" ^ b"x472";
+    b"Tax": b"TaxRateCode" ^ b"x471", b"TaxRatePercent" ^ b"x472";
 };
 
 /// The same, and those that say something to the terms of the shop.

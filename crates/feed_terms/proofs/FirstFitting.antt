@@ -1,6 +1,7 @@
 -- The first term that fits, by the indexes of those that ask for a code.
 use Rattle.std.proofs.Common.{◌≡◌, ◌<◌, ◌≤◌, ◌+◌, ℕ, suc, List, [], ◌∷◌, ◌++◌, Bool, true, false, cond, not, ◌&&◌, ◌||◌, Option, Some, None, length, map, min, filter, find, get_or, take, slice_get, refl, sym, ap, arith, ◌∙◌}
 use Rattle.std.specs.List.{list_any, position_or_len}
+use Rattle.std.specs.Option.{option_map_or}
 use Rattle.std.specs.Prelude.{nat_le}
 use Rattle.std.specs.Str.{bytes_eq}
 use Rattle.std.proofs.lemmas.Bool.Decides.{nat_tests}
@@ -8,9 +9,11 @@ use Rattle.std.proofs.lemmas.List.{take_more}
 use Rattle.std.proofs.lemmas.List.Folds.{find_at, list_any-append}
 use Rattle.std.proofs.lemmas.List.Sums.{prefix_len-le-length}
 use Rattle.feed_terms.specs.Codes.{asking, first_in, indexes_from, passes_at}
-use Rattle.feed_terms.specs.Fits.{fits_besides, fitting, has_code, is_among}
+use Rattle.feed_terms.specs.Fits.{fits_besides, fitting, has_code, is_among, is_asked, takes_code}
 use Rattle.feed_terms.specs.declared.price.GivenPrice.{GivenPrice}
+use Rattle.feed_terms.specs.declared.price.SaidCode.{SaidCode}
 use Rattle.feed_terms.specs.declared.term.Term.{Term}
+use Rattle.feed_terms.proofs.AnyOf.{and_assoc, or_and, or_none}
 
 -- whether a term asks for that code, or for none
 abbrev pub asks : Option (List ℕ) → Option (List (List ℕ)) → Bool
@@ -124,32 +127,31 @@ position_either p q r is (x ∷ xs) = go (position_either p q r is xs) (p x) ref
     go more false e true f = let yes : r x ≡ true = rw (is x, e, f) refl in omega (arith, position_yes q x xs f, position_yes r x xs yes)
     go more false e false f = let no : r x ≡ false = rw (is x, e, f) refl in omega (arith, position_no p x xs e, position_no q x xs f, position_no r x xs no)
 
-or_none : (b : Bool) → (b || false) ≡ b
-or_none true = refl
-or_none false = refl
-
--- a term asks for one of some codes and a further one
-pub code_more : (codes : Option (List (List ℕ))) (said : List (List ℕ)) (code : List ℕ) → has_code codes (said ++ code ∷ []) ≡ (has_code codes said || asks (Some code) codes)
-code_more None said code = refl
-code_more (Some asked) said code = list_any-append (is_among asked) said (code ∷ []) ∙ ap (λ b. list_any (is_among asked) said || b) (or_none (is_among asked code))
-
-or_and : (a b c : Bool) → ((a || b) && c) ≡ ((a && c) || (b && c))
-or_and true b true = refl
-or_and true b false = sym (and_false b)
+-- a term takes one of some codes and a further one
+pub code_more : (t : Term) (said : List SaidCode) (s : SaidCode) → has_code t (said ++ s ∷ []) ≡ (has_code t said || (asks (Some s.code) t.codes && is_asked t.scheme (Some s.scheme)))
+code_more t said s = go t.codes
   where
-    and_false : (b : Bool) → (b && false) ≡ false
-    and_false true = refl
-    and_false false = refl
-or_and false b c = refl
+    go : (codes : Option (List (List ℕ)))
+        → option_map_or (λ asked. list_any (takes_code asked t.scheme) (said ++ s ∷ [])) codes true
+        ≡ (option_map_or (λ asked. list_any (takes_code asked t.scheme) said) codes true || (asks (Some s.code) codes && is_asked t.scheme (Some s.scheme)))
+    go None = refl
+    go (Some asked) = list_any-append (takes_code asked t.scheme) said (s ∷ []) ∙ ap (λ (b : Bool). list_any (takes_code asked t.scheme) said || b) (or_none (takes_code asked t.scheme s))
 
 -- a term that asks for no code has one of none
-none_asked : (codes : Option (List (List ℕ))) → asks None codes ≡ has_code codes []
-none_asked None = refl
-none_asked (Some asked) = refl
+none_asked : (t : Term) → asks None t.codes ≡ has_code t []
+none_asked t = go t.codes
+  where
+    go : (codes : Option (List (List ℕ))) → asks None codes ≡ option_map_or (λ asked. list_any (takes_code asked t.scheme) []) codes true
+    go None = refl
+    go (Some asked) = refl
 
 -- whether a term fits by one of these codes, and else
-abbrev pub by_codes : (Term → Bool) → List (List ℕ) → Term → Bool
-by_codes besides said t = has_code t.codes said && besides t
+abbrev pub by_codes : (Term → Bool) → List SaidCode → Term → Bool
+by_codes besides said t = has_code t said && besides t
+
+-- whether it takes the scheme of one, and fits else
+abbrev pub by_scheme : (Term → Bool) → SaidCode → Term → Bool
+by_scheme besides s t = is_asked t.scheme (Some s.scheme) && besides t
 
 module _ (besides : Term → Bool) (terms : List Term) where
   within : (p : Term → Bool) → position_or_len p terms ≤ length terms
@@ -159,27 +161,29 @@ module _ (besides : Term → Bool) (terms : List Term) where
   pub first_start : (n : ℕ) → n ≡ first_in (passes_at besides terms) (length terms) (indexes_from None 0 terms) → n ≡ position_or_len (by_codes besides []) terms
   first_start n e =
       e ∙ first_asking besides None terms (length terms) (omega arith) ∙ omega (arith, within (is_asking besides None))
-      ∙ ap (λ (f : Option (List (List ℕ)) → Bool). position_or_len (λ (t : Term). f t.codes && besides t) terms) (λ i. λ c. none_asked c i)
+      ∙ ap (λ (f : Term → Bool). position_or_len (λ (t : Term). f t && besides t) terms) (λ i. λ t. none_asked t i)
 
   -- and of those that ask for one code more
-  pub first_more : (said : List (List ℕ)) (i : ℕ) (code : List ℕ) (was now : ℕ) → i < length said → code ≡ get_or said i code → was ≡ position_or_len (by_codes besides (take i said)) terms
-      → now ≡ first_in (passes_at besides terms) was (indexes_from (Some code) 0 terms) → now ≡ position_or_len (by_codes besides (take (i + 1) said)) terms
-  first_more said i code was now l at before is =
+  pub first_more : (said : List SaidCode) (i : ℕ) (s : SaidCode) (was now : ℕ) → i < length said → s ≡ get_or said i s → was ≡ position_or_len (by_codes besides (take i said)) terms
+      → now ≡ first_in (passes_at (by_scheme besides s) terms) was (indexes_from (Some s.code) 0 terms) → now ≡ position_or_len (by_codes besides (take (i + 1) said)) terms
+  first_more said i s was now l at before is =
       let le : was ≤ length terms = omega (arith, within (by_codes besides (take i said))) in
-      is ∙ first_asking besides (Some code) terms was le ∙ ap (λ w. min w (position_or_len (is_asking besides (Some code)) terms)) before
-      ∙ sym (position_either (by_codes besides (take i said)) (is_asking besides (Some code)) (by_codes besides (take (i + 1) said)) each terms)
+      let asking = is_asking (by_scheme besides s) (Some s.code) in
+      is ∙ first_asking (by_scheme besides s) (Some s.code) terms was le ∙ ap (λ w. min w (position_or_len asking terms)) before
+      ∙ sym (position_either (by_codes besides (take i said)) asking (by_codes besides (take (i + 1) said)) each terms)
     where
-      each : (t : Term) → by_codes besides (take (i + 1) said) t ≡ (by_codes besides (take i said) t || is_asking besides (Some code) t)
+      each : (t : Term) → by_codes besides (take (i + 1) said) t ≡ (by_codes besides (take i said) t || is_asking (by_scheme besides s) (Some s.code) t)
       each t =
-          ap (λ s. has_code t.codes s && besides t) (take_more said i code l ∙ ap (λ c. take i said ++ c ∷ []) (sym at))
-          ∙ ap (λ h. h && besides t) (code_more t.codes (take i said) code) ∙ or_and (has_code t.codes (take i said)) (asks (Some code) t.codes) (besides t)
+          ap (λ (x : List SaidCode). has_code t x && besides t) (take_more said i s l ∙ ap (λ (x : SaidCode). take i said ++ x ∷ []) (sym at)) ∙ ap (λ (h : Bool). h && besides t) (code_more t (take i said) s)
+          ∙ or_and (has_code t (take i said)) (asks (Some s.code) t.codes && is_asked t.scheme (Some s.scheme)) (besides t)
+          ∙ ap (λ (h : Bool). (has_code t (take i said) && besides t) || h) (and_assoc (asks (Some s.code) t.codes) (is_asked t.scheme (Some s.scheme)) (besides t))
 
 module _ (supplier : Option (List ℕ)) (given : GivenPrice) (terms : List Term) where
   -- of those that ask for one of the codes of a price
   pub first_found : (n : ℕ) → given.garbled ≡ false → n ≡ position_or_len (by_codes (fits_besides supplier given) given.codes) terms → slice_get terms n ≡ fitting supplier given terms
   first_found n right e =
       ap (slice_get terms) e ∙ sym (find_at (by_codes (fits_besides supplier given) given.codes) terms)
-      ∙ ap (λ g. find (λ (t : Term). (not g && has_code t.codes given.codes) && fits_besides supplier given t) terms) (sym right)
+      ∙ ap (λ g. find (λ (t : Term). (not g && has_code t given.codes) && fits_besides supplier given t) terms) (sym right)
 
   none_found : (ts : List Term) → None ≡ find (λ (t : Term). false) ts
   none_found [] = refl
@@ -187,4 +191,4 @@ module _ (supplier : Option (List ℕ)) (given : GivenPrice) (terms : List Term)
 
   -- no term fits a price that is garbled
   pub garbled_none : given.garbled ≡ true → None ≡ fitting supplier given terms
-  garbled_none wrong = none_found terms ∙ ap (λ g. find (λ (t : Term). (not g && has_code t.codes given.codes) && fits_besides supplier given t) terms) (sym wrong)
+  garbled_none wrong = none_found terms ∙ ap (λ g. find (λ (t : Term). (not g && has_code t given.codes) && fits_besides supplier given t) terms) (sym wrong)

@@ -15,7 +15,7 @@ use Rattle.price_rules.specs.declared.offer.Offer.{Offer}
 use Rattle.price_rules.specs.declared.offer.PriceQuery.{PriceQuery}
 use Rattle.price_rules.proofs.CurrentPrice.{later_apart}
 use Rattle.price_rules.proofs.Members.{first_in, in_cons, not_in_none}
-use Rattle.feed_terms.specs.HeldBack.{is_closed, is_held_back, is_no_higher, is_of_kind}
+use Rattle.feed_terms.specs.HeldBack.{is_barred, is_closed, is_held_back, is_no_higher, is_of_kind}
 use Rattle.feed_terms.specs.WithTerms.{left_of, price_of_computed, prices_with, written_of, computed_of}
 use Rattle.feed_terms.specs.declared.computed.ComputedPrice.{ComputedPrice}
 use Rattle.feed_terms.specs.declared.price.GivenPrice.{GivenPrice}
@@ -122,7 +122,7 @@ module _ (p : Price) (price : Price) (c : ComputedPrice) where
 
 module _ (terms : List Term) (supplier : Option (List ℕ)) (closed : List Kind) (all : List GivenPrice) where
   abbrev written : GivenPrice → List ComputedPrice
-  written g = written_of terms supplier (is_held_back closed all) g
+  written g = written_of terms supplier (is_held_back terms supplier all closed) g
 
   -- the prices of some Prices, with what is computed
   abbrev with_computed : GivenPrice → List Price
@@ -144,9 +144,9 @@ module _ (terms : List Term) (supplier : Option (List ℕ)) (closed : List Kind)
     Beats y = Holds market q y → Outranks y p → ⊥
 
     -- what is not held back is higher than no Price
-    of_left : (g : GivenPrice) (c : ComputedPrice) → not (is_held_back closed all g.price c) ≡ true → Beats (price_of_computed g.price c)
+    of_left : (g : GivenPrice) (c : ComputedPrice) → not (is_held_back terms supplier all closed g c) ≡ true → Beats (price_of_computed g.price c)
     of_left g c left =
-        let no_price = or_right (is_closed c.price_type g.price.currency closed) _ (not_true _ left) in
+        let no_price = or_right (is_closed c.price_type g.price.currency closed) _ (or_right (is_barred terms supplier all g) _ (not_true _ left)) in
         let test = λ (r : Price). is_of_kind c.price_type g.price.currency r && is_no_higher r.minimum r.from c.minimum g.price.from in
         let none = map_all (λ (x : GivenPrice). x.price) (λ r. test r ≡ false) all (none_passes (λ (x : GivenPrice). test x.price) all no_price) in
         beaten p g.price c market q holds (All-contains (λ r. test r ≡ false) _ p (All-from_recursion (λ r. test r ≡ false) _ none) there)
@@ -154,8 +154,8 @@ module _ (terms : List Term) (supplier : Option (List ℕ)) (closed : List Kind)
     of_written : (g : GivenPrice) → AllByRecursion Beats (map (price_of_computed g.price) (written g))
     of_written g =
         map_all (price_of_computed g.price) Beats (written g)
-        (kept_all (λ c. not (c.amount == 0)) (λ c. Beats (price_of_computed g.price c)) (left_of terms supplier (is_held_back closed all) g)
-        (kept_pass (λ c. not (is_held_back closed all g.price c)) (λ c. Beats (price_of_computed g.price c)) (of_left g) (computed_of terms supplier (is_held_back closed all) g)))
+        (kept_all (λ c. not (c.amount == 0)) (λ c. Beats (price_of_computed g.price c)) (left_of terms supplier (is_held_back terms supplier all closed) g)
+        (kept_pass (λ c. not (is_held_back terms supplier all closed g c)) (λ c. Beats (price_of_computed g.price c)) (of_left g) (computed_of terms supplier (is_held_back terms supplier all closed) g)))
 
     none_beats : (given : List GivenPrice) → AllByRecursion Beats (map (λ g. g.price) given) → All Beats (flat_map with_computed given)
     none_beats [] each = All-nil Beats
@@ -163,7 +163,7 @@ module _ (terms : List Term) (supplier : Option (List ℕ)) (closed : List Kind)
         All-append Beats (with_computed g) (flat_map with_computed given) (All-from_recursion Beats (with_computed g) (each.0, of_written g)) (none_beats given each.1)
 
 pub given_stands : (terms : List Term) (supplier : Option (List ℕ)) (closed : List Kind) (given : List GivenPrice) (offer : Offer) (q : PriceQuery) (amount : ℕ) → offer.prices ≡ map (λ g. g.price) given
-    → IsCurrent offer q (Some amount) → IsCurrent (record offer { prices = prices_with terms supplier (is_held_back closed given) given }) q (Some amount)
+    → IsCurrent offer q (Some amount) → IsCurrent (record offer { prices = prices_with terms supplier (is_held_back terms supplier given closed) given }) q (Some amount)
 given_stands terms supplier closed given offer q amount same (p, is, (there, holds, best)) =
     let Unbeaten : Price → Type 0 = λ y. Holds offer.market q y → Outranks y p → ⊥ in
     let here = subst (λ ps. Contains ps p) same there in

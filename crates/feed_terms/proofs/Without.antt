@@ -1,6 +1,5 @@
 -- What is written with the terms, less the computed records.
 use Rattle.std.proofs.Common.{◌≡◌, ℕ, Bool, List, [], ◌∷◌, ◌++◌, Option, length, drop, map, refl, ap, ◌∙◌}
-use Rattle.onix_records.specs.declared.parts.Price.{Price}
 use Rattle.feed_terms.specs.Laws.{less_behind}
 use Rattle.feed_terms.specs.WithTerms.{computed_record, with_all, written_of}
 use Rattle.feed_terms.specs.declared.computed.ComputedPrice.{ComputedPrice}
@@ -11,7 +10,7 @@ drop_front : {X Y : Type 0} (f : X → Y) (xs : List X) (rest : List Y) → drop
 drop_front f [] rest = refl
 drop_front f (x ∷ xs) rest = drop_front f xs rest
 
-module _ (supplier : Option (List ℕ)) (held : Price → ComputedPrice → Bool) where
+module _ (supplier : Option (List ℕ)) (held : GivenPrice → ComputedPrice → Bool) where
   pub less_computed : (terms : List Term) (given : List GivenPrice) (records : List (List (List ℕ)))
       → less_behind (map (λ g. length (written_of terms supplier held g)) given) (with_all terms supplier held records given) ≡ records
   less_computed terms given [] = refl

@@ -1,7 +1,7 @@
 -- What terms compute of a price of the feed can be written.
 use Rattle.std.proofs.Common.{◌≡◌, ◌<◌, ◌≤◌, ◌+◌, ◌*◌, ◌/◌, ◌%◌, ◌∙◌, ℕ, List, [], ◌∷◌, ◌++◌, Bool, true, false, cond, not, Option, Some, None, Result, Ok, Err, filter, find, fold, map, max, min, length, refl, sym, ap, subst, arith}
 use Rattle.std.specs.List.{AllByRecursion, list_any}
-use Rattle.std.specs.Prelude.{◌==◌, codes, nat_lt, if◌then◌else◌}
+use Rattle.std.specs.Prelude.{◌==◌, codes, is_some, nat_lt, if◌then◌else◌}
 use Rattle.std.proofs.lemmas.Bool.Decides.{nat_tests}
 use Rattle.std.proofs.lemmas.Option.{same_Some}
 use Rattle.std.specs.Str.{bytes_eq}
@@ -11,13 +11,12 @@ use Rattle.onix_terms.specs.Code.{code2_of, currency_of}
 use Rattle.onix_terms.specs.Options.{◌>>=◌}
 use Rattle.onix_terms.proofs.ReadBack.{fixed-itself}
 use Rattle.onix_records.proofs.FrontRows.{bind-some}
-use Rattle.onix_records.specs.declared.parts.Price.{Price}
 use Rattle.price_rules.specs.RulesFile.{keys_pass}
 use Rattle.feed_terms.specs.Amounts.{net_amount, rounded}
 use Rattle.feed_terms.specs.Computed.{all_computed, computed_by, computed_with, discounts_of, least_of_each, tax_of, with_least}
 use Rattle.feed_terms.specs.Fits.{fits, fitting}
 use Rattle.feed_terms.specs.Laws.{HasCodes, IsInRange, IsOfRange, IsWritable}
-use Rattle.feed_terms.specs.TermsFile.{any_percent, array_at, codes_at, is_discount, is_term_key, net_of, optional_at, rate_of, table_of, term_behind, term_in, term_of, terms_behind, terms_of, text_at, top_items, typed_of, types_behind, with_term}
+use Rattle.feed_terms.specs.TermsFile.{any_percent, array_at, codes_at, is_discount, is_term_key, net_of, optional_at, rate_of, scheme_at, table_of, term_behind, term_in, term_of, terms_behind, terms_of, text_at, top_items, typed_of, types_behind, with_term}
 use Rattle.feed_terms.specs.WithTerms.{computed_of, left_of, written_of}
 use Rattle.feed_terms.specs.declared.computed.ComputedPrice.{ComputedPrice}
 use Rattle.feed_terms.specs.declared.price.Discount.{Discount}
@@ -95,10 +94,10 @@ by-writable given range test (term ∷ terms) codes =
       | false ↦ by-writable given range test terms codes.1
     ]
 
-pub written-writable : (terms : List Term) (supplier : Option (List ℕ)) (held : Price → ComputedPrice → Bool) (given : GivenPrice) → HasCodes terms → IsInRange given
+pub written-writable : (terms : List Term) (supplier : Option (List ℕ)) (held : GivenPrice → ComputedPrice → Bool) (given : GivenPrice) → HasCodes terms → IsInRange given
     → AllByRecursion IsWritable (written_of terms supplier held given)
 written-writable terms supplier held given codes range =
-    kept (λ c. not (c.amount == 0)) (left_of terms supplier held given) (kept (λ c. not (held given.price c)) (computed_of terms supplier held given) (by-writable given range (fits supplier given) terms codes))
+    kept (λ c. not (c.amount == 0)) (left_of terms supplier held given) (kept (λ c. not (held given c)) (computed_of terms supplier held given) (by-writable given range (fits supplier given) terms codes))
 
 -- ---- the types of net prices of a table
 
@@ -126,12 +125,13 @@ in-code members term e =
     let f = then-some (keys_pass is_term_key members) _ term e in
     let (types, _, f1) = bind-some (array_at (types_behind []) (get_member (codes "types") members)) _ term f in
     let (asked, _, f2) = bind-some (codes_at (get_member (codes "codes") members)) _ term f1 in
-    let (supplier, _, f3) = bind-some (optional_at typed_of (get_member (codes "supplier") members)) _ term f2 in
-    let (currency, _, f4) = bind-some (optional_at currency_of (get_member (codes "currency") members)) _ term f3 in
-    let (net, is, f5) = bind-some (text_at (net_of types) (get_member (codes "net") members)) _ term f4 in
-    let (percent, _, f6) = bind-some (text_at (rate_of is_discount) (get_member (codes "percent") members)) _ term f5 in
-    let (tax, _, f7) = bind-some (optional_at (rate_of any_percent) (get_member (codes "tax") members)) _ term f6 in
-    let same : net ≡ term.net = ap (λ (t : Term). t.net) (same_Some _ term f7) in
+    let (scheme, _, f3) = bind-some (scheme_at (is_some asked) (get_member (codes "scheme") members)) _ term f2 in
+    let (supplier, _, f4) = bind-some (optional_at typed_of (get_member (codes "supplier") members)) _ term f3 in
+    let (currency, _, f5) = bind-some (optional_at currency_of (get_member (codes "currency") members)) _ term f4 in
+    let (net, is, f6) = bind-some (text_at (net_of types) (get_member (codes "net") members)) _ term f5 in
+    let (percent, _, f7) = bind-some (text_at (rate_of is_discount) (get_member (codes "percent") members)) _ term f6 in
+    let (tax, _, f8) = bind-some (optional_at (rate_of any_percent) (get_member (codes "tax") members)) _ term f7 in
+    let same : net ≡ term.net = ap (λ (t : Term). t.net) (same_Some _ term f8) in
     subst (λ n. code2_of n ≡ Some n) same (text-code types (get_member (codes "net") members) net is)
 
 term-code : (value : Data) (term : Term) → term_of value ≡ Some term → code2_of term.net ≡ Some term.net

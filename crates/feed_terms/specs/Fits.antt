@@ -1,11 +1,17 @@
 -- Which term fits a price.
 use Rattle.std.specs.Prelude.{◌≡◌, ℕ, List, [], ◌∷◌, ◌++◌, Bool, true, false, ◌&&◌, Option, Some, None, not}
-use Rattle.std.specs.Prelude.{find, is_some}
+use Rattle.std.specs.Prelude.{find, is_some, ◌||◌}
+use Rattle.std.specs.BTreeMap.{BTreeMap, get}
+use Rattle.std.specs.Cmp.Lexicographic.{slice_cmp}
+use Rattle.std.specs.Option.{option_cmp, option_map_or}
+use Rattle.std.specs.Ordering.{nat_cmp, ordering_then}
+use Rattle.std.specs.declared.cmp.Ordering.{Ordering}
 use Rattle.std.specs.List.{list_any}
 use Rattle.std.specs.Str.{bytes_eq}
 use Rattle.onix_terms.specs.declared.party.Party.{Party}
 use Rattle.feed_terms.specs.declared.price.Discount.{Discount}
 use Rattle.feed_terms.specs.declared.price.GivenPrice.{GivenPrice}
+use Rattle.feed_terms.specs.declared.price.SaidCode.{SaidCode}
 use Rattle.feed_terms.specs.declared.term.Rate.{Rate}
 use Rattle.feed_terms.specs.declared.term.Rate.TheVariants.{Feed, Fixed}
 use Rattle.feed_terms.specs.declared.term.Term.{Term}
@@ -18,16 +24,25 @@ supplier_text party = party.id_type ++ 44 ∷ party.id_value
 abbrev pub is_among : List (List ℕ) → List ℕ → Bool
 is_among texts text = list_any (bytes_eq text) texts
 
--- whether one of the codes of a price is among those that a term asks for, if it does
-abbrev pub has_code : Option (List (List ℕ)) → List (List ℕ) → Bool
-has_code None said = true
-has_code (Some asked) said = list_any (is_among asked) said
-
 -- whether a text is the one that a term asks for, if it does
 abbrev pub is_asked : Option (List ℕ) → Option (List ℕ) → Bool
 is_asked None there = true
 is_asked (Some asked) None = false
 is_asked (Some asked) (Some text) = bytes_eq asked text
+
+-- whether a term takes what a DiscountCoded says: its code is one of these, and of the scheme that
+-- it asks for, if it does
+abbrev pub takes_code : List (List ℕ) → Option (List ℕ) → SaidCode → Bool
+takes_code asked scheme said = is_among asked said.code && is_asked scheme (Some said.scheme)
+
+-- whether it takes what one and the same DiscountCoded of a price says, if it asks for codes
+abbrev pub has_code : Term → List SaidCode → Bool
+has_code term said = option_map_or (λ asked. list_any (takes_code asked term.scheme) said) term.codes true
+
+-- whether a term takes the scheme of a DiscountCoded, where it goes by one
+abbrev pub takes_scheme : Option (List ℕ) → Option (List ℕ) → Bool
+takes_scheme asked None = true
+takes_scheme asked (Some said) = is_asked asked (Some said)
 
 -- whether a Discount says a percent, where a term goes by it
 abbrev pub has_discount : Rate → List Discount → Bool
@@ -48,20 +63,39 @@ module _ (supplier : Option (List ℕ)) (given : GivenPrice) where
       && is_asked term.currency (Some given.price.currency)
       && has_discount term.percent given.discounts && has_tax term.tax given.tax
 
+  -- the same by a DiscountCoded of this scheme, or by none
+  abbrev pub fits_by : Option (List ℕ) → Term → Bool
+  fits_by scheme term = takes_scheme term.scheme scheme && fits_besides term
+
   -- whether a term fits a price of that supplier: none fits one that is garbled
   abbrev pub fits : Term → Bool
-  fits term = not given.garbled && has_code term.codes given.codes && fits_besides term
+  fits term = not given.garbled && has_code term given.codes && fits_besides term
 
   -- the first term that fits
   abbrev pub fitting : List Term → Option Term
   fitting terms = find fits terms
 
--- whether a price is of a type of the table
-abbrev pub is_of_table : List Term → GivenPrice → Bool
-is_of_table terms given = list_any (λ term. is_among term.types given.price.price_type) terms
+-- whether a term is for this type and currency
+abbrev pub is_for : List ℕ → List ℕ → Term → Bool
+is_for price_type currency term =
+    is_among term.types price_type && is_asked term.currency (Some currency)
 
--- these are the types of the terms of a table
-abbrev pub AreTypes : List Term → List (List ℕ) → Type 0
-AreTypes terms types =
-    (price_type : List ℕ)
-    → is_among types price_type ≡ list_any (λ term. is_among term.types price_type) terms
+-- whether a table has a term for the type and currency of a price
+abbrev pub is_of_table : List Term → GivenPrice → Bool
+is_of_table terms given = list_any (is_for given.price.price_type given.price.currency) terms
+
+-- the order of a type and a currency, which may be absent
+abbrev pub typed_cmp : List ℕ × Option (List ℕ) → List ℕ × Option (List ℕ) → Ordering
+typed_cmp a b = ordering_then (slice_cmp nat_cmp a.0 b.0) (option_cmp (slice_cmp nat_cmp) a.1 b.1)
+
+-- whether a map has a type, with this currency or with each
+abbrev pub has_kind : BTreeMap (List ℕ × Option (List ℕ)) Bool → List ℕ → List ℕ → Bool
+has_kind kinds price_type currency =
+    is_some (get typed_cmp kinds (price_type, Some currency))
+    || is_some (get typed_cmp kinds (price_type, None))
+
+-- these are the types of the terms of a table, each with its currency
+abbrev pub AreKinds : List Term → BTreeMap (List ℕ × Option (List ℕ)) Bool → Type 0
+AreKinds terms kinds =
+    (price_type currency : List ℕ)
+    → has_kind kinds price_type currency ≡ list_any (is_for price_type currency) terms

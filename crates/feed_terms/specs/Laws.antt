@@ -1,8 +1,7 @@
 -- The laws of the definitions.
-use Rattle.std.specs.Prelude.{◌≡◌, ◌↔◌, ℕ, ◌≤◌, ◌<◌, ◌+◌, ◌*◌, ◌-◌, List, [], ◌∷◌}
-use Rattle.std.specs.Prelude.{◌%◌, Option, Some, Ok, Err, Bool, drop, length, map, true}
+use Rattle.std.specs.Prelude.{◌≡◌, ℕ, ◌≤◌, ◌<◌, ◌+◌, ◌*◌, ◌-◌, List, [], ◌∷◌}
+use Rattle.std.specs.Prelude.{◌%◌, Bool, Option, Some, Ok, drop, length, map}
 use Rattle.std.specs.List.{All, AllByRecursion}
-use Rattle.toml.specs.Data.{Items}
 use Rattle.onix_terms.specs.Code.{code2_of}
 use Rattle.onix_records.specs.Price.{price_of}
 use Rattle.onix_records.specs.declared.parts.Price.{Price}
@@ -12,17 +11,14 @@ use Rattle.price_rules.specs.Price.{IsCurrent}
 use Rattle.price_rules.specs.declared.offer.Offer.{Offer}
 use Rattle.price_rules.specs.declared.offer.PriceQuery.{PriceQuery}
 use Rattle.feed_terms.specs.Amounts.{rounded}
-use Rattle.feed_terms.specs.Fits.{fits}
 use Rattle.feed_terms.specs.HeldBack.{is_held_back}
-use Rattle.feed_terms.specs.Precedes.{takes_all}
-use Rattle.feed_terms.specs.TermsFile.{IsBadItem, table_of, terms_behind}
+use Rattle.feed_terms.specs.TermsFile.{table_of}
 use Rattle.feed_terms.specs.WithTerms.{computed_record, price_of_computed, prices_with}
 use Rattle.feed_terms.specs.WithTerms.{with_terms, written_of}
 use Rattle.feed_terms.specs.declared.computed.ComputedPrice.{ComputedPrice}
 use Rattle.feed_terms.specs.declared.price.GivenPrice.{GivenPrice}
 use Rattle.feed_terms.specs.declared.price.Kind.{Kind}
 use Rattle.feed_terms.specs.declared.term.Term.{Term}
-use Rattle.feed_terms.specs.declared.term.TermsFault.TheVariants as fault
 
 -- An amount in hundredths of the currency is the exact one, rounded, halves up: ten times it, times
 -- `10000 + tax`, is above `amount · (10000 - discount)` by half a hundredth at most, or below it by
@@ -38,7 +34,7 @@ AmountIsRounded =
 -- a computed price is never more than the price that it comes from
 abbrev pub ComputedIsNoMore : Type 0
 ComputedIsNoMore =
-    (terms : List Term) (supplier : Option (List ℕ)) (held : Price → ComputedPrice → Bool)
+    (terms : List Term) (supplier : Option (List ℕ)) (held : GivenPrice → ComputedPrice → Bool)
     (g : GivenPrice) → All (λ c. c.amount ≤ g.price.amount) (written_of terms supplier held g)
 
 -- an empty table computes nothing
@@ -59,7 +55,7 @@ LessComputedIsWithout =
     (terms : List Term) (supplier : Option (List ℕ)) (closed : List Kind) (given : List GivenPrice)
     (records : List (List (List ℕ)))
     → less_behind
-    (map (λ g. length (written_of terms supplier (is_held_back closed given) g)) given)
+    (map (λ g. length (written_of terms supplier (is_held_back terms supplier given closed) g)) given)
     (with_terms terms supplier closed given records) ≡ records
 
 -- wherever a price of the feed is the current one of an offer, it is that with the terms too
@@ -69,22 +65,8 @@ GivenPriceStands =
     (offer : Offer) (q : PriceQuery) (amount : ℕ) → offer.prices ≡ map (λ g. g.price) given
     → IsCurrent offer q (Some amount)
     → IsCurrent (record offer {
-      prices = prices_with terms supplier (is_held_back closed given) given;
+      prices = prices_with terms supplier (is_held_back terms supplier given closed) given;
     }) q (Some amount)
-
--- a term that fits each price that another fits does so
-abbrev pub TakesAll : Type 0
-TakesAll =
-    (first later : Term) → takes_all first later ≡ true
-    → (supplier : Option (List ℕ)) (given : GivenPrice) → fits supplier given later ≡ true
-    → fits supplier given first ≡ true
-
--- reading names a bad term exactly where it is the first one
-abbrev pub BadTermIsFirst : Type 0
-BadTermIsFirst =
-    (items : Items) (number : ℕ)
-    → (terms_behind [] items ≡ Err (fault.BadTerm number))
-    ↔ (IsBadItem items number × ((other : ℕ) → IsBadItem items other → number ≤ other))
 
 -- ---- the records of computed prices are read
 
@@ -113,7 +95,7 @@ pub record IsWritable (c : ComputedPrice) : Type 0 where
 -- what a table computes of a price of the feed is such
 abbrev pub WrittenAreWritable : Type 0
 WrittenAreWritable =
-    (terms : List Term) (supplier : Option (List ℕ)) (held : Price → ComputedPrice → Bool)
+    (terms : List Term) (supplier : Option (List ℕ)) (held : GivenPrice → ComputedPrice → Bool)
     (g : GivenPrice) → HasCodes terms → IsInRange g
     → AllByRecursion IsWritable (written_of terms supplier held g)
 

@@ -3,11 +3,13 @@ pub mod TermsFile
 pub mod Reading
 pub mod Prices
 pub mod Fits
+pub mod TaxDoubts
 pub mod Codes
 pub mod Precedes
 pub mod Amounts
 pub mod Computed
 pub mod HeldBack
 pub mod GivenStarts
+pub mod Barred
 pub mod WithTerms
 pub mod Laws

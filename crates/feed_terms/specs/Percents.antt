@@ -1,5 +1,5 @@
 -- Percents, counted in hundredths of a percent.
-use Rattle.std.specs.Prelude.{ℕ, List, Option, Some, None, ◌+◌, ◌*◌, ◌==◌, nat_le, nat_lt}
+use Rattle.std.specs.Prelude.{ℕ, Bool, ◌&&◌, List, Option, Some, None, ◌+◌, ◌*◌, ◌==◌, nat_le, nat_lt}
 use Rattle.std.specs.Prelude.{length, option_map, take, drop, if◌then◌else◌}
 use Rattle.std.specs.List.{after_first, before_first, list_all, position_or_len}
 use Rattle.onix_terms.specs.Amount.{is_point}
@@ -38,6 +38,13 @@ percent_by decimals_of text =
 abbrev pub percent_of : List ℕ → Option ℕ
 percent_of = percent_by hundredths_of
 
--- the percent that a text of a feed writes: zeros behind the second decimal are nothing
+-- whether a percent is above 0 and below 1: a fraction of 1 that was meant as percents
+abbrev pub is_fraction : ℕ → Bool
+is_fraction percent = nat_lt 0 percent && nat_lt percent 100
+
+-- the percent that a text of a feed writes: zeros behind the second decimal are nothing, and a
+-- fraction is none
 abbrev pub feed_percent_of : List ℕ → Option ℕ
-feed_percent_of = percent_by short_hundredths_of
+feed_percent_of text = do
+  percent ← percent_by short_hundredths_of text
+  if is_fraction percent then None else Some percent

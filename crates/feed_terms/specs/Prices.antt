@@ -9,13 +9,13 @@ use Rattle.onix_terms.specs.Quantity.{quantity_of}
 use Rattle.feed_terms.specs.Percents.{feed_percent_of}
 use Rattle.feed_terms.specs.TermsFile.{is_discount}
 use Rattle.feed_terms.specs.declared.price.Discount.{Discount}
+use Rattle.feed_terms.specs.declared.price.SaidCode.{SaidCode}
 
--- the code that a DiscountCoded says, by its type and its code, as a term has it: where the type is
--- two digits
-abbrev pub code_said : List ℕ → List ℕ → Option (List ℕ)
-code_said code_type code = do
+-- what a DiscountCoded says, by its type, the name of that and its code, where the type is two digits
+abbrev pub code_said : List ℕ → List ℕ → List ℕ → Option SaidCode
+code_said code_type scheme code = do
   digits ← code2_of code_type
-  Some (digits ++ 44 ∷ code)
+  Some (record { code = digits ++ 44 ∷ code; scheme = scheme })
 
 -- a DiscountType that is that of a percent of the price: none, or 01
 abbrev pub is_of_price : List ℕ → Bool

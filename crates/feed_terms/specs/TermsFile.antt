@@ -1,11 +1,11 @@
 -- The terms that the text of a table has.
 use Rattle.std.specs.Prelude.{ℕ, ◌+◌, ◌==◌, List, [], ◌∷◌, ◌++◌, Bool, true, ◌&&◌, ◌||◌, not}
 use Rattle.std.specs.Prelude.{Option, Some, None, Result, Ok, Err, nat_le, nat_lt, length, codes}
-use Rattle.std.specs.Prelude.{option_map, ◌≡◌, ◌⊎◌, ◌<◌, if◌then◌else◌}
+use Rattle.std.specs.Prelude.{is_some, option_map, ◌≡◌, ◌⊎◌, if◌then◌else◌}
 use Rattle.std.specs.Char.{is_ascii_digit}
 use Rattle.std.specs.List.{list_any}
 use Rattle.std.specs.Str.{bytes_eq}
-use Rattle.toml.specs.Data.{Data, Items, Members, as_array, as_str, as_table, get_item, get_member}
+use Rattle.toml.specs.Data.{Data, Items, Members, as_array, as_str, as_table, get_member}
 use Rattle.toml.specs.Data.{item, no_items}
 use Rattle.toml.specs.Parse.{parse_document}
 use Rattle.onix_terms.specs.Code.{code2_of, currency_of}
@@ -98,6 +98,20 @@ abbrev pub codes_at : Option Data → Option (Option (List (List ℕ)))
 codes_at None = Some None
 codes_at (Some value) = option_map (λ found. Some found) (array_at (typed_behind []) (Some value))
 
+-- the name of a scheme, as a feed has it
+abbrev pub scheme_of : List ℕ → Option (List ℕ)
+scheme_of text = if is_clean text && is_spaced text then Some text else None
+
+-- the scheme that a value is
+abbrev pub scheme_in : Data → Option (List ℕ)
+scheme_in value = as_str value >>= scheme_of
+
+-- the scheme of the codes of a term, which may be absent, and stands where codes do
+abbrev pub scheme_at : Bool → Option Data → Option (Option (List ℕ))
+scheme_at has_codes None = Some None
+scheme_at has_codes (Some value) =
+    if has_codes then option_map (λ found. Some found) (scheme_in value) else None
+
 -- a type of net prices, which is none of these
 abbrev pub net_of : List (List ℕ) → List ℕ → Option (List ℕ)
 net_of types text = do
@@ -113,7 +127,7 @@ is_top_key key = bytes_eq key (codes "term")
 -- the keys that a term may have
 abbrev pub is_term_key : List ℕ → Bool
 is_term_key key =
-    bytes_eq key (codes "types") || bytes_eq key (codes "codes")
+    bytes_eq key (codes "types") || bytes_eq key (codes "codes") || bytes_eq key (codes "scheme")
     || bytes_eq key (codes "supplier") || bytes_eq key (codes "currency")
     || bytes_eq key (codes "net") || bytes_eq key (codes "percent") || bytes_eq key (codes "tax")
 
@@ -124,6 +138,7 @@ term_in members =
     if keys_pass is_term_key members then (do
       types ← array_at (types_behind []) (get_member (codes "types") members)
       asked ← codes_at (get_member (codes "codes") members)
+      scheme ← scheme_at (is_some asked) (get_member (codes "scheme") members)
       supplier ← optional_at typed_of (get_member (codes "supplier") members)
       currency ← optional_at currency_of (get_member (codes "currency") members)
       net ← text_at (net_of types) (get_member (codes "net") members)
@@ -132,6 +147,7 @@ term_in members =
       Some (record {
         types = types;
         codes = asked;
+        scheme = scheme;
         supplier = supplier;
         currency = currency;
         net = net;
@@ -178,9 +194,3 @@ table_of text = terms_of (parse_document text >>= top_items)
 -- a call failed as reading does, or where memory ran out
 abbrev pub Explains : Result (List Term) TermsFault → TermsFault → Type 0
 Explains read e = (e ≡ fault.Memory) ⊎ (read ≡ Err e)
-
--- the item at this number, counted from 1, is past number 1,000 or is no term
-abbrev pub IsBadItem : Items → ℕ → Type 0
-IsBadItem items number =
-    (k : ℕ) × (value : Data) × (number ≡ 1 + k) × (get_item k items ≡ Some value)
-    × ((1_000 < number) ⊎ (term_of value ≡ None))

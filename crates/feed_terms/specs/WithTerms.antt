@@ -1,18 +1,21 @@
 -- The records of a SupplyDetail with the prices that are computed.
-use Rattle.std.specs.Prelude.{◌≡◌, ℕ, List, [], ◌∷◌, ◌++◌, ◌==◌, Bool, not, ◌&&◌, Option}
+use Rattle.std.specs.Prelude.{◌≡◌, ℕ, List, [], ◌∷◌, ◌++◌, ◌==◌, Bool, not, ◌&&◌, ◌||◌, Option}
 use Rattle.std.specs.Prelude.{◌-◌, ◌<◌, ◌≤◌, IfSome, drop, filter, is_none, length, map}
 use Rattle.std.specs.Prelude.{slice_get, take}
 use Rattle.std.specs.List.{flat_map, list_any}
 use Rattle.onix_records.specs.Price.{minimum_fields}
 use Rattle.onix_records.specs.declared.parts.Price.{Price}
 use Rattle.feed_terms.specs.Amounts.{two_decimals}
+use Rattle.feed_terms.specs.Barred.{has_place}
 use Rattle.feed_terms.specs.Computed.{computed_by}
 use Rattle.feed_terms.specs.Fits.{fitting, is_of_table}
-use Rattle.feed_terms.specs.HeldBack.{is_held_back}
+use Rattle.feed_terms.specs.GivenStarts.{held_by}
+use Rattle.feed_terms.specs.HeldBack.{is_held_back, place_text}
 use Rattle.feed_terms.specs.declared.computed.ComputedPrice.{ComputedPrice}
 use Rattle.feed_terms.specs.declared.price.GivenPrice.{GivenPrice}
 use Rattle.feed_terms.specs.declared.price.Kind.{Kind}
 use Rattle.feed_terms.specs.declared.term.Term.{Term}
+use Rattle.feed_terms.specs.declared.with_terms.Beside.{Beside}
 use Rattle.feed_terms.specs.declared.with_terms.Outcome.{Outcome}
 use Rattle.feed_terms.specs.declared.with_terms.Remarks.{Remarks}
 
@@ -28,16 +31,21 @@ abbrev pub price_of_computed : Price → ComputedPrice → Price
 price_of_computed price c =
     record price { price_type = c.price_type; amount = c.amount; minimum = c.minimum }
 
+-- whether a computed price is held back by what the SupplyDetail gives
+abbrev pub is_held_beside : Beside → GivenPrice → ComputedPrice → Bool
+is_held_beside beside g c =
+    has_place beside.barred (place_text g) || held_by beside.starts g.price c
+
 -- Prices of that supplier, where those that are computed of a price are held back by this test.
 module _ (terms : List Term) (supplier : Option (List ℕ))
-    (is_held : Price → ComputedPrice → Bool) where
+    (is_held : GivenPrice → ComputedPrice → Bool) where
   -- the prices that are computed of one
   abbrev pub computed_of : GivenPrice → List ComputedPrice
   computed_of g = computed_by (fitting supplier g terms) g
 
   -- those that are not held back
   abbrev pub left_of : GivenPrice → List ComputedPrice
-  left_of g = filter (λ c. not (is_held g.price c)) (computed_of g)
+  left_of g = filter (λ c. not (is_held g c)) (computed_of g)
 
   -- those that are written: an amount of 0 is none
   abbrev pub written_of : GivenPrice → List ComputedPrice
@@ -51,7 +59,7 @@ module _ (terms : List Term) (supplier : Option (List ℕ))
   abbrev pub is_free : GivenPrice → Bool
   is_free g = list_any (λ c. c.amount == 0) (left_of g)
 
-  -- whether no term fits one that is of a type of the table
+  -- whether no term fits one for whose type and currency the table has one
   abbrev pub is_unfitted : GivenPrice → Bool
   is_unfitted g = is_none (fitting supplier g terms) && is_of_table terms g
 
@@ -83,7 +91,7 @@ module _ (terms : List Term) (supplier : Option (List ℕ))
 abbrev pub with_terms : List Term → Option (List ℕ) → List Kind → List GivenPrice
     → List (List (List ℕ)) → List (List (List ℕ))
 with_terms terms supplier closed given records =
-    with_all terms supplier (is_held_back closed given) records given
+    with_all terms supplier (is_held_back terms supplier given closed) records given
 
 -- records of Prices, as many as there are prices, each with the nine fields that a Price has
 pub record HavePrices (records : List (List (List ℕ))) (given : List GivenPrice) : Type 0 where

@@ -42,15 +42,15 @@ pub(crate) fn is_among(texts: &[Text], text: &Text) -> bool
     texts.iter().any(|other| text == other)
 }
 
-// Whether a supplier is the one that a term asks for, if it does.
-pub(crate) fn is_supplier(asked: Option<&Text>, supplier: Option<&Text>) -> bool
-    ensures { result ≡ is_asked (option_copied asked.entry) (option_copied supplier.entry) }
+/// Whether a text is the one that a term asks for, if it does.
+pub(crate) fn is_text(asked: Option<&Text>, text: Option<&Text>) -> bool
+    ensures { result ≡ is_asked (option_copied asked.entry) (option_copied text.entry) }
 {
     match asked {
         None => true,
-        Some(asked) => match supplier {
+        Some(asked) => match text {
             None => false,
-            Some(supplier) => asked == supplier,
+            Some(text) => asked == text,
         },
     }
 }
@@ -92,7 +92,7 @@ pub(crate) fn fits_besides(term: &Term, supplier: Option<&Text>, given: &GivenPr
     ensures { result ≡ fits_besides (option_copied supplier.entry) given.now term.now }
 {
     is_of_type(term, given)
-        && is_supplier(term.supplier.as_ref(), supplier)
+        && is_text(term.supplier.as_ref(), supplier)
         && is_currency(term.currency, given.price.currency)
         && has_discount(term.percent, given.discounts.as_slice())
         && has_tax(term.tax, given.tax)

@@ -1,9 +1,10 @@
 //! Which computed prices are held back by what the feed gives.
 
-ghost use Rattle.std.specs.Prelude.{◌≡◌, ℕ, ℤ, List, Option, OnOk, IfOk, false, ◌||◌, ◌&&◌};
+ghost use Rattle.std.specs.Prelude.{◌≡◌, ℕ, ℤ, List, Option, OnOk, IfOk, true, false, ◌||◌, ◌&&◌};
 ghost use Rattle.std.specs.Str.{bytes_eq};
 ghost use Rattle.price_rules.specs.Current.{is_later};
-ghost use Rattle.feed_terms.specs.GivenStarts.{IsIndexOf, held_by, holds};
+ghost use Rattle.feed_terms.specs.GivenStarts.{IsIndexOf, held_by, holds, holds_at};
+ghost use Rattle.std.specs.Option.{option_map_or};
 ghost use Rattle.feed_terms.specs.HeldBack.{is_no_higher};
 
 use crate::computed::ComputedPrice;
@@ -22,10 +23,10 @@ pub struct Start {
 }
 
 /// Of the prices that a SupplyDetail gives, the start that no other one is before, for each type
-/// and currency.
+/// and currency, each of which a Price that gives no record may not say.
 #[derive(Drop)]
 pub struct GivenStarts {
-    first: BTreeMap<(Code2, Currency), Start>,
+    first: BTreeMap<(Option<Code2>, Option<Currency>), Start>,
 }
 
 fn is_later(first: Option<Day>, second: Option<Day>) -> bool
@@ -59,34 +60,45 @@ impl GivenStarts {
         }
     }
 
-    // Whether a price of this type and currency is given that does not outrank one that starts so.
-    fn has_lower(&self, price_type: Code2, currency: Currency, start: &Start) -> bool
+    // Whether what is kept of this type and currency does not outrank a price that starts so.
+    fn has_lower_at(&self, kind: &(Option<Code2>, Option<Currency>), start: &Start) -> bool
         ensures { result
-            ≡ holds self.now price_type currency start.now.minimum start.now.from }
+            ≡ holds_at self.now kind.now.0 kind.now.1 start.now.minimum start.now.from }
     {
-        match self.first.get(&(price_type, currency)) {
+        match self.first.get(kind) {
             Some(first) => is_no_higher(first, start),
             None => false,
         }
     }
 
+    // Whether a price of this type and currency is given that does not outrank one that starts so.
+    fn has_lower(&self, price_type: Code2, currency: Currency, start: &Start) -> bool
+        ensures { result
+            ≡ holds self.now price_type currency start.now.minimum start.now.from }
+    {
+        self.has_lower_at(&(Some(price_type), Some(currency)), start)
+            || self.has_lower_at(&(None, Some(currency)), start)
+            || self.has_lower_at(&(Some(price_type), None), start)
+            || self.has_lower_at(&(None, None), start)
+    }
+
     // Adds the start of a price of this type and currency.
     fn add(
         &mut self,
-        price_type: Code2,
-        currency: Currency,
+        kind: (Option<Code2>, Option<Currency>),
         minimum: u32,
         from: Option<Day>,
     ) -> Result<(), AllocError>
         ensures { OnOk result ((t c : List ℕ) (m : ℕ) (f : Option ℤ) → holds self.new t c m f
-            ≡ (holds self.old t c m f || ((bytes_eq t price_type && bytes_eq c currency)
+            ≡ (holds self.old t c m f || ((option_map_or (bytes_eq t) kind.0 true
+            && option_map_or (bytes_eq c) kind.1 true)
             && is_no_higher minimum from m f))) }
     {
         let start = Start { minimum, from };
-        if self.has_lower(price_type, currency, &start) {
+        if self.has_lower_at(&kind, &start) {
             return Ok(());
         }
-        self.first.insert((price_type, currency), start)?;
+        self.first.insert(kind, start)?;
         Ok(())
     }
 
@@ -101,12 +113,13 @@ impl GivenStarts {
     {
         let mut starts = GivenStarts::new(alloc);
         for kind in closed {
-            starts.add(kind.price_type, kind.currency, 0, None)?;
+            starts.add((kind.price_type, kind.currency), 0, None)?;
         }
         for given in prices {
             let price = &given.price;
             let minimum = price.minimum.value();
-            starts.add(price.price_type, price.currency, minimum, price.from)?;
+            let kind = (Some(price.price_type), Some(price.currency));
+            starts.add(kind, minimum, price.from)?;
         }
         Ok(starts)
     }

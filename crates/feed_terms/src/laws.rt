@@ -1,6 +1,6 @@
 //! Laws about the definitions, each the contract of a function with an empty body.
 
-ghost use Rattle.feed_terms.specs.Laws.{AmountIsRounded, BadTermIsFirst, ComputedIsNoMore, ComputedReadsBack, GivenPriceStands, LessComputedIsWithout, NothingByNoTerms, TablesHaveCodes, TakesAll, WrittenAreWritable};
+ghost use Rattle.feed_terms.specs.Laws.{AmountIsRounded, ComputedIsNoMore, ComputedReadsBack, GivenPriceStands, LessComputedIsWithout, NothingByNoTerms, TablesHaveCodes, WrittenAreWritable};
 
 /// An amount is the exact one, rounded to hundredths, halves up.
 pub fn amount_is_rounded()
@@ -25,16 +25,6 @@ pub fn less_computed_is_without()
 /// Wherever a price of the feed holds, the answer with the terms is that without.
 pub fn given_price_stands()
     ensures { GivenPriceStands }
-{}
-
-/// A term that takes all prices of another fits each that the other fits.
-pub fn takes_all_fitting()
-    ensures { TakesAll }
-{}
-
-/// The number of a bad term that reading a table names is that of the first one.
-pub fn bad_term_is_first()
-    ensures { BadTermIsFirst }
 {}
 
 /// The record of a computed price says that price: its terms have codes, as those of each table, and

@@ -9,6 +9,7 @@
 #![tactic(auto)]
 
 pub mod amounts;
+mod barred;
 mod codes;
 pub mod computed;
 pub mod fits;
@@ -19,6 +20,7 @@ pub mod precedes;
 pub mod price;
 pub mod reading;
 pub mod table;
+pub mod tax_doubts;
 pub mod term;
 mod toml_terms;
 pub mod with_terms;

@@ -2,7 +2,7 @@
 
 ghost use Rattle.std.specs.Prelude.{◌≡◌, ◌<◌, ◌+◌, ◌*◌, ◌==◌, IfSome};
 ghost use Rattle.std.specs.List.{list_all};
-ghost use Rattle.feed_terms.specs.Percents.{feed_percent_of, hundredths_of, percent_of, short_hundredths_of, whole_of};
+ghost use Rattle.feed_terms.specs.Percents.{feed_percent_of, hundredths_of, is_fraction, percent_by, percent_of, short_hundredths_of, whole_of};
 
 use onix_terms::digits::read_digits;
 use std::marker::Model;
@@ -75,7 +75,21 @@ fn read_short_hundredths(text: &str) -> Option<u32>
     }
 }
 
+// Whether a percent is a fraction of 1 that was meant as percents.
+fn is_fraction(percent: Percent) -> bool
+    ensures { result ≡ is_fraction percent }
+{
+    percent.hundredths() > 0 && percent.hundredths() < 100
+}
+
 impl Percent {
+    /// None at all.
+    pub fn zero() -> Percent
+        ensures { result ≡ 0 }
+    {
+        Percent { hundredths: 0 }
+    }
+
     // The percent of a whole part and of hundredths.
     fn from_parts(whole: u32, hundredths: u32) -> Percent
         requires { (whole < 1000) × (hundredths < 100) }
@@ -101,9 +115,22 @@ impl Percent {
         }
     }
 
-    /// The percent that a text of a feed writes: zeros behind the second decimal are nothing.
+    /// The percent that a text of a feed writes: zeros behind the second decimal are nothing, and
+    /// one above 0 and below 1 is none.
     pub fn read_of_feed(text: &str) -> Option<Percent>
         ensures { result ≡ feed_percent_of text.now }
+    {
+        let percent = Percent::read_with_zeros(text)?;
+        if is_fraction(percent) {
+            None
+        } else {
+            Some(percent)
+        }
+    }
+
+    // The same, where one below 1 is one.
+    fn read_with_zeros(text: &str) -> Option<Percent>
+        ensures { result ≡ percent_by short_hundredths_of text.now }
     {
         match text.split_once('.') {
             Some((whole, part)) => {

@@ -5,7 +5,7 @@ ghost use Rattle.std.specs.Option.{option_copied};
 ghost use Rattle.feed_terms.specs.Fits.{is_asked};
 ghost use Rattle.feed_terms.specs.Precedes.{are_among, takes_all, takes_codes, takes_discount, takes_tax};
 
-use crate::fits::{has_type, is_among, is_supplier};
+use crate::fits::{has_type, is_among, is_text};
 use crate::term::{Rate, Term};
 use onix_terms::code::{Code2, Currency};
 use onix_terms::items::Items;
@@ -77,7 +77,8 @@ pub fn takes_all(first: &Term, later: &Term) -> bool
 {
     have_types(first.types.as_slice(), later.types.as_slice())
         && takes_codes(first.codes.as_ref(), later.codes.as_ref())
-        && is_supplier(first.supplier.as_ref(), later.supplier.as_ref())
+        && is_text(first.scheme.as_ref(), later.scheme.as_ref())
+        && is_text(first.supplier.as_ref(), later.supplier.as_ref())
         && takes_currency(first.currency, later.currency)
         && takes_discount(first.percent, later.percent)
         && takes_tax(first.tax, later.tax)

@@ -18,12 +18,22 @@ pub struct Discount {
     pub quantity: Quantity,
 }
 
+/// What a DiscountCoded says: its code, as a term has it, and the name of the scheme that the code
+/// is of, empty where it has none.
+#[derive(Drop)]
+pub struct SaidCode {
+    pub code: Text,
+    pub scheme: Text,
+}
+
 /// A Price of a feed that gives a record: what the record says, and what a term asks besides.
 #[derive(Drop)]
 pub struct GivenPrice {
     pub price: Price,
-    /// The codes of its DiscountCodeds, each as a term has it.
-    pub codes: Items<Text>,
+    /// The three fields of its territory, as they are written, with commas between.
+    pub area: Text,
+    /// The codes of its DiscountCodeds.
+    pub codes: Items<SaidCode>,
     /// Its Discounts that say a percent, in their order.
     pub discounts: Items<Discount>,
     /// The rate of its Tax, where it has just one, and that says a percent.
@@ -32,17 +42,21 @@ pub struct GivenPrice {
     pub garbled: bool,
 }
 
-/// A type and a currency.
+/// The type and the currency of a Price that gives no record, each where it says one.
 #[derive(Clone, Copy, Debug)]
 pub struct Kind {
-    pub price_type: Code2,
-    pub currency: Currency,
+    pub price_type: Option<Code2>,
+    pub currency: Option<Currency>,
 }
 
-/// The code that a DiscountCoded says, by its type and its code, as a term has it, if the type is
-/// two digits.
-pub fn code_said(alloc: Global, code_type: &str, code: &str) -> Result<Option<Text>, AllocError>
-    ensures { IfOk result (λ said. said ≡ code_said code_type.now code.now) }
+/// What a DiscountCoded says, by its type, the name of that and its code, if the type is two digits.
+pub fn code_said(
+    alloc: Global,
+    code_type: &str,
+    scheme: &str,
+    code: &str,
+) -> Result<Option<SaidCode>, AllocError>
+    ensures { IfOk result (λ said. said ≡ code_said code_type.now scheme.now code.now) }
 {
     let Some(digits) = Code2::read(code_type) else {
         return Ok(None);
@@ -50,7 +64,10 @@ pub fn code_said(alloc: Global, code_type: &str, code: &str) -> Result<Option<Te
     let mut said = Text::from_str(alloc, digits.as_str())?;
     said.push_str(",")?;
     said.push_str(code)?;
-    Ok(Some(said))
+    Ok(Some(SaidCode {
+        code: said,
+        scheme: Text::from_str(alloc, scheme)?,
+    }))
 }
 
 // From how many copies on a Discount holds.

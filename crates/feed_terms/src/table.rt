@@ -1,88 +1,119 @@
 //! The table of terms.
 
-ghost use Rattle.std.specs.Prelude.{◌≡◌, ◌≤◌, ◌||◌, ℕ, List, IfOk, OnOk, length, []};
+ghost use Rattle.std.specs.Prelude.{◌≡◌, ◌≤◌, ◌&&◌, ◌||◌, ℕ, List, IfOk, OnOk, length, []};
 ghost use Rattle.std.specs.Option.{option_copied};
-ghost use Rattle.std.specs.Str.{bytes_eq};
 ghost use Rattle.feed_terms.specs.Codes.{first_in, passes_at};
-ghost use Rattle.feed_terms.specs.Fits.{AreTypes, fits_besides, is_among};
+ghost use Rattle.feed_terms.specs.Fits.{AreKinds, fits_by, has_kind, is_among, is_asked, takes_scheme};
 
 use crate::codes::CodeIndex;
-use crate::fits::{fits_besides, has_type};
+use crate::fits::{fits_besides, is_text};
 use crate::price::GivenPrice;
 use crate::term::{Term, TermsFault};
 use crate::toml_terms::read_table;
-use onix_terms::code::Code2;
+use onix_terms::code::{Code2, Currency};
 use onix_terms::text::Text;
 use std::alloc::{AllocError, Global};
+use std::collections::BTreeMap;
 use std::marker::Model;
 
-// Whether there is a term at that index that fits a price but for its codes.
-fn fits_at(terms: &[Term], index: usize, supplier: Option<&Text>, given: &GivenPrice) -> bool
-    ensures { result ≡ passes_at (fits_besides (option_copied supplier.entry) given.now)
-        terms.now index }
+// Whether a term takes the scheme of a DiscountCoded, where it goes by one.
+fn takes_scheme(term: &Term, scheme: Option<&Text>) -> bool
+    ensures { result ≡ takes_scheme term.now.scheme (option_copied scheme.entry) }
+{
+    match scheme {
+        None => true,
+        Some(_) => is_text(term.scheme.as_ref(), scheme),
+    }
+}
+
+// Whether a term fits a price by a DiscountCoded of this scheme, or by none, but for the code.
+fn fits_by(term: &Term, supplier: Option<&Text>, scheme: Option<&Text>, given: &GivenPrice) -> bool
+    ensures { result ≡ fits_by (option_copied supplier.entry) given.now
+        (option_copied scheme.entry) term.now }
+{
+    takes_scheme(term, scheme) && fits_besides(term, supplier, given)
+}
+
+// Whether there is a term at that index that does.
+fn fits_at(
+    terms: &[Term],
+    index: usize,
+    supplier: Option<&Text>,
+    scheme: Option<&Text>,
+    given: &GivenPrice,
+) -> bool
+    ensures { result ≡ passes_at (fits_by (option_copied supplier.entry) given.now
+        (option_copied scheme.entry)) terms.now index }
 {
     match terms.get(index) {
-        Some(term) => fits_besides(term, supplier, given),
+        Some(term) => fits_by(term, supplier, scheme, given),
         None => false,
     }
 }
 
-// The first of some indexes of a term that fits a price but for its codes, where that is below
-// another, else that.
+// The first of some indexes of a term that fits a price so, where that is below another, else that.
 fn first_of(
     terms: &[Term],
     indexes: &[usize],
     below: usize,
     supplier: Option<&Text>,
+    scheme: Option<&Text>,
     given: &GivenPrice,
 ) -> usize
     ensures { result ≡ first_in
-        (passes_at (fits_besides (option_copied supplier.entry) given.now) terms.now)
+        (passes_at (fits_by (option_copied supplier.entry) given.now
+        (option_copied scheme.entry)) terms.now)
         below indexes.now }
 {
     for index in indexes {
         if below <= *index {
             return below;
         }
-        if fits_at(terms, *index, supplier, given) {
+        if fits_at(terms, *index, supplier, scheme, given) {
             return *index;
         }
     }
     below
 }
 
-// Adds a type that is not among these.
-fn add_type(types: &mut Vec<Code2>, code: Code2) -> Result<(), AllocError>
-    ensures { OnOk result ((t : List ℕ) → is_among types.new.items t
-        ≡ (is_among types.old.items t || bytes_eq t code)) }
+// Adds types, each with the currency of their term.
+fn add_kinds(
+    kinds: &mut BTreeMap<(Code2, Option<Currency>), bool>,
+    types: &[Code2],
+    currency: &Option<Currency>,
+) -> Result<(), AllocError>
+    ensures { OnOk result ((t c : List ℕ) → has_kind kinds.new t c
+        ≡ (has_kind kinds.old t c || (is_among types.now t && is_asked currency.now (Some c)))) }
 {
-    if has_type(types.as_slice(), code) {
-        return Ok(());
-    }
-    types.push(code)?;
-    Ok(())
-}
-
-// Adds those of some types that are not among these.
-fn add_types(types: &mut Vec<Code2>, more: &[Code2]) -> Result<(), AllocError>
-    ensures { OnOk result ((t : List ℕ) → is_among types.new.items t
-        ≡ (is_among types.old.items t || is_among more.now t)) }
-{
-    for code in more {
-        add_type(types, *code)?;
+    for code in types {
+        kinds.insert((*code, *currency), true)?;
     }
     Ok(())
 }
 
-// The types of terms, each once.
-fn types_of(alloc: Global, terms: &[Term]) -> Result<Vec<Code2>, AllocError>
-    ensures { IfOk result (λ types. AreTypes terms.now types.items) }
+// The types of terms, each with its currency.
+fn kinds_of(
+    alloc: Global,
+    terms: &[Term],
+) -> Result<BTreeMap<(Code2, Option<Currency>), bool>, AllocError>
+    ensures { IfOk result (AreKinds terms.now) }
 {
-    let mut types = Vec::new(alloc);
+    let mut kinds = BTreeMap::new(alloc);
     for term in terms {
-        add_types(&mut types, term.types.as_slice())?;
+        add_kinds(&mut kinds, term.types.as_slice(), &term.currency)?;
     }
-    Ok(types)
+    Ok(kinds)
+}
+
+// Whether a type is among them, with this currency or with each.
+fn has_kind(
+    kinds: &BTreeMap<(Code2, Option<Currency>), bool>,
+    price_type: Code2,
+    currency: Currency,
+) -> bool
+    ensures { result ≡ has_kind kinds.now price_type currency }
+{
+    kinds.contains_key(&(price_type, Some(currency))) || kinds.contains_key(&(price_type, None))
 }
 
 /// The terms of the shop with a wholesaler, which contracts see as the list of them, of which there
@@ -91,13 +122,13 @@ fn types_of(alloc: Global, terms: &[Term]) -> Result<Vec<Code2>, AllocError>
 pub struct Terms {
     terms: Vec<Term>,
     index: CodeIndex,
-    types: Vec<Code2>,
+    kinds: BTreeMap<(Code2, Option<Currency>), bool>,
 }
 
 impl Model for Terms {
     ghost use Rattle.std.specs.Prelude.{List, length, ◌≤◌};
     ghost use Rattle.feed_terms.specs.Codes.{Lists};
-    ghost use Rattle.feed_terms.specs.Fits.{AreTypes};
+    ghost use Rattle.feed_terms.specs.Fits.{AreKinds};
     ghost use Rattle.feed_terms.specs.declared.term.Term.{Term};
 
     ghost Value = { List Term };
@@ -105,7 +136,7 @@ impl Model for Terms {
     ghost view = { λ t. t.terms.items };
 
     ghost invariant = { λ t. (length t.terms.items ≤ 1_000)
-        × (Lists t.terms.items t.index × AreTypes t.terms.items t.types.items) };
+        × (Lists t.terms.items t.index × AreKinds t.terms.items t.kinds) };
 }
 
 impl Terms {
@@ -120,7 +151,7 @@ impl Terms {
         Terms {
             terms: Vec::new(alloc),
             index: CodeIndex::new(alloc),
-            types: Vec::new(alloc),
+            kinds: BTreeMap::new(alloc),
         }
     }
 
@@ -133,8 +164,8 @@ impl Terms {
     }
 
     /// The table that a TOML text writes: an array `term` of tables, each with `types`, `net` and
-    /// `percent`, and optionally `codes`, `supplier`, `currency` and `tax`. An empty text has no
-    /// terms.
+    /// `percent`, and optionally `codes`, `scheme`, `supplier`, `currency` and `tax`. An empty text
+    /// has no terms.
     ///
     /// `NotToml` comes exactly where the text is no TOML document, or its top-level table has
     /// another key than `term`, or `term` is no array. Else `BadTerm` names the first item, from 1,
@@ -145,11 +176,11 @@ impl Terms {
     {
         let terms = read_table(alloc, text)?;
         let index = CodeIndex::of(alloc, terms.as_slice())?;
-        let types = types_of(alloc, terms.as_slice())?;
+        let kinds = kinds_of(alloc, terms.as_slice())?;
         Ok(Terms {
             terms,
             index,
-            types,
+            kinds,
         })
     }
 
@@ -163,18 +194,18 @@ impl Terms {
         }
         let terms = self.terms.as_slice();
         let without = self.index.without.as_slice();
-        let mut first = first_of(terms, without, terms.len(), supplier, given);
-        for code in given.codes.as_slice() {
-            let asking = self.index.at(code);
-            first = first_of(terms, asking, first, supplier, given);
+        let mut first = first_of(terms, without, terms.len(), supplier, None, given);
+        for said in given.codes.as_slice() {
+            let asking = self.index.at(&said.code);
+            first = first_of(terms, asking, first, supplier, Some(&said.scheme), given);
         }
         terms.get(first)
     }
 
-    /// Whether a price is of a type of the table.
-    pub fn has_type(&self, given: &GivenPrice) -> bool
+    /// Whether the table has a term for the type and the currency of a price.
+    pub fn is_for(&self, given: &GivenPrice) -> bool
         ensures { result ≡ is_of_table self.now given.now }
     {
-        has_type(self.types.as_slice(), given.price.price_type)
+        has_kind(&self.kinds, given.price.price_type, given.price.currency)
     }
 }

@@ -27,6 +27,8 @@ pub struct Term {
     pub types: Items<Code2>,
     /// The discount codes of which a price has one, if the term asks for one.
     pub codes: Option<Items<Text>>,
+    /// The name of the scheme that these codes are of, if the term asks for one.
+    pub scheme: Option<Text>,
     /// The identifier of the supplier, if the term asks for one.
     pub supplier: Option<Text>,
     /// The currency, if the term asks for one.

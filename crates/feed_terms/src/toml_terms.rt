@@ -6,7 +6,7 @@ ghost use Rattle.price_rules.specs.RulesFile.{code_of, keys_pass};
 ghost use Rattle.onix_terms.specs.Code.{currency_of};
 ghost use Rattle.toml.specs.Data.{get_member};
 ghost use Rattle.toml.specs.View.{items_view, table_view, view};
-ghost use Rattle.feed_terms.specs.TermsFile.{Explains, any_percent, array_at, codes_at, is_discount, is_spaced, is_term_key, is_top_key, net_of, optional_at, rate_of, table_of, term_in, term_of, terms_behind, terms_of, text_at, top_items, typed_behind, typed_in, typed_of, types_behind};
+ghost use Rattle.feed_terms.specs.TermsFile.{Explains, any_percent, array_at, codes_at, is_discount, is_spaced, is_term_key, is_top_key, net_of, optional_at, rate_of, scheme_at, scheme_in, scheme_of, table_of, term_in, term_of, terms_behind, terms_of, text_at, top_items, typed_behind, typed_in, typed_of, types_behind};
 
 use crate::fits::has_type;
 use crate::percent::Percent;
@@ -29,6 +29,7 @@ fn has_term_keys(table: &Table) -> bool
         let key = key.as_str();
         key == "types"
             || key == "codes"
+            || key == "scheme"
             || key == "supplier"
             || key == "currency"
             || key == "net"
@@ -209,6 +210,55 @@ fn codes_at(alloc: Global, table: &Table) -> Result<Option<Option<Items<Text>>>,
     }
 }
 
+// Whether a text may be the name of a scheme.
+fn is_scheme(text: &str) -> bool
+    ensures { scheme_of text.now ≡ (if result then Some text.now else None) }
+{
+    let bytes = text.as_bytes();
+    is_clean(bytes) && is_spaced(bytes)
+}
+
+// The name of a scheme.
+fn read_scheme(alloc: Global, text: &str) -> Result<Option<Text>, AllocError>
+    ensures { IfOk result (λ found. found ≡ scheme_of text.now) }
+{
+    if !is_scheme(text) {
+        return Ok(None);
+    }
+    Ok(Some(Text::from_str(alloc, text)?))
+}
+
+// The scheme that a value is.
+fn scheme_in(alloc: Global, value: &Value) -> Result<Option<Text>, AllocError>
+    ensures { IfOk result (λ found. found ≡ scheme_in (view value.now)) }
+{
+    match value.as_str() {
+        Some(text) => read_scheme(alloc, text),
+        None => Ok(None),
+    }
+}
+
+// The scheme of the codes of a term, if it has one: it has codes then.
+fn scheme_at(
+    alloc: Global,
+    has_codes: bool,
+    table: &Table,
+) -> Result<Option<Option<Text>>, AllocError>
+    ensures { IfOk result (λ found. found
+        ≡ scheme_at has_codes (get_member (codes "scheme") (table_view table.now))) }
+{
+    let Some(value) = member(table, "scheme") else {
+        return Ok(Some(None));
+    };
+    if !has_codes {
+        return Ok(None);
+    }
+    match scheme_in(alloc, value)? {
+        Some(text) => Ok(Some(Some(text))),
+        None => Ok(None),
+    }
+}
+
 // The supplier of a term, if it has one.
 fn supplier_at(alloc: Global, table: &Table) -> Result<Option<Option<Text>>, AllocError>
     ensures { IfOk result (λ found. found
@@ -278,6 +328,9 @@ fn term_in(alloc: Global, table: &Table) -> Result<Option<Term>, AllocError>
     let Some(codes) = codes_at(alloc, table)? else {
         return Ok(None);
     };
+    let Some(scheme) = scheme_at(alloc, codes.is_some(), table)? else {
+        return Ok(None);
+    };
     let Some(supplier) = supplier_at(alloc, table)? else {
         return Ok(None);
     };
@@ -296,6 +349,7 @@ fn term_in(alloc: Global, table: &Table) -> Result<Option<Term>, AllocError>
     Ok(Some(Term {
         types,
         codes,
+        scheme,
         supplier,
         currency,
         net,

@@ -1,15 +1,16 @@
 //! The records of a SupplyDetail with the prices that are computed.
 
-ghost use Rattle.std.specs.Prelude.{◌≡◌, ◌≤◌, ◌==◌, ◌++◌, true, OnOk, IfOk, ◌&&◌, filter, is_none, length, map, not};
+ghost use Rattle.std.specs.Prelude.{◌≡◌, ◌≤◌, ◌==◌, ◌++◌, OnOk, IfOk, ◌&&◌, filter, is_none, length, map, not};
 ghost use Rattle.std.specs.Option.{option_copied};
 ghost use Rattle.onix_records.specs.Price.{minimum_fields};
 ghost use Rattle.std.specs.List.{list_any};
 ghost use Rattle.feed_terms.specs.Fits.{is_of_table};
 ghost use Rattle.feed_terms.specs.GivenStarts.{held_by};
 ghost use Rattle.feed_terms.specs.HeldBack.{is_held_back};
-ghost use Rattle.feed_terms.specs.WithTerms.{HavePrices, IsOutcome, computed_record, remarks_of, with_computed, with_terms};
+ghost use Rattle.feed_terms.specs.WithTerms.{HavePrices, IsOutcome, computed_record, remarks_of, is_held_beside, with_computed, with_terms};
 
 use crate::amounts::two_decimals;
+use crate::barred::Barred;
 use crate::computed::{ComputedPrice, computed_by};
 use crate::held_back::GivenStarts;
 use crate::price::{GivenPrice, Kind};
@@ -31,8 +32,15 @@ pub struct Remarks {
     pub held: usize,
     /// Whether an amount of 0 was computed that is not held back.
     pub is_free: bool,
-    /// Whether no term fits it, though it is of a type of the table.
+    /// Whether no term fits it, though the table has one for its type and currency.
     pub is_unfitted: bool,
+}
+
+// What a SupplyDetail gives, by which computed prices are held back.
+#[derive(Drop)]
+struct Beside {
+    starts: GivenStarts,
+    barred: Barred,
 }
 
 /// What comes of a Price by the terms.
@@ -90,31 +98,49 @@ fn has_free(prices: &[ComputedPrice]) -> bool
     prices.iter().any(|price| is_free(price))
 }
 
-// Whether no term fits a price that is of a type of the table.
+// Whether no term fits a price for whose type and currency the table has one.
 fn is_unfitted(terms: &Terms, term: Option<&Term>, given: &GivenPrice) -> bool
     ensures { result ≡ (is_none (option_copied term.entry) && is_of_table terms.now given.now) }
 {
     match term {
         Some(_) => false,
-        None => terms.has_type(given),
+        None => terms.is_for(given),
     }
 }
 
-/// What comes of a Price of a supplier whose SupplyDetail gives prices that start so.
-pub fn outcome_of(
+// The computed prices of a Price that are not held back.
+fn left_beside(
+    alloc: Global,
+    beside: &Beside,
+    given: &GivenPrice,
+    prices: &[ComputedPrice],
+) -> Result<Vec<ComputedPrice>, AllocError>
+    ensures left { IfOk result (λ left. left.items
+        ≡ filter (λ c. not (is_held_beside beside.now given.now c)) prices.now) }
+    ensures no_more { IfOk result (λ left. length left.items ≤ length prices.now) }
+{
+    let is_barred = beside.barred.has(alloc, given)?;
+    if is_barred {
+        return Ok(Vec::new(alloc));
+    }
+    left_of(alloc, &beside.starts, &given.price, prices)
+}
+
+// What comes of a Price of a supplier beside what its SupplyDetail gives.
+fn outcome_of(
     alloc: Global,
     terms: &Terms,
     supplier: Option<&Text>,
-    starts: &GivenStarts,
+    beside: &Beside,
     given: &GivenPrice,
 ) -> Result<Outcome, AllocError>
     ensures { IfOk result (IsOutcome terms.now (option_copied supplier.entry)
-        (held_by starts.now) given.now) }
+        (is_held_beside beside.now) given.now) }
 {
     let term = terms.fitting(supplier, given);
     let is_unfitted = is_unfitted(terms, term, given);
     let computed = computed_by(alloc, term, given)?;
-    let left = left_of(alloc, starts, &given.price, computed.as_slice())?;
+    let left = left_beside(alloc, beside, given, computed.as_slice())?;
     let written = written_of(alloc, left.as_slice())?;
     Ok(Outcome {
         written,
@@ -183,7 +209,7 @@ fn add_with_computed(
     alloc: Global,
     terms: &Terms,
     supplier: Option<&Text>,
-    starts: &GivenStarts,
+    beside: &Beside,
     given: &GivenPrice,
     source: &Record<'_>,
     fields: &mut FieldBuffer,
@@ -191,12 +217,12 @@ fn add_with_computed(
 ) -> Result<Remarks, AllocError>
     requires { 9 ≤ length source.now }
     ensures records { OnOk result (output.new ≡ output.old
-        ++ with_computed terms.now (option_copied supplier.entry) (held_by starts.now)
+        ++ with_computed terms.now (option_copied supplier.entry) (is_held_beside beside.now)
         source.now given.now) }
     ensures remarks { IfOk result (λ r. r
-        ≡ remarks_of terms.now (option_copied supplier.entry) (held_by starts.now) given.now) }
+        ≡ remarks_of terms.now (option_copied supplier.entry) (is_held_beside beside.now) given.now) }
 {
-    let outcome = outcome_of(alloc, terms, supplier, starts, given)?;
+    let outcome = outcome_of(alloc, terms, supplier, beside, given)?;
     output.push(source)?;
     push_computed(alloc, source, outcome.written.as_slice(), fields, output)?;
     Ok(outcome.remarks)
@@ -217,9 +243,12 @@ pub fn add_with_terms(
     ensures records { OnOk result (output.new ≡ output.old
         ++ with_terms terms.now (option_copied supplier.entry) closed.now given.now records.now) }
     ensures remarks { IfOk result (λ r. r.items ≡ map (remarks_of terms.now
-        (option_copied supplier.entry) (is_held_back closed.now given.now)) given.now) }
+        (option_copied supplier.entry) (is_held_back terms.now (option_copied supplier.entry)
+        given.now closed.now)) given.now) }
 {
     let starts = GivenStarts::of(alloc, closed, given)?;
+    let barred = Barred::of(alloc, terms, supplier, given)?;
+    let beside = Beside { starts, barred };
     let mut fields = FieldBuffer::new(alloc);
     let mut remarks = Vec::new(alloc);
     for place in 0..given.len() {
@@ -227,7 +256,7 @@ pub fn add_with_terms(
             alloc,
             terms,
             supplier,
-            &starts,
+            &beside,
             &given[place],
             &records.record(place),
             &mut fields,
@@ -236,19 +265,4 @@ pub fn add_with_terms(
         remarks.push(remark)?;
     }
     Ok(remarks)
-}
-
-/// Whether records are those of so many Prices, each with the nine fields that a Price has.
-pub fn have_prices(records: &RecordBuffer, given: &[GivenPrice]) -> bool
-    ensures { result ≡ true → HavePrices records.now given.now }
-{
-    if records.len() != given.len() {
-        return false;
-    }
-    for place in 0..records.len() {
-        if records.record(place).len() < 9 {
-            return false;
-        }
-    }
-    true
 }

@@ -6,7 +6,7 @@ use Rattle.std.proofs.lemmas.Bool.{and_parts, ltb-true}
 use Rattle.std.proofs.lemmas.Grind.{flat_map-append}
 use Rattle.std.proofs.lemmas.Str.{encode_ascii}
 use Rattle.feed_xml.specs.declared.encodings.Encoding.{Encoding}
-use Rattle.feed_xml.specs.declared.encodings.Encoding.TheVariants.{Utf8, Ascii, Latin1, Latin9, Windows1252, Utf16Big, Utf16Little}
+use Rattle.feed_xml.specs.declared.encodings.Encoding.TheVariants.{Utf8, Ascii, Latin1, Latin9, Windows1252}
 use Rattle.feed_xml.specs.Encodings.{byte_text, code_of, latin9_code, windows_code}
 use Rattle.feed_xml.specs.private.NameCharacters.{is_ascii}
 
@@ -16,8 +16,6 @@ own_code Ascii b h = ap (λ (t : Bool). if t then b else 0) h
 own_code Latin1 b h = refl
 own_code Latin9 b h = ap (λ (t : Bool). if t then b else latin9_code b) h
 own_code Windows1252 b h = ap (λ (t : Bool). if t then b else windows_code b) h
-own_code Utf16Big b h = refl
-own_code Utf16Little b h = refl
 
 own_text : (e : Encoding) (bytes : List ℕ) → list_all is_ascii bytes ≡ true → flat_map (byte_text e) bytes ≡ bytes
 own_text e [] h = refl

@@ -8,7 +8,7 @@ use Rattle.feed_xml.specs.declared.fault.Fault.TheVariants.{Malformed, NotText, 
 use Rattle.feed_xml.specs.declared.place.Place.{Place}
 use Rattle.feed_xml.specs.declared.texts.Part.{Part}
 use Rattle.feed_xml.specs.Documents.{IsNoDocument, IsNoText}
-use Rattle.feed_xml.specs.EncodingNames.{IsOfUnknown, OfText, declared_name, encoding_at}
+use Rattle.feed_xml.specs.EncodingNames.{IsOfUnknown, OfText, encoding_at, encoding_name}
 use Rattle.feed_xml.specs.Encodings.{decoded}
 use Rattle.feed_xml.specs.Faults.{IsOfEnd, IsOfPlace, IsOfReading, Tells}
 use Rattle.feed_xml.specs.Grammar.{Token}
@@ -106,12 +106,12 @@ text_tells after goes_on told bytes old new all Read w = tt
 text_tells after goes_on told bytes old new all Memory w = tt
 
 -- an encoding that is none that is known
-unknown_told : (bytes : Option (List ℕ)) (head name : List ℕ) → IfSome bytes (λ b. take 1024 b ≡ take 1024 head) → encoding_at (take 1024 head) ≡ None → declared_name (take 1024 head) ≡ Some name
+unknown_told : (bytes : Option (List ℕ)) (head name : List ℕ) → IfSome bytes (λ b. take 1024 b ≡ take 1024 head) → encoding_at (take 1024 head) ≡ None → encoding_name (take 1024 head) ≡ Some name
     → IfSome bytes (IsOfUnknown name)
 unknown_told None head name same none named = tt
 unknown_told (Some b) head name same none named = (
   ap (λ (l : List ℕ). option_map (λ (f : Encoding × ℕ). decoded f.0 (drop f.1 b)) (encoding_at l)) same ∙ ap (option_map (λ (f : Encoding × ℕ). decoded f.0 (drop f.1 b))) none,
-  ap declared_name same ∙ named,
+  ap encoding_name same ∙ named,
 )
 
 pub unknown_tells : {S : Type 0} (after : S → Token → S) (goes_on : S → Bool) (bytes : Option (List ℕ)) (old : S) (head : List ℕ) → IfSome bytes (λ b. take 1024 b ≡ take 1024 head) → encoding_at (take 1024 head) ≡ None

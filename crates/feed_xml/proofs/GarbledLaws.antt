@@ -14,7 +14,7 @@ use Rattle.feed_xml.specs.Texts.{IsText, follow, is_start}
 use Rattle.feed_xml.specs.private.Bounds.{IsGarbledBehind}
 use Rattle.feed_xml.specs.private.Places.{first_place, section_of, steps}
 use Rattle.feed_xml.specs.Sections.{section_past}
-use Rattle.feed_xml.specs.private.Windows.{Advances, Grows, IsEnding}
+use Rattle.feed_xml.specs.private.Windows.{Advances, Grows}
 use Rattle.feed_xml.proofs.DocumentLaws.{advance_longer, known_told}
 use Rattle.feed_xml.proofs.FrontLaws.{front_of}
 use Rattle.feed_xml.proofs.MeetLaws.{of_all}
@@ -93,7 +93,7 @@ known_short (Some x) b text window tokens q part c end_here adv none at_part hal
 -- at the end of a text
 pub ends_broken : (told left later : Option (List ℕ)) (before window : List ℕ) (tokens : List Token) (place : Place) (was : Option Part) (part : Part) (piece : List ℕ) (next : Option Part) (last : Part)
     → State told left before tokens place was → was ≡ Some part → Consumes left later piece → Grows before window part piece next → next ≡ Some last → IsAtEnd later
-    → IsEnding piece → is_start last ≡ false → HasNoToken (section_of place.tail) before → IfSome told (IsGarbledBehind tokens)
+    → piece ≡ [] → is_start last ≡ false → HasNoToken (section_of place.tail) before → IfSome told (IsGarbledBehind tokens)
 ends_broken told left later before window tokens place was part piece next last s is c g found end_here ending_is half none =
     let t = last_state told left later before window tokens place was part piece next last s is c g found ending_is in
     known_short told later t.text before tokens place last (nothing_bad told later t.text t.bad t.at_part.0 t.read) end_here t.advances none t.at_part.1 half

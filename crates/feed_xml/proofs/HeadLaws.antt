@@ -8,7 +8,6 @@ use Rattle.feed_xml.specs.private.Windows.{IsTold}
 use Rattle.feed_xml.specs.EncodingNames.{encoding_at, text_of, IsTextOf, OfText}
 use Rattle.feed_xml.specs.Encodings.{decoded}
 use Rattle.feed_xml.specs.private.Decoders.{text_left}
-use Rattle.feed_xml.proofs.UnitLaws.{by_units}
 
 -- enough was read
 pub enough : (a b : Option (List ℕ)) (head : List ℕ) → Consumes a b head → 1024 ≤ length head → IfSome a (λ bytes. take 1024 bytes ≡ take 1024 head)
@@ -29,13 +28,13 @@ pub of_text : (P : List ℕ → Type 0) (a b : Option (List ℕ)) (head : List �
 of_text P None b head e n c front found within p = tt
 of_text P (Some x) None head e n c front found within p = absurd c
 of_text P (Some x) (Some y) head e n c front found within p =
-    (decoded e (drop n head ++ y), whole_text x y head e n c front found within, subst P (by_units e (drop n head ++ y)) p)
+    (decoded e (drop n head ++ y), whole_text x y head e n c front found within, p)
 
 pub is_text_of : (a b : Option (List ℕ)) (head text : List ℕ) (e : Encoding) (n : ℕ) → Consumes a b head → IfSome a (λ bytes. take 1024 bytes ≡ take 1024 head)
     → encoding_at (take 1024 head) ≡ Some (e, n) → n ≤ length head → IsTold (text_left e (drop n head) b) text → IsTextOf a text
 is_text_of None b head text e n c front found within told = tt
 is_text_of (Some x) None head text e n c front found within told = absurd c
-is_text_of (Some x) (Some y) head text e n c front found within told = whole_text x y head e n c front found within ∙ ap (λ (l : List ℕ). Some l) (sym (by_units e (drop n head ++ y)) ∙ told)
+is_text_of (Some x) (Some y) head text e n c front found within told = whole_text x y head e n c front found within ∙ ap (λ (l : List ℕ). Some l) told
 
 -- the mark is within the head
 pub mark_within : (n : ℕ) (front shown other head : List ℕ) → front ≡ take 1024 shown → shown ≡ head → other ≡ head → n ≤ length front → n ≤ length other

@@ -28,5 +28,3 @@ pub mod HeadLaws
 pub mod FaultLaws
 pub mod ValueLaws
 pub mod OneTreeLaws
-pub mod UnitLaws
-pub mod Utf16Laws

@@ -7,7 +7,7 @@ use Rattle.std.proofs.KnownBytes.{Consumes-trans, prepend_known-nil}
 use Rattle.feed_xml.specs.declared.place.Place.{Place}
 use Rattle.feed_xml.specs.declared.texts.Part.{Part}
 use Rattle.feed_xml.specs.declared.texts.Part.TheVariants.{Whole}
-use Rattle.feed_xml.specs.private.Windows.{Advances, BeginsAt, Grows, IsEnding, IsTold, is_whole}
+use Rattle.feed_xml.specs.private.Windows.{Advances, BeginsAt, Grows, IsTold, is_whole}
 use Rattle.feed_xml.specs.Grammar.{Token}
 use Rattle.feed_xml.specs.private.Bounds.{MeetsFrom, IsLongAt, NoneStandsAt}
 use Rattle.feed_xml.specs.Pieces.{HasNoToken}
@@ -16,7 +16,6 @@ use Rattle.feed_xml.specs.Documents.{IsNoText}
 use Rattle.feed_xml.specs.Texts.{follow, is_start, IsSmall}
 use Rattle.feed_xml.proofs.Runs.{rest_is}
 use Rattle.feed_xml.proofs.DocumentLaws.{at_start, advance_further, advance_longer, a_round, known_malformed, known_told, known_cut, known_garbled, known_half, known_stuck, nothing_read, whole_document}
-use Rattle.feed_xml.proofs.EncodingLaws.{ends_clean}
 use Rattle.feed_xml.proofs.LimitLaws.{Lasts, known_limit, long_lasts}
 use Rattle.feed_xml.proofs.TextLaws.{follow-append}
 
@@ -152,8 +151,8 @@ too_long told left window tokens q part s long =
     (goes_beyond IsLongAt told left window window tokens q part long_lasts [] s refl (record { rest = window; place = q; leads = at_start window q; meets = long }))
 
 -- an end without bytes
-pub same_window : (before window piece : List ℕ) (part next : Part) → Grows before window part piece (Some next) → IsEnding piece → window ≡ before
-same_window before window piece part next g e = nothing_read window before piece g.0 (ends_clean part next piece e g.1)
+pub same_window : (before window piece : List ℕ) (part next : Part) → Grows before window part piece (Some next) → piece ≡ [] → window ≡ before
+same_window before window piece part next g e = nothing_read window before piece g.0 e
 
 pub small_part : (before window piece : List ℕ) (part : Part) (next : Option Part) → Grows before window part piece next → IfSome next IsSmall
 small_part before window piece part None g = tt
@@ -206,7 +205,7 @@ ends_whole told left later before window shown tokens place was part piece next 
 
 pub ends_cut : (told left later : Option (List ℕ)) (before window shown : List ℕ) (tokens : List Token) (place : Place) (was : Option Part) (part : Part) (piece : List ℕ) (next : Option Part) (last : Part)
     → State told left before tokens place was → was ≡ Some part → Consumes left later piece → Grows before window part piece next → next ≡ Some last → IsAtEnd later → shown ≡ window
-    → IsEnding piece → HasNoToken (section_of place.tail) before → is_whole shown place last ≡ false → IfSome told IsNeverComplete
+    → piece ≡ [] → HasNoToken (section_of place.tail) before → is_whole shown place last ≡ false → IfSome told IsNeverComplete
 ends_cut told left later before window shown tokens place was part piece next last s is c g found end_here same ending_is none not_whole =
     let t = reads_on_at told left later before window tokens place was part piece next s is c g in
     let grows = subst (Grows before window part piece) found g in
@@ -215,7 +214,7 @@ ends_cut told left later before window shown tokens place was part piece next la
     (ap (λ (l : List ℕ). is_whole l place last) (sym same) ∙ not_whole)
 
 pub last_state : (told left later : Option (List ℕ)) (before window : List ℕ) (tokens : List Token) (place : Place) (was : Option Part) (part : Part) (piece : List ℕ) (next : Option Part) (last : Part)
-    → State told left before tokens place was → was ≡ Some part → Consumes left later piece → Grows before window part piece next → next ≡ Some last → IsEnding piece → State told later before tokens place (Some last)
+    → State told left before tokens place was → was ≡ Some part → Consumes left later piece → Grows before window part piece next → next ≡ Some last → piece ≡ [] → State told later before tokens place (Some last)
 last_state told left later before window tokens place was part piece next last s is c g found ending_is =
     let t = reads_on_at told left later before window tokens place was part piece next s is c g in
     let same = same_window before window piece part last (subst (Grows before window part piece) found g) ending_is in
@@ -223,14 +222,14 @@ last_state told left later before window tokens place was part piece next last s
 
 pub ends_stuck : (told left later : Option (List ℕ)) (before window : List ℕ) (tokens : List Token) (place : Place) (was : Option Part) (part : Part) (piece : List ℕ) (next : Option Part) (last : Part)
     → State told left before tokens place was → was ≡ Some part → Consumes left later piece → Grows before window part piece next → next ≡ Some last → IsAtEnd later
-    → IsEnding piece → HasNoToken (section_of place.tail) before → IfSome told (MeetsFrom NoneStandsAt first_place tokens)
+    → piece ≡ [] → HasNoToken (section_of place.tail) before → IfSome told (MeetsFrom NoneStandsAt first_place tokens)
 ends_stuck told left later before window tokens place was part piece next last s is c g found end_here ending_is none =
     let t = last_state told left later before window tokens place was part piece next last s is c g found ending_is in
     known_stuck told later t.text before tokens place (nothing_bad told later t.text t.bad t.at_part.0 t.read) end_here t.advances none
 
 pub ends_half : (told left later : Option (List ℕ)) (before window : List ℕ) (tokens : List Token) (place : Place) (was : Option Part) (part : Part) (piece : List ℕ) (next : Option Part) (last : Part)
     → State told left before tokens place was → was ≡ Some part → Consumes left later piece → Grows before window part piece next → next ≡ Some last → IsAtEnd later
-    → IsEnding piece → is_start last ≡ false → IfSome told IsNoText
+    → piece ≡ [] → is_start last ≡ false → IfSome told IsNoText
 ends_half told left later before window tokens place was part piece next last s is c g found end_here ending_is half =
     let t = last_state told left later before window tokens place was part piece next last s is c g found ending_is in
     known_half told later t.text last (nothing_bad told later t.text t.bad t.at_part.0 t.read) end_here t.at_part.1 half

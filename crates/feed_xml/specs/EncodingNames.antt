@@ -1,6 +1,6 @@
 -- The encoding that a document says it has.
 use Rattle.std.specs.Prelude.{◌≡◌, ℕ, Bool, ◌||◌, ◌==◌, codes, List, [], ◌∷◌, Option, Some, None}
-use Rattle.std.specs.Prelude.{Result, Ok, ⊤, not, option_map, take, drop, unwrap_or}
+use Rattle.std.specs.Prelude.{Result, Ok, ⊤, not, if◌then◌else◌, option_map, take, drop, unwrap_or}
 use Rattle.std.specs.List.{filter}
 use Rattle.std.specs.Option.{option_or}
 use Rattle.std.specs.Result.{result_ok}
@@ -8,7 +8,6 @@ use Rattle.std.specs.Str.{bytes_eq, str_to_ascii_lowercase}
 use Rattle.feed_xml.specs.declared.encodings.Encoding.{Encoding}
 use Rattle.feed_xml.specs.declared.encodings.Encoding.TheVariants.{Utf8, Ascii, Latin1}
 use Rattle.feed_xml.specs.declared.encodings.Encoding.TheVariants.{Latin9, Windows1252}
-use Rattle.feed_xml.specs.declared.encodings.Encoding.TheVariants.{Utf16Big, Utf16Little}
 use Rattle.feed_xml.specs.Encodings.{decoded}
 use Rattle.feed_xml.specs.declared.stop.Stop.{Stop}
 use Rattle.feed_xml.specs.Grammar.{begins, declared_at}
@@ -49,14 +48,22 @@ module _ (head : List ℕ) where
 
   -- the encoding of a byte order mark at the front, and how many bytes the mark has
   abbrev pub marked : Option (Encoding × ℕ)
-  marked =
-      entry (λ mark. begins mark head) ((239 ∷ 187 ∷ 191 ∷ [], (Utf8, 3))
-      ∷ (254 ∷ 255 ∷ [], (Utf16Big, 2)) ∷ (255 ∷ 254 ∷ [], (Utf16Little, 2)) ∷ [])
+  marked = if begins (239 ∷ 187 ∷ 191 ∷ []) head then Some (Utf8, 3) else None
+
+  -- a byte order mark of UTF-16 stands at the front, in one order or the other
+  abbrev pub is_utf16 : Bool
+  is_utf16 = begins (254 ∷ 255 ∷ []) head || begins (255 ∷ 254 ∷ []) head
 
   -- The encoding of a document that begins so, and how many bytes its byte order mark has: the one
-  -- that the mark tells, else the one of its declaration.
+  -- that the mark tells, else the one of its declaration. UTF-16 is none that is known.
   abbrev pub encoding_at : Option (Encoding × ℕ)
-  encoding_at = option_or marked (option_map (λ encoding. (encoding, 0)) declared)
+  encoding_at =
+      if is_utf16 then None
+      else option_or marked (option_map (λ encoding. (encoding, 0)) declared)
+
+  -- the name of its encoding: that of the mark, else the one that is declared
+  abbrev pub encoding_name : Option (List ℕ)
+  encoding_name = if is_utf16 then Some (codes "UTF-16") else declared_name
 
 -- The text of a document's bytes, where its encoding is known. It is told within the first 1,024
 -- bytes, and the mark is no part of the text.
@@ -74,7 +81,7 @@ abbrev pub OfText : (List ℕ → Type 0) → Option (List ℕ) → Type 0
 OfText P None = ⊤
 OfText P (Some bytes) = (text : List ℕ) × (text_of bytes ≡ Some text) × P text
 
--- their encoding is none that is known, and their declaration gives it this name
+-- their encoding is none that is known, and has this name
 abbrev pub IsOfUnknown : List ℕ → List ℕ → Type 0
 IsOfUnknown name bytes =
-    (text_of bytes ≡ None) × (declared_name (take 1024 bytes) ≡ Some name)
+    (text_of bytes ≡ None) × (encoding_name (take 1024 bytes) ≡ Some name)

@@ -1,12 +1,11 @@
 -- Encodings, and the text that bytes are in one.
-use Rattle.std.specs.Prelude.{ℕ, ◌+◌, ◌-◌, ◌*◌, Bool, ◌&&◌, ◌==◌, nat_lt, nat_le, List, [], ◌∷◌}
-use Rattle.std.specs.Prelude.{◌++◌, if◌then◌else◌, encode_utf8, slice_index, unwrap_or}
+use Rattle.std.specs.Prelude.{ℕ, ◌-◌, ◌==◌, nat_lt, List, [], ◌∷◌, if◌then◌else◌, encode_utf8}
+use Rattle.std.specs.Prelude.{slice_index, unwrap_or}
 use Rattle.std.specs.List.{flat_map}
 use Rattle.feed_xml.specs.Tables.{entry}
 use Rattle.feed_xml.specs.declared.encodings.Encoding.{Encoding}
 use Rattle.feed_xml.specs.declared.encodings.Encoding.TheVariants.{Utf8, Ascii}
 use Rattle.feed_xml.specs.declared.encodings.Encoding.TheVariants.{Latin9, Windows1252}
-use Rattle.feed_xml.specs.declared.encodings.Encoding.TheVariants.{Utf16Big, Utf16Little}
 
 -- the code points of the bytes 128 to 159 of windows-1252; 0 where it has none
 abbrev pub windows_codes : List ℕ
@@ -37,48 +36,7 @@ code_of other b = b
 abbrev pub byte_text : Encoding → ℕ → List ℕ
 byte_text encoding b = encode_utf8 (code_of encoding b)
 
--- ---- UTF-16
-
--- the unit of two bytes
-abbrev pub unit_of : Encoding → ℕ → ℕ → ℕ
-unit_of Utf16Big a b = a * 256 + b
-unit_of other a b = b * 256 + a
-
--- the units of bytes; half a unit is U+0000
-abbrev pub units_of : Encoding → List ℕ → List ℕ
-units_of encoding [] = []
-units_of encoding (a ∷ []) = 0 ∷ []
-units_of encoding (a ∷ b ∷ bytes) = unit_of encoding a b ∷ units_of encoding bytes
-
-module _ (u : ℕ) where
-  -- the first unit of a surrogate pair, and the second
-  abbrev pub is_lead : Bool
-  is_lead = nat_le 55296 u && nat_lt u 56320
-
-  abbrev pub is_trail : Bool
-  is_trail = nat_le 56320 u && nat_lt u 57344
-
-  -- the text of a unit that begins no pair: without its other half it is U+0000
-  abbrev pub unit_text : List ℕ
-  unit_text = if is_trail then 0 ∷ [] else encode_utf8 u
-
--- the text of a pair, or of a first unit without its second
-abbrev pub pair_text : ℕ → ℕ → List ℕ
-pair_text lead u =
-    if is_trail u then encode_utf8 (65536 + ((lead - 55296) * 1024 + (u - 56320))) else 0 ∷ []
-
--- the text of units
-abbrev pub units_text : List ℕ → List ℕ
-units_text [] = []
-units_text (u ∷ []) = if is_lead u then 0 ∷ [] else unit_text u
-units_text (u ∷ v ∷ units) =
-    if is_lead u then pair_text u v ++ units_text units else unit_text u ++ units_text (v ∷ units)
-
--- ---- all encodings
-
 -- the UTF-8 of a text whose bytes these are
 abbrev pub decoded : Encoding → List ℕ → List ℕ
 decoded Utf8 bytes = bytes
-decoded Utf16Big bytes = units_text (units_of Utf16Big bytes)
-decoded Utf16Little bytes = units_text (units_of Utf16Little bytes)
 decoded encoding bytes = flat_map (byte_text encoding) bytes

@@ -21,7 +21,6 @@ pub mod Tree
 pub mod Trees
 pub mod private
 pub mod Encodings
-pub mod Utf16
 pub mod EncodingNames
 pub mod Positions
 pub mod Faults

@@ -8,9 +8,10 @@ ghost use Rattle.feed_xml.specs.View.{piece_view};
 ghost use Rattle.feed_xml.specs.private.Places.{IsComplete, section_of, steps};
 ghost use Rattle.feed_xml.specs.Documents.{IsDocument};
 ghost use Rattle.feed_xml.specs.private.Faults.{IsUnknown, TellsText, TellsWindow};
-ghost use Rattle.feed_xml.specs.private.Windows.{Advances, Grows, IsEnding, IsTold, is_whole};
+ghost use Rattle.feed_xml.specs.private.Windows.{Advances, Grows, IsTold, is_whole};
 ghost use Rattle.feed_xml.specs.EncodingNames.{IsTextOf, encoding_at};
-ghost use Rattle.feed_xml.specs.private.Decoders.{decoded_rest, ending, held_behind, text_from, text_left};
+ghost use Rattle.feed_xml.specs.Encodings.{decoded};
+ghost use Rattle.feed_xml.specs.private.Decoders.{decoded_rest, text_left};
 ghost use Rattle.feed_xml.specs.Faults.{IsOfEnd, IsOfPlace, IsOfReading, Tells};
 ghost use Rattle.feed_xml.specs.Texts.{IsSmall, is_start};
 ghost use Rattle.feed_xml.specs.private.Bounds.{IsDeepAt, IsLargeAt};
@@ -18,7 +19,7 @@ ghost use Rattle.feed_xml.specs.private.Bounds.{IsDeepAt, IsLargeAt};
 use crate::bytes::Bytes;
 use crate::classes::is_filled;
 use crate::encoding_names::{encoding_at, unknown_name};
-use crate::encodings::{Encoding, Held, push_decoded, push_ending};
+use crate::encodings::{Encoding, push_decoded};
 use crate::fault::Fault;
 use crate::pieces::{Piece, read_piece};
 use crate::place::Place;
@@ -182,8 +183,7 @@ fn read_encoded<R: Read, S: Sink>(
         (text_left encoding head.now (R.remaining reader.old)) sink.old sink.new) }
 {
     let mut place = Place::first(alloc);
-    let mut held = Held::Nothing;
-    let (begun, first) = begin(alloc, encoding, &mut held, head)?;
+    let (begun, first) = begin(alloc, encoding, head)?;
     let mut window = begun;
     let mut part = first;
     let mut chunk = chunk_buffer(alloc)?;
@@ -196,7 +196,7 @@ fn read_encoded<R: Read, S: Sink>(
         if window.len() > MOST_WAITING {
             return Err(Fault::TooLong);
         }
-        let (more, next) = refill(reader, encoding, &mut held, at, &mut chunk, &mut window)?;
+        let (more, next) = refill(reader, encoding, at, &mut chunk, &mut window)?;
         part = next;
         if !more {
             if let Some(last) = next {
@@ -284,21 +284,15 @@ fn read_head<R: Read>(alloc: Global, reader: &mut R) -> Result<Vec<u8>, Fault>
 }
 
 // A window with the text of the bytes that were read before, and where the next byte stands.
-fn begin(
-    alloc: Global,
-    encoding: Encoding,
-    held: &mut Held,
-    head: &[u8],
-) -> Result<(Vec<u8>, Option<Part>), Fault>
+fn begin(alloc: Global, encoding: Encoding, head: &[u8]) -> Result<(Vec<u8>, Option<Part>), Fault>
     ensures grows { IfOk result (λ x. Grows [] x.0.items Part.Whole
-        (text_from encoding held.old head.now) x.1) }
-    ensures held { IfOk result (λ _. held.new ≡ held_behind encoding held.old head.now) }
+        (decoded encoding head.now) x.1) }
     ensures fault { IfErr result IsOfReading }
 {
     let Ok(mut window) = Vec::with_capacity(alloc, CHUNK) else {
         return Err(Fault::Memory);
     };
-    let part = take_in(&mut window, encoding, held, Part::Whole, head)?;
+    let part = take_in(&mut window, encoding, Part::Whole, head)?;
     Ok((window, part))
 }
 
@@ -340,42 +334,18 @@ fn keep_text(window: &mut Vec<u8>, start: usize, part: Part) -> Option<Part>
 fn take_in(
     window: &mut Vec<u8>,
     encoding: Encoding,
-    held: &mut Held,
     part: Part,
     bytes: &[u8],
 ) -> Result<Option<Part>, Fault>
     requires { IsSmall part }
     ensures grows { IfOk result (Grows window.old.items window.new.items part
-        (text_from encoding held.old bytes.now)) }
-    ensures held { IfOk result (λ _. held.new ≡ held_behind encoding held.old bytes.now) }
+        (decoded encoding bytes.now)) }
     ensures fault { IfErr result IsOfReading }
 {
     let start = window.len();
-    let Ok(behind) = push_decoded(window, encoding, *held, bytes) else {
+    let Ok(()) = push_decoded(window, encoding, bytes) else {
         return Err(Fault::Memory);
     };
-    *held = behind;
-    Ok(keep_text(window, start, part))
-}
-
-// The same of what the end of a text adds.
-fn take_end(
-    window: &mut Vec<u8>,
-    encoding: Encoding,
-    held: &mut Held,
-    part: Part,
-) -> Result<Option<Part>, Fault>
-    requires { IsSmall part }
-    ensures grows { IfOk result (Grows window.old.items window.new.items part
-        (ending encoding held.old)) }
-    ensures held { IfOk result (λ _. held.new ≡ Held.Nothing) }
-    ensures fault { IfErr result IsOfReading }
-{
-    let start = window.len();
-    let Ok(()) = push_ending(window, encoding, *held) else {
-        return Err(Fault::Memory);
-    };
-    *held = Held::Nothing;
     Ok(keep_text(window, start, part))
 }
 
@@ -384,7 +354,6 @@ fn take_end(
 fn refill<R: Read>(
     reader: &mut R,
     encoding: Encoding,
-    held: &mut Held,
     part: Part,
     chunk: &mut Vec<u8>,
     window: &mut Vec<u8>,
@@ -394,20 +363,17 @@ fn refill<R: Read>(
     ensures size { IfOk result (λ _. length chunk.new.items ≡ length chunk.old.items) }
     ensures read { IfOk result (λ x. (piece : List ℕ)
         × Grows window.old.items window.new.items part piece x.1
-        × Consumes (decoded_rest encoding held.old (R.remaining reader.old))
-        (decoded_rest encoding held.new (R.remaining reader.new)) piece
-        × (x.0 ≡ false → IsEnding piece)) }
+        × Consumes (decoded_rest encoding (R.remaining reader.old))
+        (decoded_rest encoding (R.remaining reader.new)) piece
+        × (x.0 ≡ false → piece ≡ [])) }
     ensures end { IfOk result (λ x. x.0 ≡ false
-        → IsAtEnd (decoded_rest encoding held.new (R.remaining reader.new))) }
+        → IsAtEnd (decoded_rest encoding (R.remaining reader.new))) }
     ensures fault { IfErr result IsOfReading }
 {
     match reader.read(chunk) {
-        Ok(0) => {
-            let next = take_end(window, encoding, held, part)?;
-            Ok((false, next))
-        }
+        Ok(0) => Ok((false, Some(part))),
         Ok(n) => {
-            let next = take_in(window, encoding, held, part, &chunk[..n])?;
+            let next = take_in(window, encoding, part, &chunk[..n])?;
             Ok((true, next))
         }
         Err(_) => Err(Fault::Read),

@@ -1,7 +1,7 @@
 //! The encoding that a document says it has.
 
-ghost use Rattle.std.specs.Prelude.{◌≡◌, ◌≤◌, ◌∷◌, [], IfSome, None, Some, length, option_map};
-ghost use Rattle.feed_xml.specs.EncodingNames.{is_alike, encoding_of, encoding_in, declared_name, declared, marked, encoding_at};
+ghost use Rattle.std.specs.Prelude.{◌≡◌, ◌≤◌, IfSome, None, Some, length, option_map};
+ghost use Rattle.feed_xml.specs.EncodingNames.{is_alike, encoding_of, encoding_in, declared_name, declared, encoding_name, marked, encoding_at, is_utf16};
 ghost use Rattle.feed_xml.specs.Steps.{Gives};
 
 use crate::encodings::Encoding;
@@ -80,11 +80,14 @@ fn declared_name(head: &[u8]) -> Option<&[u8]>
     }
 }
 
-/// The name of an encoding in a declaration at the front, where it is none that is known.
+/// The name of the encoding of a document that begins so, where it is none that is known.
 pub(crate) fn unknown_name(head: &[u8]) -> &[u8]
     requires { encoding_at head.now ≡ None }
-    ensures { declared_name head.now ≡ Some result.now }
+    ensures { encoding_name head.now ≡ Some result.now }
 {
+    if is_utf16(head) {
+        return b"UTF-16";
+    }
     match declared_name(head) {
         None => b"",
         Some(name) => name,
@@ -105,21 +108,28 @@ fn marked(head: &[u8]) -> Option<(Encoding, usize)>
 {
     match head {
         [239, 187, 191, ..] => Some((Encoding::Utf8, 3)),
-        [254, 255, ..] => Some((Encoding::Utf16Big, 2)),
-        [255, 254, ..] => Some((Encoding::Utf16Little, 2)),
         _ => None,
     }
 }
 
+// Whether a byte order mark of UTF-16 stands at the front.
+fn is_utf16(head: &[u8]) -> bool
+    ensures { result ≡ is_utf16 head.now }
+{
+    matches!(head, [254, 255, ..] | [255, 254, ..])
+}
+
 /// The encoding of a document that begins so, if it is one that is known, and how many bytes its
-/// byte order mark has: UTF-8 or UTF-16 behind their marks, else the encoding that the declaration
-/// names, in capital letters or small ones, with hyphens and low lines or without, and UTF-8 where
-/// none does, or where it names UTF-16, which its own bytes are not. A declaration has to be there
-/// whole.
+/// byte order mark has: UTF-8 behind its mark, else the encoding that the declaration names, in
+/// capital letters or small ones, with hyphens and low lines or without, and UTF-8 where none does,
+/// or where it names UTF-16, which its own bytes are not. A declaration has to be there whole.
 pub(crate) fn encoding_at(head: &[u8]) -> Option<(Encoding, usize)>
     ensures gives { result ≡ encoding_at head.now }
     ensures within { IfSome result (λ x. x.1 ≤ length head.now) }
 {
+    if is_utf16(head) {
+        return None;
+    }
     if let Some(found) = marked(head) {
         return Some(found);
     }

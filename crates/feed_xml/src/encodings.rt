@@ -1,9 +1,8 @@
 //! Encodings.
 
-ghost use Rattle.std.specs.Prelude.{◌≡◌, ◌<◌, ◌≤◌, ◌++◌, OnOk, IfOk, encode_utf8, length};
+ghost use Rattle.std.specs.Prelude.{◌≡◌, ◌≤◌, ◌++◌, OnOk, IfOk, encode_utf8, length};
 ghost use Rattle.std.specs.List.{flat_map};
-ghost use Rattle.feed_xml.specs.Encodings.{windows_code, windows_codes, latin9_code, code_of, byte_text, unit_of, is_lead, is_trail};
-ghost use Rattle.feed_xml.specs.private.Decoders.{after_unit, after_pair, after_byte, held16, text16, held_behind, text_from, ending, ending16};
+ghost use Rattle.feed_xml.specs.Encodings.{windows_code, windows_codes, latin9_code, code_of, byte_text, decoded};
 
 use crate::classes::{Kind, split_run};
 use std::alloc::AllocError;
@@ -21,20 +20,6 @@ pub enum Encoding {
     Latin9,
     /// windows-1252.
     Windows1252,
-    /// UTF-16 whose units have their high byte first, behind its byte order mark.
-    Utf16Big,
-    /// UTF-16 whose units have their low byte first, likewise.
-    Utf16Little,
-}
-
-/// What a decoder holds of a character whose bytes have not all come: the first byte of a unit of
-/// UTF-16, the first unit of a surrogate pair, or both.
-#[derive(Clone, Copy, Debug, PartialEq, Eq)]
-pub(crate) enum Held {
-    Nothing,
-    Byte(u8),
-    Lead(u32),
-    LeadByte(u32, u8),
 }
 
 static WINDOWS: [u32; 32] = [
@@ -153,145 +138,19 @@ fn push_characters(out: &mut Vec<u8>, encoding: Encoding, bytes: &[u8]) -> Resul
     Ok(())
 }
 
-// The unit of two bytes.
-fn unit_of(encoding: Encoding, a: u8, b: u8) -> u32
-    ensures unit { result ≡ unit_of encoding a b }
-    ensures bound { result < 65536 }
-{
-    match encoding {
-        Encoding::Utf16Big => u32::from(a) * 256 + u32::from(b),
-        _ => u32::from(b) * 256 + u32::from(a),
-    }
-}
-
-// Whether a unit is the first one of a surrogate pair.
-fn is_lead(u: u32) -> bool
-    ensures { result ≡ is_lead u }
-{
-    u >= 55296 && u < 56320
-}
-
-// Whether a unit is the second one of a surrogate pair.
-fn is_trail(u: u32) -> bool
-    ensures { result ≡ is_trail u }
-{
-    u >= 56320 && u < 57344
-}
-
-// Adds what a unit completes, and tells what is held behind it.
-fn push_unit(out: &mut Vec<u8>, u: u32) -> Result<Held, AllocError>
-    ensures held { IfOk result (λ held. held ≡ (after_unit u).0) }
-    ensures text { OnOk result (out.new.items ≡ out.old.items ++ (after_unit u).1) }
-{
-    if is_lead(u) {
-        return Ok(Held::Lead(u));
-    }
-    if is_trail(u) {
-        out.push(0)?;
-    } else {
-        push_code(out, u)?;
-    }
-    Ok(Held::Nothing)
-}
-
-// The same behind the first unit of a pair.
-fn push_pair(out: &mut Vec<u8>, lead: u32, u: u32) -> Result<Held, AllocError>
-    ensures held { IfOk result (λ held. held ≡ (after_pair lead u).0) }
-    ensures text { OnOk result (out.new.items ≡ out.old.items ++ (after_pair lead u).1) }
-{
-    if is_trail(u) {
-        let Some(high) = lead.saturating_sub(55296).checked_mul(1024) else {
-            return Err(AllocError);
-        };
-        let Some(code) = high.checked_add(65536 + (u - 56320)) else {
-            return Err(AllocError);
-        };
-        push_code(out, code)?;
-    } else {
-        out.push(0)?;
-    }
-    Ok(Held::Nothing)
-}
-
-// The same behind a byte.
-fn push_byte(out: &mut Vec<u8>, encoding: Encoding, held: Held, b: u8) -> Result<Held, AllocError>
-    ensures held { IfOk result (λ h. h ≡ (after_byte encoding held b).0) }
-    ensures text { OnOk result (out.new.items ≡ out.old.items ++ (after_byte encoding held b).1) }
-{
-    match held {
-        Held::Nothing => Ok(Held::Byte(b)),
-        Held::Byte(a) => push_unit(out, unit_of(encoding, a, b)),
-        Held::Lead(u) => Ok(Held::LeadByte(u, b)),
-        Held::LeadByte(u, a) => push_pair(out, u, unit_of(encoding, a, b)),
-    }
-}
-
-// Adds the text that bytes of UTF-16 complete, and tells what is held behind them.
-fn push_units(
-    out: &mut Vec<u8>,
-    encoding: Encoding,
-    held: Held,
-    bytes: &[u8],
-) -> Result<Held, AllocError>
-    ensures held { IfOk result (λ h. h ≡ held16 encoding held bytes.now) }
-    ensures text { OnOk result (out.new.items ≡ out.old.items ++ text16 encoding held bytes.now) }
-{
-    let mut held = held;
-    let mut rest = bytes;
-    while let [b, tail @ ..] = rest {
-        held = push_byte(out, encoding, held, *b)?;
-        rest = tail;
-    }
-    Ok(held)
-}
-
-/// Adds the text that bytes complete, and tells what is held behind them.
+/// Adds the text of bytes.
 pub(crate) fn push_decoded(
     out: &mut Vec<u8>,
     encoding: Encoding,
-    held: Held,
     bytes: &[u8],
-) -> Result<Held, AllocError>
-    ensures held { IfOk result (λ h. h ≡ held_behind encoding held bytes.now) }
-    ensures text { OnOk result (out.new.items
-        ≡ out.old.items ++ text_from encoding held bytes.now) }
-{
-    match encoding {
-        Encoding::Utf8 => out.extend_from_slice(bytes)?,
-        Encoding::Ascii => push_characters(out, encoding, bytes)?,
-        Encoding::Latin1 => push_characters(out, encoding, bytes)?,
-        Encoding::Latin9 => push_characters(out, encoding, bytes)?,
-        Encoding::Windows1252 => push_characters(out, encoding, bytes)?,
-        Encoding::Utf16Big => return push_units(out, encoding, held, bytes),
-        Encoding::Utf16Little => return push_units(out, encoding, held, bytes),
-    }
-    Ok(held)
-}
-
-/// Adds what the end of a text adds.
-pub(crate) fn push_ending(
-    out: &mut Vec<u8>,
-    encoding: Encoding,
-    held: Held,
 ) -> Result<(), AllocError>
-    ensures { OnOk result (out.new.items ≡ out.old.items ++ ending encoding held) }
+    ensures { OnOk result (out.new.items ≡ out.old.items ++ decoded encoding bytes.now) }
 {
     match encoding {
-        Encoding::Utf16Big => push_lack(out, held),
-        Encoding::Utf16Little => push_lack(out, held),
-        _ => Ok(()),
-    }
-}
-
-// Adds U+0000 where something is held.
-fn push_lack(out: &mut Vec<u8>, held: Held) -> Result<(), AllocError>
-    ensures { OnOk result (out.new.items ≡ out.old.items ++ ending16 held) }
-{
-    match held {
-        Held::Nothing => Ok(()),
-        _ => {
-            out.push(0)?;
-            Ok(())
-        }
+        Encoding::Utf8 => out.extend_from_slice(bytes),
+        Encoding::Ascii => push_characters(out, encoding, bytes),
+        Encoding::Latin1 => push_characters(out, encoding, bytes),
+        Encoding::Latin9 => push_characters(out, encoding, bytes),
+        Encoding::Windows1252 => push_characters(out, encoding, bytes),
     }
 }

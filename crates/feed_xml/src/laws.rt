@@ -1,17 +1,13 @@
 //! Laws of the definitions: contracts of functions that have nothing to run.
 
-ghost use Rattle.std.specs.Prelude.{◌≡◌, ℕ, List, ◌++◌, true, Ok, Err, Option, encode_utf8};
-ghost use Rattle.std.specs.List.{flat_map, list_all};
-ghost use Rattle.feed_xml.specs.declared.encodings.Encoding.TheVariants.{Utf16Big, Utf16Little};
+ghost use Rattle.std.specs.Prelude.{◌≡◌, ℕ, List, ◌++◌, true, Ok, Err, Option};
 ghost use Rattle.feed_xml.specs.declared.stop.Stop.TheVariants.{More, Never};
-ghost use Rattle.feed_xml.specs.Encodings.{decoded};
 ghost use Rattle.feed_xml.specs.Grammar.{Token, spelling, is_token};
 ghost use Rattle.feed_xml.specs.Reading.{token_at};
 ghost use Rattle.feed_xml.specs.Sections.{section_around};
 ghost use Rattle.feed_xml.specs.Documents.{IsDocument};
 ghost use Rattle.feed_xml.specs.Tree.{Content};
 ghost use Rattle.feed_xml.specs.Trees.{IsTree};
-ghost use Rattle.feed_xml.specs.Utf16.{is_scalar, utf16};
 
 /// What is read is spelled so, and what is spelled so is read, whatever follows, in the section in
 /// which it stands, if it stands in one.
@@ -36,12 +32,4 @@ pub fn one_document()
 pub fn one_tree()
     ensures { (tokens : List Token) (name other : List ℕ) (a b : Content)
         → IsTree tokens name a → IsTree tokens other b → a ≡ b }
-{}
-
-/// The UTF-16 of characters is read as their UTF-8, whichever byte of its units is first.
-pub fn utf16_is_read()
-    ensures big { (text : List ℕ) → list_all is_scalar text ≡ true
-        → decoded Utf16Big (utf16 Utf16Big text) ≡ flat_map encode_utf8 text }
-    ensures little { (text : List ℕ) → list_all is_scalar text ≡ true
-        → decoded Utf16Little (utf16 Utf16Little text) ≡ flat_map encode_utf8 text }
 {}

@@ -33,7 +33,7 @@ pub use attributes::{Attribute, Attributes};
 pub use bytes::Bytes;
 pub use document_reading::{HEAD, read_document};
 pub use fault::Fault;
-pub use laws::{one_document, one_tree, tokens_are_read, utf16_is_read};
+pub use laws::{one_document, one_tree, tokens_are_read};
 pub use pieces::Piece;
 pub use position::Position;
 pub use references::push_reference;

@@ -7,6 +7,7 @@ ghost use Rattle.program_rules.specs.TermsRead.{CheckTermsEnds, terms_line};
 
 use crate::terms::open_terms;
 use feed_terms::precedes::first_taking;
+use feed_terms::tax_doubts::{TaxDoubt, doubt_of};
 use feed_terms::term::Term;
 use program_clients::fault::report;
 use program_clients::printing::print_number;
@@ -14,16 +15,27 @@ use program_files::NamedFiles;
 use std::alloc::Global;
 use std::io::Write;
 
-// Writes a line for each term that an earlier one always precedes.
-fn write_preceded<E: Write>(terms: &[Term], errors: &mut E) {
+fn text_of(doubt: TaxDoubt) -> &'static str {
+    match doubt {
+        TaxDoubt::Mixed => "has no tax, and its types and net are of prices with tax and without",
+        TaxDoubt::NoTaxToTake => "has a tax, and a type is of prices without, or net with it",
+    }
+}
+
+// Writes a line for each term that is to be looked at again: since an earlier one always precedes
+// it, or else since its types do not fit its tax.
+fn write_doubts<E: Write>(terms: &[Term], errors: &mut E) {
     for at in 0..terms.len() {
+        let number = at.saturating_add(1);
         if let Some(first) = first_taking(&terms[..at], &terms[at]) {
-            let number = at.saturating_add(1);
             let earlier = first.saturating_add(1);
             let _ = write!(
                 errors,
                 "onixdesk: terms: term {number} never counts: term {earlier} always precedes it\n"
             );
+        } else if let Some(doubt) = doubt_of(&terms[at]) {
+            let why = text_of(doubt);
+            let _ = write!(errors, "onixdesk: terms: term {number} {why}\n");
         }
     }
 }
@@ -40,9 +52,9 @@ fn print_count<W: Write, E: Write>(count: usize, output: &mut W, errors: &mut E)
 }
 
 /// Reads the table of terms in the file of this name, and writes how many terms it has; each of
-/// them that an earlier one always precedes is reported. Gives 0; or 2 where there is no table or
-/// it cannot be read, or 3 where memory ran out or the line cannot be written, which is reported,
-/// with the cause.
+/// them that is to be looked at again is reported. Gives 0; or 2 where there is no table or it
+/// cannot be read, or 3 where memory ran out or the line cannot be written, which is reported, with
+/// the cause.
 pub fn check_terms<F: NamedFiles, W: Write, E: Write>(
     alloc: Global,
     files: &F,
@@ -56,7 +68,7 @@ pub fn check_terms<F: NamedFiles, W: Write, E: Write>(
 {
     match open_terms(alloc, files, name, errors) {
         Ok(terms) => {
-            write_preceded(terms.terms(), errors);
+            write_doubts(terms.terms(), errors);
             print_count(terms.terms().len(), output, errors)
         }
         Err(status) => status,

@@ -82,6 +82,20 @@ fn codes_cause(table: &Table) -> Option<&'static str> {
     }
 }
 
+// Why the scheme of the codes of a term is none.
+fn scheme_cause(table: &Table) -> Option<&'static str> {
+    let value = table.get("scheme")?;
+    if table.get("codes").is_none() {
+        return Some("has a scheme and no codes");
+    }
+    match value.as_str() {
+        Some("") => Some("has a scheme that is empty"),
+        Some(text) if is_clean(text.as_bytes()) && is_spaced(text) => None,
+        Some(_) => Some("has a scheme with needless spaces, or that is no field of the desk"),
+        None => Some("has a scheme that is no text: write it in quotation marks"),
+    }
+}
+
 // Why the supplier of a term is none.
 fn supplier_cause(table: &Table) -> Option<&'static str> {
     let value = table.get("supplier")?;
@@ -153,7 +167,7 @@ fn tax_cause(table: &Table) -> Option<&'static str> {
 
 fn is_key(key: &str) -> bool {
     match key {
-        "types" | "codes" | "supplier" | "currency" | "net" | "percent" | "tax" => true,
+        "types" | "codes" | "scheme" | "supplier" | "currency" | "net" | "percent" | "tax" => true,
         _ => false,
     }
 }
@@ -175,6 +189,9 @@ fn asked_cause(table: &Table) -> Option<Cause<'static>> {
     }
     if let Some(said) = codes_cause(table) {
         return Some(cause_at(table, "codes", said));
+    }
+    if let Some(said) = scheme_cause(table) {
+        return Some(cause_at(table, "scheme", said));
     }
     if let Some(said) = supplier_cause(table) {
         return Some(cause_at(table, "supplier", said));
@@ -201,7 +218,8 @@ fn term_cause(value: &Value) -> Cause<'_> {
         return Cause::Item("is no table");
     };
     if let Some(key) = other_key(table) {
-        let said = "has another key than types, codes, supplier, currency, net, percent and tax";
+        let said =
+            "has another key than types, codes, scheme, supplier, currency, net, percent and tax";
         return Cause::Other(key, said);
     }
     if let Some(cause) = asked_cause(table) {

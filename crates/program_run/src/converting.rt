@@ -29,6 +29,7 @@ fn copied<'a>(choices: &Choices<'a>) -> Choices<'a>
         offset: choices.offset,
         sender: choices.sender,
         addressee: choices.addressee,
+        supplier: choices.supplier,
         id_type: choices.id_type,
     }
 }

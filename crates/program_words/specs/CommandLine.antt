@@ -56,8 +56,8 @@ abbrev pub command_of : String → List Rule → Shape
 command_of name words = record (new_shape (codes name)) { rules = words }
 
 -- convert [--parts P] [--number N | --number-offset K] [--sender TYPE,VALUE]
--- [--addressee TYPE,VALUE] [--id-type TT] [--wrong none|few|all] [--terms FILE] [-o FOLDER]
--- [FILE..]
+-- [--addressee TYPE,VALUE] [--supplier TYPE,VALUE] [--id-type TT] [--wrong none|few|all]
+-- [--terms FILE] [-o FOLDER] [FILE..]
 abbrev pub convert_command : Shape
 convert_command = command_of "convert" (
     number_option (codes "parts") 1 9999
@@ -65,6 +65,7 @@ convert_command = command_of "convert" (
     ∷ number_option (codes "number-offset") 0 999999998
     ∷ text_option (codes "sender")
     ∷ text_option (codes "addressee")
+    ∷ text_option (codes "supplier")
     ∷ text_option (codes "id-type")
     ∷ text_option (codes "wrong")
     ∷ text_option (codes "terms")

@@ -79,6 +79,7 @@ AreOptions own o =
     × (word_or digits_of 0 own (codes "number-offset") ≡ Some o.choices.offset)
     × (word_as identifier_of own (codes "sender") ≡ Some o.choices.sender)
     × (word_as identifier_of own (codes "addressee") ≡ Some o.choices.addressee)
+    × (word_as identifier_of own (codes "supplier") ≡ Some o.choices.supplier)
     × (word_or code2_of (codes "06") own (codes "id-type") ≡ Some o.choices.id_type)
     × (word_or allowed_of FewWrong own (codes "wrong") ≡ Some o.wrong)
     × (o.terms ≡ None)
@@ -109,6 +110,7 @@ IsWrongWord own named.Number word = IsUnread number_of own (codes "number") word
 IsWrongWord own named.NumberOffset word = IsUnread digits_of own (codes "number-offset") word
 IsWrongWord own named.Sender word = IsUnread identifier_of own (codes "sender") word
 IsWrongWord own named.Addressee word = IsUnread identifier_of own (codes "addressee") word
+IsWrongWord own named.Supplier word = IsUnread identifier_of own (codes "supplier") word
 IsWrongWord own named.IdType word = IsUnread code2_of own (codes "id-type") word
 IsWrongWord own named.Wrong word = IsUnread allowed_of own (codes "wrong") word
 

@@ -376,6 +376,17 @@ fn addressee<'a>(alloc: Global) -> Arg<'a>
     )
 }
 
+fn supplier<'a>(alloc: Global) -> Arg<'a>
+    ensures { IsWord (text_option (codes "supplier")) result }
+{
+    text_option(
+        alloc,
+        "supplier",
+        "TYPE,VALUE",
+        "Take the SupplyDetails of the supplier with this identifier alone",
+    )
+}
+
 fn id_type<'a>(alloc: Global) -> Arg<'a>
     ensures { IsWord (text_option (codes "id-type")) result }
 {
@@ -441,6 +452,7 @@ fn convert<'a>(alloc: Global) -> Result<Command<'a>, AllocError>
     let convert = with_word(convert, Ok(number_offset(alloc)));
     let convert = with_word(convert, Ok(sender(alloc)));
     let convert = with_word(convert, Ok(addressee(alloc)));
+    let convert = with_word(convert, Ok(supplier(alloc)));
     let convert = with_word(convert, Ok(id_type(alloc)));
     let convert = with_word(convert, Ok(wrong(alloc)));
     let convert = with_word(convert, Ok(terms(alloc)));

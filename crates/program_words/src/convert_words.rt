@@ -32,6 +32,7 @@ pub enum OptionName {
     NumberOffset,
     Sender,
     Addressee,
+    Supplier,
     IdType,
     Wrong,
 }
@@ -45,6 +46,7 @@ impl OptionName {
             OptionName::NumberOffset => "--number-offset <K>",
             OptionName::Sender => "--sender <TYPE,VALUE>",
             OptionName::Addressee => "--addressee <TYPE,VALUE>",
+            OptionName::Supplier => "--supplier <TYPE,VALUE>",
             OptionName::IdType => "--id-type <TT>",
             OptionName::Wrong => "--wrong <none|few|all>",
         }
@@ -54,7 +56,7 @@ impl OptionName {
     fn rule(self) -> &'static str {
         match self {
             OptionName::Parts | OptionName::Number | OptionName::NumberOffset => NINE_DIGITS,
-            OptionName::Sender | OptionName::Addressee => IDENTIFIER,
+            OptionName::Sender | OptionName::Addressee | OptionName::Supplier => IDENTIFIER,
             OptionName::IdType => "two digits",
             OptionName::Wrong => "none, few or all",
         }
@@ -276,6 +278,7 @@ fn options_of<'a>(words: &ArgMatches<'a>) -> Result<Options<'a>, BadWords<'a>>
     let offset = number_or(words, "number-offset", OptionName::NumberOffset, 0)?;
     let sender = pair_of(words, "sender", OptionName::Sender)?;
     let addressee = pair_of(words, "addressee", OptionName::Addressee)?;
+    let supplier = pair_of(words, "supplier", OptionName::Supplier)?;
     let id_type = id_type_of(words)?;
     let wrong = wrong_of(words)?;
     let choices = Choices {
@@ -284,6 +287,7 @@ fn options_of<'a>(words: &ArgMatches<'a>) -> Result<Options<'a>, BadWords<'a>>
         offset,
         sender,
         addressee,
+        supplier,
         id_type,
     };
     let terms = None;

@@ -1,6 +1,8 @@
 """Tables of the shop's terms that the command `terms` reads or refuses, with the lines on standard error."""
 
+import tomllib
 from collections.abc import Iterator
+from typing import Any
 
 from tests.program.room import UNREADABLE, Ran, Room
 from tests.program.written_cases import TESTS, Written, read_file, repeated, unescaped
@@ -9,8 +11,32 @@ from tests.running import Outcome
 TERM = b'[[term]]\ntypes = ["02"]\nnet = "05"\npercent = "42.5"\n'
 
 
+# The types of prices that include tax.
+WITH_TAX = frozenset("02 04 07 09 12 14 17 22 24 27 34 42".split())
+
+
 def preceded(later: int, earlier: int) -> bytes:
     return b"onixdesk: terms: term %d never counts: term %d always precedes it\n" % (later, earlier)
+
+
+def doubt(term: dict[str, Any]) -> str:
+    """Why the types of a term do not fit its tax, and nothing where they do."""
+    have_tax = {kind in WITH_TAX for kind in term["types"]}
+    net_has_tax = term["net"] in WITH_TAX
+    if "tax" not in term:
+        mixed = "has no tax, and its types and net are of prices with tax and without"
+        return "" if have_tax == {net_has_tax} else mixed
+    takes_none = term["tax"] != "feed" and float(term["tax"]) == 0
+    fits = have_tax == {True} and not net_has_tax
+    return "" if takes_none or fits else "has a tax, and a type is of prices without, or net with it"
+
+
+def lines(text: str, earlier: dict[int, int]) -> Iterator[bytes]:
+    for number, term in enumerate(tomllib.loads(text).get("term", []), 1):
+        if number in earlier:
+            yield preceded(number, earlier[number])
+        elif doubt(term):
+            yield f"onixdesk: terms: term {number} {doubt(term)}\n".encode()
 
 
 def wanted(case: Written) -> Ran:
@@ -18,11 +44,12 @@ def wanted(case: Written) -> Ran:
     if not said.startswith("terms "):
         return Ran(2, b"", f"onixdesk: terms: {said}\n".encode())
     if warned == ["all preceded"]:
-        lines = b"".join(preceded(later, 1) for later in range(2, 1000))
+        earlier = dict.fromkeys(range(2, 1000), 1)
     else:
-        pairs = [[int(number) for number in line.split()[1:]] for line in warned]
-        lines = b"".join(preceded(later, earlier) for later, earlier in pairs)
-    return Ran(0, f"{said}\n".encode(), lines)
+        pairs = [line.split()[1:] for line in warned]
+        earlier = {int(later): int(first) for later, first in pairs}
+    text = unescaped(repeated(case.text)).decode()
+    return Ran(0, f"{said}\n".encode(), b"".join(lines(text, earlier)))
 
 
 def tables(room: Room) -> Iterator[Outcome]:

@@ -4,7 +4,7 @@ import re
 from collections.abc import Iterable
 from typing import NamedTuple
 
-from tests.program.feeds.feed_oracle import HELD_BACK, UNFITTED, Note
+from tests.program.feeds.feed_oracle import OF_OTHER_THINGS, Note
 from tests.program.feeds.feed_trees import Place
 
 # So many lines of notes a file has at most, and besides so many of products that are left out or emptied.
@@ -90,21 +90,16 @@ def compared(wanted: list[Note], starts: dict[object, Place], said: Iterable[Sai
     return Compared(missing, surplus)
 
 
-# What the summary counts beside notes.
-NO_NOTES = [
-    "Discount of a Price, not read",
-    "DiscountCoded of a Price, not read",
-    UNFITTED,
-    HELD_BACK,
-    "an element comes again, not read",
-    "a FILE without a Product",
-]
+# The first line where a FILE has nothing of the supplier that is asked for.
+LACKING = re.compile("no SupplyDetail .*")
 
 
 class Summary(NamedTuple):
-    """How often each reason was given; how many products of how many are counted, by what is said of them; and the last
-    line, which counts all notes and wrong products, where there are some."""
+    """Whether a FILE has nothing of the supplier; how often each reason was given; how many products of how many are
+    counted, by what is said of them; and the last line, which counts all notes and wrong products, where there are
+    some."""
 
+    is_lacking: bool
     reasons: dict[str, int]
     products: dict[str, tuple[int, int]]
     last: str
@@ -113,6 +108,8 @@ class Summary(NamedTuple):
 def read_summary(lines: list[str]) -> Summary:
     reasons: dict[str, int] = {}
     products: dict[str, tuple[int, int]] = {}
+    is_lacking = bool(lines) and LACKING.fullmatch(lines[0]) is not None
+    lines = lines[is_lacking:]
     has_count = lines and re.fullmatch("[0-9]+ notes?(, [0-9]+ products? wrong)?", lines[-1])
     for line in lines[:-1] if has_count else lines:
         if found := re.fullmatch("([0-9]+) of ([0-9]+) products? (.*)", line):
@@ -120,7 +117,7 @@ def read_summary(lines: list[str]) -> Summary:
         else:
             reason, _, count = line.rpartition(": ")
             reasons[reason] = int(count)
-    return Summary(reasons, products, lines[-1] if has_count else "")
+    return Summary(is_lacking, reasons, products, lines[-1] if has_count else "")
 
 
 def counted(count: int, thing: str) -> str:
@@ -129,7 +126,7 @@ def counted(count: int, thing: str) -> str:
 
 def notes_in(summary: Summary) -> dict[str, int]:
     """The notes that it counts, by their reasons."""
-    return {reason: count for reason, count in summary.reasons.items() if reason not in NO_NOTES}
+    return {reason: count for reason, count in summary.reasons.items() if reason not in OF_OTHER_THINGS}
 
 
 def count_line(notes: int, wrong_products: int = 0) -> str:

@@ -2,20 +2,11 @@
 it is refused."""
 
 import re
+from collections import Counter
 from dataclasses import dataclass, field
 
-from tests.program.feeds.feed_net_prices import Given, computed_record, grouped, outcome_of
-from tests.program.feeds.feed_prices import (
-    REGION,
-    closes,
-    foreign_reasons,
-    gives_nothing,
-    has_foreign_date,
-    is_dated,
-    key_of,
-    price_record,
-    wrong_reasons,
-)
+from tests.program.feeds.feed_net_prices import Bought, computed_record
+from tests.program.feeds.feed_prices import DISCOUNTS, REGION, Priced, count_differing, is_rounded, prices_of
 from tests.program.feeds.feed_terms import (
     is_code,
     is_country,
@@ -42,7 +33,6 @@ from tests.program.feeds.feed_trees import (
     Identifier,
     Market,
     Message,
-    Price,
     Product,
     Supply,
     Territory,
@@ -66,8 +56,26 @@ SPACES = " \u00a0\u2009\u202f"
 Record = list[str]
 
 
-# What is counted alone of prices by the shop's terms.
+# What is counted without a note, as the summary calls it: how many products of all, and other things.
+EMPTIED, UNPRICED = "emptied", "left without a Price"
+OF_WORLD = "for the world without a Market, with SalesRights, not read"
+OF_OTHERS, OF_SEVERAL = "of other suppliers alone", "of several suppliers"
+OF_PRODUCTS = [EMPTIED, UNPRICED, OF_WORLD, OF_OTHERS, OF_SEVERAL]
+NOT_READ = {name: f"{name} of a Price, not read" for name in DISCOUNTS}
+DETAIL_OF_ANOTHER = "SupplyDetail of another supplier, not read"
+ROUNDED, DIFFERING = "PriceAmount rounded", "Price beside another of another amount"
 UNFITTED, HELD_BACK = "Price that no term fits", "computed price held back"
+AGAIN, WITHOUT_PRODUCT = "an element comes again, not read", "a FILE without a Product"
+OF_OTHER_THINGS = [
+    *NOT_READ.values(),
+    DETAIL_OF_ANOTHER,
+    ROUNDED,
+    DIFFERING,
+    UNFITTED,
+    HELD_BACK,
+    AGAIN,
+    WITHOUT_PRODUCT,
+]
 
 # A reason where any will do.
 ANY = ("",)
@@ -126,24 +134,21 @@ class Part:
 
 
 @dataclass
-class Counts:
-    """How many products there are; and how many of them are emptied, had a Price with an amount and have none now, and
-    are for the world without a Market though they have SalesRights."""
-
-    products: int = 0
-    emptied: int = 0
-    without_price: int = 0
-    with_rights: int = 0
-
-
-@dataclass
 class Verdict:
+    """What is to become of a message; `lacks_supplier` where it has nothing of the supplier that is asked for, and
+    something of others."""
+
     parts: list[Part] = field(default_factory=list)
     notes: list[Note] = field(default_factory=list)
+    products: int = 0
     wrong_products: int = 0
-    discounts: list[str] = field(default_factory=list)
-    counts: Counts = field(default_factory=Counts)
+    counts: Counter[str] = field(default_factory=Counter)
+    lacks_supplier: bool = False
     refusal: Refused | None = None
+
+    def status(self) -> int:
+        is_wrong = any(note.is_wrong for note in self.notes)
+        return int(self.refusal is not None or is_wrong or self.lacks_supplier)
 
 
 def quoted(text: str) -> str:
@@ -257,20 +262,20 @@ def has_stranger(product: Product) -> bool:
 class Judge:
     """Reads one product of a message."""
 
-    def __init__(self, message: Message, words: Words, product: Product, is_plain: bool = False) -> None:
+    def __init__(self, message: Message, words: Words, product: Product) -> None:
         self.message = message
         self.words = words
         self.product = product
-        # Whether it is written without the prices that the shop's terms compute.
-        self.is_plain = is_plain
         self.notes: list[Note] = []
-        # What is counted without a note: the discounts of the prices that are written, or what the terms come to.
-        self.discounts: list[str] = []
+        # What is counted without a note of what is written.
+        self.counts: Counter[str] = Counter()
         # What is written of it where it is emptied.
         self.emptied: list[Record] = []
         self.is_emptied = False
         # Whether a ProductSupply without a Market is written of it.
         self.is_of_world = False
+        # Whether it is written, and all its SupplyDetails are of other suppliers than that which is asked for.
+        self.is_of_others = False
 
     def note(
         self,
@@ -308,14 +313,15 @@ class Judge:
             return self.empty("Identifier")
         if has_stranger(product):
             return self.empty("namespace")
-        own = self.record(product.notification, identifiers)
         if product.notification == DELETION:
-            return [own]
-        return self.with_supplies(own, identifiers)
+            return [self.record(DELETION, identifiers)]
+        notification = self.type_of_emptied() if product.is_of_others_alone() else product.notification
+        return self.with_supplies(self.record(notification, identifiers), identifiers)
 
     def with_supplies(self, own: Record, identifiers: list[Identifier]) -> list[Record]:
         supplied = [(supply, self.supply(supply)) for supply in self.product.supplies]
         self.is_of_world = any(records and not supply.markets for supply, records in supplied)
+        self.is_of_others = self.product.is_of_others_alone()
         records = [record for _, records in supplied for record in records]
         lost = [supply for supply, _ in supplied if supply.details]
         if lost and not records:
@@ -327,14 +333,13 @@ class Judge:
             self.note(self.product, "NotificationType", names=(self.product.notification,))
         return [own, *records]
 
-    def records_too_large(self, parts: "Filling") -> list[Record]:
+    def records_too_large(self) -> list[Record]:
         """What is written of it where no message has room for all of it."""
-        of_identifiers = [note for note in self.notes if isinstance(note.about, Identifier)]
         if not self.is_emptied:
-            self.notes, self.discounts = of_identifiers, []
+            self.notes = [note for note in self.notes if isinstance(note.about, Identifier)]
+            self.counts.clear()
+            self.is_of_others = False
             self.empty("large")
-        if parts.have_room(self.emptied):
-            return self.emptied
         return [self.record(self.type_of_emptied(), [])]
 
     def type_of_emptied(self) -> str:
@@ -412,56 +417,39 @@ class Judge:
         if isinstance(record, Wrong):
             self.note(detail, *record.reasons, is_wrong=True)
             return []
-        unpriced = record[-1]
-        priced = [price for price in detail.prices if not gives_nothing(price, unpriced)]
-        closed = {key_of(price, self.message) for price in priced if closes(price, self.message, unpriced)}
-        records = [(price, self.price(price, detail, closed)) for price in priced]
-        given = grouped([price for price, its in records if its], detail, self.message)
-        supplier = ",".join(record[2:4])
-        return [
-            record,
-            *(one for price, its in records for one in self.computed(price, its, detail, supplier, given, closed)),
-        ]
+        found = prices_of(detail, self.message, record[-1])
+        for each in found:
+            self.note_price(each)
+        written = [each for each in found if each.is_written()]
+        self.counts[ROUNDED] += sum(is_rounded(each.price) for each in written)
+        self.counts[DIFFERING] += count_differing(written)
+        if self.words.terms is None:
+            self.counts.update(NOT_READ[name] for each in written for name in each.price.discounts)
+            return [record, *(each.record() for each in written)]
+        bought = Bought(self.words.terms, found, ",".join(record[2:4]))
+        return [record, *(one for each in written for one in self.computed(each, bought))]
 
-    def computed(
-        self,
-        price: Price,
-        records: list[Record],
-        detail: Detail,
-        supplier: str,
-        given: Given,
-        closed: set[tuple[str, str]],
-    ) -> list[Record]:
-        """The record of a price, if it is written, and behind it those that the terms compute of it."""
-        if self.words.terms is None or not records:
-            return records
-        found = outcome_of(self.words.terms, price, detail, self.message, supplier, given, closed)
-        self.discounts += [UNFITTED] * found.is_unfitted
-        if self.is_plain:
-            return records
-        self.discounts += [HELD_BACK] * found.held
+    def computed(self, priced: Priced, bought: Bought) -> list[Record]:
+        """The record of a price that is written, and behind it those that the terms compute of it."""
+        found = bought.outcome_of(priced)
+        self.counts[UNFITTED] += found.is_unfitted
+        self.counts[HELD_BACK] += found.held
         if found.is_free:
-            self.note(price, "an amount of 0")
-        return [*records, *(computed_record(one, records[0]) for one in found.written)]
+            self.note(priced.price, "an amount of 0")
+        record = priced.record()
+        return [record, *(computed_record(one, record) for one in found.written)]
 
-    def price(self, price: Price, detail: Detail, closed: set[tuple[str, str]]) -> list[Record]:
-        """Its record, if it is not left out, as those of these types and currencies are."""
-        foreign = foreign_reasons(price) + ["Date"] * has_foreign_date(price)
+    def note_price(self, priced: Priced) -> None:
+        price, foreign = priced.price, priced.foreign
+        if priced.is_unpriced:
+            return
         if foreign:
-            names: tuple[str, ...] = ANY
-            if price.territory and foreign == [REGION]:
-                names = tuple(regions_in_the_way(price.territory))
-            self.note(price, *foreign, names=names)
-            return []
-        if wrong := wrong_reasons(price, self.message) + ["Date"] * (not is_dated(price)):
-            self.note(price, *wrong, is_wrong=True)
-            return []
-        if key_of(price, self.message) in closed:
-            self.note(price, "PriceDates")
-            return []
-        self.note_territory(price.territory)
-        self.discounts += price.discounts if self.words.terms is None else []
-        return [price_record(price, detail)]
+            regions = regions_in_the_way(price.territory) if price.territory and foreign == [REGION] else ANY
+            self.note(price, *foreign, names=tuple(regions))
+        elif priced.wrong:
+            self.note(price, *priced.wrong, is_wrong=True)
+        else:
+            self.note_territory(price.territory)
 
 
 def market_fields(market: Market) -> list[str] | Wrong | None:
@@ -534,43 +522,50 @@ def had_price(product: Product) -> bool:
     return product.notification != DELETION and any(price.amount for detail in details for price in detail.prices)
 
 
+def are_several(records: list[Record]) -> bool:
+    """Whether the suppliers of these SupplyDetails differ: by type and value, or by name where neither has them."""
+    suppliers = [record[2:5] for record in records if record[0] == "SupplyDetail"]
+    return len({(*pair, "" if any(pair) else name) for *pair, name in suppliers}) > 1
+
+
 @dataclass
 class Judged:
-    """What was found of the products of a message: those that are wrong, the notes on each, the discounts that are
-    counted, and what is counted of products."""
+    """What was found of the products of a message: those that are wrong, but for those of other suppliers alone, the
+    notes on each, and what is counted."""
 
     wrong: list[Product] = field(default_factory=list)
     notes: dict[Product, list[Note]] = field(default_factory=dict)
-    discounts: list[str] = field(default_factory=list)
-    counts: Counts = field(default_factory=Counts)
+    counts: Counter[str] = field(default_factory=Counter)
 
     def put(self, one: Judge, filling: Filling) -> None:
         """Adds a product to the messages."""
         records = one.records()
-        if records is not None and not filling.have_room(records) and one.words.terms is not None:
-            plain = Judge(one.message, one.words, one.product, is_plain=True)
-            without = plain.records()
-            if without and filling.have_room(without):
-                plain.note(one.product, "too large")
-                one, records = plain, without
         if records is not None:
-            records = records if filling.have_room(records) else one.records_too_large(filling)
+            records = records if filling.have_room(records) else one.records_too_large()
             filling.add(records)
-        self.count(one, records or [])
+        self.count(one, records)
         self.notes[one.product] = one.notes
-        self.discounts += one.discounts
-        if any(note.is_wrong for note in one.notes):
+        if any(note.is_wrong for note in one.notes) and not one.is_of_others:
             self.wrong.append(one.product)
 
-    def count(self, one: Judge, written: list[Record]) -> None:
-        self.counts.products += 1
-        self.counts.emptied += one.is_emptied
-        self.counts.without_price += had_price(one.product) and not any(record[0] == "Price" for record in written)
-        self.counts.with_rights += one.product.has_rights and one.is_of_world and not one.is_emptied
+    def count(self, one: Judge, records: list[Record] | None) -> None:
+        product, written = one.product, records or []
+        self.counts.update(one.counts)
+        self.counts[EMPTIED] += one.is_emptied
+        self.counts[UNPRICED] += had_price(product) and not any(record[0] == "Price" for record in written)
+        self.counts[OF_WORLD] += product.has_rights and one.is_of_world and not one.is_emptied
+        self.counts[OF_SEVERAL] += one.words.supplier is None and are_several(written)
+        self.counts[OF_OTHERS] += one.is_of_others
+        if records is not None and not one.is_emptied and product.notification != DELETION:
+            self.counts[DETAIL_OF_ANOTHER] += product.details_of_others
+
+    def number(self) -> int:
+        """How many products there are, but for those of other suppliers alone."""
+        return len(self.notes) - self.counts[OF_OTHERS]
 
     def is_let_through(self, wrong: str) -> bool:
         """Whether there are no more wrong products than that word of the command line lets through."""
-        count, products = len(self.wrong), len(self.notes)
+        count, products = len(self.wrong), self.number()
         if wrong == "all" or count == 0:
             return True
         is_many = count > 10 and count * 100 > products or count >= 2 and count * 2 > products
@@ -580,7 +575,14 @@ class Judged:
         first = self.wrong[0]
         notes = [note for product in self.wrong for note in self.notes[product]]
         reference = first.reference if first.reference.isprintable() and len(first.reference) < 100 else ""
-        return Refused(first, (str(len(self.wrong)), str(len(self.notes)), reference), notes)
+        return Refused(first, (str(len(self.wrong)), str(self.number()), reference), notes)
+
+
+def lacks_supplier(message: Message) -> bool:
+    """Whether none of its SupplyDetails is of the supplier that is asked for, and one of another; a deletion has none."""
+    products = [each for each in message.products if each.notification != DELETION]
+    has_of_others = any(each.details_of_others for each in products)
+    return has_of_others and not any(each.details_of_it for each in products)
 
 
 def judge(message: Message, words: Words) -> Verdict:
@@ -596,7 +598,10 @@ def judge(message: Message, words: Words) -> Verdict:
     except Refused as refusal:
         return Verdict(refusal=refusal)
     notes = [note for found in judged.notes.values() for note in found]
-    return Verdict(parts, notes, len(judged.wrong), judged.discounts, judged.counts)
+    judged.counts[AGAIN] = message.again
+    judged.counts[WITHOUT_PRODUCT] = not message.products and not message.says_none
+    products, wrong = len(message.products), len(judged.wrong)
+    return Verdict(parts, notes, products, wrong, judged.counts, lacks_supplier(message))
 
 
 def effect(products: list[tuple[str, str]], catalogue: set[str]) -> str:

@@ -2,9 +2,21 @@
 
 import calendar
 import re
+from dataclasses import dataclass
+from fractions import Fraction
+from functools import cache
 
-from tests.program.feeds.feed_terms import is_amount, is_code, is_currency, is_day, is_empty_or, is_quantity, matches
-from tests.program.feeds.feed_territories import are_taken, regions_in_the_way, territory_fields, wrong_in
+from tests.program.feeds.feed_terms import is_amount, is_code, is_currency, is_day, is_empty_or, is_field, is_quantity
+from tests.program.feeds.feed_territories import (
+    WORLD,
+    are_taken,
+    countries_in,
+    is_world,
+    places_of,
+    regions_in_the_way,
+    territory_fields,
+    wrong_in,
+)
 from tests.program.feeds.feed_trees import Detail, Message, Price, PriceDate
 
 # The reason where a region is in the way.
@@ -90,10 +102,21 @@ def is_dated(price: Price) -> bool:
     return counts and are_days and are_single
 
 
+# An amount of more than three decimals.
+LONGER = re.compile(r"([0-9]{1,9})\.([0-9]{3})([0-9]*[1-9])0*", re.ASCII)
+
+
 def amount_of(price: Price) -> str:
-    """Without the zeros behind the third decimal."""
+    """Without the zeros behind the third decimal; of more decimals it is rounded, halves up."""
+    if found := LONGER.fullmatch(price.amount):
+        thousandths = int(found[1] + found[2]) + (found[3] >= "5")
+        return f"{thousandths // 1000}.{thousandths % 1000:03}"
     found = re.fullmatch(r"([0-9]+\.[0-9]{3})0+", price.amount, re.ASCII)
     return found[1] if found else price.amount
+
+
+def is_rounded(price: Price) -> bool:
+    return LONGER.fullmatch(price.amount) is not None
 
 
 def own_quantity(price: Price) -> str:
@@ -114,12 +137,8 @@ def gives_nothing(price: Price, unpriced: str) -> bool:
     return price.amount == "" and not price.is_coded and (is_code(price.unpriced) or unpriced != "")
 
 
-def has_foreign_date(price: Price) -> bool:
-    return any(map(has_other_format, dates_of(price)))
-
-
 def foreign_reasons(price: Price) -> list[str]:
-    """What of it the desk has no field for, but for its dates."""
+    """What of it the desk has no field for."""
     found = {
         "PriceQualifier": price.qualifier not in ORDINARY,
         "PricePer": is_unusual(price.per),
@@ -129,15 +148,15 @@ def foreign_reasons(price: Price) -> list[str]:
         "EpubLicense": price.is_licensed,
         "EpubLicenseWithDate": price.has_dated_licence,
         "CurrencyZone": price.zone != "",
-        "decimals": matches(r"[0-9]+\.[0-9]{4,}", amount_of(price)),
-        "PriceAmount": is_amount(amount_of(price)) and float(price.amount) == 0,
+        "PriceAmount": is_amount(amount_of(price)) and Fraction(amount_of(price)) == 0,
         REGION: price.territory is not None and regions_in_the_way(price.territory) != [],
+        "Date": any(map(has_other_format, dates_of(price))),
     }
     return [reason for reason, is_so in found.items() if is_so]
 
 
 def wrong_reasons(price: Price, message: Message) -> list[str]:
-    """What of it the desk would not take, where it has a field for all of it, but for its dates."""
+    """What of it the desk would not take, where it has a field for all of it."""
     included, _world, excluded = territory_fields(price.territory)
     found = {
         "PriceType": not is_code(price.price_type or message.price_type),
@@ -147,24 +166,115 @@ def wrong_reasons(price: Price, message: Message) -> list[str]:
         "CountriesIncluded": not are_taken([included, "", ""]),
         "CountriesExcluded": not are_taken(["", "", excluded]),
         "comes again": price.again != "",
+        "Date": not is_dated(price),
     }
     wrong = wrong_in(price.territory) if price.territory else []
     return [reason for reason, is_so in found.items() if is_so] + list(price.old) + wrong
 
 
-def key_of(price: Price, message: Message) -> tuple[str, str]:
-    """Its type and currency, by which it closes others."""
-    return price.price_type or message.price_type, price.currency or message.currency
+# A type and a currency; the least quantity, the first day and the last.
+Kind = tuple[str, str]
+Alike = tuple[Kind, int, str, str]
 
 
-def closes(price: Price, message: Message, unpriced: str) -> bool:
-    """Whether it would be written but for its dates."""
-    if gives_nothing(price, unpriced) or is_dated(price) and not has_foreign_date(price):
-        return False
-    return not foreign_reasons(price) and not wrong_reasons(price, message)
+@dataclass(eq=False)
+class Priced:
+    """A Price as it would be written, and why it is not: what the desk has no field for, and what it would not take.
+    The type and the currency are those of the header where it has none; `is_unpriced` where it says that there is no
+    price."""
+
+    price: Price
+    price_type: str
+    currency: str
+    quantity: str
+    territory: list[str]
+    is_unpriced: bool
+    foreign: list[str]
+    wrong: list[str]
+
+    def reasons(self) -> set[str]:
+        return {*self.foreign, *self.wrong}
+
+    def is_written(self) -> bool:
+        return not self.is_unpriced and not self.reasons()
+
+    def is_written_but_for_amount(self) -> bool:
+        """One without an amount also but for its type and currency."""
+        of_amount = {"PriceAmount"} if self.price.amount else {"PriceAmount", "PriceType", "CurrencyCode"}
+        return self.reasons() <= of_amount
+
+    def kind(self) -> Kind:
+        return self.price_type, self.currency
+
+    def minimum(self) -> int:
+        return int(self.quantity or "1")
+
+    def alike(self) -> Alike:
+        first, last = days_of(self.price)
+        return self.kind(), self.minimum(), first, last
+
+    def record(self) -> list[str]:
+        first = ["Price", self.price.price_type, amount_of(self.price), self.price.currency]
+        behind = [*days_of(self.price), self.quantity]
+        return [*first, *self.territory, *(behind if self.quantity else behind[:2])]
 
 
-def price_record(price: Price, detail: Detail) -> list[str]:
-    quantity = quantity_of(price, detail)
-    first = ["Price", price.price_type, amount_of(price), price.currency]
-    return [*first, *territory_fields(price.territory), *days_of(price), *([quantity] if quantity else [])]
+def priced(price: Price, detail: Detail, message: Message, unpriced: str) -> Priced:
+    return Priced(
+        price,
+        price.price_type or message.price_type,
+        price.currency or message.currency,
+        quantity_of(price, detail),
+        territory_fields(price.territory),
+        gives_nothing(price, unpriced),
+        foreign_reasons(price),
+        wrong_reasons(price, message),
+    )
+
+
+def prices_of(detail: Detail, message: Message, unpriced: str) -> list[Priced]:
+    """Those of a SupplyDetail. One that would be written but for its dates closes others of its type and currency."""
+    found = [priced(each, detail, message, unpriced) for each in detail.prices]
+    closed = {each.kind() for each in found if each.reasons() == {"Date"}}
+    for each in found:
+        if each.is_written() and each.kind() in closed:
+            each.foreign.append("PriceDates")
+    put_narrower_first(found)
+    return found
+
+
+def is_as(kind: Kind, other: Kind) -> bool:
+    return kind[0] in ("", other[0]) and kind[1] in ("", other[1])
+
+
+def put_narrower_first(found: list[Priced]) -> None:
+    """A price for the world does not hold where one that is alike has a country of its own."""
+    narrow = [each for each in found if each.is_written_but_for_amount() and not is_world(each.territory)]
+
+    @cache
+    def narrower(alike: Alike) -> list[str]:
+        """The countries of those that are alike; what one without an amount lacks is as any other."""
+        kind, *rest = alike
+        those = [each for each in narrow if [*each.alike()[1:]] == rest and is_as(each.kind(), kind)]
+        return [country for each in those for country in countries_in(each.territory)]
+
+    for each in found:
+        if each.is_written() and is_world(each.territory):
+            excluded = each.territory[2].split()
+            both = list(dict.fromkeys(excluded + narrower(each.alike())))
+            if set(both) != set(excluded):
+                each.territory = ["", WORLD, " ".join(both)]
+            if not is_field(each.territory[2]):
+                each.foreign.append("CountriesExcluded")
+
+
+def count_differing(written: list[Priced]) -> int:
+    """How many stand behind one that is alike, for the same countries, and has another amount."""
+    amounts: dict[object, set[Fraction]] = {}
+    count = 0
+    for each in written:
+        before = amounts.setdefault((each.alike(), places_of(each.territory)), set())
+        amount = Fraction(amount_of(each.price))
+        count += bool(before - {amount})
+        before.add(amount)
+    return count

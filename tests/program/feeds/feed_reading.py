@@ -28,6 +28,7 @@ from tests.program.feeds.feed_trees import (
     Stranger,
     Supply,
     Territory,
+    Words,
 )
 
 DECLARED = re.compile(r"""<\?xml\s+version\s*=\s*["']1\.0["'](?:\s+encoding\s*=\s*["']([A-Za-z][\w.-]*)["'])?""")
@@ -68,10 +69,13 @@ COUNTED = {
 # Those that count besides where there are terms of the shop.
 COUNTED_WITH_TERMS = COUNTED | {
     "Price": f"{COUNTED['Price']} Tax",
-    "DiscountCoded": "DiscountCodeType DiscountCode",
+    "DiscountCoded": "DiscountCodeType DiscountCodeTypeName DiscountCode",
     "Discount": "DiscountType Quantity DiscountPercent",
-    "Tax": "TaxRatePercent",
+    "Tax": "TaxRateCode TaxRatePercent",
 }
+
+# The elements that are no texts, and count also where they are empty.
+COMPOSITES = {*COUNTED_WITH_TERMS, "PriceCoded", "EpubLicense", "EpubLicenseWithDate"}
 
 # Those of them that are counted alone, and are no strangers.
 COUNTED_ALONE = ["PublishingDetail", "SalesRights", *DISCOUNTS]
@@ -93,12 +97,12 @@ OLD_OF_DETAIL = ["SupplyToCountry", "SupplyToRegion", "SupplyToCountryExcluded",
 # What the terms of the shop read in a Price: what is wrong there is of no other consequence.
 OF_TERMS = [*DISCOUNTS, "Tax"]
 
-# What repeats in a Price, or is counted alone.
-REPEATABLE = ["PriceCondition", "PriceConstraint", "PriceDate", *OF_TERMS]
-
-# What repeats elsewhere, is counted alone, or has nothing to read; and where there are notes on what comes again.
-REPEATING = "NoProduct Product Addressee SenderIdentifier AddresseeIdentifier ProductIdentifier ProductSupply Market"
-REPEATING += " SupplyDetail SupplierIdentifier Price PublishingDetail SalesRights"
+# What repeats, is counted alone, or has nothing to read; and where there are notes on what comes again.
+REPEATABLE = "NoProduct Product Addressee SenderIdentifier AddresseeIdentifier ProductIdentifier ProductSupply Market"
+REPEATABLE += (
+    " SupplyDetail SupplierIdentifier Price PublishingDetail SalesRights PriceCondition PriceConstraint PriceDate"
+)
+REPEATING = {*REPEATABLE.split(), *OF_TERMS}
 NOTED = ["Market", "Price"]
 
 OF_XML = "http://www.w3.org/XML/1998/namespace"
@@ -165,26 +169,28 @@ class Element:
         """That of the first of this name that has one."""
         return next(filter(None, (each.own_text() for each in self.all(name))), "")
 
+    def repeated(self) -> list["Element"]:
+        """Those in it that do not repeat and come again: a text behind the first one that is not empty."""
+        seen: set[str] = set()
+        again = []
+        for each in self.below:
+            if each.name not in REPEATING and (each.name in COMPOSITES or each.own_text()):
+                again += [each] * (each.name in seen)
+                seen.add(each.name)
+        return again
+
     def again(self) -> str:
-        """The name of an element that does not repeat and comes again, but in a PriceDate and in what terms read; empty
-        where there is none."""
-        names = [each.name for each in self.below if each.name not in REPEATABLE]
-        again = [name for name in names if names.count(name) > 1]
-        below = [each for each in self.below if each.name not in ("PriceDate", *OF_TERMS)]
-        return next(iter(again + [each.again() for each in below if each.again()]), "")
+        """The name of an element that comes again, but in a PriceDate and in what terms read; empty where there is
+        none."""
+        below = [each.again() for each in self.below if each.name not in ("PriceDate", *OF_TERMS)]
+        return next(filter(None, [each.name for each in self.repeated()] + below), "")
 
     def count_again(self) -> int:
-        """How many elements that do not repeat come again in what is read of it, but where there are notes on that."""
+        """How many elements come again in what is read of it, but where there are notes on that."""
         unread = [*NOTED, "ProductSupply"] if self.text("NotificationType") == DELETION else NOTED
-        names: set[str] = set()
-        count = 0
-        for each in self.below:
-            if each.name in names and each.name not in REPEATING.split():
-                count += 1
-            elif each.name not in unread:
-                count += each.count_again()
-            names.add(each.name)
-        return count
+        again = self.repeated()
+        read = [each for each in self.below if each.name not in unread and each not in again]
+        return len(again) + sum(each.count_again() for each in read)
 
     def all_strangers(self) -> list[Stranger]:
         """Those in it, but in what terms read."""
@@ -192,13 +198,38 @@ class Element:
         below = [each for each in self.below if each.name not in OF_TERMS]
         return own + [stranger for each in below for stranger in each.all_strangers()]
 
-    def garbled_for_terms(self) -> str:
-        """The name of an element of a Price that terms would read, and that does not count, or comes again and does not
-        repeat; empty where there is none, or only in Discounts."""
+    def is_garbled(self) -> bool:
+        """Whether an element of a Price that terms would read does not count, or comes again and does not repeat."""
         read = [each for each in self.below if each.name in OF_TERMS]
-        strangers = [each for each in self.strangers if each.name in OF_TERMS]
-        names = [each.name for each in strangers + [each for one in read for each in one.strangers]]
-        return next(filter(None, names + [each.again() for each in read if each.name != "Discount"]), "")
+        is_strange = any(each.name in OF_TERMS for each in self.strangers)
+        return is_strange or any(each.strangers or each.repeated() for each in read)
+
+    def suppliers(self) -> list[tuple[str, str]]:
+        """The types and values of the first Supplier of a SupplyDetail, or two empty texts where it has a name alone;
+        none where it is of nobody."""
+        first = self.first("Supplier")
+        found = first.all("SupplierIdentifier") if first else []
+        pairs = [(each.text("SupplierIDType"), each.text("IDValue")) for each in found]
+        return [pair for pair in pairs if any(pair)] or [("", "")] * bool(first and first.text("SupplierName"))
+
+    def leave_out_others(self, supplier: tuple[str, str]) -> tuple[int, int]:
+        """Takes the SupplyDetails of other suppliers from a Product, and the ProductSupplies that have only such ones.
+        Of the strangers below a SupplyDetail those stay that are a Supplier or are in one. How many SupplyDetails are of
+        that supplier, and of others."""
+        of_it = of_others = 0
+        for supply in self.all("ProductSupply"):
+            details = supply.all("SupplyDetail")
+            others = [each for each in details if each.suppliers() and supplier not in each.suppliers()]
+            of_it += sum(supplier in each.suppliers() for each in details)
+            of_others += len(others)
+            for each in others:
+                supply.below.remove(each)
+                supply.strangers += [one for one in each.strangers if one.name == "Supplier"]
+                supply.strangers += [one for within in each.all("Supplier") for one in within.all_strangers()]
+            if others and len(others) == len(details):
+                self.below.remove(supply)
+                self.strangers += supply.all_strangers()
+        return of_it, of_others
 
 
 class Elements:
@@ -289,8 +320,9 @@ Made = TypeVar("Made")
 class Trees:
     """Makes the trees of elements, and keeps where each composite begins."""
 
-    def __init__(self, data: bytes) -> None:
+    def __init__(self, data: bytes, supplier: tuple[str, str] | None) -> None:
         self.data = data
+        self.supplier = supplier
         self.lines = [0, *(found.end() for found in re.finditer(b"\n", data))]
         self.starts: dict[object, Place] = {}
 
@@ -323,10 +355,10 @@ class Trees:
         price.old = {name.strip("()"): of.text(name) for name in OLD if of.text(name)}
         price.discounts = [name for name in DISCOUNTS for _ in of.all(name)]
         # Without terms nothing of these counts.
-        price.codes = [(each.text("DiscountCodeType"), each.text("DiscountCode")) for each in of.all("DiscountCoded")]
+        price.codes = [code_of(each) for each in of.all("DiscountCoded")]
         price.percents = [discount_of(each) for each in of.all("Discount")]
-        price.taxes = [each.text("TaxRatePercent") for each in of.all("Tax")]
-        price.stranger = of.garbled_for_terms()
+        price.taxes = [(each.text("TaxRatePercent"), each.text("TaxRateCode")) for each in of.all("Tax")]
+        price.is_garbled = of.is_garbled()
         return self.at(of, price)
 
     def detail(self, of: Element) -> Detail:
@@ -350,12 +382,14 @@ class Trees:
         return self.at(of, Supply(markets, [self.detail(each) for each in of.all("SupplyDetail")]))
 
     def product(self, of: Element) -> Product:
+        of_it, of_others = of.leave_out_others(self.supplier) if self.supplier else (0, 0)
         supplies = [self.supply(each) for each in of.all("ProductSupply")]
         identifiers = self.identifiers(of, "Product")
         product = Product(of.text("RecordReference"), of.text("NotificationType"), identifiers, supplies)
         # Of a deletion those count that stand before others.
         own = sorted(of.all_strangers(), key=lambda each: each.within not in ("Product", "ProductIdentifier"))
         product.stranger = next(iter(own), None)
+        product.details_of_it, product.details_of_others = of_it, of_others
         product.has_rights = any(each.all("SalesRights") for each in of.all("PublishingDetail"))
         return self.at(of, product)
 
@@ -372,8 +406,8 @@ class Trees:
         strangers = root.strangers + (header.all_strangers() if header else [])
         message.stranger = next(iter(strangers), None)
         message.says_none = bool(root.all("NoProduct"))
-        message.again = root.count_again()
         message.products = [self.product(each) for each in root.all("Product")]
+        message.again = root.count_again()
         return message
 
 
@@ -390,18 +424,23 @@ def date_of(element: Element) -> PriceDate:
 
 def discount_of(element: Element) -> Discount:
     percent, quantity, kind = map(element.text, ("DiscountPercent", "Quantity", "DiscountType"))
-    return Discount(percent, quantity, kind, element.again())
+    return Discount(percent, quantity, kind)
 
 
-def read(data: bytes, has_terms: bool = False) -> Read:
-    """The message of a feed, with what terms of the shop read if there are any. Malformed, or NoMessage, where it is
-    none."""
-    trees = Trees(data)
-    return Read(trees.message(Elements(has_terms).read(data)), trees.starts)
+def code_of(element: Element) -> tuple[str, str, str]:
+    kind, name, code = map(element.text, ("DiscountCodeType", "DiscountCodeTypeName", "DiscountCode"))
+    return kind, name, code
 
 
-def read_or_none(data: bytes, has_terms: bool) -> Read | None:
+def read(data: bytes, words: Words) -> Read:
+    """The message of a feed, with what terms of the shop read if there are any, and without the SupplyDetails of others
+    where one supplier is asked for. Malformed, or NoMessage, where it is none."""
+    trees = Trees(data, words.supplier)
+    return Read(trees.message(Elements(words.terms is not None).read(data)), trees.starts)
+
+
+def read_or_none(data: bytes, words: Words) -> Read | None:
     try:
-        return read(data, has_terms)
+        return read(data, words)
     except (Malformed, NoMessage):
         return None

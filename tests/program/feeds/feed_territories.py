@@ -85,17 +85,27 @@ def are_taken(fields: list[str]) -> bool:
     return all(text == "" or are_countries(text) for text in (included, excluded))
 
 
-def places_of(fields: list[str]) -> set[str]:
-    included, world, excluded = (text.split() for text in fields)
-    places = set(included) if included and not world else EVERY_COUNTRY | {ELSEWHERE}
-    return places - set(excluded)
+def is_world(fields: list[str]) -> bool:
+    """Whether it is the world, less some countries or none."""
+    return fields[0] == "" or fields[1] == WORLD
+
+
+def countries_in(fields: list[str]) -> list[str]:
+    """Those of a territory of countries, in their order."""
+    return [country for country in fields[0].split() if country not in fields[2].split()]
+
+
+def places_of(fields: list[str]) -> frozenset[str]:
+    if is_world(fields):
+        return frozenset(EVERY_COUNTRY - set(fields[2].split())) | {ELSEWHERE}
+    return frozenset(countries_in(fields))
 
 
 def union_fields(territories: list[list[str]]) -> list[str]:
     """The fields of the territory that these are together."""
     if len(territories) == 1:
         return territories[0]
-    places = set().union(*map(places_of, territories))
+    places = frozenset[str]().union(*map(places_of, territories))
     if ELSEWHERE in places:
         return ["", WORLD, " ".join(sorted(EVERY_COUNTRY - places))]
     return [" ".join(sorted(places)), "", ""] if places else territories[0]

@@ -61,16 +61,15 @@ class Discount:
     percent: str
     quantity: str = ""
     discount_type: str = ""
-    # An element in it that comes again.
-    again: str = ""
 
 
 @dataclass(eq=False)
 class Price:
     """A price. `again` is the name of an element that comes again in it. `conditions` and `constraints` have the type of
     each PriceCondition and PriceConstraint, which may be empty; `old` has the texts of elements of ONIX 2.1 by their
-    names; `discounts` names the elements that are counted. For the terms of the shop `codes` has the type and the code
-    of each DiscountCoded, `percents` its Discounts and `taxes` the TaxRatePercent of each Tax."""
+    names; `discounts` names the elements that are counted. For the terms of the shop `codes` has the type, its name and
+    the code of each DiscountCoded, `percents` its Discounts and `taxes` the TaxRatePercent and the TaxRateCode of each
+    Tax; `is_garbled` where one of the elements that they read does not count, or comes again."""
 
     price_type: str
     amount: str
@@ -91,11 +90,10 @@ class Price:
     again: str = ""
     old: dict[str, str] = field(default_factory=dict)
     discounts: list[str] = field(default_factory=list)
-    codes: list[tuple[str, str]] = field(default_factory=list)
+    codes: list[tuple[str, str, str]] = field(default_factory=list)
     percents: list[Discount] = field(default_factory=list)
-    taxes: list[str] = field(default_factory=list)
-    # An element that the terms would read, and that does not count.
-    stranger: str = ""
+    taxes: list[tuple[str, str]] = field(default_factory=list)
+    is_garbled: bool = False
 
 
 @dataclass(eq=False)
@@ -129,6 +127,9 @@ class Supply:
 
 @dataclass(eq=False)
 class Product:
+    """A product. Where one supplier is asked for, `details_of_it` and `details_of_others` are how many SupplyDetails the
+    product had of it and of others, which do not stand in `supplies`."""
+
     reference: str
     notification: str
     identifiers: list[Identifier]
@@ -136,6 +137,11 @@ class Product:
     stranger: Stranger | None = None
     # With a SalesRights in its PublishingDetail, which is counted and not read.
     has_rights: bool = False
+    details_of_it: int = 0
+    details_of_others: int = 0
+
+    def is_of_others_alone(self) -> bool:
+        return self.details_of_others > 0 and not any(supply.details for supply in self.supplies)
 
 
 @dataclass(eq=False)
@@ -161,12 +167,13 @@ class Message:
 
 @dataclass(frozen=True)
 class Term:
-    """One of the shop's terms; `codes`, `supplier`, `currency` and `tax` are empty where it has none."""
+    """One of the shop's terms; `codes`, `scheme`, `supplier`, `currency` and `tax` are empty where it has none."""
 
     types: tuple[str, ...]
     net: str
     percent: str
     codes: tuple[str, ...] = ()
+    scheme: str = ""
     supplier: str = ""
     currency: str = ""
     tax: str = ""
@@ -190,6 +197,7 @@ class Words:
     id_type: str = ""
     wrong: str = ""
     terms: tuple[Term, ...] | None = None
+    supplier: tuple[str, str] | None = None
 
     def line(self) -> list[str]:
         valued = {
@@ -198,6 +206,7 @@ class Words:
             "--number-offset": self.offset,
             "--sender": ",".join(self.sender or ()),
             "--addressee": ",".join(self.addressee or ()),
+            "--supplier": ",".join(self.supplier or ()),
             "--id-type": self.id_type,
             "--wrong": self.wrong,
             "--terms": TERMS if self.terms is not None else "",

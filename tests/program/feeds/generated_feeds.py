@@ -5,28 +5,34 @@ EXAMPLES in the environment is how many feeds a group has, where another number 
 """
 
 import os
+import re
 from collections import Counter
-from collections.abc import Iterator
+from collections.abc import Callable, Iterator
 from dataclasses import replace
 from functools import partial
 from typing import NamedTuple
 
 from tests.needs import DEBIAN_PYTHON
 from tests.program.feeds.convert.running import FEED, convert
-from tests.program.feeds.feed_notes import (
-    NO_NOTES,
-    Said,
-    compared,
-    count_line,
-    is_named,
-    notes_in,
-    read_errors,
-    read_summary,
+from tests.program.feeds.feed_net_prices import MIXED, NEVER, TAXED, told_of
+from tests.program.feeds.feed_notes import Said, compared, count_line, is_named, notes_in, read_errors, read_summary
+from tests.program.feeds.feed_oracle import (
+    AGAIN,
+    DIFFERING,
+    HELD_BACK,
+    NOT_READ,
+    OF_OTHER_THINGS,
+    OF_OTHERS,
+    OF_PRODUCTS,
+    OF_SEVERAL,
+    ROUNDED,
+    UNFITTED,
+    Refused,
+    Verdict,
+    judge,
 )
-from tests.program.feeds.feed_oracle import HELD_BACK, UNFITTED, Refused, Verdict, judge
-from tests.program.feeds.feed_prices import DISCOUNTS
 from tests.program.feeds.feed_reading import read_or_none
-from tests.program.feeds.feed_trees import TERMS, Message, Place, Words
+from tests.program.feeds.feed_trees import TERMS, Message, Place, Term, Words
 from tests.program.room import Group, Ran, Room
 from tests.running import Outcome
 
@@ -34,10 +40,7 @@ from tests.running import Outcome
 NEEDS = [f"{DEBIAN_PYTHON}/hypothesis"]
 
 # So many feeds a group has, and one of large feeds.
-EXAMPLES, LARGE_EXAMPLES = 150, 15
-
-# What the summary says of what is not read.
-NOT_READ = {name: f"{name} of a Price, not read" for name in DISCOUNTS}
+EXAMPLES, LARGE_EXAMPLES = 150, 20
 
 
 class Wanted(NamedTuple):
@@ -49,7 +52,7 @@ class Wanted(NamedTuple):
 
 
 def wanted_of(data: bytes, words: Words) -> Wanted:
-    found = read_or_none(data, words.terms is not None)
+    found = read_or_none(data, words)
     if found is None:
         return Wanted(Verdict(refusal=Refused()), None, {})
     return Wanted(judge(found.message, words), *found)
@@ -62,10 +65,9 @@ def outcomes(feed: str, words: Words, wanted: Wanted, room: Room) -> Iterator[Ou
     room.write(FEED, feed.encode())
     came = convert(room, *words.line(), FEED)
     verdict = wanted.verdict
-    is_whole = not verdict.refusal and not verdict.wrong_products
     text = b"".join(part.text() for part in verdict.parts)
     name = f"convert {' '.join(words.line())}\n{table}{feed}\n"
-    yield Outcome(f"{name}the records", Ran(came.status, came.output), Ran(0 if is_whole else 1, text))
+    yield Outcome(f"{name}the records", Ran(came.status, came.output), Ran(verdict.status(), text))
     errors = read_errors(came.errors)
     yield Outcome(f"{name}what is said", said_of(wanted, errors.of_files.get(FEED, [])), [])
     yield Outcome(f"{name}the summary", *summed(wanted, errors.summary))
@@ -92,29 +94,14 @@ def summed(wanted: Wanted, lines: list[str]) -> tuple[object, object]:
         return lines, []
     summary = read_summary(lines)
     of_notes = notes_in(summary)
-    alone = {name: count for name, count in summary.reasons.items() if name in NO_NOTES}
-    found = alone, summary.products, summary.last, sum(of_notes.values())
+    others = {name: count for name, count in summary.reasons.items() if name in OF_OTHER_THINGS}
+    found = summary.is_lacking, others, summary.products, summary.last, sum(of_notes.values())
     count = len(verdict.notes)
     last = count_line(count, verdict.wrong_products)
-    return found, (counted_alone(verdict, wanted.message), products_of(verdict), last, count)
-
-
-def counted_alone(verdict: Verdict, message: Message) -> dict[str, int]:
-    counts = Counter(NOT_READ.get(name, name) for name in verdict.discounts)
-    counts[NO_NOTES[-2]] = message.again
-    counts[NO_NOTES[-1]] = not message.products and not message.says_none
-    return {name: count for name, count in counts.items() if count}
-
-
-def products_of(verdict: Verdict) -> dict[str, tuple[int, int]]:
-    """How many products of how many it counts, by what it says of them."""
-    counts = verdict.counts
-    found = {
-        "emptied": counts.emptied,
-        "left without a Price": counts.without_price,
-        "for the world without a Market, with SalesRights, not read": counts.with_rights,
-    }
-    return {what: (count, counts.products) for what, count in found.items() if count}
+    counts = +verdict.counts
+    products = {name: (counts[name], verdict.products) for name in OF_PRODUCTS if name in counts}
+    hoped = {name: counts[name] for name in OF_OTHER_THINGS if name in counts}
+    return found, (verdict.lacks_supplier, hoped, products, last, count)
 
 
 class Kind(NamedTuple):
@@ -129,7 +116,8 @@ class Kind(NamedTuple):
     seen: list[str]
 
 
-PLAIN = ["refused", "Product", "ProductSupply", "SupplyDetail", "Price", "wrong", *NOT_READ, NO_NOTES[-2]]
+PLAIN = ["refused", "Product", "ProductSupply", "SupplyDetail", "Price", "wrong", *NOT_READ.values(), AGAIN]
+PLAIN += [ROUNDED, DIFFERING, OF_OTHERS, OF_SEVERAL]
 KINDS = [
     Kind("feeds", "FEEDS", "WORDS", EXAMPLES, 2, PLAIN),
     Kind("feeds and terms", "FEEDS", "WORDS_WITH_TERMS", EXAMPLES, 2, ["Price", "computed", UNFITTED, HELD_BACK]),
@@ -142,29 +130,22 @@ def seen_in(wanted: Wanted, words: Words) -> Iterator[str]:
     verdict = wanted.verdict
     yield from ["refused"] * (verdict.refusal is not None) + ["wrong"] * (verdict.wrong_products > 0)
     yield from {record[0] for part in verdict.parts for record in part.records}
-    yield from verdict.discounts
+    yield from +verdict.counts
     if verdict.parts and wanted.message:
-        yield from [NO_NOTES[-2]] * wanted.message.again
         without = judge(wanted.message, replace(words, terms=None)).parts if words.terms else verdict.parts
         yield from ["computed"] * (without != verdict.parts)
     if sum(len(part.records) > 2 for part in verdict.parts) > 1:
         yield "in parts"
 
 
-def check(kind: Kind, share: int, room: Room) -> Iterator[Outcome]:
-    """The first feed of that kind of which something else comes than what is wanted, made as small as it can be; or what
-    the desk says of the messages, all of which it can read."""
+def tried(run: Callable[..., None], share: int, examples: int, *names: str) -> None:
+    """Runs it on what these strategies make until it fails, and then on what is as small as can be."""
     from hypothesis import HealthCheck, Phase, Verbosity, given, seed, settings
 
     from tests.strategies import feeds as strategies
 
-    seen: Counter[str] = Counter()
-    wrong: list[Outcome] = []
-    messages: list[str] = []
-
-    @seed(share)
-    @settings(
-        max_examples=int(os.environ.get("EXAMPLES", kind.examples)),
+    bounds = settings(
+        max_examples=int(os.environ.get("EXAMPLES", examples)),
         derandomize=True,
         database=None,
         deadline=None,
@@ -172,7 +153,16 @@ def check(kind: Kind, share: int, room: Room) -> Iterator[Outcome]:
         suppress_health_check=list(HealthCheck),
         verbosity=Verbosity.quiet,
     )
-    @given(getattr(strategies, kind.feeds), getattr(strategies, kind.words))
+    seed(share)(bounds(given(*(getattr(strategies, name) for name in names))(run)))()
+
+
+def check(kind: Kind, share: int, room: Room) -> Iterator[Outcome]:
+    """The first feed of that kind of which something else comes than what is wanted, made as small as it can be; or what
+    the desk says of the messages, all of which it can read."""
+    seen: Counter[str] = Counter()
+    wrong: list[Outcome] = []
+    messages: list[str] = []
+
     def converts(feed: str, words: Words) -> None:
         wanted = wanted_of(feed.encode(), words)
         seen.update(seen_in(wanted, words))
@@ -183,7 +173,7 @@ def check(kind: Kind, share: int, room: Room) -> Iterator[Outcome]:
         assert not wrong
 
     try:
-        converts()
+        tried(converts, share, kind.examples, kind.feeds, kind.words)
     except AssertionError:
         yield from wrong
         return
@@ -192,6 +182,37 @@ def check(kind: Kind, share: int, room: Room) -> Iterator[Outcome]:
     )
     came = room.run("deliver", *messages)
     yield Outcome(f"{kind.name}, share {share}, delivered", came, Ran(1, b"refused,unknown-series\n" * len(messages)))
+
+
+# What `onixdesk terms` says of a term, by a word of it.
+TOLD = re.compile("onixdesk: terms: term ([0-9]+) (.*)")
+SAID = {"never counts": NEVER, "has no tax": MIXED, "has a tax": TAXED}
+
+
+def tables_of_terms(room: Room) -> Iterator[Outcome]:
+    """What is said of the first table of which something else is said than what is wanted, or that each is said."""
+    seen: Counter[str] = Counter()
+    wrong: list[Outcome] = []
+
+    def tells(terms: tuple[Term, ...]) -> None:
+        table = "".join(term.toml() for term in terms)
+        room.write(TERMS, table.encode())
+        came = room.run("terms", TERMS)
+        told = [
+            (int(number), SAID.get(" ".join(why.split()[:2]), why))
+            for number, why in TOLD.findall(came.errors.decode())
+        ]
+        outcome = Outcome(f"terms: {table}", (came.status, told), (0, told_of(terms)))
+        wrong[:] = [outcome] * (outcome.came != outcome.wanted)
+        seen.update(what for _, what in told_of(terms))
+        assert not wrong
+
+    try:
+        tried(tells, 0, EXAMPLES, "TABLES")
+    except AssertionError:
+        yield from wrong
+        return
+    yield Outcome("terms: what is said of none", [each for each in SAID.values() if not seen[each]], [])
 
 
 GROUPS = [

@@ -1,7 +1,6 @@
 """Feeds that are made to harm: `onixdesk convert` refuses each by one line, and writes nothing, or passes over what
 is in it, within a bound on memory and time; no other file and no address is opened."""
 
-import codecs
 import contextlib
 import os
 import re
@@ -86,13 +85,6 @@ def read(name: str) -> list[Case]:
     return [case_of(written) for written in read_file(TESTS / f"hostile/{name}.txt")]
 
 
-def in_utf16() -> Iterator[bytes]:
-    """A start tag of very many attributes. The bytes of their letter hold that of a `<`."""
-    yield codecs.BOM_UTF16_LE
-    for text in (FRAME.before, "<x ", *(f"\u013c{number}='' " for number in range(300_000)), "/>", FRAME.behind):
-        yield text.encode("utf-16-le")
-
-
 def wide_identifiers() -> Iterator[bytes]:
     yield f"{FRAME.before}{PRODUCT.format('R1').partition('<ProductIdentifier>')[0]}".encode()
     identifier = f"<ProductIDType>15</ProductIDType><IDValue>{chr(0x1F600) * 256}</IDValue>"
@@ -105,10 +97,6 @@ LARGE = [
     *read("large"),
     *read("tokens"),
     Case("identifiers of characters that have four bytes", wide_identifiers),
-    Case("a start tag of 300,000 attributes in UTF-16", in_utf16),
-    Case(
-        "the second half of a character in UTF-16", lambda: iter([f"{FRAME.before}<x>".encode("utf-16") + b"\x00\xdc"])
-    ),
 ]
 
 

@@ -36,7 +36,7 @@ def judged(case: case_files.Case, feed: case_files.Feed) -> tuple[object, object
     places = sorted((*map(int, re.findall("^([0-9]+):([0-9]+)", line)[0]), is_wrong) for line, is_wrong in lines)
     hoped = wanted.records or b"", places, wanted.refused != ""
     words = words_of(case.words, case.table)
-    found = read_or_none(feed.data, words.terms is not None)
+    found = read_or_none(feed.data, words)
     if found is None:
         return (b"", [], True), hoped
     verdict = judge(found.message, words)
@@ -70,4 +70,5 @@ def words_of(line: list[str], table: str) -> Words:
         given.get("--id-type", ""),
         given.get("--wrong", ""),
         terms_of(table),
+        pair("--supplier"),
     )

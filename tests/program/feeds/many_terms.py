@@ -1,4 +1,4 @@
-"""Large feeds and tables of the shop's terms: 20,000 products in both kinds of names, and many prices of one product."""
+"""A large feed and tables of the shop's terms: 20,000 products in both kinds of names."""
 
 import csv
 import io
@@ -79,37 +79,3 @@ def many_products(room: Room) -> Iterator[Outcome]:
         found = came.ran.status, came.ran.errors, len(prices), others
         yield Outcome(name, found, (0, b"", 2 * PRODUCTS, None))
         yield Outcome(f"{name}: its memory", came.memory <= MOST_MEMORY, True)
-
-
-# The prices of one product, of which each fourth is a net price of the feed.
-FEWER, MORE = 2_000, 8_000
-
-
-def prices_of_one(count: int) -> Iterator[bytes]:
-    frame = FRAMES["prices"]
-    yield frame.before.encode()
-    for number in range(count):
-        kind = "<PriceType>05</PriceType>" if number % 4 == 3 else ""
-        quantity = f"<MinimumOrderQuantity>{number + 1}</MinimumOrderQuantity>"
-        yield f"<Price>{kind}{quantity}<PriceAmount>{count - number}.00</PriceAmount></Price>".encode()
-    yield frame.behind.encode()
-
-
-def many_prices_of_one(room: Room) -> Iterator[Outcome]:
-    """Four times as many take no more than seven times as long: each is not held against each."""
-    room.write("shop.toml", b'[[term]]\ntypes = ["02"]\nnet = "05"\npercent = "50"\n')
-    seconds = []
-    for count in FEWER, MORE:
-        came = measured(room, prices_of_one(count), "--terms", "shop.toml")
-        rows = [row for row in csv.reader(io.StringIO(came.ran.output.decode())) if row[0] == "Price"]
-        # Behind the first net price of the feed all that are computed are held back.
-        found = came.ran.status, len(rows), came.ran.errors.decode().splitlines()[0]
-        held = count - count // 4 - 3
-        yield Outcome(
-            f"terms: {count} prices of one product",
-            found,
-            (0, count + 3, f"onixdesk: computed price held back: {held}"),
-        )
-        seconds.append(came.seconds)
-    fewer, more = seconds
-    yield Outcome(f"terms: {MORE} prices of one product: {fewer} s, {more} s", more <= 7 * max(fewer, 0.05), True)

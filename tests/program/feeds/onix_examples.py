@@ -24,16 +24,11 @@ PLACES = {
 
 NOT_SHOWN = {"Market": ["SupplyDetail,04,,,North,21,"]}
 
-# A note, without its place, or what the summary counts without one; how many products there are of a kind, and that there
-# is none, is shown by some examples alone.
-NOTE = re.compile(
-    r"onixdesk: (?:[^ ]+:[0-9]+:[0-9]+: (.*)|(.*, not read: [0-9]+)"
-    r"|([0-9]+ of [0-9]+ products? .*|a FILE without a Product: [0-9]+))"
-)
+# A note, without its place, or what is not read; what else the summary counts is shown by some examples alone.
+NOTE = re.compile(r"onixdesk: (?:[^ ]+:[0-9]+:[0-9]+: (.*)|(.*, not read: [0-9]+)|(.*: [0-9]+|[0-9]+ of .*))")
 
-
-# The one term by which an example is converted.
-TERM = re.compile("types = ")
+# The words, or the one term, by which an example is converted.
+WORDS, TERM = re.compile("--"), re.compile("types = ")
 
 
 class Example(NamedTuple):
@@ -60,9 +55,9 @@ def shown(example: Example, room: Room) -> list[str]:
     """The notes and the records that come of an example, as the document has them."""
     frame = example.frame()
     room.write(FEED, f"{frame.before}\n{example.xml}{frame.behind}".encode())
-    terms = [line for line in example.lines if TERM.match(line)]
+    words, terms = ([line for line in example.lines if each.match(line)] for each in (WORDS, TERM))
     room.write("shop.toml", "".join(f"term = [{{ {line} }}]\n" for line in terms).encode())
-    came = convert(room, *(["--terms", "shop.toml"] if terms else []), FEED)
+    came = convert(room, *" ".join(words).split(), *(["--terms", "shop.toml"] if terms else []), FEED)
     said = [found for found in map(NOTE.fullmatch, came.errors.decode().splitlines()) if found]
     notes = [found[1] or found[2] or found[3] for found in said if not found[3] or found[3] in example.lines]
     records = came.output.decode().splitlines()[frame.records.count("\n") : -1]
@@ -70,7 +65,7 @@ def shown(example: Example, room: Room) -> list[str]:
     shown_records = (
         records[: len(records) - len(behind)] if records[len(records) - len(behind) :] == behind else records
     )
-    return terms + notes + shown_records
+    return words + terms + notes + shown_records
 
 
 def each(room: Room) -> Iterator[Outcome]:

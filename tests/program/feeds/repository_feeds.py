@@ -45,7 +45,7 @@ def in_utf8(data: bytes) -> bytes:
 
 
 def wanted(path: Path, words: Words) -> Wanted:
-    verdict = judge(read(in_utf8(path.read_bytes())).message, words)
+    verdict = judge(read(in_utf8(path.read_bytes()), words).message, words)
     first = verdict.parts[0]
     agreement = records_text([["Agree", "s", *first.records[0][2:6], str(first.number)]])
     catalogue: set[str] = set()

@@ -30,7 +30,6 @@ NOTED = [
     ("fr.librairie.0001", "Price", "CurrencyZone"),
     ("fr.librairie.0001", "Price", "RegionsIncluded"),
     ("fr.librairie.0001", "Territory", "CA-QC"),
-    ("fr.librairie.0001", "Price", "decimals"),
     ("fr.librairie.0001", "Price", "PriceAmount"),
     ("fr.librairie.0002", "Territory", "GB-NIR"),
     ("fr.librairie.0002", "Market", "ECZ"),

@@ -14,6 +14,7 @@ use Rattle.onix_records.specs.declared.row.Opening.{Opening}
 use Rattle.feed_mapping.specs.Elements.{Composite, composite}
 use Rattle.feed_mapping.specs.Header.{Heading, heading_in, message_fields}
 use Rattle.feed_mapping.specs.Notes.{Note, note, wrong}
+use Rattle.feed_mapping.specs.Parties.{Pair}
 use Rattle.feed_mapping.specs.ProductRecords.{Variant, variants}
 use Rattle.feed_mapping.specs.Products.{reference_in}
 use Rattle.feed_mapping.specs.declared.header.HeaderRefusal.{HeaderRefusal}
@@ -22,9 +23,11 @@ use Rattle.feed_conversion.specs.Conversion.{Options, header_refused, supply_cho
 use Rattle.feed_conversion.specs.Keeping.{Keeping}
 use Rattle.feed_conversion.specs.Messages.{end_record}
 use Rattle.feed_conversion.specs.Packing.{beyond_at, product_notes}
-use Rattle.feed_conversion.specs.Tallies.{no_tally, place_of, refused_for, tallied}
+use Rattle.feed_conversion.specs.Tallies.{counted, no_tally, place_of, refused_for, tallied}
+use Rattle.feed_conversion.specs.Tallies.{with_suppliers}
 use Rattle.feed_conversion.specs.declared.refusal.Refusal.{Refusal}
 use Rattle.feed_conversion.specs.declared.refusal.Refusal.TheVariants as why
+use Rattle.feed_conversion.specs.declared.tally.Counted.{Counted}
 use Rattle.feed_conversion.specs.declared.tally.Tally.{Tally}
 
 -- the parts of a message: the fields of their first records before and behind the number, the
@@ -41,15 +44,15 @@ pub record OpenParts : Type 0 where
   pub beyond : Option Position
   pub tally : Tally
 
--- what the target has made of the parts and of the notes that it has taken, and how many products
--- are wrong
+-- what the target has made of the parts and of the notes that it has taken, and what is told of the
+-- products
 pub record Taken (P N : Type 0) : Type 0 where
   pub parts : P
   pub notes : N
-  pub wrong : ℕ
+  pub counted : Counted
 
-abbrev pub taken : {P N : Type 0} → P → N → ℕ → Taken P N
-taken parts notes wrong = record { parts = parts; notes = notes; wrong = wrong }
+abbrev pub taken : {P N : Type 0} → P → N → Counted → Taken P N
+taken parts notes told = record { parts = parts; notes = notes; counted = told }
 
 -- the parts of a message, with what the target has made of those that it has taken
 pub record Stored (P N : Type 0) : Type 0 where
@@ -160,10 +163,16 @@ with_variants k most h c [] = noted k c (note c.element (wrong TooLarge []) ∷ 
 with_variants k most h c (v ∷ more) =
     unwrap_or (with_variant k most h c v.records v.notes) (with_variants k most h c more)
 
+-- with the suppliers of one more product
+abbrev pub seen_by : Option Pair → Nodes → OpenParts → OpenParts
+seen_by named product b = record b { tally = with_suppliers named product b.tally }
+
 unfoldable pub after_product : {P N : Type 0} → Keeping P N → Options → Stored P N → Composite
     → Stored P N
 after_product k o h c =
-    with_variants k o.choices.parts h c (variants h.begun.opening (supply_choices o) c)
+    with_variants k o.choices.parts
+    (stored (seen_by o.choices.supplier c.below h.begun) h.parts h.notes) c
+    (variants h.begun.opening (supply_choices o) c)
 
 -- ---- elements
 
@@ -247,7 +256,7 @@ all_parts k most h =
 abbrev pub ended_at : {P N : Type 0} → Keeping P N → ℕ → Stored P N → Option Position
     → Result (Taken P N) Refusal
 ended_at k most h (Some place) = Err (why.Parts (h.begun.full + 1) place)
-ended_at k most h None = Ok (taken (all_parts k most h) h.notes h.begun.tally.wrong)
+ended_at k most h None = Ok (taken (all_parts k most h) h.notes (counted h.begun.tally))
 
 abbrev pub ended_by : {P N : Type 0} → Keeping P N → ℕ → Stored P N → Option Refusal
     → Result (Taken P N) Refusal

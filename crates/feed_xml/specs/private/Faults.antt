@@ -6,16 +6,16 @@ use Rattle.feed_xml.specs.declared.fault.Fault.TheVariants.{LargeTag, Refused, U
 use Rattle.feed_xml.specs.declared.fault.Fault.TheVariants.{Read, Memory}
 use Rattle.feed_xml.specs.declared.place.Place.{Place}
 use Rattle.feed_xml.specs.Documents.{IsNoText}
-use Rattle.feed_xml.specs.EncodingNames.{declared_name}
+use Rattle.feed_xml.specs.EncodingNames.{encoding_name}
 use Rattle.feed_xml.specs.Grammar.{Token}
 use Rattle.feed_xml.specs.private.Bounds.{IsDeepAt, IsGarbledBehind, IsLargeAt, IsLongAt, MeetsFrom}
 use Rattle.feed_xml.specs.private.Bounds.{NoneStandsAt, NoneWillStand}
 use Rattle.feed_xml.specs.private.Places.{Completes, IsNeverComplete, first_place}
 use Rattle.feed_xml.specs.private.Windows.{BeginsAt}
 
--- the declaration of a document that begins so names an encoding that is none that is known
+-- a document that begins so has an encoding of this name, which is none that is known
 abbrev pub IsUnknown : List ℕ → Fault → Type 0
-IsUnknown head (UnknownEncoding name) = declared_name head ≡ Some name
+IsUnknown head (UnknownEncoding name) = encoding_name head ≡ Some name
 IsUnknown head Memory = Unit {0}
 IsUnknown head other = ⊥
 

@@ -7,9 +7,6 @@ use Rattle.feed_xml.specs.declared.texts.Part.{Part}
 use Rattle.feed_xml.specs.Texts.{follow, is_start, IsSmall}
 use Rattle.feed_xml.specs.Grammar.{Token, spelling, is_token, is_filled}
 use Rattle.feed_xml.specs.private.Places.{steps, is_last}
-use Rattle.feed_xml.specs.declared.encodings.Encoding.{Encoding}
-use Rattle.feed_xml.specs.declared.encodings.Held.{Held}
-use Rattle.feed_xml.specs.private.Decoders.{ending}
 
 -- the bytes are these tokens, which lead from one place to the other, and then the rest
 pub record Advances (bytes : List ℕ) (tokens : List Token) (rest : List ℕ) (old new : Place)
@@ -41,7 +38,3 @@ Grows old new part piece (Some next) =
 Grows old new part piece None =
     (good bad more : List ℕ) × (piece ≡ good ++ (bad ++ more)) × (new ≡ old ++ good)
     × (length bad ≤ 4) × (follow part (good ++ bad) ≡ None)
-
--- what the end of a text adds to it, in some encoding
-abbrev pub IsEnding : List ℕ → Type 0
-IsEnding piece = (encoding : Encoding) × (held : Held) × (piece ≡ ending encoding held)

@@ -28,6 +28,7 @@ GOOD = [
     (["--sender", "06," + "s" * FIELD_BYTES], "06," + "s" * FIELD_BYTES, "1"),
     (["--sender", "06," + "é" * (FIELD_BYTES // 2)], "06," + "é" * (FIELD_BYTES // 2), "1"),
     (["--sender", "06, a ,b"], '06," a ,b"', "1"),
+    (["--sender", "06,S", "--supplier", "06, a ,b"], "06,S", "1"),
     (["--sender", "06,S", "--number-offset", "000000000"], "06,S", "1"),
     (["--sender", "06,S", "--number-offset", "999999998"], "06,S", "999999999"),
     (["--sender", "06,S", "--number", "999999999"], "06,S", "999999999"),

@@ -14,6 +14,7 @@ The cases stand in tests/conversions (`written_cases`), and have these parts:
     -- all-records, of a file, or where those around the place are others
     -- notes      the notes on what the desk has no field for, behind the name of the file
     -- wrong      the notes on what the desk would not take; the status is then 1
+    -- status 1   where neither these nor a refusal say so
     -- summary    the lines behind the notes, where they are not only added up; none where it is empty
     -- refused    the place in the file, or `anywhere`, and perhaps a part of the line that says why
 
@@ -55,7 +56,8 @@ SHORT_TAGS = dict(
     SupplyToCountryExcluded=j140 SupplyToTerritory=j397 OrderQuantityMinimum=x532 PriceDate=pricedate PriceDateRole=x476
     DateFormat=j260 Date=b306 Discount=discount DiscountCoded=discountcoded
     PublishingDetail=publishingdetail SalesRights=salesrights DiscountCodeType=j363 DiscountCode=j364
-    DiscountType=x467 Quantity=x320 DiscountPercent=j267 Tax=tax TaxRatePercent=x472
+    DiscountCodeTypeName=j378 DiscountType=x467 Quantity=x320 DiscountPercent=j267 Tax=tax TaxRateCode=x471
+    TaxRatePercent=x472
     """.split()
 )
 
@@ -124,20 +126,22 @@ ANYWHERE = "anywhere"
 
 
 class Converted(NamedTuple):
-    """What comes of a feed: its records, None where it is refused; the notes, the wrong ones apart; and the place of the
-    refusal with a part of why, empty where there is none."""
+    """What comes of a feed: its records, None where it is refused; the notes, the wrong ones apart; the place of the
+    refusal with a part of why, empty where there is none; and whether the status is 1 though nothing of these says so.
+    """
 
     records: bytes | None
     notes: list[str]
     wrong: list[str]
     refused: str
+    is_told: bool = False
 
     def wrong_products(self) -> int:
         """How many products are let through that are wrong; each has a reference of its own."""
         return len({line.split(": ")[1] for line in self.wrong}) if self.records is not None else 0
 
     def status(self) -> int:
-        return 1 if self.wrong or self.refused else 0
+        return 1 if self.wrong or self.refused or self.is_told else 0
 
 
 class Case(NamedTuple):
@@ -222,6 +226,7 @@ def placed_all(wanted: Converted, text: str, written: str) -> Converted:
         [placed(line, text, written) for line in wanted.notes],
         [placed(line, text, written) for line in wanted.wrong],
         placed(wanted.refused, text, written),
+        wanted.is_told,
     )
 
 
@@ -244,7 +249,8 @@ def case_of(written: Written) -> Case:
         records = (parts.get("all-records") or records_of(place, parts["records"])).encode()
     lines = {key: text.rstrip("\n").split("\n") if text else [] for key, text in parts.items()}
     summary = lines.get("summary")
-    wanted = Converted(records, lines.get("notes", []), lines.get("wrong", []), parts.get("refused", ""))
+    notes, wrong = lines.get("notes", []), lines.get("wrong", [])
+    wanted = Converted(records, notes, wrong, parts.get("refused", ""), "status" in parts)
     return Case(written.name, place, parts[place], words, table, wanted, summary)
 
 

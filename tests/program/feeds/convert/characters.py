@@ -21,12 +21,8 @@ NAMES = {
     "cp1252": ["Windows-1252", "windows1252", "cp1252", "CP-1252"],
     "ascii": ["US-ASCII", "us_ascii", "ASCII", "ascii"],
 }
-# Marks, which outweigh what is declared.
-MARKED = [
-    *(("utf-8", codecs.BOM_UTF8, name) for name in ("", "UTF-8", "ISO-8859-1", "EBCDIC")),
-    *(("utf-16-le", codecs.BOM_UTF16_LE, name) for name in ("", "UTF-16", "UTF-8")),
-    *(("utf-16-be", codecs.BOM_UTF16_BE, name) for name in ("", "UTF-16")),
-]
+# A mark outweighs what is declared.
+MARKED = [("utf-8", codecs.BOM_UTF8, name) for name in ("", "UTF-8", "ISO-8859-1", "EBCDIC")]
 WHITE_SPACE = "\t\n"
 OF_UNICODE = "é½€𐀀\U0010fffd"
 
@@ -63,22 +59,20 @@ def names_of_elements(room: Room) -> Iterator[Outcome]:
         yield Outcome(f"convert: no name in {codec}", (came.status, refused_lines(came)), (1, [("-", 1)]))
 
 
-def bytes_of_no_character(room: Room) -> Iterator[Outcome]:
-    before, behind = (text.encode("utf-16-be") for text in (feed_of("").removesuffix("</ONIXMessage>"), FRAME.behind))
-    for name, data in {
-        "the first half of a character in UTF-16": b"\xd8\x00\x00x",
-        "the second half of one alone": b"\xdc\x00",
-        "U+FFFE": b"\xff\xfe",
-    }.items():
-        came = convert(room, given=codecs.BOM_UTF16_BE + before + data + behind)
-        yield Outcome(f"convert: {name}", (came.status, came.output, len(refused_lines(came))), (1, b"", 1))
-    for name, data in {
-        "half a character behind the root": codecs.BOM_UTF16_BE + feed_of("").encode("utf-16-be") + b"\x00",
-        "a mark alone": codecs.BOM_UTF16_BE,
-        "UTF-16 that is neither it nor UTF-8": feed_of("UTF16", "<x>é</x>").encode("latin-1"),
-    }.items():
-        came = convert(room, given=data)
-        yield Outcome(f"convert: {name}", (came.status, came.output, len(refused_lines(came))), (1, b"", 1))
+def utf_16(room: Room) -> Iterator[Outcome]:
+    """What begins with a mark of it is refused, and the line says how it is recoded, behind which it is read."""
+    text = feed_of("UTF-16", PRODUCT.format("é"))
+    for codec, mark in ("utf-16-le", codecs.BOM_UTF16_LE), ("utf-16-be", codecs.BOM_UTF16_BE):
+        for data in mark + text.encode(codec), mark:
+            came = convert(room, given=data)
+            is_told = b"iconv -f UTF-16 -t UTF-8" in came.errors
+            found = came.status, came.output, refused_lines(came), is_told
+            yield Outcome(f"convert: {data[:20]!r}", found, (1, b"", [("-", 1)], True))
+        recoded = room.call(["iconv", "-f", "UTF-16", "-t", "UTF-8"], mark + text.encode(codec)).output
+        yield Outcome(f"convert: {codec}, recoded", convert(room, given=recoded), Ran(0, message_of("é")))
+    came = convert(room, given=feed_of("UTF16", "<x>é</x>").encode("latin-1"))
+    ended = came.status, came.output, len(refused_lines(came))
+    yield Outcome("convert: UTF-16 that is neither it nor UTF-8", ended, (1, b"", 1))
 
 
 def named_characters(room: Room) -> Iterator[Outcome]:

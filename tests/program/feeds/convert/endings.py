@@ -1,6 +1,5 @@
 """What `onixdesk convert` says of a feed that is no message, how far it is, and what an ended run leaves."""
 
-import codecs
 import contextlib
 import os
 import pty
@@ -38,10 +37,6 @@ class Case(NamedTuple):
     words: list[str] = []
 
 
-def in_utf16(text: str) -> bytes:
-    return codecs.BOM_UTF16_LE + text.encode("utf-16-le")
-
-
 def numbered(number: str, why: str, *words: str) -> Case:
     header = HEADER.format(SENDER).replace("<MessageNumber>1<", f"<MessageNumber>{number}<")
     return Case(f"the number {number[:12]} {' '.join(words)}", message_with(header), why, [*words])
@@ -70,7 +65,6 @@ ENDS = [
     Case("a prolog", b'<?xml version="1.0"?>\n<!-- a message\n', "the file ends before its root element"),
     Case("white space", b" \n", "the file ends before its root element"),
     Case("short tags", in_short_tags(BEGUN).encode(), "the file ends before </ONIXmessage>"),
-    Case("UTF-16", in_utf16(BEGUN), CUT),
     Case("a prolog that is long", f"{LONG}<!--".encode(), "the file ends before its root element"),
     *(
         Case(f"{size} bytes and {behind!r}", f"{begun(size)}{behind}".encode(), why)

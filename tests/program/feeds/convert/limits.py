@@ -96,6 +96,11 @@ def between_others(product: str) -> bytes:
     return f"{FRAME.before}{PRODUCT.format('R0')}\n{product}\n{PRODUCT.format('R2')}{FRAME.behind}".encode()
 
 
+def emptied_between_others() -> bytes:
+    """The reference of the second stands for its identifiers."""
+    return message_of("R0", "R1", "R2").replace(f"Product,R1,03,15,{ISBN}".encode(), b"Product,R1,03,01,R1")
+
+
 def one_product(room: Room) -> Iterator[Outcome]:
     """A product with as many prices as it may have, and with one more."""
     why = "a Product too large for a message of 20000 records and 4194304 bytes"
@@ -114,20 +119,19 @@ def one_product(room: Room) -> Iterator[Outcome]:
     lost = [f"1 of 3 products {what}" for what in ("emptied", "left without a Price")]
     said_of = said([f"{FEED}:2:1: R1: {emptied}", f"{emptied}: 1", *lost, "1 note, 1 product wrong"])
     came = convert(room, FEED)
-    yield Outcome("a product of 19,999 records", came, Ran(1, message_of("R0", "R1", "R2"), said_of))
+    yield Outcome("a product of 19,999 records", came, Ran(1, emptied_between_others(), said_of))
 
 
 def many_identifiers(room: Room) -> Iterator[Outcome]:
-    """A product that is too large even without its supplies has its reference for an identifier."""
+    """A product that is too large even without its supplies."""
     pair = (
         f"<ProductIdentifier><ProductIDType>01</ProductIDType><IDValue>{'&quot;' * 1_024}</IDValue></ProductIdentifier>"
     )
     product = PRODUCT.format("R1").replace("</Product>", f"{pair * 2_500}</Product>")
     room.write(FEED, between_others(product))
     came = convert(room, FEED)
-    wanted = message_of("R0", "R1", "R2").replace(f"Product,R1,03,15,{ISBN}".encode(), b"Product,R1,03,01,R1")
     found = came.status, came.output, came.errors.count(b"\n")
-    yield Outcome("a product of 2,500 identifiers that are quoted", found, (1, wanted, 4))
+    yield Outcome("a product of 2,500 identifiers that are quoted", found, (1, emptied_between_others(), 4))
 
 
 def large_product(room: Room) -> Iterator[Outcome]:

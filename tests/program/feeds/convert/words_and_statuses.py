@@ -160,8 +160,6 @@ def good_words(room: Room) -> Iterator[Outcome]:
 ENCODINGS = [
     *(encoded(name, "utf-8") for name in ("utf-8", "UTF-8", "utf8", "Utf_8")),
     *(encoded(name, "utf-8", codecs.BOM_UTF8) for name in ("UTF-8", "utf8", "ISO-8859-1", "UTF-16")),
-    *(encoded(name, "utf-16-le", codecs.BOM_UTF16_LE) for name in ("UTF-16", "utf16", "UTF-8")),
-    *(encoded(name, "utf-16-be", codecs.BOM_UTF16_BE) for name in ("UTF-16", "utf_16", "windows-1252")),
     # As some libraries write it.
     *(encoded(name, "utf-8") for name in ("UTF-16", "utf-16")),
 ]

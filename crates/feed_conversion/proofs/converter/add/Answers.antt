@@ -1,16 +1,15 @@
-use Rattle.std.proofs.Common.{◌≡◌, ◌++◌, ◌∙◌, List, ap, subst}
+use Rattle.std.proofs.Common.{◌≡◌, ◌++◌, ◌∷◌, ◌∙◌, List, ap, subst}
 use Rattle.feed_mapping.specs.Notes.{Note, note_views}
-use Rattle.feed_mapping.specs.ProductRecords.{fate_of, plain_variants, product_notes, product_records, smaller_variants}
+use Rattle.feed_mapping.specs.ProductRecords.{fate_of, product_notes, product_records, smaller_variants, variant}
 use Rattle.feed_mapping.specs.Records.{Records}
 use Rattle.feed_mapping.specs.SupplyChoices.{SupplyChoices, supply_choices_view}
 use Rattle.feed_mapping.specs.declared.notes.Note.{Note as Lent}
 use Rattle.feed_mapping.specs.declared.product_records.Fate.{Fate}
-use Rattle.onix_records.specs.declared.row.Opening.{Opening}
 use Rattle.feed_conversion.specs.Conversion.{supply_choices}
 use Rattle.feed_conversion.specs.Views.{options_view}
-use Rattle.feed_conversion.specs.private.Stages.{Stored, IsKept, after_product, stored, with_variant, with_variants}
+use Rattle.feed_conversion.specs.private.Stages.{IsKept, OpenParts, after_product, stored, with_variant, with_variants}
 use Rattle.feed_conversion.specs.private.StageViews.{begun_view}
-use Rattle.feed_conversion.proofs.KeptLaws.{first-kept, kept-same, on-ok, others-tried}
+use Rattle.feed_conversion.proofs.KeptLaws.{first-kept, on-ok, others-tried}
 use Rattle.feed_conversion.proofs.converter.add.Goals as goal
 
 pub returns-then-is_kept : goal.returns-then-is_kept
@@ -18,8 +17,9 @@ unfolding after_product
 returns-then-is_kept g c =
     let product = c.args.product.now in
     let opening = c.args.begun.now.opening in
+    let most = c.args.options.now.choices.parts in
     let chosen = supply_choices (options_view c.args.options.now) in
-    let old = stored (begun_view c.args.begun.now) (g.T.Target.parts c.args.target.now) (g.T.Target.notes c.args.target.now) in
+    let old = stored (begun_view c.see_suppliers.new.begun) (g.T.Target.parts c.args.target.now) (g.T.Target.notes c.args.target.now) in
     let new = stored (begun_view c.keep_variant.new.begun) (g.T.Target.parts c.keep_variant.new.target) (g.T.Target.notes c.keep_variant.new.target) in
     let records : c.add_product.new.records ≡ product_records opening chosen product.below =
     c.in_ok-fate.ensures.records ∙ ap (λ (rs : Records). rs ++ product_records opening (supply_choices_view c.supply_choices.result) product.below) c.new-records.ensures
@@ -27,10 +27,12 @@ returns-then-is_kept g c =
     let notes : note_views c.deref.result.now ≡ product_notes opening chosen product =
     ap note_views c.deref.ensures.value ∙ c.in_ok-fate.ensures.notes ∙ ap (λ (ns : List Lent). note_views ns ++ product_notes opening (supply_choices_view c.supply_choices.result) product) c.new-notes.ensures.items
     ∙ ap (λ (s : SupplyChoices). product_notes opening s product) c.supply_choices.ensures in
-    let by_records = subst (λ (rs : Records). IsKept c.in_ok-is_kept.is_kept old new (with_variant g.T.Target.keeping c.args.options.now.choices.parts old product rs (note_views c.deref.result.now))) records c.in_ok-is_kept.ensures in
-    let kept = subst (λ (ns : List Note). IsKept c.in_ok-is_kept.is_kept old new (with_variant g.T.Target.keeping c.args.options.now.choices.parts old product (product_records opening chosen product.below) ns)) notes by_records in
-    first-kept g.T.Target.keeping c.args.options.now.choices.parts c.in_ok-is_kept.is_kept old new product (product_records opening chosen product.below) (product_notes opening chosen product)
-    (plain_variants chosen.terms opening chosen product ++ smaller_variants (fate_of opening chosen product.below) (product_notes opening chosen product) product) c.if-is_kept.true kept
+    let by_records = subst (λ (rs : Records). IsKept c.in_ok-is_kept.is_kept old new (with_variant g.T.Target.keeping most old product rs (note_views c.deref.result.now))) records c.in_ok-is_kept.ensures in
+    let kept = subst (λ (ns : List Note). IsKept c.in_ok-is_kept.is_kept old new (with_variant g.T.Target.keeping most old product (product_records opening chosen product.below) ns)) notes by_records in
+    let smaller = smaller_variants (fate_of opening chosen product.below) (product_notes opening chosen product) product in
+    let all = variant (product_records opening chosen product.below) (product_notes opening chosen product) ∷ smaller in
+    first-kept g.T.Target.keeping most c.in_ok-is_kept.is_kept old new product (product_records opening chosen product.below) (product_notes opening chosen product) smaller c.if-is_kept.true kept
+    ∙ ap (λ (b : OpenParts). with_variants g.T.Target.keeping most (stored b (g.T.Target.parts c.args.target.now) (g.T.Target.notes c.args.target.now)) product all) c.see_suppliers.ensures
 
 pub returns : goal.returns
 unfolding after_product
@@ -39,7 +41,7 @@ returns g c =
     let opening = c.args.begun.now.opening in
     let most = c.args.options.now.choices.parts in
     let chosen = supply_choices (options_view c.args.options.now) in
-    let old = stored (begun_view c.args.begun.now) (g.T.Target.parts c.args.target.now) (g.T.Target.notes c.args.target.now) in
+    let old = stored (begun_view c.see_suppliers.new.begun) (g.T.Target.parts c.args.target.now) (g.T.Target.notes c.args.target.now) in
     let mid = stored (begun_view c.keep_variant.new.begun) (g.T.Target.parts c.keep_variant.new.target) (g.T.Target.notes c.keep_variant.new.target) in
     let new = stored (begun_view c.add_smaller.new.begun) (g.T.Target.parts c.add_smaller.new.target) (g.T.Target.notes c.add_smaller.new.target) in
     let records : c.add_product.new.records ≡ product_records opening chosen product.below =
@@ -52,14 +54,14 @@ returns g c =
     let fate : c.in_ok-fate.fate ≡ fate_of opening chosen product.below = c.in_ok-fate.ensures.fate ∙ ap (λ (s : SupplyChoices). fate_of opening s product.below) c.supply_choices.ensures in
     let by_records = subst (λ (rs : Records). IsKept c.in_ok-is_kept.is_kept old mid (with_variant g.T.Target.keeping most old product rs (note_views c.deref.result.now))) records c.in_ok-is_kept.ensures in
     let kept = subst (λ (ns : List Note). IsKept c.in_ok-is_kept.is_kept old mid (with_variant g.T.Target.keeping most old product (product_records opening chosen product.below) ns)) notes by_records in
-    let same : c.keep_variant.new.begun.opening ≡ opening =
-    ap (λ (s : Stored g.row.T-Parts.Denot g.row.T-Notes.Denot). s.begun.opening) (kept-same c.in_ok-is_kept.is_kept old mid (with_variant g.T.Target.keeping most old product (product_records opening chosen product.below) (product_notes opening chosen product)) c.if-is_kept.false kept) in
-    let rest = λ (o : Opening) (f : Fate) (ns : List Note). plain_variants chosen.terms o chosen product ++ smaller_variants f ns product in
-    let forms = ap (λ (o : Opening). rest o c.in_ok-fate.fate (note_views c.deref-2.result.now)) same ∙ ap (λ (f : Fate). rest opening f (note_views c.deref-2.result.now)) fate
-    ∙ ap (λ (ns : List Note). rest opening (fate_of opening chosen product.below) ns) (ap note_views c.deref-2.ensures.value ∙ views) in
+    let smaller = smaller_variants (fate_of opening chosen product.below) (product_notes opening chosen product) product in
+    let all = variant (product_records opening chosen product.below) (product_notes opening chosen product) ∷ smaller in
+    let forms = ap (λ (f : Fate). smaller_variants f (note_views c.deref-2.result.now) product) fate
+    ∙ ap (λ (ns : List Note). smaller_variants (fate_of opening chosen product.below) ns product) (ap note_views c.deref-2.ensures.value ∙ views) in
     on-ok c.add_smaller.result
-    (λ (others : new ≡ with_variants g.T.Target.keeping most mid product (rest c.keep_variant.new.begun.opening c.in_ok-fate.fate (note_views c.deref-2.result.now))).
+    (λ (others : new ≡ with_variants g.T.Target.keeping most mid product (smaller_variants c.in_ok-fate.fate (note_views c.deref-2.result.now) product)).
     others-tried g.T.Target.keeping most c.in_ok-is_kept.is_kept old mid new product (product_records opening chosen product.below) (product_notes opening chosen product)
-    (rest opening (fate_of opening chosen product.below) (product_notes opening chosen product)) c.if-is_kept.false kept
-    (others ∙ ap (with_variants g.T.Target.keeping most mid product) forms))
+    smaller c.if-is_kept.false kept
+    (others ∙ ap (with_variants g.T.Target.keeping most mid product) forms)
+    ∙ ap (λ (b : OpenParts). with_variants g.T.Target.keeping most (stored b (g.T.Target.parts c.args.target.now) (g.T.Target.notes c.args.target.now)) product all) c.see_suppliers.ensures)
     c.add_smaller.ensures

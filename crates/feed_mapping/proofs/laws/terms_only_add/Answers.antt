@@ -7,7 +7,7 @@ use Rattle.feed_mapping.proofs.laws.terms_only_add.Goals as goal
 
 pub returns-clause-added : goal.returns-clause-added
 returns-clause-added c = λ o terms preferred nodes.
-    c.less_computed_is_without.ensures terms (supplier_of (supplier_id preferred nodes)) (closed_kinds (context_in o nodes).closed)
+    c.less_computed_is_without.ensures terms (supplier_of (supplier_id preferred nodes)) (closed_kinds (context_in o nodes) (prices_in nodes))
     (all_given (context_in o nodes) (prices_in nodes)) (all_records (price_in o nodes) (prices_in nodes))
 
 pub returns-clause-stands : goal.returns-clause-stands

@@ -19,7 +19,7 @@ use Rattle.feed_mapping.proofs.price_terms.add_computed_prices.Goals as goal
 pub add_records-requires : goal.add_records-requires
 add_records-requires c =
     have-prices (context_view c.args.context.now) (composites (codes "Price") c.args.elements.now) c.in_ok-written.written.records c.in_ok-written.written.given.items
-    c.in_ok-written.written.are_written.items c.in_ok-written.ensures.written
+    c.in_ok-written.written.are_written.items c.in_ok-written.written.closed.items c.in_ok-written.ensures.written
 
 records-of : (c : goal.After-drop-written-6)
     → c.add_records.new.records ≡ c.args.records.now ++ records_with c.args.terms.now (option_copied c.args.supplier) (context_view c.args.context.now) (composites (codes "Price") c.args.elements.now) c.args.is_plain
@@ -27,18 +27,18 @@ records-of c =
     c.in_ok-remarks.ensures.records
     ∙ ap (λ (k : Records). c.args.records.now ++ k)
     (records-are c.args.terms.now (option_copied c.args.supplier) (context_view c.args.context.now) (composites (codes "Price") c.args.elements.now) c.in_ok-written.written.records c.in_ok-written.written.given.items
-    c.in_ok-written.written.are_written.items c.in_ok-written.ensures.written c.as_slice.result.now (c.as_slice.ensures.value ∙ c.in_ok-closed.ensures) c.args.is_plain)
+    c.in_ok-written.written.are_written.items c.in_ok-written.written.closed.items c.in_ok-written.ensures.written c.args.is_plain)
 
-remarks-of : (c : goal.After-drop-written-6) → c.as_slice-3.result.now
-    ≡ map (remarks_of c.args.terms.now (option_copied c.args.supplier) (is_held_back c.as_slice.result.now c.in_ok-written.written.given.items)) c.in_ok-written.written.given.items
-remarks-of c = c.as_slice-3.ensures.value ∙ c.in_ok-remarks.ensures.remarks
+remarks-of : (c : goal.After-drop-written-6) → c.as_slice-2.result.now
+    ≡ map (remarks_of c.args.terms.now (option_copied c.args.supplier) (is_held_back c.args.terms.now (option_copied c.args.supplier) c.in_ok-written.written.given.items c.in_ok-written.written.closed.items)) c.in_ok-written.written.given.items
+remarks-of c = c.as_slice-2.ensures.value ∙ c.in_ok-remarks.ensures.remarks
 
 noted : (c : goal.After-drop-written-6) → OnOk c.push_all_remarks.result
     (note_views c.push_all_remarks.new.notes.items ≡ note_views c.written_in.new.notes.items
-    ++ all_remark_notes c.args.is_plain (flat_map (elements_in (context_view c.args.context.now)) (composites (codes "Price") c.args.elements.now)) c.as_slice-3.result.now)
+    ++ all_remark_notes c.args.is_plain (flat_map (elements_in (context_view c.args.context.now)) (composites (codes "Price") c.args.elements.now)) c.as_slice-2.result.now)
 noted c =
     let are = c.in_ok-written.ensures.written in
-    c.push_all_remarks.ensures (context_view c.args.context.now) (c.as_slice-2.ensures.value ∙ are.are_written)
+    c.push_all_remarks.ensures (context_view c.args.context.now) (c.as_slice.ensures.value ∙ are.are_written)
     (ap length (remarks-of c) ∙ length-map c.in_ok-written.written.given.items _ ∙ ap length are.given)
 
 pub returns-clause-records : goal.returns-clause-records
@@ -51,7 +51,7 @@ returns-clause-notes c =
     let said = all_remark_notes c.args.is_plain (flat_map (elements_in context) prices) in
     let remarks = remarks-of c
     ∙ said-of-each c.args.terms.now (option_copied c.args.supplier) context prices c.in_ok-written.written.records c.in_ok-written.written.given.items
-    c.in_ok-written.written.are_written.items c.in_ok-written.ensures.written c.as_slice.result.now (c.as_slice.ensures.value ∙ c.in_ok-closed.ensures) in
+    c.in_ok-written.written.are_written.items c.in_ok-written.written.closed.items c.in_ok-written.ensures.written in
     on_ok_weaker c.push_all_remarks.result
     (λ told. told ∙ ap (λ (k : List Remarks). note_views c.written_in.new.notes.items ++ said k) remarks
     ∙ ap (λ (k : List Note). k ++ terms_notes c.args.terms.now (option_copied c.args.supplier) context prices c.args.is_plain) c.in_ok-written.ensures.notes

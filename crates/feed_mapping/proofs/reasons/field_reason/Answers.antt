@@ -1,13 +1,13 @@
 use Rattle.std.proofs.Common.{◌≡◌, ◌∙◌, ◌∷◌, [], Option, refl, subst, sym}
 use Rattle.std.specs.Option.{unwrap_or}
 use Rattle.onix_records.specs.Fields.{optional, or_default}
-use Rattle.onix_terms.specs.Amount.{amount_of}
 use Rattle.onix_terms.specs.Code.{code2_of, currency_of}
 use Rattle.onix_terms.specs.Quantity.{quantity_of}
+use Rattle.feed_mapping.specs.Amounts.{amount_said, written_amount}
 use Rattle.feed_mapping.specs.Elements.{text_at}
 use Rattle.feed_mapping.specs.Notes.{Reason}
 use Rattle.feed_mapping.specs.PriceViews.{reason_read}
-use Rattle.feed_mapping.specs.Prices.{amount_written, own_minimum}
+use Rattle.feed_mapping.specs.Prices.{own_minimum}
 use Rattle.feed_mapping.specs.Records.{first_some, invalid, parsed_term}
 use Rattle.feed_mapping.specs.Territories.{Area, AreRenamed, area_in, area_reason}
 use Rattle.feed_mapping.specs.declared.notes.Wrong.TheVariants as bad
@@ -21,9 +21,9 @@ pub returns : goal.returns
 returns c at renamed =
     let nodes = c.args.elements.now in
     let header = c.args.opening.now.header in
-    let amount : reason_read c.unless.result ≡ invalid (parsed_term amount_of) bad.Amount (amount_written nodes) =
-    let text = c.amount_written-amount.ensures in
-    let read = c.parsed_amount.ensures in
+    let amount : reason_read c.unless.result ≡ invalid written_amount bad.Amount (amount_said nodes) =
+    let text = c.amount_said-amount.ensures in
+    let read = c.written_amount.ensures in
     let is = c.is_some.ensures in
     let made = c.unless.ensures in cc in
     let typed : reason_read c.unless-2.result ≡ invalid (or_default (parsed_term code2_of) header.default_type) bad.PriceType (text_at "PriceType" nodes) =

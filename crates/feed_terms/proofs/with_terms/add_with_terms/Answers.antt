@@ -1,17 +1,22 @@
-use Rattle.std.proofs.Common.{◌≡◌, ◌<◌, length, ap, arith, ◌∙◌}
+use Rattle.std.proofs.Common.{◌≡◌, ◌<◌, ◌≤◌, ◌||◌, ◌++◌, ℕ, List, Option, length, ap, arith, ◌∙◌}
 use Rattle.std.proofs.Math.Path.{fun_ext}
 use Rattle.std.specs.Option.{option_copied}
-use Rattle.feed_terms.specs.GivenStarts.{held_by}
-use Rattle.feed_terms.specs.HeldBack.{is_held_back}
-use Rattle.feed_terms.specs.WithTerms.{remarks_of}
-use Rattle.feed_terms.proofs.WithRecords.{all_mapped, mapped_more, with_step}
+use Rattle.feed_terms.specs.Barred.{AreBarred}
+use Rattle.feed_terms.specs.GivenStarts.{IsIndexOf, held_by}
+use Rattle.feed_terms.specs.HeldBack.{is_barred, is_held_back, place_text}
+use Rattle.feed_terms.specs.WithTerms.{is_held_beside, remarks_of, with_all}
+use Rattle.feed_terms.specs.declared.price.GivenPrice.{GivenPrice}
+use Rattle.feed_terms.specs.declared.price.Kind.{Kind}
+use Rattle.feed_terms.specs.declared.term.Term.{Term}
+use Rattle.feed_terms.specs.declared.with_terms.Beside.{Beside}
+use Rattle.feed_terms.proofs.WithRecords.{all_mapped, mapped_more, with_past, with_step}
 use Rattle.feed_terms.proofs.with_terms.add_with_terms.Goals as goal
 
 pub loop-place-preserved : goal.loop-place-preserved
 loop-place-preserved c =
     let terms = c.args.terms.now in
     let supplier = option_copied c.args.supplier in
-    let held = held_by c.in_ok-starts.starts in
+    let held = is_held_beside (record { starts = c.in_ok-starts.starts; barred = c.in_ok-barred.barred }) in
     let given = c.args.given.now in
     let i = c.loop-place.place in
     let in_records : i < length c.args.records.now = omega (arith, c.requires.count) in record {
@@ -22,11 +27,29 @@ loop-place-preserved c =
       remarks = mapped_more (remarks_of terms supplier held) given i c.index-given-place.result _ _ c.in_ok-remark.remark c.loop-place-test.true c.index-given-place.is c.loop-place.invariant.remarks c.in_ok-push.ensures.items c.in_ok-remark.ensures.remarks;
     }
 
+-- what holds back is what the SupplyDetail gives
+same_held : (terms : List Term) (supplier : Option (List ℕ)) (closed : List Kind) (given : List GivenPrice) (beside : Beside) → IsIndexOf closed given beside.starts → AreBarred terms supplier given beside.barred
+    → is_held_beside beside ≡ is_held_back terms supplier given closed
+same_held terms supplier closed given beside index are =
+    fun_ext (λ g. fun_ext (λ x. ap (λ b. b || held_by beside.starts g.price x) (are (place_text g)) ∙ ap (λ b. is_barred terms supplier given g || b) (index x.price_type g.price.currency x.minimum g.price.from)))
+
+pub returns-clause-records : goal.returns-clause-records
+returns-clause-records c =
+    let terms = c.args.terms.now in
+    let supplier = option_copied c.args.supplier in
+    let given = c.args.given.now in
+    let records = c.args.records.now in
+    let beside : Beside = record { starts = c.in_ok-starts.starts; barred = c.in_ok-barred.barred } in
+    let past : length records ≤ c.loop-place.place = omega (arith, c.requires.count, c.loop-place-test.false) in
+    with_past terms supplier (is_held_beside beside) c.loop-place.output _ records given c.loop-place.place past c.loop-place.invariant.records
+    ∙ ap (λ h. c.args.output.now ++ with_all terms supplier h records given) (same_held terms supplier c.args.closed.now given beside c.in_ok-starts.ensures c.in_ok-barred.ensures)
+
 pub returns-clause-remarks : goal.returns-clause-remarks
 returns-clause-remarks c =
-    let remarks = remarks_of c.args.terms.now (option_copied c.args.supplier) in
+    let terms = c.args.terms.now in
+    let supplier = option_copied c.args.supplier in
+    let remarks = remarks_of terms supplier in
     let given = c.args.given.now in
-    let held = held_by c.in_ok-starts.starts in
-    let is_held = is_held_back c.args.closed.now given in
-    let same : held ≡ is_held = fun_ext (λ p. fun_ext (λ x. c.in_ok-starts.ensures x.price_type p.currency x.minimum p.from)) in
-    all_mapped (remarks held) (remarks is_held) given c.loop-place.place c.loop-place.remarks.items c.loop-place.invariant.remarks c.loop-place-test.false (ap remarks same)
+    let beside : Beside = record { starts = c.in_ok-starts.starts; barred = c.in_ok-barred.barred } in
+    let same = same_held terms supplier c.args.closed.now given beside c.in_ok-starts.ensures c.in_ok-barred.ensures in
+    all_mapped (remarks (is_held_beside beside)) (remarks (is_held_back terms supplier given c.args.closed.now)) given c.loop-place.place c.loop-place.remarks.items c.loop-place.invariant.remarks c.loop-place-test.false (ap remarks same)

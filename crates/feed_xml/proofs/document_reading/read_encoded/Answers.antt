@@ -1,13 +1,13 @@
 use Rattle.std.proofs.Common.{◌≡◌, ◌++◌, ◌∙◌, ℕ, [], List, Option, sym, ap, fold, refl, arith}
 use Rattle.std.proofs.lemmas.Result.{err_from_is_err_and}
 use Rattle.std.proofs.lemmas.List.Sums.{fold-append}
-use Rattle.feed_xml.specs.declared.encodings.Held.TheVariants.{Nothing}
 use Rattle.feed_xml.specs.declared.texts.Part.TheVariants.{Whole}
+use Rattle.feed_xml.specs.Encodings.{decoded}
 use Rattle.feed_xml.specs.Grammar.{Token}
 use Rattle.feed_xml.specs.Pieces.{HasNoToken}
 use Rattle.feed_xml.specs.private.Faults.{TellsText}
 use Rattle.feed_xml.specs.private.Places.{section_of}
-use Rattle.feed_xml.specs.private.Decoders.{decoded_rest, text_from, text_left}
+use Rattle.feed_xml.specs.private.Decoders.{decoded_rest, text_left}
 use Rattle.feed_xml.proofs.DocumentLaws.{a_none, ok_then}
 use Rattle.feed_xml.proofs.EncodingLaws.{begun}
 use Rattle.feed_xml.proofs.FaultLaws.{by_reading, end_tells, window_tells}
@@ -21,11 +21,11 @@ use Rattle.feed_xml.proofs.document_reading.read_encoded.Goals as goal
 pub loop-init : goal.loop-init
 loop-init g c =
     let told = text_left c.args.encoding c.args.head.now (g.R.Read.remaining c.args.reader.now) in
-    let b = begun c.args.encoding Nothing c.begin.new.held c.args.head.now (g.R.Read.remaining c.args.reader.now) refl c.in_ok-begun.ensures.held in
+    let b = begun c.args.encoding c.args.head.now (g.R.Read.remaining c.args.reader.now) in
     record {
       tokens = [];
-      state = reads_on told told _ [] _ [] c.first-place.result Whole (text_from c.args.encoding Nothing c.args.head.now) _ (at_first told c.first-place.result c.first-place.ensures) b c.in_ok-begun.ensures.grows;
-      small = small_part [] _ (text_from c.args.encoding Nothing c.args.head.now) Whole _ c.in_ok-begun.ensures.grows;
+      state = reads_on told told _ [] _ [] c.first-place.result Whole (decoded c.args.encoding c.args.head.now) _ (at_first told c.first-place.result c.first-place.ensures) b c.in_ok-begun.ensures.grows;
+      small = small_part [] _ (decoded c.args.encoding c.args.head.now) Whole _ c.in_ok-begun.ensures.grows;
       sunk = refl;
       room = omega (arith, c.in_ok-chunk.ensures.size, c.in_ok-chunk.chunk.ok.0);
     }
@@ -64,7 +64,7 @@ module _ (g : Over) (c : In_ok-drop_front g) where
   told = text_left c.args.encoding c.args.head.now (g.R.Read.remaining c.args.reader.now)
 
   abbrev left : Option (List ℕ)
-  left = decoded_rest c.args.encoding c.loop.held (g.R.Read.remaining c.loop.reader)
+  left = decoded_rest c.args.encoding (g.R.Read.remaining c.loop.reader)
 
   abbrev tokens : List Token
   tokens = c.loop.invariant.tokens ++ c.in_ok-count.ensures.whole.0
@@ -103,7 +103,7 @@ returns-then-len-gt-MOST_WAITING-clause-fault g c =
 pub returns-in-Some-next-clause-document : goal.returns-in-Some-next-clause-document
 returns-in-Some-next-clause-document g c =
     let s = (goal.at.returns-in-Some-next-clause-document g c).In_ok-drop_front in
-    let later = decoded_rest c.args.encoding c.refill.new.held (g.R.Read.remaining c.refill.new.reader) in
+    let later = decoded_rest c.args.encoding (g.R.Read.remaining c.refill.new.reader) in
     let r = c.in_ok-more.ensures.read in
     ok_then c.end_of.result c.end_of.ensures.ok (λ whole.
     let d = ends_whole (told g s) (left g s) later (window g s) c.refill.new.window.items c.deref-in-Some-next.result.now (tokens g s) c.drain.new.place c.loop.part c.in-Some.at r.0 c.in_ok-more.next c.in-Some-next.last (state g s) c.in-Some.is r.2 r.1 c.in-Some-next.is (c.in_ok-more.ensures.end c.if-not-more.true) c.deref-in-Some-next.ensures.value whole in
@@ -112,7 +112,7 @@ returns-in-Some-next-clause-document g c =
 pub returns-in-Some-next-clause-fault : goal.returns-in-Some-next-clause-fault
 returns-in-Some-next-clause-fault g c =
     let s = (goal.at.returns-in-Some-next-clause-fault g c).In_ok-drop_front in
-    let later = decoded_rest c.args.encoding c.refill.new.held (g.R.Read.remaining c.refill.new.reader) in
+    let later = decoded_rest c.args.encoding (g.R.Read.remaining c.refill.new.reader) in
     let r = c.in_ok-more.ensures.read in
     let place = c.drain.new.place in
     let next = c.in_ok-more.next in
@@ -133,7 +133,7 @@ returns-in-Some-next-clause-fault g c =
 pub loop-preserved : goal.loop-preserved
 loop-preserved g c =
     let s = (goal.at.loop-preserved g c).In_ok-drop_front in
-    let later = decoded_rest c.args.encoding c.refill.new.held (g.R.Read.remaining c.refill.new.reader) in
+    let later = decoded_rest c.args.encoding (g.R.Read.remaining c.refill.new.reader) in
     let r = c.in_ok-more.ensures.read in
     record {
       tokens = tokens g s;

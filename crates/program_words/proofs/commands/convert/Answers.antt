@@ -7,8 +7,9 @@ returns c =
     let three = c.with_word-convert-3.ensures _ _ two c.number_offset.ensures in
     let four = c.with_word-convert-4.ensures _ _ three c.sender.ensures in
     let five = c.with_word-convert-5.ensures _ _ four c.addressee.ensures in
-    let six = c.with_word-convert-6.ensures _ _ five c.id_type.ensures in
-    let seven = c.with_word-convert-7.ensures _ _ six c.wrong.ensures in
-    let eight = c.with_word-convert-8.ensures _ _ seven c.terms.ensures in
-    let nine = c.with_word-convert-9.ensures _ _ eight c.folder.ensures in
-    c.with_word.ensures _ _ nine c.feeds.ensures
+    let six = c.with_word-convert-6.ensures _ _ five c.supplier.ensures in
+    let seven = c.with_word-convert-7.ensures _ _ six c.id_type.ensures in
+    let eight = c.with_word-convert-8.ensures _ _ seven c.wrong.ensures in
+    let nine = c.with_word-convert-9.ensures _ _ eight c.terms.ensures in
+    let ten = c.with_word-convert-10.ensures _ _ nine c.folder.ensures in
+    c.with_word.ensures _ _ ten c.feeds.ensures

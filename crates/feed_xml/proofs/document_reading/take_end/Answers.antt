@@ -1,9 +1,0 @@
-use Rattle.std.proofs.Common.{◌∙◌}
-use Rattle.feed_xml.specs.private.Decoders.{ending}
-use Rattle.feed_xml.proofs.ReadingLaws.{kept}
-use Rattle.feed_xml.proofs.document_reading.take_end.Goals as goal
-
-pub returns-clause-grows : goal.returns-clause-grows
-returns-clause-grows c =
-    kept c.args.window.now.items (ending c.args.encoding c.args.held.now) c.push_ending.new.out.items c.keep_text.new.window.items c.len-start.result c.args.part c.keep_text.result
-    c.in-Ok.ensures (c.len-start.ensures ∙ c.args.window.now.ok.0) c.keep_text.ensures

@@ -8,9 +8,8 @@ use Rattle.feed_files.specs.Ends.{Asking, FileEnd, IsEnd, asking, status_of}
 use Rattle.feed_files.specs.declared.converting.Run.{Run}
 
 -- how a run is asked to convert
-abbrev pub run_asking : Bool → Run → Asking
-run_asking is_told run =
-    asking (options_view run.options) (option_map (λ name. name.now) run.folder) is_told
+abbrev pub run_asking : Run → Asking
+run_asking run = asking (options_view run.options) (option_map (λ name. name.now) run.folder)
 
 module _ (ends : List FileEnd) where
   -- the status of a run: the greatest of those of its FILEs

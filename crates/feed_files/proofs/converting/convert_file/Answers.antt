@@ -28,7 +28,7 @@ returns-then-is_packed-clause-end g c =
       λ is. absurd (other is),
       λ _. refl,
       Appends-nil (g.W.Write.contents c.args.output.now),
-      packed_end (run_asking g.F.NamedFiles.is_told c.args.run.now) c.args.file.now (holds c.args.file.now) holds c.report_packed.result (sym c.is_packed.ensures ∙ c.if-is_packed.true) c.report_packed.ensures,
+      packed_end (run_asking c.args.run.now) c.args.file.now (holds c.args.file.now) holds c.report_packed.result (sym c.is_packed.ensures ∙ c.if-is_packed.true) c.report_packed.ensures,
     )
 
 pub returns-in-Err-clause-end : goal.returns-in-Err-clause-end
@@ -40,7 +40,7 @@ returns-in-Err-clause-end g c =
       λ is. absurd (other is),
       λ _. refl,
       Appends-nil (g.W.Write.contents c.args.output.now),
-      fault_end (run_asking g.F.NamedFiles.is_told c.args.run.now) c.args.file.now (holds c.args.file.now) holds c.report_fault.result c.report_fault.ensures,
+      fault_end (run_asking c.args.run.now) c.args.file.now (holds c.args.file.now) holds c.report_fault.result c.report_fault.ensures,
     )
 
 pub returns-in-Some-folder-clause-end : goal.returns-in-Some-folder-clause-end
@@ -54,7 +54,7 @@ returns-in-Some-folder-clause-end g c =
       λ _. refl,
       Appends-nil (g.W.Write.contents c.args.output.now),
       rw c.in-Some-folder.is
-          (subst (λ bytes. IsEnd (asking (options_view c.args.run.now.options) (Some c.in-Some-folder.folder.now) g.F.NamedFiles.is_told) c.args.file.now bytes (file_end c.convert_into-in-Some-folder.result [] holds after))
+          (subst (λ bytes. IsEnd (asking (options_view c.args.run.now.options) (Some c.in-Some-folder.folder.now)) c.args.file.now bytes (file_end c.convert_into-in-Some-folder.result [] holds after))
           c.in-Ok.ensures c.convert_into-in-Some-folder.ensures),
     )
 
@@ -69,5 +69,5 @@ returns-clause-end g c =
       λ _. refl,
       out.1,
       rw c.in-None-folder.is
-          (subst (λ bytes. IsEnd (asking (options_view c.args.run.now.options) None g.F.NamedFiles.is_told) c.args.file.now bytes (file_end c.convert_out-in-None-folder.result out.0 holds holds)) c.in-Ok.ensures out.2),
+          (subst (λ bytes. IsEnd (asking (options_view c.args.run.now.options) None) c.args.file.now bytes (file_end c.convert_out-in-None-folder.result out.0 holds holds)) c.in-Ok.ensures out.2),
     )

@@ -27,7 +27,7 @@ loop-file-preserved g c =
     let inv = c.loop-file.invariant in
     let ran = c.convert_file-ended.ensures.end in
     let i = c.loop-file.file-index in
-    let a = run_asking g.F.NamedFiles.is_told c.args.run.now in
+    let a = run_asking c.args.run.now in
     let told = g.R.Read.remaining c.args.input.now in
     let left = g.R.Read.remaining c.loop-file.input in
     let still = g.R.Read.remaining c.convert_file-ended.new.input in
@@ -60,6 +60,6 @@ pub returns-clause-end : goal.returns-clause-end
 returns-clause-end g c =
     let inv = c.loop-file.invariant in
     let count = length-map c.args.names.now (λ (f : Bor (List ℕ)). f.now) in
-    let ends = all_ended (run_asking g.F.NamedFiles.is_told c.args.run.now) (g.R.Read.remaining c.args.input.now) (g.F.NamedFiles.holds c.args.files.now) (map (λ (f : Bor (List ℕ)). f.now) c.args.names.now)
+    let ends = all_ended (run_asking c.args.run.now) (g.R.Read.remaining c.args.input.now) (g.F.NamedFiles.holds c.args.files.now) (map (λ (f : Bor (List ℕ)). f.now) c.args.names.now)
     (g.R.Read.remaining c.loop-file.input) (g.F.NamedFiles.holds c.loop-file.files) c.loop-file.file-index inv.ends (omega (arith, count)) inv.so_far in
     inl (inv.ends, ends, inv.written, inv.status_is)

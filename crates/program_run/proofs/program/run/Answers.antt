@@ -19,7 +19,7 @@ returns-in-Err-rules_of-clause-end g c =
       c.in-Ok.invocation,
       c.in-Ok.ensures.ok.1,
       subst (λ s. InvocationEnds ghosts.seen g.K.KeepsDesks.files c.args.databases
-          g.F.NamedFiles.is_told (holds machine.files) (holds machine.files) (Appends (g.W.Write.contents s.output) output) (g.R.Read.remaining s.input)
+          (holds machine.files) (holds machine.files) (Appends (g.W.Write.contents s.output) output) (g.R.Read.remaining s.input)
           c.in-Ok.invocation c.report_rules-status.result (Untouched c.args.databases))
           c.in-Ok.ensures.ok.0 (inr (c.in-Err-rules_of.fault, c.in-Err-rules_of.ensures, c.report_rules-status.ensures, Appends-nil output, tt, refl)),
     )
@@ -33,7 +33,7 @@ returns-clause-end g c =
       c.in-Ok.invocation,
       c.in-Ok.ensures.ok.1,
       subst (λ s. InvocationEnds ghosts.seen g.K.KeepsDesks.files c.args.databases
-          g.F.NamedFiles.is_told (holds before.files) (holds after.files) (Appends (g.W.Write.contents s.output) (g.W.Write.contents after.streams.output)) (g.R.Read.remaining s.input)
+          (holds before.files) (holds after.files) (Appends (g.W.Write.contents s.output) (g.W.Write.contents after.streams.output)) (g.R.Read.remaining s.input)
           c.in-Ok.invocation c.run_action-ended.result.0 c.run_action-ended.result.1)
           c.in-Ok.ensures.ok.0 (inl (c.in-Ok-rules_of.precedence, c.in-Ok-rules_of.ensures, c.run_action-ended.ensures.end)),
     )

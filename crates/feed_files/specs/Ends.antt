@@ -51,6 +51,10 @@ IsRefusal other = ⊤
 abbrev pub IsUnconverted : Fault → Ended → Type 0
 IsUnconverted f e = (e ≡ ended.Fault) ⊎ ((e ≡ ended.Refused) × IsRefusal f)
 
+-- a packed FILE ended so: it was not read, and a fault is one of telling that
+abbrev pub StaysPacked : Ended → Type 0
+StaysPacked e = (e ≡ ended.Packed) ⊎ (e ≡ ended.Fault)
+
 -- how a run is asked to convert
 pub record Asking : Type 0 where
   pub options : Options

@@ -1,10 +1,11 @@
 //! A run over FILEs.
 
-ghost use Rattle.std.specs.Prelude.{◌≡◌, ◌≢◌, ◌⊎◌, ◌≤◌, ℕ, List, [], Option, IfErr, IfOk, codes, is_some, map, max, true, false};
+ghost use Rattle.std.specs.Prelude.{◌≡◌, ◌≢◌, ◌⊎◌, ◌≤◌, ℕ, List, [], Option, IfErr, IfOk, codes, map, max, true, false};
 ghost use Rattle.std.specs.Io.KnownBytes.{Appends};
 ghost use Rattle.feed_conversion.specs.Views.{options_view};
-ghost use Rattle.feed_files.specs.Ends.{IsEnd, IsOfCounted, IsUnconverted, asking, file_end, is_converted};
-ghost use Rattle.feed_files.specs.Runs.{RunEnds, outputs, run_asking};
+ghost use Rattle.program_files.specs.Names.{is_packed};
+ghost use Rattle.feed_files.specs.Ends.{IsEnd, IsOfCounted, IsUnconverted, StaysPacked, asking, file_end, is_converted};
+ghost use Rattle.feed_files.specs.Runs.{IsUnusable, RunEnds, outputs, run_asking};
 
 use crate::collected::Collected;
 use crate::ended::Ended;
@@ -294,7 +295,7 @@ fn convert_into<C: Clock, F: NamedFiles, R: Read, E: Write>(
 
 // Says that a FILE is packed.
 fn report_packed<E: Write>(alloc: Global, file: &str, errors: &mut E) -> Ended
-    ensures { (result ≡ Ended.Packed) ⊎ (result ≡ Ended.Fault) }
+    ensures { StaysPacked result }
 {
     let mut line = String::new(alloc);
     match push_packed(&mut line, file) {
@@ -323,6 +324,7 @@ fn convert_file<C: Clock, F: NamedFiles, R: Read, W: Write, E: Write>(
         × IsEnd (run_asking run.now) file.now bytes
         (file_end result written (F.holds files.old) (F.holds files.new)) }
     ensures untouched { file.now ≢ codes "-" → input.new ≡ input.old }
+    ensures packed { is_packed file.now ≡ true → StaysPacked result }
 {
     let options = &run.options;
     if file == STANDARD_INPUT {
@@ -366,7 +368,7 @@ fn has_folder<F: NamedFiles, E: Write>(
     files: &F,
     errors: &mut E,
 ) -> bool
-    ensures { result ≡ false → is_some run.now.folder ≡ true }
+    ensures { result ≡ false → IsUnusable (F.lacks_folder files.now) (run_asking run.now) }
 {
     match run.folder {
         Some(folder) if !files.is_folder(folder) => {
@@ -391,7 +393,8 @@ pub fn convert_files<C: Clock, F: NamedFiles, R: Read, W: Write, E: Write>(
     errors: &mut E,
 ) -> u8
     ensures end { RunEnds (run_asking run.now) (R.remaining input.old)
-        (F.holds files.old) (F.holds files.new) (map (λ name. name.now) names.now)
+        (F.holds files.old) (F.holds files.new) (F.lacks_folder files.old)
+        (map (λ name. name.now) names.now)
         (λ ends. Appends (W.contents output.old) (W.contents output.new) (outputs ends)) result }
     ensures most { result ≤ 3 }
 {

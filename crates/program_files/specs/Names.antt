@@ -1,5 +1,5 @@
 -- Names of files.
-use Rattle.std.specs.Prelude.{ℕ, ◌-◌, ◌++◌, Bool, List, ◌∷◌, [], ◌==◌, ◌&&◌, ◌||◌, if◌then◌else◌}
+use Rattle.std.specs.Prelude.{ℕ, zero, suc, ◌-◌, ◌++◌, Bool, List, ◌∷◌, [], ◌==◌, ◌&&◌, ◌||◌, if◌then◌else◌}
 use Rattle.std.specs.Prelude.{codes, drop, length, map, max, nat_lt, take}
 use Rattle.std.specs.List.{after_last, before_last, repeat, suffix_len}
 use Rattle.std.specs.Char.{to_ascii_lowercase}

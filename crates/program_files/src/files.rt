@@ -9,10 +9,13 @@ use std::io::Read;
 /// of it for the whole, and that get their own names when all are whole. Hidden names are none of
 /// those that hold texts here.
 pub trait NamedFiles {
-    ghost use Rattle.std.specs.Prelude.{◌≡◌, List, Option, ℕ, IfOk};
+    ghost use Rattle.std.specs.Prelude.{◌≡◌, List, Option, ℕ, IfOk, false};
 
     /// What the file of each name holds, where there is one and that is told.
     ghost holds: { Self → List ℕ → Option (List ℕ) };
+
+    /// No folder has this name.
+    ghost lacks_folder: { Self → List ℕ → Type 0 };
 
     /// Reads a file.
     type Reader: Read + Drop;
@@ -27,7 +30,8 @@ pub trait NamedFiles {
     type Made: Drop;
 
     /// Whether a folder has this name.
-    fn is_folder(&self, name: &str) -> bool;
+    fn is_folder(&self, name: &str) -> bool
+        ensures { result ≡ false → lacks_folder self.now name.now };
 
     /// The size of the file of this name, where it is a regular one.
     fn size(&self, name: &str) -> Option<u64>;

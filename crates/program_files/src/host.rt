@@ -111,9 +111,11 @@ fn write_synced(
 }
 
 impl<'a> NamedFiles for HostFiles<'a> {
-    ghost use Rattle.std.specs.Prelude.{None};
+    ghost use Rattle.std.specs.Prelude.{None, ⊤};
 
     ghost holds = { λ files name. None };
+
+    ghost lacks_folder = { λ files name. ⊤ };
 
     type Reader = File;
 

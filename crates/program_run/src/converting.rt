@@ -45,7 +45,7 @@ fn convert_by<C: Clock, F: NamedFiles, R: Read, W: Write, E: Write>(
 ) -> u8
     ensures status { result ≤ 3 }
     ensures end { ConvertsBy (F.holds files.old) (F.holds files.new)
-        (R.remaining streams.old.input)
+        (F.lacks_folder files.old) (R.remaining streams.old.input)
         (Appends (W.contents streams.old.output) (W.contents streams.new.output))
         (asked_view conversion.now) (option_map (λ terms. terms.now) terms.entry) result }
 {
@@ -88,7 +88,7 @@ pub(crate) fn convert<C: Clock, F: NamedFiles, R: Read, W: Write, E: Write>(
 ) -> u8
     ensures status { result ≤ 3 }
     ensures end { ConvertEnds (F.holds files.old) (F.holds files.new)
-        (R.remaining streams.old.input)
+        (F.lacks_folder files.old) (R.remaining streams.old.input)
         (Appends (W.contents streams.old.output) (W.contents streams.new.output))
         (asked_view conversion.now) result }
 {

@@ -145,6 +145,7 @@ fn run_action<
     ensures status { result.0 ≤ 3 }
     ensures end { ActionEnds ⟦<MemoryDesk as Desk>⟧.seen K.files databases
         (F.holds machine.old.files) (F.holds machine.new.files)
+        (F.lacks_folder machine.old.files)
         (Appends (W.contents machine.old.streams.output) (W.contents machine.new.streams.output))
         (R.remaining machine.old.streams.input) precedence.now action.now result.0 result.1 }
 {
@@ -267,6 +268,7 @@ pub fn run<
     ensures status { result.0 ≤ 3 }
     ensures end { RunEnds ⟦<MemoryDesk as Desk>⟧.seen K.files databases
         (F.holds machine.old.files) (F.holds machine.new.files)
+        (F.lacks_folder machine.old.files)
         (Appends (W.contents machine.old.streams.output) (W.contents machine.new.streams.output))
         (R.remaining machine.old.streams.input) (map (λ word. word.now) words.now)
         result.0 result.1 }

@@ -1,5 +1,6 @@
-use Rattle.std.proofs.Common.{◌≡◌, ◌≢◌, ◌∙◌, [], None, Some, codes, refl, rules, subst, sym}
+use Rattle.std.proofs.Common.{◌≡◌, ◌≢◌, ◌∙◌, [], None, Some, codes, false, refl, rules, subst, sym, true}
 use Rattle.std.proofs.KnownBytes.{Appends-nil}
+use Rattle.program_files.specs.Names.{is_packed}
 use Rattle.feed_conversion.specs.Views.{options_view}
 use Rattle.feed_files.specs.Ends.{IsEnd, asking, file_end}
 use Rattle.feed_files.specs.Runs.{run_asking}
@@ -17,6 +18,17 @@ returns-in-None-clause-end g c =
     let is : c.args.file.now ≡ codes "-" = search rules in
     let out = c.convert_out.ensures in
     (g.R.Read.remaining c.args.input.now, out.0, λ _. refl, λ other. absurd (other is), out.1, rw c.in-None.is out.2)
+
+-- it is not packed by its name
+pub returns-in-Some-clause-packed : goal.returns-in-Some-clause-packed
+returns-in-Some-clause-packed g c packed =
+    let is : c.args.file.now ≡ codes "-" = search rules in
+    let none : false ≡ true = subst (λ name. is_packed name ≡ true) is packed in absurd cc
+
+pub returns-in-None-clause-packed : goal.returns-in-None-clause-packed
+returns-in-None-clause-packed g c packed =
+    let is : c.args.file.now ≡ codes "-" = search rules in
+    let none : false ≡ true = subst (λ name. is_packed name ≡ true) is packed in absurd cc
 
 -- a FILE that is named
 pub returns-then-is_packed-clause-end : goal.returns-then-is_packed-clause-end

@@ -372,7 +372,12 @@ fn has_folder<F: NamedFiles, E: Write>(
 {
     match run.folder {
         Some(folder) if !files.is_folder(folder) => {
-            write_fault(alloc, &FileFault::new(alloc, folder, "no folder"), errors);
+            for why in [
+                "no folder",
+                "make this folder first, or correct the name behind -o",
+            ] {
+                write_fault(alloc, &FileFault::new(alloc, folder, why), errors);
+            }
             false
         }
         _ => true,

@@ -20,27 +20,6 @@ fn clear_names<F: NamedFiles>(files: &mut F, targets: &[Target<'_, F::Made>]) {
     }
 }
 
-// Gives a file its name, and adds the name where it was free.
-fn give_one<'a, F: NamedFiles>(
-    files: &mut F,
-    target: &'a Target<'_, F::Made>,
-    given: &mut Vec<&'a str>,
-) -> Result<(), FileFault> {
-    // Before it is given, so that none is forgotten.
-    given.push(target.name.as_str())?;
-    match files.give_name(target.made, target.name.as_str()) {
-        Ok(true) => Ok(()),
-        Ok(false) => {
-            given.pop();
-            Ok(())
-        }
-        Err(fault) => {
-            given.pop();
-            Err(fault)
-        }
-    }
-}
-
 // Gives each file its name, and adds the names that were free.
 fn give_names<'a, F: NamedFiles>(
     files: &mut F,
@@ -48,7 +27,11 @@ fn give_names<'a, F: NamedFiles>(
     given: &mut Vec<&'a str>,
 ) -> Result<(), FileFault> {
     for target in targets {
-        give_one(files, target, given)?;
+        // Before it is given, so that none is forgotten.
+        given.reserve(1)?;
+        if files.give_name(target.made, target.name.as_str())? {
+            given.push(target.name.as_str())?;
+        }
     }
     Ok(())
 }

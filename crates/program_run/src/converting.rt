@@ -5,7 +5,6 @@ ghost use Rattle.std.specs.Io.KnownBytes.{Appends};
 ghost use Rattle.program_words.specs.ConvertWords.{asked_view};
 ghost use Rattle.program_run.specs.ConvertEnds.{ConvertEnds, ConvertsBy};
 
-use crate::folders::tell_folder;
 use feed_conversion::Options;
 use feed_files::{Run, Showing, convert_files};
 use feed_mapping::Choices;
@@ -63,18 +62,15 @@ fn convert_by<C: Clock, F: NamedFiles, R: Read, W: Write, E: Write>(
         is_shown: streams.errors.is_terminal,
     };
     let names = conversion.files.as_slice();
-    let errors = &mut streams.errors.writer;
-    let status = convert_files(
+    convert_files(
         &showing,
         &run,
         names,
         files,
         &mut streams.input,
         &mut streams.output,
-        errors,
-    );
-    tell_folder(files, run.folder, errors);
-    status
+        &mut streams.errors.writer,
+    )
 }
 
 /// Converts FILEs, by the terms of a file where one is named. Where there are no terms in that file,

@@ -1,5 +1,6 @@
 //! What the summary counts of a Product beside its notes.
 
+use crate::doublets::field;
 use crate::note_texts::is_emptied;
 use csv_records::buffer::RecordBuffer;
 use csv_records::record::Record;
@@ -211,11 +212,6 @@ fn count_others(named: Option<Pair<'_>>, product: &Elements<'_>) -> u64 {
         rest = behind;
     }
     count
-}
-
-// A field of a record, empty where it has none.
-fn field<'a>(record: &Record<'a>, index: usize) -> &'a str {
-    record.get(index).unwrap_or("")
 }
 
 // Whether the records of two SupplyDetails are of different suppliers, by type and value, or by name

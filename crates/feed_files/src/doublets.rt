@@ -17,8 +17,8 @@ pub struct Defaults {
 // A Price as it is written: in what it is alike others, where it stands, and its amount.
 type Written = (String, usize, u64);
 
-// A field of a record, empty where it has none.
-fn field<'a>(record: &Record<'a>, index: usize) -> &'a str {
+/// A field of a record, empty where it has none.
+pub(crate) fn field<'a>(record: &Record<'a>, index: usize) -> &'a str {
     record.get(index).unwrap_or("")
 }
 

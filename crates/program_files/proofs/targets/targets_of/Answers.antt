@@ -7,7 +7,7 @@ use Rattle.program_files.specs.declared.targets.Target.{Target}
 use Rattle.program_files.proofs.targets.targets_of.Goals as goal
 
 pub loop-file-init : goal.loop-file-init
-loop-file-init g c = record { named = ap (map (λ (t : Target g.M). string_bytes t.name)) c.new-targets.ensures.items; counted = refl }
+loop-file-init g c = record { named = ap (map (λ (t : Target g.row.M). string_bytes t.name)) c.new-targets.ensures.items; counted = refl }
 
 pub loop-file-preserved : goal.loop-file-preserved
 loop-file-preserved g c =
@@ -15,7 +15,7 @@ loop-file-preserved g c =
     let name = c.args.name.now in
     let parts = c.args.parts in
     let i = c.loop-file.file-index in
-    let name_of = λ (t : Target g.M). string_bytes t.name in
+    let name_of = λ (t : Target g.row.M). string_bytes t.name in
     let next : c.in-Some.next ≡ i + 1 = c.in-Some.ensures.1 ∙ ap (λ n. n + 1) c.loop-file.invariant.counted in
     let path = c.in_ok-path.ensures ∙ ap (λ n. path_in folder (part_name name n parts)) (next ∙ add-one i) in
     record {

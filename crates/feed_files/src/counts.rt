@@ -1,5 +1,6 @@
 //! What the summary counts of a Product beside its notes.
 
+use crate::doublets::field;
 use crate::note_texts::is_emptied;
 use csv_records::buffer::RecordBuffer;
 use csv_records::record::Record;
@@ -63,9 +64,7 @@ fn is_composite(name: &[u8]) -> bool {
 // Whether all SupplyDetails of a ProductSupply, which has some, are of others than the supplier that
 // is named: it is as absent.
 fn is_supply_of_others(named: Option<Pair<'_>>, supply: &Elements<'_>) -> bool {
-    named.is_some()
-        && next_detail(None, supply).is_some()
-        && next_detail(named, supply).is_none()
+    named.is_some() && next_detail(None, supply).is_some() && next_detail(named, supply).is_none()
 }
 
 // Whether an element is not looked at: in a Price or a Market a second one is wrong, and has a note;
@@ -213,11 +212,6 @@ fn count_others(named: Option<Pair<'_>>, product: &Elements<'_>) -> u64 {
         rest = behind;
     }
     count
-}
-
-// A field of a record, empty where it has none.
-fn field<'a>(record: &Record<'a>, index: usize) -> &'a str {
-    record.get(index).unwrap_or("")
 }
 
 // Whether the records of two SupplyDetails are of different suppliers, by type and value, or by name

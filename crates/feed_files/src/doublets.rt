@@ -17,8 +17,8 @@ pub struct Defaults {
 // A Price as it is written: in what it is alike others, where it stands, and its amount.
 type Written = (String, usize, u64);
 
-// A field of a record, empty where it has none.
-fn field<'a>(record: &Record<'a>, index: usize) -> &'a str {
+/// A field of a record, empty where it has none.
+pub(crate) fn field<'a>(record: &Record<'a>, index: usize) -> &'a str {
     record.get(index).unwrap_or("")
 }
 
@@ -65,11 +65,7 @@ fn minimum_of(record: &Record<'_>) -> u32 {
 }
 
 // In what a Price is alike others: type, currency, minimum, days, and where it holds.
-fn key_of(
-    alloc: Global,
-    defaults: &Defaults,
-    record: &Record<'_>,
-) -> Result<String, AllocError> {
+fn key_of(alloc: Global, defaults: &Defaults, record: &Record<'_>) -> Result<String, AllocError> {
     let mut key = String::new(alloc);
     key.push_str(or_default(field(record, 1), defaults.price_type.as_str()))?;
     key.push_str(",")?;

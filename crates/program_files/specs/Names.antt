@@ -1,5 +1,5 @@
 -- Names of files.
-use Rattle.std.specs.Prelude.{ℕ, ◌-◌, ◌++◌, Bool, List, ◌∷◌, [], ◌==◌, ◌&&◌, ◌||◌, if◌then◌else◌}
+use Rattle.std.specs.Prelude.{ℕ, zero, suc, ◌-◌, ◌++◌, Bool, List, ◌∷◌, [], ◌==◌, ◌&&◌, ◌||◌, if◌then◌else◌}
 use Rattle.std.specs.Prelude.{codes, drop, length, map, max, nat_lt, take}
 use Rattle.std.specs.List.{after_last, before_last, repeat, suffix_len}
 use Rattle.std.specs.Char.{to_ascii_lowercase}
@@ -49,13 +49,13 @@ abbrev pub padded : ℕ → ℕ → List ℕ
 padded width number = repeat (width - length (decimal number)) (48 ∷ []) ++ decimal number
 
 -- how many digits the numbers of so many parts have in names: two, or as many as the greatest has
-abbrev pub digits_of : ℕ → ℕ
-digits_of parts = max 2 (length (decimal parts))
+abbrev pub digit_count : ℕ → ℕ
+digit_count parts = max 2 (length (decimal parts))
 
 -- what stands in a name for one part of several
 abbrev pub part_mark : ℕ → ℕ → List ℕ
 part_mark part parts =
-    if nat_lt 1 parts then codes ".part-" ++ padded (digits_of parts) part else []
+    if nat_lt 1 parts then codes ".part-" ++ padded (digit_count parts) part else []
 
 -- the name of the file of a part, which is the only one of its message or one of several
 abbrev pub part_name : List ℕ → ℕ → ℕ → List ℕ
@@ -70,3 +70,10 @@ abbrev pub path_in : List ℕ → List ℕ → List ℕ
 path_in folder name =
     if bytes_eq folder (codes ".") then name
     else if ends_in_slash folder then folder ++ name else folder ++ 47 ∷ name
+
+-- the paths of the first so many parts of a message of this NAME, in a folder
+abbrev pub part_paths : List ℕ → List ℕ → ℕ → ℕ → List (List ℕ)
+part_paths folder name parts zero = []
+part_paths folder name parts (suc number) =
+    part_paths folder name parts number
+    ++ path_in folder (part_name name (suc number) parts) ∷ []

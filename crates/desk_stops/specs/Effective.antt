@@ -1,5 +1,5 @@
 -- The effective lists of a run with stops. Events and requests stand with the latest first.
-use Rattle.std.specs.Prelude.{◌≡◌, ◌⊎◌, ◌↔◌, ℕ, zero, suc, true, false, List, [], ◌∷◌, ◌++◌}
+use Rattle.std.specs.Prelude.{◌≡◌, ◌⊎◌, ℕ, zero, suc, false, List, [], ◌∷◌, ◌++◌}
 use Rattle.desk_stops.specs.Events.{Event, Answered, Faulted, StopInside, Stop, Opening, Open, Closed}
 use Rattle.desk_stops.specs.Runs.{Storage, IsFoundFor, LeavesOnly, Runs, Steps}
 
@@ -110,17 +110,3 @@ abbrev pub AnsweredAreWhole : {R A D Desk : Type 0} → Storage R A D Desk → T
 AnsweredAreWhole {R = R} {A = A} k =
     (L0 : List R) (h : List (Event R A)) (M : List R) → IsEffective k L0 h M
     → HasMore (stops_in h) (answered_in h ++ L0) M
-
--- a request r was faulted, q was answered after it, and then a stop came
-abbrev pub answered_after_a_fault : {R A : Type 0} → R → R → A → List (Event R A)
-answered_after_a_fault r q a = Stop ∷ Answered q a ∷ Faulted r ∷ Opening ∷ []
-
--- of two requests after an opening, the first faulted and no question, the second answered: after a
--- stop the second stands, alone where it changed something, and else perhaps with the first behind
--- it
-pub record DoubtEndsWithAChange {R A D Desk : Type 0} (k : Storage R A D Desk) : Type 0 where
-  pub stays : (L : List R) (r q : R) (a : A) → k.is_question r ≡ false → k.changes L q ≡ false
-      → (M : List R)
-      → IsEffective k L (answered_after_a_fault r q a) M ↔ ((M ≡ q ∷ L) ⊎ (M ≡ r ∷ q ∷ L))
-  pub ends : (L : List R) (r q : R) (a : A) → k.changes L q ≡ true
-      → (M : List R) → IsEffective k L (answered_after_a_fault r q a) M ↔ (M ≡ q ∷ L)

@@ -4,8 +4,6 @@
 ghost use Rattle.std.specs.Prelude.{List};
 ghost use Rattle.desk_stops.specs.Clauses.{ClosingsAreEvents, TracesAreRuns, OpeningsAreEvents, QuestionsAreEvents, RequestsAreEvents, StopsAreEvents, UnaskedAreEvents};
 ghost use Rattle.desk_stops.specs.Files.{FileOpeningsAreEvents, FilesAreLeft};
-ghost use Rattle.desk_stops.specs.Sessions.{AskedAreRuns, SessionsAreRuns};
-ghost use Rattle.desk_store.specs.declared.desk.DeskStore.{DeskStore};
 ghost use Rattle.price_rules.specs.declared.precedence.Rule.{Rule};
 
 use sqlite::Alter;
@@ -26,18 +24,6 @@ pub fn questions_are_events<S: Alter>()
 /// with a run.
 pub fn traces_are_runs<S: Alter>()
     ensures { (rules : List Rule) → TracesAreRuns S.Store rules }
-{}
-
-/// What was asked of a desk one after the other, as a batch is, goes on with a run.
-pub fn asked_are_runs<S: Alter>()
-    ensures { (rules : List Rule)
-        → AskedAreRuns S.Store (λ (desk : DeskStore S). desk.tables.connection) rules }
-{}
-
-/// A desk in two files that is opened, asked, closed and opened again is a run, by the clauses of
-/// its calls alone.
-pub fn sessions_are_runs<D: Disk>()
-    ensures { (rules : List Rule) → SessionsAreRuns D.Disk rules }
 {}
 
 /// A request that was answered or faulted before the desk was asked is an event too.

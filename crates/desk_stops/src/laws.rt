@@ -1,8 +1,8 @@
 //! Laws over runs with stops.
 
 ghost use Rattle.std.specs.Prelude.{List};
-ghost use Rattle.desk_stops.specs.Connections.{EmptyHoldsNoRows, RowsHaveOneContent, storage};
-ghost use Rattle.desk_stops.specs.Effective.{AnsweredAreWhole, AnsweredAsIfNeverStopped, AnswersAreExplained, DoubtEndsWithAChange, RunsGoOn, WhatIsLeftIsEffective, WhatIsOpenedIsEffective};
+ghost use Rattle.desk_stops.specs.Connections.{RowsHaveOneContent, storage};
+ghost use Rattle.desk_stops.specs.Effective.{AnsweredAreWhole, AnsweredAsIfNeverStopped, AnswersAreExplained, RunsGoOn, WhatIsLeftIsEffective, WhatIsOpenedIsEffective};
 ghost use Rattle.price_rules.specs.declared.precedence.Rule.{Rule};
 
 use desk_rows::laws::one_standing_text;
@@ -48,18 +48,6 @@ pub fn runs_go_on<S: Alter, T: Alter>()
 /// one further request for each stop that found a desk open.
 pub fn answered_are_whole<S: Alter>()
     ensures { (rules : List Rule) → AnsweredAreWhole (storage S.Store rules) }
-{}
-
-/// A request that was faulted may stand after a stop, behind one that was answered meanwhile and
-/// changed nothing. Behind one that changed something it does not.
-pub fn doubt_ends_with_a_change<S: Alter>()
-    ensures { (rules : List Rule) → DoubtEndsWithAChange (storage S.Store rules) }
-{}
-
-/// A database with no table holds the rows of no list of requests. So what a run begins at is
-/// either empty or holds rows.
-pub fn empty_holds_no_rows()
-    ensures { EmptyHoldsNoRows }
 {}
 
 /// Whatever list the rows of a desk are found to be those of, its content is one: the same agreement

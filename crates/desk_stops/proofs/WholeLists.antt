@@ -21,7 +21,7 @@ module _ {R A D Desk : Type 0} (k : Storage R A D Desk) where
   pub answered_are_whole : AnsweredAreWhole k
   answered_are_whole L0 [] M it = subst (λ N. HasMore zero L0 N) (sym it) (more_same zero L0)
   answered_are_whole L0 (Answered r a ∷ h) M it =
-      subst (λ N. HasMore (stops_in h) (r ∷ answered_in h ++ L0) N) (sym it.1) (inl (answered_in h ++ L0, refl, answered_are_whole L0 h it.0 it.2))
+      subst (λ N. HasMore (stops_in h) (r ∷ answered_in h ++ L0) N) (sym it.1) (inl (answered_in h ++ L0, refl, answered_are_whole L0 h it.0 it.3))
   answered_are_whole L0 (Faulted r ∷ h) M it = answered_are_whole L0 h M it
   answered_are_whole L0 (StopInside r ∷ h) M it = more_in_doubt (IsEffective k L0 h) (Faulted r ∷ h) (stops_in h) (answered_in h ++ L0) M (answered_are_whole L0 h) it
   answered_are_whole L0 (Stop ∷ h) M it = more_in_doubt (IsEffective k L0 h) h (stops_in h) (answered_in h ++ L0) M (answered_are_whole L0 h) it

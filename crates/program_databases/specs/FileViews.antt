@@ -94,7 +94,8 @@ stored_files g held = record {
   closed = seen_files g;
   hold_alone = HoldAlone g;
   unclosed = seen_store;
-  spared = λ desks name creation. LeavesFound MakesIndex (store_creation creation) (held desks name);
+  spared = λ desks name creation.
+      LeavesFound MakesIndex (store_creation creation) (held desks name);
   of_any_version = λ desks name. AreFilesOfEither (held desks name);
   migrated = λ desks name creation. IsMigrationDone g (store_creation creation) (held desks name);
   unmigrated = λ desks name creation.

@@ -1,6 +1,6 @@
 -- After every run with stops, what is there is that of an effective list.
-use Rattle.std.specs.Prelude.{◌≡◌, ◌⊎◌, Bool, true, false, List, [], ◌∷◌, ◌++◌}
-use Rattle.std.proofs.Common.{◌∙◌, refl, subst, sym, inl, inr}
+use Rattle.std.specs.Prelude.{◌≡◌, ◌⊎◌, Bool, true, false, List, [], ◌∷◌}
+use Rattle.std.proofs.Common.{refl, subst, sym, inl, inr}
 use Rattle.desk_stops.specs.Events.{Event, Answered, Faulted, StopInside, Stop, Closing, Opening, FailedOpening, Place, Open, Closed}
 use Rattle.desk_stops.specs.Runs.{Storage, Answers, Faults, IsFoundFor, Steps, Runs}
 use Rattle.desk_stops.specs.Effective.{IsInDoubt, IsEffective, WithDoubt, WhatIsOpenedIsEffective, WhatIsLeftIsEffective, AnsweredAsIfNeverStopped}

@@ -2,10 +2,9 @@
 use Rattle.std.proofs.Common.{◌≡◌, ◌<◌, ◌⊎◌, ◌∙◌, ℕ, List, [], Option, Some, None, Bool, true, false, Ok, Err, Result, inl, inr, refl, sym, subst}
 use Rattle.std.specs.Prelude.{IfErr, IfOk, ⊤}
 use Rattle.std.specs.List.{concat, fold}
-use Rattle.program_files.specs.Holdings.{Holdings, MayName, NamedText, Names}
-use Rattle.program_files.specs.Names.{is_packed, name_of}
-use Rattle.program_files.specs.PartFiles.{files_of, place}
-use Rattle.program_files.specs.Texts.{IsWritten, with_file, with_text}
+use Rattle.program_files.specs.Holdings.{Holdings}
+use Rattle.program_files.specs.Names.{is_packed}
+use Rattle.program_files.specs.Texts.{IsWritten, with_text}
 use Rattle.feed_conversion.specs.Conversion.{Options}
 use Rattle.feed_conversion.specs.Outcomes.{ExplainsFault, Yields}
 use Rattle.feed_conversion.specs.Packing.{Converted}
@@ -15,7 +14,7 @@ use Rattle.feed_conversion.specs.declared.refusal.Fault.{Fault}
 use Rattle.feed_files.specs.Ends.{AreTold, Asking, IsEnd, IsOfCounted, IsRefusal, IsUnconverted, asking, file_end, is_converted}
 use Rattle.feed_files.specs.declared.ended.Ended.{Ended}
 use Rattle.feed_files.specs.declared.ended.Ended.TheVariants as ended
-use Rattle.feed_files.proofs.KeptLemmas.{all_told, files_told}
+use Rattle.feed_files.proofs.KeptLemmas.{all_told}
 
 -- what a store that had some texts has of a FILE of these bytes whose reading ended so: with those
 -- of its messages, where it was converted. With part: what it makes of one text more
@@ -56,35 +55,35 @@ read_taken with_part o bytes before after (Ok told) e converted explains of_told
 read_taken with_part o bytes before after (Err f) e converted explains of_told stopped = stopped_taken with_part o bytes before after e f stopped explains
 
 -- what was written of all texts
-written_all : {E : Type 0} (told : Bool) (parts : List (List ℕ)) (texts : Option (List ℕ)) (r : Result (Unit {0}) E) (written : List ℕ)
-    → texts ≡ fold (with_text told) (Some []) parts → IsWritten texts r written → AreTold told parts → IsWritten (Some (concat parts)) r written
-written_all told parts texts r written kept is are = subst (λ t. IsWritten t r written) (kept ∙ all_told told parts are) is
+written_all : {E : Type 0} (parts : List (List ℕ)) (texts : Option (List ℕ)) (r : Result (Unit {0}) E) (written : List ℕ)
+    → texts ≡ fold with_text (Some []) parts → IsWritten texts r written → AreTold parts → IsWritten (Some (concat parts)) r written
+written_all parts texts r written kept is are = subst (λ t. IsWritten t r written) (kept ∙ all_told parts are) is
 
 -- a FILE whose messages were written to standard output
-pub out_done : {E : Type 0} (o : Options) (told : Bool) (name : List ℕ) (bytes texts : Option (List ℕ)) (holds : Holdings) (e : Ended) (r : Result (Unit {0}) E) (u : Unit {0})
-    (written : List ℕ) → is_converted e ≡ true → r ≡ Ok u → IsTaken (with_text told) o bytes (Some []) texts e → IsWritten texts r written
-    → IsEnd (asking o None told) name bytes (file_end e written holds holds)
-out_done {E} o told name bytes texts holds e r u written is ok taken all = go e is taken (subst (λ x. IsWritten texts x written) ok all)
+pub out_done : {E : Type 0} (o : Options) (name : List ℕ) (bytes texts : Option (List ℕ)) (holds : Holdings) (e : Ended) (r : Result (Unit {0}) E) (u : Unit {0})
+    (written : List ℕ) → is_converted e ≡ true → r ≡ Ok u → IsTaken with_text o bytes (Some []) texts e → IsWritten texts r written
+    → IsEnd (asking o None) name bytes (file_end e written holds holds)
+out_done {E} o name bytes texts holds e r u written is ok taken all = go e is taken (subst (λ x. IsWritten texts x written) ok all)
   where
-    go : (e : Ended) → is_converted e ≡ true → IsTaken (with_text told) o bytes (Some []) texts e → IsWritten {E = E} texts (Ok u) written
-        → IsEnd (asking o None told) name bytes (file_end e written holds holds)
-    go ended.Done is taken all = (taken.0, taken.1, taken.2, (refl, λ are. written_all told taken.0.parts texts (Ok u) written taken.3 all are))
-    go ended.LeftOut is taken all = (taken.0, taken.1, taken.2, (refl, λ are. written_all told taken.0.parts texts (Ok u) written taken.3 all are))
+    go : (e : Ended) → is_converted e ≡ true → IsTaken with_text o bytes (Some []) texts e → IsWritten {E = E} texts (Ok u) written
+        → IsEnd (asking o None) name bytes (file_end e written holds holds)
+    go ended.Done is taken all = (taken.0, taken.1, taken.2, (refl, λ are. written_all taken.0.parts texts (Ok u) written taken.3 all are))
+    go ended.LeftOut is taken all = (taken.0, taken.1, taken.2, (refl, λ are. written_all taken.0.parts texts (Ok u) written taken.3 all are))
     go ended.Refused is taken all = absurd cc
     go ended.Packed is taken all = absurd taken
     go ended.Fault is taken all = absurd cc
 
 -- a FILE whose messages could not be written there
-pub out_failed : {E : Type 0} (o : Options) (told : Bool) (name : List ℕ) (bytes texts : Option (List ℕ)) (holds : Holdings) (e after : Ended) (r : Result (Unit {0}) E) (f : E)
-    (written : List ℕ) → is_converted e ≡ true → r ≡ Err f → after ≡ ended.Fault → IsTaken (with_text told) o bytes (Some []) texts e → IsWritten texts r written
-    → IsEnd (asking o None told) name bytes (file_end after written holds holds)
-out_failed {E} o told name bytes texts holds e after r f written is err fault taken front =
-    subst (λ x. IsEnd (asking o None told) name bytes (file_end x written holds holds)) (sym fault) (go e is taken (subst (λ x. IsWritten texts x written) err front))
+pub out_failed : {E : Type 0} (o : Options) (name : List ℕ) (bytes texts : Option (List ℕ)) (holds : Holdings) (e after : Ended) (r : Result (Unit {0}) E) (f : E)
+    (written : List ℕ) → is_converted e ≡ true → r ≡ Err f → after ≡ ended.Fault → IsTaken with_text o bytes (Some []) texts e → IsWritten texts r written
+    → IsEnd (asking o None) name bytes (file_end after written holds holds)
+out_failed {E} o name bytes texts holds e after r f written is err fault taken front =
+    subst (λ x. IsEnd (asking o None) name bytes (file_end x written holds holds)) (sym fault) (go e is taken (subst (λ x. IsWritten texts x written) err front))
   where
-    go : (e : Ended) → is_converted e ≡ true → IsTaken (with_text told) o bytes (Some []) texts e → IsWritten texts (Err f) written
-        → IsEnd (asking o None told) name bytes (file_end ended.Fault written holds holds)
-    go ended.Done is taken front = inr (taken.0, taken.1, (refl, λ are. written_all told taken.0.parts texts (Err f) written taken.3 front are))
-    go ended.LeftOut is taken front = inr (taken.0, taken.1, (refl, λ are. written_all told taken.0.parts texts (Err f) written taken.3 front are))
+    go : (e : Ended) → is_converted e ≡ true → IsTaken with_text o bytes (Some []) texts e → IsWritten texts (Err f) written
+        → IsEnd (asking o None) name bytes (file_end ended.Fault written holds holds)
+    go ended.Done is taken front = inr (taken.0, taken.1, (refl, λ are. written_all taken.0.parts texts (Err f) written taken.3 front are))
+    go ended.LeftOut is taken front = inr (taken.0, taken.1, (refl, λ are. written_all taken.0.parts texts (Err f) written taken.3 front are))
     go ended.Refused is taken front = absurd cc
     go ended.Packed is taken front = absurd taken
     go ended.Fault is taken front = absurd cc
@@ -108,49 +107,23 @@ packed_end a name bytes holds e packed (inr is) = subst (λ x. IsEnd a name byte
 pub fault_end : (a : Asking) (name : List ℕ) (bytes : Option (List ℕ)) (holds : Holdings) (e : Ended) → e ≡ ended.Fault → IsEnd a name bytes (file_end e [] holds holds)
 fault_end a name bytes holds e is = subst (λ x. IsEnd a name bytes (file_end x [] holds holds)) (sym is) (inl (refl, refl))
 
-abbrev parts_at : Options → List ℕ → List ℕ → List (List ℕ) → List NamedText
-parts_at o folder name parts = files_of (place folder (name_of name) o.choices.parts) parts
+abbrev FolderEnd : Options → List ℕ → List ℕ → Option (List ℕ) → Holdings → Holdings → Ended → Type 0
+FolderEnd o folder name bytes before after e = IsEnd (asking o (Some folder)) name bytes (file_end e [] before after)
 
-abbrev FolderEnd : Options → List ℕ → Bool → List ℕ → Option (List ℕ) → Holdings → Holdings → Ended → Type 0
-FolderEnd o folder told name bytes before after e = IsEnd (asking o (Some folder) told) name bytes (file_end e [] before after)
+-- a FILE whose messages went into a folder
+pub folder_done : {T : Type 0} (with_part : T → List ℕ → T) (o : Options) (folder name : List ℕ) (bytes : Option (List ℕ)) (was now : T) (e : Ended) (before after : Holdings)
+    → is_converted e ≡ true → IsTaken with_part o bytes was now e → FolderEnd o folder name bytes before after e
+folder_done with_part o folder name bytes was now ended.Done before after is taken = (taken.0, taken.1, taken.2, refl)
+folder_done with_part o folder name bytes was now ended.LeftOut before after is taken = (taken.0, taken.1, taken.2, refl)
+folder_done with_part o folder name bytes was now ended.Refused before after is taken = absurd cc
+folder_done with_part o folder name bytes was now ended.Packed before after is taken = absurd taken
+folder_done with_part o folder name bytes was now ended.Fault before after is taken = absurd cc
 
-same_parts : (told : Bool) (texts parts : List (List ℕ)) → texts ≡ fold (with_file told) [] parts → told ≡ true → texts ≡ parts
-same_parts told texts parts kept is = kept ∙ files_told told parts is
-
--- its files have their names
-names_parts : (o : Options) (folder : List ℕ) (told : Bool) (name : List ℕ) (texts parts : List (List ℕ)) (before after : Holdings)
-    → texts ≡ fold (with_file told) [] parts → (told ≡ true → Names (parts_at o folder name texts) before after)
-    → told ≡ true → Names (parts_at o folder name parts) before after
-names_parts o folder told name texts parts before after kept names is =
-    subst (λ t. Names (parts_at o folder name t) before after) (same_parts told texts parts kept is) (names is)
-
-may_name_parts : (o : Options) (folder : List ℕ) (told : Bool) (name : List ℕ) (texts parts : List (List ℕ)) (before after : Holdings)
-    → texts ≡ fold (with_file told) [] parts → (told ≡ true → MayName (parts_at o folder name texts) before after)
-    → told ≡ true → MayName (parts_at o folder name parts) before after
-may_name_parts o folder told name texts parts before after kept may is =
-    subst (λ t. MayName (parts_at o folder name t) before after) (same_parts told texts parts kept is) (may is)
-
--- a FILE whose messages went into a folder, or could not
-pub folder_end : (o : Options) (folder : List ℕ) (told : Bool) (name : List ℕ) (bytes : Option (List ℕ)) (texts : List (List ℕ)) (was e : Ended) (before after : Holdings)
-    → IsTaken (with_file told) o bytes [] texts was
-    → (is_converted was ≡ false → (e ≡ was) × (after ≡ before))
-    → (is_converted was ≡ true → (e ≡ ended.Fault) ⊎ ((e ≡ was) × (told ≡ true → Names (files_of (place folder (name_of name) o.choices.parts) texts) before after)))
-    → (told ≡ true → is_converted was ≡ true → MayName (files_of (place folder (name_of name) o.choices.parts) texts) before after)
-    → IsEnd (asking o (Some folder) told) name bytes (file_end e [] before after)
-folder_end o folder told name bytes texts ended.Done e before after taken left done may = elim (done refl) [
-  | inl is ↦ subst (FolderEnd o folder told name bytes before after) (sym is)
-      (inr (taken.0, taken.1, (refl, may_name_parts o folder told name texts taken.0.parts before after taken.3 (λ is. may is refl))))
-  | inr is ↦ subst (FolderEnd o folder told name bytes before after) (sym is.0)
-      (taken.0, taken.1, taken.2, (refl, names_parts o folder told name texts taken.0.parts before after taken.3 is.1))
-]
-folder_end o folder told name bytes texts ended.LeftOut e before after taken left done may = elim (done refl) [
-  | inl is ↦ subst (FolderEnd o folder told name bytes before after) (sym is)
-      (inr (taken.0, taken.1, (refl, may_name_parts o folder told name texts taken.0.parts before after taken.3 (λ is. may is refl))))
-  | inr is ↦ subst (FolderEnd o folder told name bytes before after) (sym is.0)
-      (taken.0, taken.1, taken.2, (refl, names_parts o folder told name texts taken.0.parts before after taken.3 is.1))
-]
-folder_end o folder told name bytes texts ended.Refused e before after taken left done may =
-    subst (FolderEnd o folder told name bytes before after) (sym (left refl).0) ((refl, (left refl).1), taken)
-folder_end o folder told name bytes texts ended.Packed e before after taken left done may = absurd taken
-folder_end o folder told name bytes texts ended.Fault e before after taken left done may =
-    subst (FolderEnd o folder told name bytes before after) (sym (left refl).0) (inl (refl, (left refl).1))
+-- one whose messages could not
+pub folder_failed : {T : Type 0} (with_part : T → List ℕ → T) (o : Options) (folder name : List ℕ) (bytes : Option (List ℕ)) (was now : T) (e : Ended) (before after : Holdings)
+    → is_converted e ≡ true → IsTaken with_part o bytes was now e → FolderEnd o folder name bytes before after ended.Fault
+folder_failed with_part o folder name bytes was now ended.Done before after is taken = inr (taken.0, taken.1, refl)
+folder_failed with_part o folder name bytes was now ended.LeftOut before after is taken = inr (taken.0, taken.1, refl)
+folder_failed with_part o folder name bytes was now ended.Refused before after is taken = absurd cc
+folder_failed with_part o folder name bytes was now ended.Packed before after is taken = absurd taken
+folder_failed with_part o folder name bytes was now ended.Fault before after is taken = absurd cc

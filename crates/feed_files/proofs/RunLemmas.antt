@@ -1,13 +1,14 @@
 -- A run over FILEs, one after the other.
 use Rattle.std.proofs.Common.{◌≡◌, ◌≢◌, ◌<◌, ◌++◌, ◌∷◌, ◌∙◌, ℕ, zero, suc, List, [], Option, refl, sym, ap, subst, arith, append-nil, append_assoc, length, map, drop}
 use Rattle.std.specs.Borrow.{Bor}
-use Rattle.std.specs.Prelude.{codes, max, slice_index_or}
+use Rattle.std.specs.Prelude.{codes, max, slice_index_or, true}
 use Rattle.std.specs.List.{concat}
 use Rattle.std.proofs.lemmas.List.{map-append}
 use Rattle.std.proofs.lemmas.List.Folds.{concat-append}
 use Rattle.std.proofs.lemmas.List.Sums.{fold-append}
 use Rattle.program_files.specs.Holdings.{Holdings}
-use Rattle.feed_files.specs.Ends.{Asking, FileEnd, IsEnd, status_of}
+use Rattle.program_files.specs.Names.{is_packed}
+use Rattle.feed_files.specs.Ends.{Asking, FileEnd, IsEnd, StaysPacked, status_of}
 use Rattle.feed_files.specs.Runs.{AreEnds, outputs, status_of_all}
 
 -- the names from one on
@@ -40,10 +41,10 @@ Continues a told before names left mid rest ends =
 pub continues_more : (a : Asking) (told : Option (List ℕ)) (before : Holdings) (names : List (List ℕ)) (left : Option (List ℕ)) (mid : Holdings) (rest : List (List ℕ))
     (ends : List FileEnd) (name : List ℕ) (others : List (List ℕ)) (bytes still : Option (List ℕ)) (e : FileEnd)
     → Continues a told before names left mid rest ends → rest ≡ name ∷ others
-    → (name ≡ codes "-" → bytes ≡ left) → (name ≢ codes "-" → (still ≡ left) × (bytes ≡ mid name)) → e.before ≡ mid → IsEnd a name bytes e
+    → (name ≡ codes "-" → bytes ≡ left) → (name ≢ codes "-" → (still ≡ left) × (bytes ≡ mid name)) → (is_packed name ≡ true → StaysPacked e.ended) → e.before ≡ mid → IsEnd a name bytes e
     → Continues a told before names still e.after others (ends ++ e ∷ [])
-continues_more a told before names left mid rest ends name others bytes still e so_far is input other was ended more after are =
-    let one : AreEnds a left mid after (name ∷ others) (e ∷ more) = (bytes, still, input, other, was, ended, are) in
+continues_more a told before names left mid rest ends name others bytes still e so_far is input other packed was ended more after are =
+    let one : AreEnds a left mid after (name ∷ others) (e ∷ more) = (bytes, still, input, other, packed, was, ended, are) in
     subst (AreEnds a told before after names) (sym (append_assoc ends (e ∷ []) more))
     (so_far (e ∷ more) after (subst (λ r. AreEnds a left mid after r (e ∷ more)) (sym is) one))
 

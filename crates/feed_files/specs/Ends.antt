@@ -5,9 +5,8 @@ use Rattle.std.specs.Prelude.{Ok}
 use Rattle.std.specs.List.{concat}
 use Rattle.feed_xml.specs.declared.fault.Fault.TheVariants as document
 use Rattle.csv_records.specs.RecordTexts.{limit}
-use Rattle.program_files.specs.Holdings.{Holdings, MayName, NamedText, Names}
-use Rattle.program_files.specs.Names.{is_packed, name_of}
-use Rattle.program_files.specs.PartFiles.{files_of, place}
+use Rattle.program_files.specs.Holdings.{Holdings}
+use Rattle.program_files.specs.Names.{is_packed}
 use Rattle.feed_outline.specs.declared.message_reading.Fault.TheVariants as unread
 use Rattle.feed_conversion.specs.Conversion.{Options}
 use Rattle.feed_conversion.specs.Outcomes.{ExplainsFault, Yields}
@@ -52,18 +51,17 @@ IsRefusal other = ⊤
 abbrev pub IsUnconverted : Fault → Ended → Type 0
 IsUnconverted f e = (e ≡ ended.Fault) ⊎ ((e ≡ ended.Refused) × IsRefusal f)
 
--- how a run is asked to convert, and whether it is told what files hold
+-- a packed FILE ended so: it was not read, and a fault is one of telling that
+abbrev pub StaysPacked : Ended → Type 0
+StaysPacked e = (e ≡ ended.Packed) ⊎ (e ≡ ended.Fault)
+
+-- how a run is asked to convert
 pub record Asking : Type 0 where
   pub options : Options
   pub folder : Option (List ℕ)
-  pub is_told : Bool
 
-abbrev pub asking : Options → Option (List ℕ) → Bool → Asking
-asking options folder is_told = record {
-  options = options;
-  folder = folder;
-  is_told = is_told;
-}
+abbrev pub asking : Options → Option (List ℕ) → Asking
+asking options folder = record { options = options; folder = folder }
 
 -- what became of a FILE: how it ended, what was written of it to standard output, and what names
 -- held before and after
@@ -85,33 +83,21 @@ file_end ended output before after = record {
 abbrev pub LeavesNothing : FileEnd → Type 0
 LeavesNothing e = (e.output ≡ []) × (e.after ≡ e.before)
 
--- the texts of parts are told: those that a file keeps too, or they are no longer than the largest
--- message, which is in memory
-abbrev pub AreTold : Bool → List (List ℕ) → Type 0
-AreTold is_told parts = (is_told ≡ true) ⊎ (length (concat parts) ≤ limit)
+-- the texts of parts are told: they are no longer than the largest message, which is in memory
+abbrev pub AreTold : List (List ℕ) → Type 0
+AreTold parts = length (concat parts) ≤ limit
 
-module _ (a : Asking) (name : List ℕ) where
-  -- the files of the parts of a FILE of this name in a folder
-  abbrev pub part_files : List ℕ → List (List ℕ) → List NamedText
-  part_files folder parts = files_of (place folder (name_of name) a.options.choices.parts) parts
+-- The parts of a FILE were written: into a folder, of whose files nothing is told, or to standard
+-- output, one after the other.
+abbrev pub WritesTo : Option (List ℕ) → List (List ℕ) → FileEnd → Type 0
+WritesTo (Some folder) parts e = e.output ≡ []
+WritesTo None parts e = (e.after ≡ e.before) × (AreTold parts → e.output ≡ concat parts)
 
-  -- The parts of a FILE of this name were written: into a folder, so that each file holds its
-  -- part's text, of what was there nothing is lost, and nothing else is new; or to standard output,
-  -- one after the other.
-  abbrev pub WritesTo : Option (List ℕ) → List (List ℕ) → FileEnd → Type 0
-  WritesTo (Some folder) parts e =
-      (e.output ≡ []) × (a.is_told ≡ true → Names (part_files folder parts) e.before e.after)
-  WritesTo None parts e =
-      (e.after ≡ e.before) × (AreTold a.is_told parts → e.output ≡ concat parts)
-
-  -- a first part of them was: into a folder some of the files may be there, to standard output a
-  -- front
-  abbrev pub MayWriteTo : Option (List ℕ) → List (List ℕ) → FileEnd → Type 0
-  MayWriteTo (Some folder) parts e =
-      (e.output ≡ []) × (a.is_told ≡ true → MayName (part_files folder parts) e.before e.after)
-  MayWriteTo None parts e =
-      (e.after ≡ e.before)
-      × (AreTold a.is_told parts → (rest : List ℕ) × (e.output ++ rest ≡ concat parts))
+-- a first part of them was
+abbrev pub MayWriteTo : Option (List ℕ) → List (List ℕ) → FileEnd → Type 0
+MayWriteTo (Some folder) parts e = e.output ≡ []
+MayWriteTo None parts e =
+    (e.after ≡ e.before) × (AreTold parts → (rest : List ℕ) × (e.output ++ rest ≡ concat parts))
 
 -- how a FILE of this name and of these bytes, where they are told, ends so
 abbrev pub EndsAs : Ended → Asking → List ℕ → Option (List ℕ) → FileEnd → Type 0
@@ -121,10 +107,10 @@ EndsAs ended.Packed a name bytes e = LeavesNothing e × (is_packed name ≡ true
 EndsAs ended.Fault a name bytes e =
     LeavesNothing e
     ⊎ ((made : Converted) × Yields bytes a.options (Ok made)
-    × MayWriteTo a name a.folder made.parts e)
+    × MayWriteTo a.folder made.parts e)
 EndsAs converted a name bytes e =
     (made : Converted) × Yields bytes a.options (Ok made) × IsOfCounted made.counted converted
-    × WritesTo a name a.folder made.parts e
+    × WritesTo a.folder made.parts e
 
 -- How a FILE of this name and of these bytes, where they are told, ends: its messages are written,
 -- where it was converted, with or without wrong products; nothing is, where it was refused for what

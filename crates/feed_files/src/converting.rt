@@ -1,12 +1,11 @@
 //! A run over FILEs.
 
-ghost use Rattle.std.specs.Prelude.{◌≡◌, ◌≢◌, ◌⊎◌, ◌≤◌, ℕ, List, [], Option, IfErr, IfOk, codes, is_some, map, max, true, false};
+ghost use Rattle.std.specs.Prelude.{◌≡◌, ◌≢◌, ◌⊎◌, ◌≤◌, ℕ, List, [], Option, IfErr, IfOk, codes, map, max, true, false};
 ghost use Rattle.std.specs.Io.KnownBytes.{Appends};
-ghost use Rattle.program_files.specs.Holdings.{MayName, Names};
-ghost use Rattle.program_files.specs.PartFiles.{files_of, place};
 ghost use Rattle.feed_conversion.specs.Views.{options_view};
-ghost use Rattle.feed_files.specs.Ends.{IsEnd, IsOfCounted, IsUnconverted, asking, file_end, is_converted};
-ghost use Rattle.feed_files.specs.Runs.{RunEnds, outputs, run_asking};
+ghost use Rattle.program_files.specs.Names.{is_packed};
+ghost use Rattle.feed_files.specs.Ends.{IsEnd, IsOfCounted, IsUnconverted, StaysPacked, asking, file_end, is_converted};
+ghost use Rattle.feed_files.specs.Runs.{IsUnusable, RunEnds, outputs, run_asking};
 
 use crate::collected::Collected;
 use crate::ended::Ended;
@@ -187,7 +186,7 @@ fn convert_out<C: Clock, F: NamedFiles, R: Read, W: Write, E: Write>(
     telling: &mut Telling<'_, E>,
 ) -> Ended
     ensures { (written : List ℕ) × Appends (W.contents output.old) (W.contents output.new) written
-        × IsEnd (asking (options_view options.now) None F.is_told) file.now (R.remaining reader.old)
+        × IsEnd (asking (options_view options.now) None) file.now (R.remaining reader.old)
         (file_end result written (F.holds files.now) (F.holds files.now)) }
 {
     let alloc = showing.alloc;
@@ -229,14 +228,7 @@ fn place_parts<F: NamedFiles, E: Write>(
     name: &str,
     parts: u32,
     errors: &mut E,
-) -> bool
-    ensures done { result ≡ true → F.is_told ≡ true
-        → Names (files_of (place folder.now name.now parts) (map F.text_of made.now.made.items))
-        (F.holds files.old) (F.holds files.new) }
-    ensures may { F.is_told ≡ true
-        → MayName (files_of (place folder.now name.now parts) (map F.text_of made.now.made.items))
-        (F.holds files.old) (F.holds files.new) }
-{
+) -> bool {
     match made.place(files, folder, name, parts) {
         Ok(()) => true,
         Err(fault) => {
@@ -256,7 +248,7 @@ fn convert_into<C: Clock, F: NamedFiles, R: Read, E: Write>(
     folder: &str,
     telling: &mut Telling<'_, E>,
 ) -> Ended
-    ensures { IsEnd (asking (options_view options.now) (Some folder.now) F.is_told) file.now
+    ensures { IsEnd (asking (options_view options.now) (Some folder.now)) file.now
         (R.remaining reader.old) (file_end result [] (F.holds files.old) (F.holds files.new)) }
 {
     let alloc = showing.alloc;
@@ -303,7 +295,7 @@ fn convert_into<C: Clock, F: NamedFiles, R: Read, E: Write>(
 
 // Says that a FILE is packed.
 fn report_packed<E: Write>(alloc: Global, file: &str, errors: &mut E) -> Ended
-    ensures { (result ≡ Ended.Packed) ⊎ (result ≡ Ended.Fault) }
+    ensures { StaysPacked result }
 {
     let mut line = String::new(alloc);
     match push_packed(&mut line, file) {
@@ -329,9 +321,10 @@ fn convert_file<C: Clock, F: NamedFiles, R: Read, W: Write, E: Write>(
         × (file.now ≡ codes "-" → bytes ≡ R.remaining input.old)
         × (file.now ≢ codes "-" → bytes ≡ F.holds files.old file.now)
         × Appends (W.contents output.old) (W.contents output.new) written
-        × IsEnd (run_asking F.is_told run.now) file.now bytes
+        × IsEnd (run_asking run.now) file.now bytes
         (file_end result written (F.holds files.old) (F.holds files.new)) }
     ensures untouched { file.now ≢ codes "-" → input.new ≡ input.old }
+    ensures packed { is_packed file.now ≡ true → StaysPacked result }
 {
     let options = &run.options;
     if file == STANDARD_INPUT {
@@ -375,11 +368,16 @@ fn has_folder<F: NamedFiles, E: Write>(
     files: &F,
     errors: &mut E,
 ) -> bool
-    ensures { result ≡ false → is_some run.now.folder ≡ true }
+    ensures { result ≡ false → IsUnusable (F.lacks_folder files.now) (run_asking run.now) }
 {
     match run.folder {
         Some(folder) if !files.is_folder(folder) => {
-            write_fault(alloc, &FileFault::new(alloc, folder, "no folder"), errors);
+            for why in [
+                "no folder",
+                "make this folder first, or correct the name behind -o",
+            ] {
+                write_fault(alloc, &FileFault::new(alloc, folder, why), errors);
+            }
             false
         }
         _ => true,
@@ -399,8 +397,9 @@ pub fn convert_files<C: Clock, F: NamedFiles, R: Read, W: Write, E: Write>(
     output: &mut W,
     errors: &mut E,
 ) -> u8
-    ensures end { RunEnds (run_asking F.is_told run.now) (R.remaining input.old)
-        (F.holds files.old) (F.holds files.new) (map (λ name. name.now) names.now)
+    ensures end { RunEnds (run_asking run.now) (R.remaining input.old)
+        (F.holds files.old) (F.holds files.new) (F.lacks_folder files.old)
+        (map (λ name. name.now) names.now)
         (λ ends. Appends (W.contents output.old) (W.contents output.new) (outputs ends)) result }
     ensures most { result ≤ 3 }
 {

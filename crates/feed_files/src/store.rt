@@ -26,9 +26,9 @@ impl<'a, F: NamedFiles> Store for Spool<'a, F> {
 
     type Texts = Option<Items<u8>>;
 
-    ghost with_text = { with_text F.is_told };
+    ghost with_text = { with_text };
 
-    ghost texts = { λ s. told_texts F.is_told F.scratch_text s.first.items s.rest };
+    ghost texts = { λ s. told_texts s.first.items s.rest };
 
     fn add(&mut self, text: &[u8]) -> Result<(), FileFault> {
         Spool::add(self, text)
@@ -36,14 +36,11 @@ impl<'a, F: NamedFiles> Store for Spool<'a, F> {
 }
 
 impl<'a, F: NamedFiles> Store for PartFiles<'a, F> {
-    ghost use Rattle.std.specs.Prelude.{map};
-    ghost use Rattle.program_files.specs.Texts.{with_file};
+    type Texts = ();
 
-    type Texts = Items<Items<u8>>;
+    ghost with_text = { λ kept text. kept };
 
-    ghost with_text = { with_file F.is_told };
-
-    ghost texts = { λ files. map F.text_of files.made.items };
+    ghost texts = { λ files. tt };
 
     fn add(&mut self, text: &[u8]) -> Result<(), FileFault> {
         PartFiles::add(self, text)

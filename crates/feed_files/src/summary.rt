@@ -43,7 +43,7 @@ const NO_SUPPLIER: &str = "no SupplyDetail of the supplier of --supplier in a FI
 // several; how many elements come again; how many SupplyDetails are of others; how many Prices stand
 // beside another of another amount; and how many FILEs have no Product, and no SupplyDetail of the
 // supplier that is named.
-#[derive(Clone, Copy)]
+#[derive(Clone, Copy, Default)]
 struct Products {
     all: u64,
     wrong: u64,
@@ -58,21 +58,6 @@ struct Products {
     files_without: u64,
     files_without_supplier: u64,
 }
-
-const NO_PRODUCTS: Products = Products {
-    all: 0,
-    wrong: 0,
-    emptied: 0,
-    without_price: 0,
-    with_rights: 0,
-    of_others: 0,
-    of_several: 0,
-    again: 0,
-    details_of_others: 0,
-    doublets: 0,
-    files_without: 0,
-    files_without_supplier: 0,
-};
 
 /// How many notes there are for each reason, how often there is what is counted without a line, and
 /// what is counted of products. A reason holds no text of a feed but a code of two digits, so that
@@ -122,7 +107,7 @@ impl Summary {
         Summary {
             alloc,
             counts: Vec::new(alloc),
-            products: NO_PRODUCTS,
+            products: Products::default(),
         }
     }
 
@@ -164,7 +149,7 @@ impl Summary {
             wrong: u64::from(told.wrong),
             files_without: u64::from(!has_products),
             files_without_supplier: u64::from(told.lacks_supplier),
-            ..NO_PRODUCTS
+            ..Products::default()
         });
     }
 
@@ -172,7 +157,7 @@ impl Summary {
     pub(crate) fn count_again(&mut self, again: u64) {
         self.add_products(Products {
             again,
-            ..NO_PRODUCTS
+            ..Products::default()
         });
     }
 
@@ -180,7 +165,7 @@ impl Summary {
     pub(crate) fn count_doublets(&mut self, doublets: u64) {
         self.add_products(Products {
             doublets,
-            ..NO_PRODUCTS
+            ..Products::default()
         });
     }
 
@@ -195,7 +180,7 @@ impl Summary {
             of_several: u64::from(counts.is_of_several),
             again: counts.again,
             details_of_others: counts.details_of_others,
-            ..NO_PRODUCTS
+            ..Products::default()
         });
     }
 

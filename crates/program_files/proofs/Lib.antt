@@ -1,3 +1,2 @@
 pub mod NameLemmas
-pub mod PlacingLemmas
 pub mod TextLemmas

@@ -3,35 +3,29 @@ use Rattle.std.proofs.Common.{◌≡◌, ◌+◌, ◌++◌, ◌∙◌, ℕ, List
 use Rattle.std.specs.Prelude.{◌&&◌, IsErr, OnOk, is_some, nat_le, not}
 use Rattle.std.specs.Io.KnownBytes.{Consumes}
 use Rattle.csv_records.specs.RecordTexts.{limit}
-use Rattle.program_files.specs.Holdings.{told_bytes, told_text}
-use Rattle.program_files.specs.Texts.{IsWritten, rest_text, told_texts, with_text}
+use Rattle.program_files.specs.Texts.{IsWritten, told_texts, with_text}
 
 -- a text that has room in memory is kept there
-pub kept_in_memory : {F : Type 0} (is_told : Bool) (text : F → List ℕ) (first after : List ℕ) (rest : Option F) (more : List ℕ) (has : Bool)
+pub kept_in_memory : {F : Type 0} (first after : List ℕ) (rest : Option F) (more : List ℕ) (has : Bool)
     → has ≡ (not (is_some rest) && nat_le (length first + length more) limit) → has ≡ true → after ≡ first ++ more
-    → told_texts is_told text after rest ≡ with_text is_told (told_texts is_told text first rest) more
-kept_in_memory is_told text first after (Some file) more has is room longer = let none : false ≡ true = sym is ∙ room in absurd cc
-kept_in_memory true text first after None more has is room longer = ap Some longer
-kept_in_memory false text first after None more has is room longer =
+    → told_texts after rest ≡ with_text (told_texts first rest) more
+kept_in_memory first after (Some file) more has is room longer = let none : false ≡ true = sym is ∙ room in absurd cc
+kept_in_memory first after None more has is room longer =
     let fits : nat_le (length first + length more) limit ≡ true = sym is ∙ room in rw fits (ap Some longer)
 
--- a text that has none is kept behind what the file has
-pub kept_in_file : {F : Type 0} (is_told : Bool) (text : F → List ℕ) (first : List ℕ) (rest left : Option F) (more : List ℕ) (has : Bool)
+-- a text that has none is kept in a file
+pub kept_in_file : {F : Type 0} (first : List ℕ) (rest left : Option F) (more : List ℕ) (has : Bool)
     → has ≡ (not (is_some rest) && nat_le (length first + length more) limit) → has ≡ false → is_some left ≡ true
-    → rest_text text left ≡ rest_text text rest ++ told_text is_told more
-    → told_texts is_told text first left ≡ with_text is_told (told_texts is_told text first rest) more
-kept_in_file is_told text first rest None more has is full some longer = absurd cc
-kept_in_file true text first None (Some file) more has is full some longer = ap (λ last. Some (first ++ last)) longer
-kept_in_file false text first None (Some file) more has is full some longer =
+    → told_texts first left ≡ with_text (told_texts first rest) more
+kept_in_file first rest None more has is full some = absurd cc
+kept_in_file first None (Some file) more has is full some =
     let large : nat_le (length first + length more) limit ≡ false = sym is ∙ full in rw large refl
-kept_in_file true text first (Some was) (Some file) more has is full some longer =
-    ap (λ last. Some (first ++ last)) longer ∙ ap Some (sym (append_assoc first (text was) more))
-kept_in_file false text first (Some was) (Some file) more has is full some longer = refl
+kept_in_file first (Some was) (Some file) more has is full some = refl
 
--- what follows of what holds with `Ok`
-pub on_ok_both : {A E P Q S : Type 0} (r : Result A E) → (P → Q → S) → OnOk r P → OnOk r Q → OnOk r S
-on_ok_both (Ok v) f one other = f one other
-on_ok_both (Err e) f one other = tt
+-- what follows with `Ok`
+pub on_ok : {A E P Q : Type 0} (r : Result A E) → (P → Q) → OnOk r P → OnOk r Q
+on_ok (Ok v) f is = f is
+on_ok (Err e) f is = tt
 
 -- a first part was written, and of the next one a part
 pub copied_part : {E : Type 0} (old mid new : Option (List ℕ)) (written chunk part : List ℕ) (e : E) → Consumes old mid written → Consumes mid new chunk
@@ -50,18 +44,3 @@ pub with_error : {E : Type 0} (old : Option (List ℕ)) (r : Result (Unit {0}) E
     → ((e : E) → IsWritten {E = E} old (Err e) written) → IsWritten old r written
 with_error old (Ok u) written is each = let none : false ≡ true = is in absurd cc
 with_error old (Err e) written is each = each e
-
--- what is in memory was written, and then what the file has
-pub placed : {F E : Type 0} (is_told : Bool) (text : F → List ℕ) (first : List ℕ) (rest : Option F) (file : F) (left : Option (List ℕ))
-    (r : Result (Unit {0}) E) (one other : List ℕ) → rest ≡ Some file → one ≡ first → left ≡ told_bytes is_told (text file) → IsWritten left r other
-    → IsWritten (told_texts is_told text first rest) r (one ++ other)
-placed {F} {E} is_told text first rest file left r one other some all told written =
-    subst (λ f. IsWritten (told_texts is_told text first f) r (one ++ other)) (sym some)
-    (subst (λ w. IsWritten (told_texts is_told text first (Some file)) r (w ++ other)) (sym all)
-    (go is_told r (subst (λ l. IsWritten l r other) told written)))
-  where
-    go : (is_told : Bool) (r : Result (Unit {0}) E) → IsWritten (told_bytes is_told (text file)) r other
-        → IsWritten (told_texts is_told text first (Some file)) r (first ++ other)
-    go false r written = tt
-    go true (Ok u) written = ap (λ last. first ++ last) written
-    go true (Err e) written = (written.0, append_assoc first other written.0 ∙ ap (λ last. first ++ last) written.1)

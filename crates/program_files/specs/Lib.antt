@@ -1,4 +1,3 @@
 pub mod Holdings
 pub mod Names
-pub mod PartFiles
 pub mod Texts

@@ -1,5 +1,5 @@
 -- Names of files.
-use Rattle.std.specs.Prelude.{ℕ, ◌-◌, ◌++◌, Bool, List, ◌∷◌, [], ◌==◌, ◌&&◌, ◌||◌, if◌then◌else◌}
+use Rattle.std.specs.Prelude.{ℕ, zero, suc, ◌-◌, ◌++◌, Bool, List, ◌∷◌, [], ◌==◌, ◌&&◌, ◌||◌, if◌then◌else◌}
 use Rattle.std.specs.Prelude.{codes, drop, length, map, max, nat_lt, take}
 use Rattle.std.specs.List.{after_last, before_last, repeat, suffix_len}
 use Rattle.std.specs.Char.{to_ascii_lowercase}
@@ -70,3 +70,10 @@ abbrev pub path_in : List ℕ → List ℕ → List ℕ
 path_in folder name =
     if bytes_eq folder (codes ".") then name
     else if ends_in_slash folder then folder ++ name else folder ++ 47 ∷ name
+
+-- the paths of the first so many parts of a message of this NAME, in a folder
+abbrev pub part_paths : List ℕ → List ℕ → ℕ → ℕ → List (List ℕ)
+part_paths folder name parts zero = []
+part_paths folder name parts (suc number) =
+    part_paths folder name parts number
+    ++ path_in folder (part_name name (suc number) parts) ∷ []

@@ -9,17 +9,13 @@ use std::io::Read;
 /// of it for the whole, and that get their own names when all are whole. Hidden names are none of
 /// those that hold texts here.
 pub trait NamedFiles {
-    ghost use Rattle.std.specs.Prelude.{◌≡◌, ◌++◌, ◌∷◌, Bool, List, [], Option, Some, None, ℕ, IfOk, OnOk, OnErr, true};
-    ghost use Rattle.program_files.specs.Holdings.{Clears, GivesName, TakesAway, named, told_bytes, told_text};
-
-    /// Whether it is told what files hold.
-    ghost is_told: { Bool };
-
-    /// Whether a name that was given can be taken back.
-    ghost takes: { Bool };
+    ghost use Rattle.std.specs.Prelude.{◌≡◌, List, Option, ℕ, IfOk, false};
 
     /// What the file of each name holds, where there is one and that is told.
     ghost holds: { Self → List ℕ → Option (List ℕ) };
+
+    /// No folder has this name.
+    ghost lacks_folder: { Self → List ℕ → Type 0 };
 
     /// Reads a file.
     type Reader: Read + Drop;
@@ -27,20 +23,15 @@ pub trait NamedFiles {
     /// A file for temporary use, which has no name.
     type Scratch: Drop;
 
-    /// What was written to it, where that is told.
-    ghost scratch_text: { Self.Scratch → List ℕ };
-
     /// Hidden names for the files of one message.
     type Hidden: Drop;
 
     /// A file that was made under a hidden name.
     type Made: Drop;
 
-    /// Its text, where that is told.
-    ghost text_of: { Self.Made → List ℕ };
-
     /// Whether a folder has this name.
-    fn is_folder(&self, name: &str) -> bool;
+    fn is_folder(&self, name: &str) -> bool
+        ensures { result ≡ false → lacks_folder self.now name.now };
 
     /// The size of the file of this name, where it is a regular one.
     fn size(&self, name: &str) -> Option<u64>;
@@ -50,18 +41,13 @@ pub trait NamedFiles {
         ensures { IfOk result (λ reader. Self.Reader.remaining reader ≡ holds self.now name.now) };
 
     /// A new file without a name. It is gone with the program.
-    fn new_scratch(&self) -> Result<Self::Scratch, FileFault>
-        ensures { IfOk result (λ file. scratch_text file ≡ []) };
+    fn new_scratch(&self) -> Result<Self::Scratch, FileFault>;
 
     /// Writes a text to a file without a name, behind what it has.
-    fn append(&self, file: &mut Self::Scratch, text: &[u8]) -> Result<(), FileFault>
-        ensures { OnOk result
-            (scratch_text file.new ≡ scratch_text file.old ++ told_text is_told text.now) };
+    fn append(&self, file: &mut Self::Scratch, text: &[u8]) -> Result<(), FileFault>;
 
     /// Reads a file without a name from its beginning on.
-    fn read_scratch(&self, file: Self::Scratch) -> Result<Self::Reader, FileFault>
-        ensures { IfOk result
-            (λ reader. Self.Reader.remaining reader ≡ told_bytes is_told (scratch_text file)) };
+    fn read_scratch(&self, file: Self::Scratch) -> Result<Self::Reader, FileFault>;
 
     /// Hidden names in a folder for the files of a message of this NAME, which no other run takes.
     fn hide(&self, folder: &str, name: &str) -> Result<Self::Hidden, FileFault>;
@@ -73,13 +59,7 @@ pub trait NamedFiles {
         folder: &str,
         number: u32,
         text: &[u8],
-    ) -> Result<Self::Made, FileFault>
-        ensures { IfOk result (λ made. text_of made ≡ told_text is_told text.now) };
-
-    /// Writes a text to a file that was made, behind what it has. A fault names the folder.
-    fn extend(&self, made: &mut Self::Made, folder: &str, text: &[u8]) -> Result<(), FileFault>
-        ensures { OnOk result
-            (text_of made.new ≡ text_of made.old ++ told_text is_told text.now) };
+    ) -> Result<Self::Made, FileFault>;
 
     /// A fault where the name has a file with another text, as far as that can be seen. An empty
     /// file is none.
@@ -87,24 +67,17 @@ pub trait NamedFiles {
 
     /// Takes the name away from an empty file, which counts as not there: from a regular one that
     /// has the name itself, and is not reached by a link.
-    fn clear_name(&mut self, name: &str)
-        ensures { Clears (name.now ∷ []) (holds self.old) (holds self.new) };
+    fn clear_name(&mut self, name: &str);
 
     /// Gives a file that was made its name too, and says whether it was free. A file with the same
     /// text that has the name stays; one with another text is a fault.
-    fn give_name(&mut self, made: &Self::Made, name: &str) -> Result<bool, FileFault>
-        ensures given { is_told ≡ true → IfOk result (λ is_new.
-            GivesName (named name.now (text_of made.now)) is_new
-            (holds self.old) (holds self.new)) }
-        ensures err { OnErr result (holds self.new ≡ holds self.old) };
+    fn give_name(&mut self, made: &Self::Made, name: &str) -> Result<bool, FileFault>;
 
     /// Makes the names in a folder outlast a loss of power.
     fn sync_folder(&self, folder: &str) -> Result<(), FileFault>;
 
     /// Takes a name away from its file, as far as that can be done.
-    fn take_name(&mut self, name: &str)
-        ensures away { TakesAway name.now (holds self.old) (holds self.new) }
-        ensures gone { takes ≡ true → holds self.new name.now ≡ None };
+    fn take_name(&mut self, name: &str);
 
     /// Removes the hidden name of a file.
     fn unhide(&self, made: &Self::Made);

@@ -6,7 +6,7 @@ use crate::hidden::Hidden;
 use crate::host_calls::{create_beside, create_new, is_empty, is_same, or_fault};
 use crate::names::path_in;
 use std::env::temp_dir;
-use std::fs::{self, File, OpenOptions};
+use std::fs::{self, File};
 use std::io::{Error, ErrorKind, Seek, SeekFrom, Write};
 use std::rt::HostRuntime;
 
@@ -111,17 +111,11 @@ fn write_synced(
 }
 
 impl<'a> NamedFiles for HostFiles<'a> {
-    ghost use Rattle.std.specs.Prelude.{[], None, false};
-
-    ghost is_told = { false };
-
-    ghost takes = { false };
+    ghost use Rattle.std.specs.Prelude.{None, ⊤};
 
     ghost holds = { λ files name. None };
 
-    ghost scratch_text = { λ file. [] };
-
-    ghost text_of = { λ made. [] };
+    ghost lacks_folder = { λ files name. ⊤ };
 
     type Reader = File;
 
@@ -181,14 +175,6 @@ impl<'a> NamedFiles for HostFiles<'a> {
                 Err(fault)
             }
         }
-    }
-
-    fn extend(&self, made: &mut HiddenFile, folder: &str, text: &[u8]) -> Result<(), FileFault> {
-        let opened = OpenOptions::new()
-            .append(true)
-            .open(self.rt, made.path.as_str());
-        let mut file = or_fault(self.rt, folder, opened)?;
-        write_synced(self.rt, &mut file, text, folder)
     }
 
     fn check_name(&self, made: &HiddenFile, name: &str) -> Result<(), FileFault> {

@@ -1,9 +1,5 @@
 //! The parts of a message as files of a folder, made under hidden names.
 
-ghost use Rattle.std.specs.Prelude.{◌≡◌, ◌+◌, ◌++◌, ◌∷◌, [], IfOk, OnErr, OnOk, length, map, true};
-ghost use Rattle.program_files.specs.Holdings.{MayName, Names, ShowsSame, told_text};
-ghost use Rattle.program_files.specs.PartFiles.{files_of, place};
-
 use crate::fault::FileFault;
 use crate::files::NamedFiles;
 use crate::placing::name_all;
@@ -31,9 +27,7 @@ pub struct MadeFiles<F: NamedFiles> {
 
 impl<'a, F: NamedFiles> PartFiles<'a, F> {
     /// No part yet, of a message of this NAME that goes into that folder.
-    pub fn new(alloc: Global, files: &'a F, folder: &'a str, name: &'a str) -> PartFiles<'a, F>
-        ensures { map F.text_of result.made.items ≡ [] }
-    {
+    pub fn new(alloc: Global, files: &'a F, folder: &'a str, name: &'a str) -> PartFiles<'a, F> {
         PartFiles {
             alloc,
             files,
@@ -57,10 +51,7 @@ impl<'a, F: NamedFiles> PartFiles<'a, F> {
     }
 
     // Makes the file of the part of a number. The hidden names are taken for the first one.
-    fn make(&mut self, number: u32, text: &[u8]) -> Result<F::Made, FileFault>
-        ensures ok { IfOk result (λ made. F.text_of made ≡ told_text F.is_told text.now) }
-        ensures same { self.new.made ≡ self.old.made }
-    {
+    fn make(&mut self, number: u32, text: &[u8]) -> Result<F::Made, FileFault> {
         let hidden = match self.hidden.take() {
             Some(hidden) => hidden,
             None => self.files.hide(self.folder, self.name)?,
@@ -71,10 +62,7 @@ impl<'a, F: NamedFiles> PartFiles<'a, F> {
     }
 
     /// Makes the file of the next part, with this text.
-    pub fn add(&mut self, text: &[u8]) -> Result<(), FileFault>
-        ensures { OnOk result (map F.text_of self.new.made.items
-            ≡ map F.text_of self.old.made.items ++ told_text F.is_told text.now ∷ []) }
-    {
+    pub fn add(&mut self, text: &[u8]) -> Result<(), FileFault> {
         let number = self.next_number()?;
         // Before there is a file, so that none is forgotten.
         self.made.reserve(1)?;
@@ -84,9 +72,7 @@ impl<'a, F: NamedFiles> PartFiles<'a, F> {
     }
 
     /// No part follows.
-    pub fn finish(self) -> MadeFiles<F>
-        ensures { result.made.items ≡ self.entry.made.items }
-    {
+    pub fn finish(self) -> MadeFiles<F> {
         MadeFiles {
             alloc: self.alloc,
             hidden: self.hidden,
@@ -106,16 +92,7 @@ impl<F: NamedFiles> MadeFiles<F> {
         folder: &str,
         name: &str,
         parts: u32,
-    ) -> Result<(), FileFault>
-        ensures ok { F.is_told ≡ true → OnOk result
-            (Names (files_of (place folder.now name.now parts)
-            (map F.text_of self.now.made.items)) (F.holds files.old) (F.holds files.new)) }
-        ensures err { F.is_told ≡ true → OnErr result
-            (MayName (files_of (place folder.now name.now parts)
-            (map F.text_of self.now.made.items)) (F.holds files.old) (F.holds files.new)) }
-        ensures none { F.is_told ≡ true → F.takes ≡ true
-            → OnErr result (ShowsSame (F.holds files.old) (F.holds files.new)) }
-    {
+    ) -> Result<(), FileFault> {
         let targets = targets_of(self.alloc, self.made.as_slice(), folder, name, parts)?;
         name_all(self.alloc, files, folder, targets.as_slice())
     }

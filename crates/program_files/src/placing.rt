@@ -1,9 +1,5 @@
 //! Giving the files of a message their names, all of them or none.
 
-ghost use Rattle.std.specs.Prelude.{◌≡◌, ◌∷◌, ℕ, List, [], OnOk, OnErr, map, string_bytes, true};
-ghost use Rattle.program_files.specs.Holdings.{Adds, AreFree, Clears, IsNoted, MayAdd, MayName, Names, SameBut, ShowsSame, TakesAllAway};
-ghost use Rattle.program_files.specs.PartFiles.{target_view};
-
 use crate::fault::FileFault;
 use crate::files::NamedFiles;
 use crate::targets::Target;
@@ -18,40 +14,9 @@ fn check_names<F: NamedFiles>(files: &F, targets: &[Target<'_, F::Made>]) -> Res
 }
 
 // Takes the names away from empty files, which count as not there.
-fn clear_names<F: NamedFiles>(files: &mut F, targets: &[Target<'_, F::Made>])
-    ensures { Clears (map (λ target. string_bytes target.name) targets.now)
-        (F.holds files.old) (F.holds files.new) }
-{
+fn clear_names<F: NamedFiles>(files: &mut F, targets: &[Target<'_, F::Made>]) {
     for target in targets {
         files.clear_name(target.name.as_str());
-    }
-}
-
-// Gives a file its name, and adds the name where it was free.
-fn give_one<'a, F: NamedFiles>(
-    files: &mut F,
-    target: &'a Target<'_, F::Made>,
-    given: &mut Vec<&'a str>,
-) -> Result<(), FileFault>
-    ensures ok { F.is_told ≡ true → OnOk result (Adds (target_view F.text_of target.entry.now ∷ [])
-        (F.holds files.old) (F.holds files.new)) }
-    ensures err { OnErr result (F.holds files.new ≡ F.holds files.old) }
-    ensures noted { F.is_told ≡ true → IsNoted (string_bytes target.entry.now.name)
-        (map (λ name. name.now) given.old.items) (map (λ name. name.now) given.new.items)
-        (F.holds files.old) (F.holds files.new) }
-{
-    // Before it is given, so that none is forgotten.
-    given.push(target.name.as_str())?;
-    match files.give_name(target.made, target.name.as_str()) {
-        Ok(true) => Ok(()),
-        Ok(false) => {
-            given.pop();
-            Ok(())
-        }
-        Err(fault) => {
-            given.pop();
-            Err(fault)
-        }
     }
 }
 
@@ -60,32 +25,19 @@ fn give_names<'a, F: NamedFiles>(
     files: &mut F,
     targets: &'a [Target<'_, F::Made>],
     given: &mut Vec<&'a str>,
-) -> Result<(), FileFault>
-    requires { given.old.items ≡ [] }
-    ensures ok { F.is_told ≡ true → OnOk result
-        (Adds (map (target_view F.text_of) targets.entry.now)
-        (F.holds files.old) (F.holds files.new)) }
-    ensures err { F.is_told ≡ true → OnErr result
-        (MayAdd (map (target_view F.text_of) targets.entry.now)
-        (F.holds files.old) (F.holds files.new)) }
-    ensures free { F.is_told ≡ true
-        → AreFree (map (λ name. name.now) given.new.items) (F.holds files.old) }
-    ensures same { F.is_told ≡ true → SameBut (map (λ name. name.now) given.new.items)
-        (F.holds files.old) (F.holds files.new) }
-{
+) -> Result<(), FileFault> {
     for target in targets {
-        give_one(files, target, given)?;
+        // Before it is given, so that none is forgotten.
+        given.reserve(1)?;
+        if files.give_name(target.made, target.name.as_str())? {
+            given.push(target.name.as_str())?;
+        }
     }
     Ok(())
 }
 
 // Takes names away from their files.
-fn take_names<F: NamedFiles>(files: &mut F, names: &[&str])
-    ensures away { TakesAllAway (map (λ name. name.now) names.now)
-        (F.holds files.old) (F.holds files.new) }
-    ensures gone { F.takes ≡ true
-        → AreFree (map (λ name. name.now) names.now) (F.holds files.new) }
-{
+fn take_names<F: NamedFiles>(files: &mut F, names: &[&str]) {
     for name in names {
         files.take_name(name);
     }
@@ -97,19 +49,7 @@ fn name_for_good<'a, F: NamedFiles>(
     folder: &str,
     targets: &'a [Target<'_, F::Made>],
     given: &mut Vec<&'a str>,
-) -> Result<(), FileFault>
-    requires { given.old.items ≡ [] }
-    ensures ok { F.is_told ≡ true → OnOk result
-        (Adds (map (target_view F.text_of) targets.entry.now)
-        (F.holds files.old) (F.holds files.new)) }
-    ensures err { F.is_told ≡ true → OnErr result
-        (MayAdd (map (target_view F.text_of) targets.entry.now)
-        (F.holds files.old) (F.holds files.new)) }
-    ensures free { F.is_told ≡ true
-        → AreFree (map (λ name. name.now) given.new.items) (F.holds files.old) }
-    ensures same { F.is_told ≡ true → SameBut (map (λ name. name.now) given.new.items)
-        (F.holds files.old) (F.holds files.new) }
-{
+) -> Result<(), FileFault> {
     give_names(files, targets, given)?;
     files.sync_folder(folder)
 }
@@ -121,14 +61,7 @@ fn name_or_none<F: NamedFiles>(
     files: &mut F,
     folder: &str,
     targets: &[Target<'_, F::Made>],
-) -> Result<(), FileFault>
-    ensures ok { F.is_told ≡ true → OnOk result
-        (Adds (map (target_view F.text_of) targets.now) (F.holds files.old) (F.holds files.new)) }
-    ensures err { F.is_told ≡ true → OnErr result
-        (MayAdd (map (target_view F.text_of) targets.now) (F.holds files.old) (F.holds files.new)) }
-    ensures none { F.is_told ≡ true → F.takes ≡ true → OnErr result
-        ((name : List ℕ) → F.holds files.new name ≡ F.holds files.old name) }
-{
+) -> Result<(), FileFault> {
     let mut given = Vec::new(alloc);
     match name_for_good(files, folder, targets, &mut given) {
         Ok(()) => Ok(()),
@@ -147,16 +80,7 @@ pub(crate) fn name_all<F: NamedFiles>(
     files: &mut F,
     folder: &str,
     targets: &[Target<'_, F::Made>],
-) -> Result<(), FileFault>
-    ensures ok { F.is_told ≡ true → OnOk result
-        (Names (map (target_view F.text_of) targets.now)
-        (F.holds files.old) (F.holds files.new)) }
-    ensures err { F.is_told ≡ true → OnErr result
-        (MayName (map (target_view F.text_of) targets.now)
-        (F.holds files.old) (F.holds files.new)) }
-    ensures none { F.is_told ≡ true → F.takes ≡ true
-        → OnErr result (ShowsSame (F.holds files.old) (F.holds files.new)) }
-{
+) -> Result<(), FileFault> {
     check_names(files, targets)?;
     clear_names(files, targets);
     name_or_none(alloc, files, folder, targets)

@@ -4,8 +4,7 @@
 ghost use Rattle.std.specs.Prelude.{◌≡◌, ◌+◌, ◌++◌, ◌&&◌, ℕ, List, [], OnOk, Some, is_some, length, nat_le, not, true};
 ghost use Rattle.std.specs.Io.KnownBytes.{Appends};
 ghost use Rattle.csv_records.specs.RecordTexts.{limit};
-ghost use Rattle.program_files.specs.Holdings.{told_text};
-ghost use Rattle.program_files.specs.Texts.{IsWritten, rest_text, told_texts, with_text};
+ghost use Rattle.program_files.specs.Texts.{IsWritten, told_texts, with_text};
 
 use crate::fault::FileFault;
 use crate::files::NamedFiles;
@@ -70,7 +69,7 @@ fn has_room(before: usize, more: usize) -> bool
 impl<'a, F: NamedFiles> Spool<'a, F> {
     /// No part yet.
     pub fn new(alloc: Global, files: &'a F) -> Spool<'a, F>
-        ensures { told_texts F.is_told F.scratch_text result.first.items result.rest ≡ Some [] }
+        ensures { told_texts result.first.items result.rest ≡ Some [] }
     {
         Spool {
             alloc,
@@ -95,8 +94,6 @@ impl<'a, F: NamedFiles> Spool<'a, F> {
     fn write_rest(&mut self, text: &[u8]) -> Result<(), FileFault>
         ensures first { self.new.first ≡ self.old.first }
         ensures some { OnOk result (is_some self.new.rest ≡ true) }
-        ensures rest { OnOk result (rest_text F.scratch_text self.new.rest
-            ≡ rest_text F.scratch_text self.old.rest ++ told_text F.is_told text.now) }
     {
         let mut file = match self.rest.take() {
             Some(file) => file,
@@ -111,7 +108,7 @@ impl<'a, F: NamedFiles> Spool<'a, F> {
     pub fn place<W: Write>(self, output: &mut W) -> Result<(), FileFault>
         ensures { (written : List ℕ)
             × Appends (W.contents output.old) (W.contents output.new) written
-            × IsWritten (told_texts F.is_told F.scratch_text self.entry.first.items self.entry.rest)
+            × IsWritten (told_texts self.entry.first.items self.entry.rest)
             result written }
     {
         let Spool {
@@ -133,9 +130,9 @@ impl<'a, F: NamedFiles> Spool<'a, F> {
     /// Keeps the text of the next part.
     pub fn add(&mut self, text: &[u8]) -> Result<(), FileFault>
         ensures { OnOk result
-            (told_texts F.is_told F.scratch_text self.new.first.items self.new.rest
-            ≡ with_text F.is_told
-            (told_texts F.is_told F.scratch_text self.old.first.items self.old.rest) text.now) }
+            (told_texts self.new.first.items self.new.rest
+            ≡ with_text
+            (told_texts self.old.first.items self.old.rest) text.now) }
     {
         if self.has_room(text) {
             self.first.extend_from_slice(text)?;

@@ -1,7 +1,7 @@
 //! Files that were made, with the names that they are to have.
 
-ghost use Rattle.std.specs.Prelude.{◌≡◌, ℕ, List, IfOk, map, string_bytes};
-ghost use Rattle.program_files.specs.PartFiles.{files_of, path_of, place, target_view};
+ghost use Rattle.std.specs.Prelude.{◌≡◌, IfOk, length, map, string_bytes};
+ghost use Rattle.program_files.specs.Names.{part_name, part_paths, path_in};
 
 use crate::fault::FileFault;
 use crate::names::{part_name, path_in};
@@ -23,7 +23,7 @@ fn path_of(
     number: u32,
 ) -> Result<String, AllocError>
     ensures { IfOk result (λ path. string_bytes path
-        ≡ path_of (place folder.now name.now parts) number) }
+        ≡ path_in folder.now (part_name name.now number parts)) }
 {
     let file_name = part_name(alloc, name, number, parts)?;
     path_in(alloc, folder, file_name.as_str())
@@ -38,8 +38,8 @@ pub(crate) fn targets_of<'a, M>(
     name: &str,
     parts: u32,
 ) -> Result<Vec<Target<'a, M>>, FileFault>
-    ensures { (text : M → List ℕ) → IfOk result (λ targets. map (target_view text) targets.items
-        ≡ files_of (place folder.now name.now parts) (map text made.entry.now)) }
+    ensures { IfOk result (λ targets. map (λ target. string_bytes target.name) targets.items
+        ≡ part_paths folder.now name.now parts (length made.entry.now)) }
 {
     let mut targets = Vec::new(alloc);
     let mut number = 0u32;

@@ -1,5 +1,5 @@
 -- How the command `convert` ends.
-use Rattle.std.specs.Prelude.{◌≡◌, ◌⊎◌, ℕ, Bool, List, [], Option, Some, None, Ok}
+use Rattle.std.specs.Prelude.{◌≡◌, ◌⊎◌, ℕ, List, [], Option, Some, None, Ok}
 use Rattle.program_files.specs.Holdings.{Holdings}
 use Rattle.feed_files.specs.Ends.{asking}
 use Rattle.feed_files.specs.Runs.{RunEnds, outputs}
@@ -7,15 +7,15 @@ use Rattle.feed_terms.specs.declared.term.Term.{Term}
 use Rattle.program_rules.specs.TermsRead.{IsUnreadTable, ReadsTerms}
 use Rattle.program_words.specs.ConvertWords.{Asked}
 
--- Is told: whether it is told what files hold. Before, after: what names hold. Told: what the input
--- tells of its bytes. Written: these bytes were written
-module _ (is_told : Bool) (before after : Holdings) (told : Option (List ℕ))
+-- Before, after: what names hold. Lacks folder: no folder has the name. Told: what the input tells of
+-- its bytes. Written: these bytes were written
+module _ (before after : Holdings) (lacks_folder : List ℕ → Type 0) (told : Option (List ℕ))
     (written : List ℕ → Type 0) (asked : Asked) where
   -- how `convert` can end with this status by these terms or by none: as a run over its FILEs
   abbrev pub ConvertsBy : Option (List Term) → ℕ → Type 0
   ConvertsBy terms status =
-      RunEnds (asking (record asked.options { terms = terms }) asked.folder is_told) told before
-      after asked.files (λ ends. written (outputs ends)) status
+      RunEnds (asking (record asked.options { terms = terms }) asked.folder) told before
+      after lacks_folder asked.files (λ ends. written (outputs ends)) status
 
   -- the same where a file of terms is named, or none: by its terms; or there are none in it, and
   -- nothing is written, and each name holds what it held

@@ -1,5 +1,5 @@
 -- How the program ends by what it is asked, with what it leaves of the files of a desk.
-use Rattle.std.specs.Prelude.{◌≡◌, ◌⊎◌, ℕ, Bool, List, [], Result, Ok, Err, Option, Some, None, is_some, map, string_bytes}
+use Rattle.std.specs.Prelude.{◌≡◌, ◌⊎◌, ℕ, List, [], Result, Ok, Err, Option, Some, None, is_some, map, string_bytes}
 use Rattle.std.specs.Borrow.{Bor}
 use Rattle.onix_terms.specs.SeriesName.{series_name_of}
 use Rattle.price_rules.specs.declared.precedence.Rule.{Rule}
@@ -79,11 +79,11 @@ IsUnread written words status =
 -- ---- by what the program is asked
 
 -- Seen: what is seen of a desk in memory. Files: what is seen of the files that `databases` opens.
--- Is told: whether it is told what files hold; before, after: what names hold. Written: these bytes
--- were written. Told: what the input tells of its bytes
+-- Before, after: what names hold. Lacks folder: no folder has the name. Written: these bytes were
+-- written. Told: what the input tells of its bytes
 module _ {M : Type 0} {m : DeskKind} (seen : M → View m) {K : Type 0} {k : DeskKind}
     {C U N : Type 0} (files : DeskFiles K k C U N) (databases : K)
-    (is_told : Bool) (before after : Holdings) (written : List ℕ → Type 0)
+    (before after : Holdings) (lacks_folder : List ℕ → Type 0) (written : List ℕ → Type 0)
     (told : Option (List ℕ)) where
   -- how an action can end under those rules, with what it leaves of files. Only `convert` changes
   -- what names hold
@@ -105,7 +105,7 @@ module _ {M : Type 0} {m : DeskKind} (seen : M → View m) {K : Type 0} {k : Des
   ActionEnds rules (Send socket) status left =
       (after ≡ before) × IsUntouched left × SendEnds told written status
   ActionEnds rules (Convert c) status left =
-      IsUntouched left × ConvertEnds is_told before after told written (asked_view c) status
+      IsUntouched left × ConvertEnds before after lacks_folder told written (asked_view c) status
   ActionEnds rules (CheckRules file) status left =
       (after ≡ before) × IsUntouched left × CheckEnds written (before file.now) status
   ActionEnds rules (CheckTerms file) status left =

@@ -5,7 +5,6 @@ ghost use Rattle.std.specs.Io.KnownBytes.{Appends};
 ghost use Rattle.program_words.specs.ConvertWords.{asked_view};
 ghost use Rattle.program_run.specs.ConvertEnds.{ConvertEnds, ConvertsBy};
 
-use crate::folders::tell_folder;
 use feed_conversion::Options;
 use feed_files::{Run, Showing, convert_files};
 use feed_mapping::Choices;
@@ -44,8 +43,8 @@ fn convert_by<C: Clock, F: NamedFiles, R: Read, W: Write, E: Write>(
     streams: &mut Streams<R, W, E>,
 ) -> u8
     ensures status { result ≤ 3 }
-    ensures end { ConvertsBy F.is_told (F.holds files.old) (F.holds files.new)
-        (R.remaining streams.old.input)
+    ensures end { ConvertsBy (F.holds files.old) (F.holds files.new)
+        (F.lacks_folder files.old) (R.remaining streams.old.input)
         (Appends (W.contents streams.old.output) (W.contents streams.new.output))
         (asked_view conversion.now) (option_map (λ terms. terms.now) terms.entry) result }
 {
@@ -63,18 +62,15 @@ fn convert_by<C: Clock, F: NamedFiles, R: Read, W: Write, E: Write>(
         is_shown: streams.errors.is_terminal,
     };
     let names = conversion.files.as_slice();
-    let errors = &mut streams.errors.writer;
-    let status = convert_files(
+    convert_files(
         &showing,
         &run,
         names,
         files,
         &mut streams.input,
         &mut streams.output,
-        errors,
-    );
-    tell_folder(files, run.folder, errors);
-    status
+        &mut streams.errors.writer,
+    )
 }
 
 /// Converts FILEs, by the terms of a file where one is named. Where there are no terms in that file,
@@ -87,8 +83,8 @@ pub(crate) fn convert<C: Clock, F: NamedFiles, R: Read, W: Write, E: Write>(
     streams: &mut Streams<R, W, E>,
 ) -> u8
     ensures status { result ≤ 3 }
-    ensures end { ConvertEnds F.is_told (F.holds files.old) (F.holds files.new)
-        (R.remaining streams.old.input)
+    ensures end { ConvertEnds (F.holds files.old) (F.holds files.new)
+        (F.lacks_folder files.old) (R.remaining streams.old.input)
         (Appends (W.contents streams.old.output) (W.contents streams.new.output))
         (asked_view conversion.now) result }
 {

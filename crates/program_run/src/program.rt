@@ -144,7 +144,8 @@ fn run_action<
 ) -> (u8, FilesLeft<K, K::Unopened, K::Unclosed, K::Closed>)
     ensures status { result.0 ≤ 3 }
     ensures end { ActionEnds ⟦<MemoryDesk as Desk>⟧.seen K.files databases
-        F.is_told (F.holds machine.old.files) (F.holds machine.new.files)
+        (F.holds machine.old.files) (F.holds machine.new.files)
+        (F.lacks_folder machine.old.files)
         (Appends (W.contents machine.old.streams.output) (W.contents machine.new.streams.output))
         (R.remaining machine.old.streams.input) precedence.now action.now result.0 result.1 }
 {
@@ -266,7 +267,8 @@ pub fn run<
 ) -> (u8, FilesLeft<K, K::Unopened, K::Unclosed, K::Closed>)
     ensures status { result.0 ≤ 3 }
     ensures end { RunEnds ⟦<MemoryDesk as Desk>⟧.seen K.files databases
-        F.is_told (F.holds machine.old.files) (F.holds machine.new.files)
+        (F.holds machine.old.files) (F.holds machine.new.files)
+        (F.lacks_folder machine.old.files)
         (Appends (W.contents machine.old.streams.output) (W.contents machine.new.streams.output))
         (R.remaining machine.old.streams.input) (map (λ word. word.now) words.now)
         result.0 result.1 }

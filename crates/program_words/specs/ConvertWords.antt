@@ -1,9 +1,9 @@
 -- What the words of the command `convert` ask for.
-use Rattle.std.specs.Prelude.{◌≡◌, ◌<◌, ℕ, List, [], ◌∷◌, Bool, true, false, Option, Some, None, ◌&&◌, ◌==◌, if◌then◌else◌, codes, is_some, length, map, nat_lt, option_map, unwrap_or}
+use Rattle.std.specs.Prelude.{◌≡◌, ◌<◌, ◌≤◌, ℕ, List, [], ◌∷◌, Bool, true, false, Option, Some, None, ◌&&◌, ◌==◌, if◌then◌else◌, codes, count_by, is_some, length, map, nat_lt, option_map, unwrap_or}
 use Rattle.std.specs.Char.{is_ascii_digit}
 use Rattle.std.specs.Option.{option_map_or}
 use Rattle.std.specs.Str.{bytes_eq}
-use Rattle.clap.specs.Walk.{Row}
+use Rattle.clap.specs.Walk.{Row, Text}
 use Rattle.onix_terms.specs.Code.{code2_of}
 use Rattle.onix_terms.specs.Digits.{digits_of}
 use Rattle.onix_terms.specs.Number.{number_of}
@@ -84,10 +84,15 @@ AreOptions own o =
     × (word_or allowed_of FewWrong own (codes "wrong") ≡ Some o.wrong)
     × (o.terms ≡ None)
 
--- several FILEs need a folder, and no number is for all of them
+-- how many FILEs are standard input
+abbrev pub inputs_in : List Text → ℕ
+inputs_in files = count_by (λ name. bytes_eq name (codes "-")) files
+
+-- several FILEs need a folder, no number is for all of them, and standard input is read once
 abbrev pub AreForFiles : Asked → Type 0
 AreForFiles a =
-    1 < length a.files → (is_some a.folder ≡ true) × (a.options.choices.number ≡ None)
+    (inputs_in a.files ≤ 1)
+    × (1 < length a.files → (is_some a.folder ≡ true) × (a.options.choices.number ≡ None))
 
 -- What the options and operands ask for.
 abbrev pub AsksFor : List Row → Asked → Type 0
@@ -127,4 +132,5 @@ AsksNothing own bad.NoFolder =
     (1 < length (files_named own)) × (text_in own (codes "folder") ≡ None)
 AsksNothing own bad.OneNumber =
     (1 < length (files_named own)) × (is_some (text_in own (codes "number")) ≡ true)
+AsksNothing own bad.OneInput = 1 < inputs_in (files_named own)
 AsksNothing own bad.Memory = Unit {0}

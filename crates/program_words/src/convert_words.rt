@@ -7,7 +7,7 @@ ghost use Rattle.onix_terms.specs.Number.{number_of};
 ghost use Rattle.feed_mapping.specs.PartyViews.{pair_view};
 ghost use Rattle.feed_conversion.specs.Views.{options_view};
 ghost use Rattle.feed_conversion.specs.declared.options.Allowed.TheVariants.{FewWrong};
-ghost use Rattle.program_words.specs.ConvertWords.{AreOptions, AsksFor, AsksNothing, IsOf, IsUnread, allowed_of, asked_view, files_named, identifier_of, is_value, word_as, word_or};
+ghost use Rattle.program_words.specs.ConvertWords.{AreOptions, AsksFor, AsksNothing, IsOf, IsUnread, allowed_of, asked_view, files_named, identifier_of, inputs_in, is_value, word_as, word_or};
 ghost use Rattle.program_words.specs.Words.{words_in};
 
 use crate::arguments::{text_in, texts_in};
@@ -89,6 +89,8 @@ pub enum BadWords<'a> {
     NoFolder,
     /// `--number` with several FILEs.
     OneNumber,
+    /// Standard input is named twice.
+    OneInput,
     /// Memory ran out.
     Memory,
 }
@@ -115,6 +117,9 @@ impl<'a> BadWords<'a> {
             BadWords::NoFolder => String::from_str(alloc, "error: several FILEs need -o FOLDER\n"),
             BadWords::OneNumber => {
                 String::from_str(alloc, "error: --number is for one FILE alone\n")
+            }
+            BadWords::OneInput => {
+                String::from_str(alloc, "error: - is standard input, and read once\n")
             }
             BadWords::Memory => Err(AllocError),
         }
@@ -268,6 +273,19 @@ fn files_of<'a>(alloc: Global, words: &ArgMatches<'a>) -> Result<Vec<&'a str>, A
     }
 }
 
+// How many of the FILEs are standard input.
+fn inputs_in(files: &[&str]) -> usize
+    ensures { result ≡ inputs_in (map (λ name. name.now) files.now) }
+{
+    let mut count = 0;
+    for file in files {
+        if *file == STANDARD_INPUT {
+            count += 1;
+        }
+    }
+    count
+}
+
 // How each message is converted.
 fn options_of<'a>(words: &ArgMatches<'a>) -> Result<Options<'a>, BadWords<'a>>
     ensures ok { IfOk result (λ o. AreOptions (words_in words.now) (options_view o)) }
@@ -300,7 +318,7 @@ fn options_of<'a>(words: &ArgMatches<'a>) -> Result<Options<'a>, BadWords<'a>>
 
 /// What words that clap let pass ask of `convert`: each is read by its rule, and what is not there has
 /// its default. Of words that break their rules it tells one, and else that several FILEs need a folder
-/// or have no number in common.
+/// or have no number in common, or that standard input is named twice.
 pub fn conversion_of<'a>(
     alloc: Global,
     words: &ArgMatches<'a>,
@@ -319,6 +337,9 @@ pub fn conversion_of<'a>(
     }
     if files.len() > 1 && options.choices.number.is_some() {
         return Err(BadWords::OneNumber);
+    }
+    if inputs_in(files.as_slice()) > 1 {
+        return Err(BadWords::OneInput);
     }
     Ok(Conversion {
         options,

@@ -10,7 +10,7 @@ use Rattle.feed_files.proofs.converting.convert_files.Given as goal
 abbrev pub invariant-loop-file : goal.invariant-loop-file
 invariant-loop-file g l = record {
   ends : List FileEnd;
-  so_far : Continues (run_asking g.F.NamedFiles.is_told l.run) (g.R.Read.remaining l.fn.input) (g.F.NamedFiles.holds l.fn.files)
+  so_far : Continues (run_asking l.run) (g.R.Read.remaining l.fn.input) (g.F.NamedFiles.holds l.fn.files)
       (map (λ (f : Bor (List ℕ)). f.now) l.fn.names) (g.R.Read.remaining l.input) (g.F.NamedFiles.holds l.files)
       (drop l.file-index (map (λ (f : Bor (List ℕ)). f.now) l.fn.names)) ends;
   written : Appends (g.W.Write.contents l.fn.output) (g.W.Write.contents l.output) (outputs ends);

@@ -20,28 +20,26 @@ module _ (g : Over) (c : After-end_of_seen-ended g) where
   abbrev texts : Option (List ℕ)
   texts =
       let store = c.convert-target.result.target.store in
-      told_texts g.F.NamedFiles.is_told g.F.NamedFiles.scratch_text store.first.items store.rest
+      told_texts store.first.items store.rest
 
-  taken : IsTaken (with_text g.F.NamedFiles.is_told) options bytes (Some []) texts c.end_of_seen-ended.result
+  taken : IsTaken with_text options bytes (Some []) texts c.end_of_seen-ended.result
   taken =
-      let told = g.F.NamedFiles.is_told in
       let ended = c.end_of_seen-ended.result in
-      let first = told_texts told g.F.NamedFiles.scratch_text c.new.result.first.items c.new.result.rest in
-      let read = read_taken (with_text told) options (g.R.Read.remaining c.new-watched.result.reader.now) first texts
+      let first = told_texts c.new.result.first.items c.new.result.rest in
+      let read = read_taken with_text options (g.R.Read.remaining c.new-watched.result.reader.now) first texts
       c.convert-target.result.ended ended c.convert-target.ensures.converted c.convert-target.ensures.fault c.end_of_seen-ended.ensures.ok
       c.end_of_seen-ended.ensures.err in
-      let of_bytes : IsTaken (with_text told) options bytes first texts ended =
-      subst (λ reader. IsTaken (with_text told) options (g.R.Read.remaining reader.now) first texts ended) c.new-watched.ensures read in
-      subst (λ before. IsTaken (with_text told) options bytes before texts ended) c.new.ensures of_bytes
+      let of_bytes : IsTaken with_text options bytes first texts ended =
+      subst (λ reader. IsTaken with_text options (g.R.Read.remaining reader.now) first texts ended) c.new-watched.ensures read in
+      subst (λ before. IsTaken with_text options bytes before texts ended) c.new.ensures of_bytes
 
 pub returns-then-not-is_converted : goal.returns-then-not-is_converted
 returns-then-not-is_converted g c =
-    let told = g.F.NamedFiles.is_told in
     let s = (goal.at.returns-then-not-is_converted g c).After-end_of_seen-ended in
     let holds = g.F.NamedFiles.holds c.args.files.now in (
       [],
       Appends-nil (g.W.Write.contents c.args.output.now),
-      stopped_end (with_text told) (asking (options g s) None told) c.args.file.now (bytes g s) (Some []) (texts g s) holds c.end_of_seen-ended.result
+      stopped_end with_text (asking (options g s) None) c.args.file.now (bytes g s) (Some []) (texts g s) holds c.end_of_seen-ended.result
           (sym c.is_converted.ensures ∙ c.if-not-is_converted.true) (taken g s),
     )
 
@@ -52,7 +50,7 @@ returns-in-Ok g c =
     let converted : is_converted c.end_of_seen-ended.result ≡ true = sym c.is_converted.ensures ∙ c.if-not-is_converted.false in (
       c.place.ensures.0,
       c.place.ensures.1,
-      out_done (options g s) g.F.NamedFiles.is_told c.args.file.now (bytes g s) (texts g s) holds c.end_of_seen-ended.result c.place.result c.in-Ok.field-0
+      out_done (options g s) c.args.file.now (bytes g s) (texts g s) holds c.end_of_seen-ended.result c.place.result c.in-Ok.field-0
           c.place.ensures.0 converted c.in-Ok.is (taken g s) c.place.ensures.2,
     )
 
@@ -63,6 +61,6 @@ returns g c =
     let converted : is_converted c.end_of_seen-ended.result ≡ true = sym c.is_converted.ensures ∙ c.if-not-is_converted.false in (
       c.place.ensures.0,
       c.place.ensures.1,
-      out_failed (options g s) g.F.NamedFiles.is_told c.args.file.now (bytes g s) (texts g s) holds c.end_of_seen-ended.result c.report_fault.result
+      out_failed (options g s) c.args.file.now (bytes g s) (texts g s) holds c.end_of_seen-ended.result c.report_fault.result
           c.place.result c.in-Err.fault c.place.ensures.0 converted c.in-Err.is c.report_fault.ensures (taken g s) c.place.ensures.2,
     )

@@ -1,25 +1,31 @@
-use Rattle.std.proofs.Common.{◌≡◌, ◌+◌, ◌∙◌, ap, arith, length, map, refl}
-use Rattle.program_files.specs.PartFiles.{path_of, place, target_view}
-use Rattle.program_files.proofs.PlacingLemmas.{target_all, target_more}
+use Rattle.std.proofs.Common.{◌≡◌, ◌+◌, ◌++◌, ◌∷◌, ◌∙◌, [], ap, arith, length, map, refl, sym}
+use Rattle.std.specs.Prelude.{string_bytes}
+use Rattle.std.proofs.Math.Numerals.{add-one}
+use Rattle.std.proofs.lemmas.List.{map-append}
+use Rattle.program_files.specs.Names.{part_name, part_paths, path_in}
+use Rattle.program_files.specs.declared.targets.Target.{Target}
 use Rattle.program_files.proofs.targets.targets_of.Goals as goal
 
 pub loop-file-init : goal.loop-file-init
-loop-file-init g c = record { named = λ text. ap (map (target_view text)) c.new-targets.ensures.items; counted = refl }
+loop-file-init g c = record { named = ap (map (λ (t : Target g.M). string_bytes t.name)) c.new-targets.ensures.items; counted = refl }
 
 pub loop-file-preserved : goal.loop-file-preserved
 loop-file-preserved g c =
-    let at = place c.args.folder.now c.args.name.now c.args.parts in
+    let folder = c.args.folder.now in
+    let name = c.args.name.now in
+    let parts = c.args.parts in
     let i = c.loop-file.file-index in
+    let name_of = λ (t : Target g.M). string_bytes t.name in
     let next : c.in-Some.next ≡ i + 1 = c.in-Some.ensures.1 ∙ ap (λ n. n + 1) c.loop-file.invariant.counted in
+    let path = c.in_ok-path.ensures ∙ ap (λ n. path_in folder (part_name name n parts)) (next ∙ add-one i) in
     record {
-      named = λ text. target_more text at c.args.made.now i c.file-item.result c.loop-file.targets.items c.push.new.self.items _
-          c.loop-file-test.true c.file-item.is (c.loop-file.invariant.named text) c.in_ok-push.ensures.items refl
-          (c.in_ok-path.ensures ∙ ap (path_of at) next);
+      named = ap (map name_of) c.in_ok-push.ensures.items ∙ map-append name_of c.loop-file.targets.items (_ ∷ [])
+          ∙ ap (λ front. front ++ _ ∷ []) c.loop-file.invariant.named ∙ ap (λ p. part_paths folder name parts i ++ p ∷ []) path
+          ∙ ap (part_paths folder name parts) (sym (add-one i));
       counted = next;
     }
 
 pub returns : goal.returns
-returns g c text =
+returns g c =
     let end : c.loop-file.file-index ≡ length c.args.made.now = omega arith in
-    target_all text (place c.args.folder.now c.args.name.now c.args.parts) c.args.made.now c.loop-file.file-index c.loop-file.targets.items end
-    (c.loop-file.invariant.named text)
+    c.loop-file.invariant.named ∙ ap (part_paths c.args.folder.now c.args.name.now c.args.parts) end

@@ -1,11 +1,12 @@
-use Rattle.std.proofs.Common.{◌≡◌, ℕ, List, map, take}
-use Rattle.program_files.specs.PartFiles.{files_of, place, target_view}
+use Rattle.std.proofs.Common.{◌≡◌, map}
+use Rattle.std.specs.Prelude.{string_bytes}
+use Rattle.program_files.specs.Names.{part_paths}
 use Rattle.program_files.proofs.targets.targets_of.Given as goal
 
 -- the files so far have their names
 abbrev pub invariant-loop-file : goal.invariant-loop-file
 invariant-loop-file g l = record {
-  named : (text : g.row.M.Denot → List ℕ) → map (target_view text) l.targets.items
-      ≡ files_of (place l.fn.folder l.fn.name l.parts) (take l.file-index (map text l.made));
+  named : map (λ target. string_bytes target.name) l.targets.items
+      ≡ part_paths l.fn.folder l.fn.name l.parts l.file-index;
   counted : l.number ≡ l.file-index;
 }

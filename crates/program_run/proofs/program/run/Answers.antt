@@ -13,13 +13,14 @@ returns-in-Err-clause-end g c = inr (c.in-Err.ensures.err, tt, refl)
 pub returns-in-Err-rules_of-clause-end : goal.returns-in-Err-rules_of-clause-end
 returns-in-Err-rules_of-clause-end g c =
     let holds = g.F.NamedFiles.holds in
+    let lacks = g.F.NamedFiles.lacks_folder in
     let machine = c.args.machine.now in
     let output = g.W.Write.contents c.read_words.new.streams.output in
     inl (
       c.in-Ok.invocation,
       c.in-Ok.ensures.ok.1,
       subst (λ s. InvocationEnds ghosts.seen g.K.KeepsDesks.files c.args.databases
-          g.F.NamedFiles.is_told (holds machine.files) (holds machine.files) (Appends (g.W.Write.contents s.output) output) (g.R.Read.remaining s.input)
+          (holds machine.files) (holds machine.files) (lacks machine.files) (Appends (g.W.Write.contents s.output) output) (g.R.Read.remaining s.input)
           c.in-Ok.invocation c.report_rules-status.result (Untouched c.args.databases))
           c.in-Ok.ensures.ok.0 (inr (c.in-Err-rules_of.fault, c.in-Err-rules_of.ensures, c.report_rules-status.ensures, Appends-nil output, tt, refl)),
     )
@@ -27,13 +28,14 @@ returns-in-Err-rules_of-clause-end g c =
 pub returns-clause-end : goal.returns-clause-end
 returns-clause-end g c =
     let holds = g.F.NamedFiles.holds in
+    let lacks = g.F.NamedFiles.lacks_folder in
     let before = c.args.machine.now in
     let after = c.run_action-ended.new.machine in
     inl (
       c.in-Ok.invocation,
       c.in-Ok.ensures.ok.1,
       subst (λ s. InvocationEnds ghosts.seen g.K.KeepsDesks.files c.args.databases
-          g.F.NamedFiles.is_told (holds before.files) (holds after.files) (Appends (g.W.Write.contents s.output) (g.W.Write.contents after.streams.output)) (g.R.Read.remaining s.input)
+          (holds before.files) (holds after.files) (lacks before.files) (Appends (g.W.Write.contents s.output) (g.W.Write.contents after.streams.output)) (g.R.Read.remaining s.input)
           c.in-Ok.invocation c.run_action-ended.result.0 c.run_action-ended.result.1)
           c.in-Ok.ensures.ok.0 (inl (c.in-Ok-rules_of.precedence, c.in-Ok-rules_of.ensures, c.run_action-ended.ensures.end)),
     )

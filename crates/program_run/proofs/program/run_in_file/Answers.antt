@@ -5,7 +5,7 @@ use Rattle.series_rules.proofs.StepLemmas.{traces_lead}
 use Rattle.program_desks.proofs.SeenLemmas.{leads_as}
 use Rattle.program_desks.specs.DeskFiles.{OpensAs}
 use Rattle.program_run.proofs.EndLemmas.{over_files, task_as, task_between}
-use Rattle.program_run.specs.FileEnds.{TaskLeads}
+use Rattle.program_run.specs.TaskEnds.{TaskLeads}
 use Rattle.program_run.specs.OverFiles.{creation_by}
 use Rattle.series_rules.specs.Steps.{Asked, Leads}
 use Rattle.program_run.proofs.program.run_in_file.Goals as goal

@@ -100,15 +100,15 @@ MayWriteTo None parts e =
     (e.after ≡ e.before) × (AreTold parts → (rest : List ℕ) × (e.output ++ rest ≡ concat parts))
 
 -- how a FILE of this name and of these bytes, where they are told, ends so
-abbrev pub EndsAs : Ended → Asking → List ℕ → Option (List ℕ) → FileEnd → Type 0
-EndsAs ended.Refused a name bytes e =
+abbrev pub FileEndsAs : Ended → Asking → List ℕ → Option (List ℕ) → FileEnd → Type 0
+FileEndsAs ended.Refused a name bytes e =
     LeavesNothing e × ((f : Fault) × IsRefusal f × ExplainsFault bytes a.options f)
-EndsAs ended.Packed a name bytes e = LeavesNothing e × (is_packed name ≡ true)
-EndsAs ended.Fault a name bytes e =
+FileEndsAs ended.Packed a name bytes e = LeavesNothing e × (is_packed name ≡ true)
+FileEndsAs ended.Fault a name bytes e =
     LeavesNothing e
     ⊎ ((made : Converted) × Yields bytes a.options (Ok made)
     × MayWriteTo a.folder made.parts e)
-EndsAs converted a name bytes e =
+FileEndsAs converted a name bytes e =
     (made : Converted) × Yields bytes a.options (Ok made) × IsOfCounted made.counted converted
     × WritesTo a.folder made.parts e
 
@@ -116,4 +116,4 @@ EndsAs converted a name bytes e =
 -- where it was converted, with or without wrong products; nothing is, where it was refused for what
 -- its bytes say, or since it is packed by its name; after a fault at most a part of them is.
 abbrev pub IsEnd : Asking → List ℕ → Option (List ℕ) → FileEnd → Type 0
-IsEnd a name bytes e = EndsAs e.ended a name bytes e
+IsEnd a name bytes e = FileEndsAs e.ended a name bytes e

@@ -51,5 +51,5 @@ module _ (a : Asking) (told : Option (List ℕ)) (before after : Holdings)
   NoneBegins = IsUnusable lacks_folder a × (status ≡ 3) × such [] × (after ≡ before)
 
   -- How a run ends with this status: as its FILEs end, or before the first.
-  abbrev pub RunEnds : Type 0
-  RunEnds = AllEnd ⊎ NoneBegins
+  abbrev pub FilesEnd : Type 0
+  FilesEnd = AllEnd ⊎ NoneBegins

@@ -5,7 +5,7 @@ ghost use Rattle.std.specs.Io.KnownBytes.{Appends};
 ghost use Rattle.feed_conversion.specs.Views.{options_view};
 ghost use Rattle.program_files.specs.Names.{is_packed};
 ghost use Rattle.feed_files.specs.Ends.{IsEnd, IsOfCounted, IsUnconverted, StaysPacked, asking, file_end, is_converted};
-ghost use Rattle.feed_files.specs.Runs.{IsUnusable, RunEnds, outputs, run_asking};
+ghost use Rattle.feed_files.specs.Runs.{IsUnusable, FilesEnd, outputs, run_asking};
 
 use crate::collected::Collected;
 use crate::ended::Ended;
@@ -397,7 +397,7 @@ pub fn convert_files<C: Clock, F: NamedFiles, R: Read, W: Write, E: Write>(
     output: &mut W,
     errors: &mut E,
 ) -> u8
-    ensures end { RunEnds (run_asking run.now) (R.remaining input.old)
+    ensures end { FilesEnd (run_asking run.now) (R.remaining input.old)
         (F.holds files.old) (F.holds files.new) (F.lacks_folder files.old)
         (map (λ name. name.now) names.now)
         (λ ends. Appends (W.contents output.old) (W.contents output.new) (outputs ends)) result }

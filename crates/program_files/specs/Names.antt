@@ -49,13 +49,13 @@ abbrev pub padded : ℕ → ℕ → List ℕ
 padded width number = repeat (width - length (decimal number)) (48 ∷ []) ++ decimal number
 
 -- how many digits the numbers of so many parts have in names: two, or as many as the greatest has
-abbrev pub digits_of : ℕ → ℕ
-digits_of parts = max 2 (length (decimal parts))
+abbrev pub digit_count : ℕ → ℕ
+digit_count parts = max 2 (length (decimal parts))
 
 -- what stands in a name for one part of several
 abbrev pub part_mark : ℕ → ℕ → List ℕ
 part_mark part parts =
-    if nat_lt 1 parts then codes ".part-" ++ padded (digits_of parts) part else []
+    if nat_lt 1 parts then codes ".part-" ++ padded (digit_count parts) part else []
 
 -- the name of the file of a part, which is the only one of its message or one of several
 abbrev pub part_name : List ℕ → ℕ → ℕ → List ℕ

@@ -4,7 +4,7 @@ ghost use Rattle.std.specs.Prelude.{◌≡◌, ◌<◌, ◌≤◌, ◌-◌, ◌=
 ghost use Rattle.std.specs.Char.{to_ascii_lowercase};
 ghost use Rattle.std.specs.List.{repeat, suffix_len};
 ghost use Rattle.std.specs.Fmt.{decimal};
-ghost use Rattle.program_files.specs.Names.{digits_of, ends_in_slash, ends_so, is_packed, is_slash, last_part, name_of, padded, part_mark, part_name, path_in, without_extension, without_slashes};
+ghost use Rattle.program_files.specs.Names.{digit_count, ends_in_slash, ends_so, is_packed, is_slash, last_part, name_of, padded, part_mark, part_name, path_in, without_extension, without_slashes};
 
 use std::alloc::{AllocError, Global};
 
@@ -106,8 +106,8 @@ fn decimal(alloc: Global, number: u32) -> Result<String, AllocError>
 }
 
 // How many digits the numbers of so many parts have in names: two, or as many as the greatest has.
-fn digits_of(alloc: Global, parts: u32) -> Result<usize, AllocError>
-    ensures { IfOk result (λ count. count ≡ digits_of parts) }
+fn digit_count(alloc: Global, parts: u32) -> Result<usize, AllocError>
+    ensures { IfOk result (λ count. count ≡ digit_count parts) }
 {
     Ok(decimal(alloc, parts)?.len().max(2))
 }
@@ -142,7 +142,7 @@ fn push_mark(alloc: Global, text: &mut String, part: u32, parts: u32) -> Result<
     ensures { OnOk result (string_bytes text.new ≡ string_bytes text.old ++ part_mark part parts) }
 {
     if parts > 1 {
-        let width = digits_of(alloc, parts)?;
+        let width = digit_count(alloc, parts)?;
         text.push_str(".part-")?;
         push_number(alloc, text, part, width)?;
     }

@@ -2,7 +2,7 @@
 use Rattle.std.specs.Prelude.{◌≡◌, ◌⊎◌, ℕ, List, [], Option, Some, None, Ok}
 use Rattle.program_files.specs.Holdings.{Holdings}
 use Rattle.feed_files.specs.Ends.{asking}
-use Rattle.feed_files.specs.Runs.{RunEnds, outputs}
+use Rattle.feed_files.specs.Runs.{FilesEnd, outputs}
 use Rattle.feed_terms.specs.declared.term.Term.{Term}
 use Rattle.program_rules.specs.TermsRead.{IsUnreadTable, ReadsTerms}
 use Rattle.program_words.specs.ConvertWords.{Asked}
@@ -14,7 +14,7 @@ module _ (before after : Holdings) (lacks_folder : List ℕ → Type 0) (told : 
   -- how `convert` can end with this status by these terms or by none: as a run over its FILEs
   abbrev pub ConvertsBy : Option (List Term) → ℕ → Type 0
   ConvertsBy terms status =
-      RunEnds (asking (record asked.options { terms = terms }) asked.folder) told before
+      FilesEnd (asking (record asked.options { terms = terms }) asked.folder) told before
       after lacks_folder asked.files (λ ends. written (outputs ends)) status
 
   -- the same where a file of terms is named, or none: by its terms; or there are none in it, and

@@ -33,6 +33,20 @@ fn files<'a>(alloc: Global, least: usize, help: &'a str) -> Arg<'a>
         .help(help)
 }
 
+// The FILEs of a command that needs some.
+fn needed_files<'a>(alloc: Global, help: &'a str) -> Arg<'a>
+    ensures { IsWord (needed (some_operands (codes "file") 1)) result }
+{
+    files(alloc, 1, help).required(true)
+}
+
+// The FILE of a command that needs one.
+fn needed_file<'a>(alloc: Global, help: &'a str) -> Arg<'a>
+    ensures { IsWord (needed (free_operand (codes "file"))) result }
+{
+    operand(alloc, "file", "FILE", help).required(true)
+}
+
 // The option `--NAME TEXT`. Help calls the text `value`.
 fn text_option<'a>(alloc: Global, name: &'a str, value: &'a str, help: &'a str) -> Arg<'a>
     ensures { IsWord (text_option name.entry.now) result }
@@ -125,17 +139,6 @@ fn batch<'a>(alloc: Global) -> Command<'a>
     )
 }
 
-fn messages<'a>(alloc: Global) -> Arg<'a>
-    ensures { IsWord (needed (some_operands (codes "file") 1)) result }
-{
-    files(
-        alloc,
-        1,
-        "A message as CSV records, up to 4,194,304 bytes of UTF-8; - is standard input",
-    )
-    .required(true)
-}
-
 fn deliver<'a>(alloc: Global) -> Result<Command<'a>, AllocError>
     ensures { IfOk result
         (IsCommand (command_of "deliver" (needed (some_operands (codes "file") 1) ∷ []))) }
@@ -146,18 +149,11 @@ fn deliver<'a>(alloc: Global) -> Result<Command<'a>, AllocError>
         "Deliver the message of each file, write the answer to each",
         "Delivers the message that each file holds, from its record Message to its record EndMessage, in the order of the files, and writes the answer to each to standard output; the file - is standard input. A file that cannot be read, or a fault, ends the command with status 3; the answers before it remain valid. The agreements are those of the database file: onixdesk --db FILE deliver FILE. Without one there are none, and a whole message with a number is answered refused,unknown-series. A line on standard error says of each file that is malformed what is wrong.\n\nExample: onixdesk --db shop.db deliver monday.csv",
     );
-    with_word(Ok(deliver), Ok(messages(alloc)))
-}
-
-fn texts<'a>(alloc: Global) -> Arg<'a>
-    ensures { IsWord (needed (some_operands (codes "file") 1)) result }
-{
-    files(
+    let messages = needed_files(
         alloc,
-        1,
-        "Requests or a message as CSV records, up to 4,194,304 bytes of UTF-8; - is standard input",
-    )
-    .required(true)
+        "A message as CSV records, up to 4,194,304 bytes of UTF-8; - is standard input",
+    );
+    with_word(Ok(deliver), Ok(messages))
 }
 
 fn check<'a>(alloc: Global) -> Result<Command<'a>, AllocError>
@@ -170,7 +166,11 @@ fn check<'a>(alloc: Global) -> Result<Command<'a>, AllocError>
         "Say what is wrong with each request that is malformed, and ask no desk",
         "Reads each FILE as batch reads its input, and asks no desk. For each request or message that a desk would answer refused,malformed,ROW, a line on standard error says in which line of the FILE it is wrong, in which field, and why; 100 lines at most, and then how many more there are. The status is 0 if nothing is malformed, 1 if something is, and 3 if a FILE cannot be read.\n\nExample: onixdesk check monday.csv",
     );
-    with_word(Ok(check), Ok(texts(alloc)))
+    let texts = needed_files(
+        alloc,
+        "Requests or a message as CSV records, up to 4,194,304 bytes of UTF-8; - is standard input",
+    );
+    with_word(Ok(check), Ok(texts))
 }
 
 fn export<'a>(alloc: Global) -> Command<'a>
@@ -184,17 +184,6 @@ fn export<'a>(alloc: Global) -> Command<'a>
     )
 }
 
-fn series<'a>(alloc: Global) -> Arg<'a>
-    ensures { IsWord (free_operand (codes "name")) result }
-{
-    operand(
-        alloc,
-        "name",
-        "NAME",
-        "The name of the series; without it all series of the database file",
-    )
-}
-
 fn gaps<'a>(alloc: Global) -> Result<Command<'a>, AllocError>
     ensures { IfOk result (IsCommand (command_of "gaps" (free_operand (codes "name") ∷ []))) }
 {
@@ -204,7 +193,13 @@ fn gaps<'a>(alloc: Global) -> Result<Command<'a>, AllocError>
         "Write which message numbers of a series, or of all, are missing",
         "Writes the first and the next number of a series, the greatest that has come, how many are held, and the ranges of numbers that are missing. A series that is not agreed, and a name that cannot be one, are answered refused,unknown-series with status 1. Without a NAME this is written of each series of the database file, in the order of the bytes of their names: onixdesk --db FILE gaps. Then a missing or empty file, or one that has no desk, is a fault, and no desk is made.\n\nExample: onixdesk --db shop.db gaps north",
     );
-    with_word(Ok(gaps), Ok(series(alloc)))
+    let series = operand(
+        alloc,
+        "name",
+        "NAME",
+        "The name of the series; without it all series of the database file",
+    );
+    with_word(Ok(gaps), Ok(series))
 }
 
 fn port<'a>(alloc: Global) -> Arg<'a>
@@ -270,12 +265,6 @@ fn migrate<'a>(alloc: Global) -> Command<'a>
     )
 }
 
-fn table<'a>(alloc: Global) -> Arg<'a>
-    ensures { IsWord (needed (free_operand (codes "file"))) result }
-{
-    operand(alloc, "file", "FILE", "A precedence table as a TOML file").required(true)
-}
-
 fn rules_check<'a>(alloc: Global) -> Result<Command<'a>, AllocError>
     ensures { IfOk result
         (IsCommand (command_of "rules" (needed (free_operand (codes "file")) ∷ []))) }
@@ -286,19 +275,8 @@ fn rules_check<'a>(alloc: Global) -> Result<Command<'a>, AllocError>
         "Read a precedence table, and write how many rules it has",
         "Reads the precedence table of a TOML file, as a desk does that is started with --rules FILE, and writes 'rules N', with the number of its rules. If the file is not a precedence table, or cannot be read, the status is 2, and a line on standard error says in which line of the file, and why. Try a changed file so before the desk is started again.\n\nExample: onixdesk rules rules.toml",
     );
-    with_word(Ok(rules), Ok(table(alloc)))
-}
-
-fn terms_file<'a>(alloc: Global) -> Arg<'a>
-    ensures { IsWord (needed (free_operand (codes "file"))) result }
-{
-    operand(
-        alloc,
-        "file",
-        "FILE",
-        "A table of the shop's terms with a wholesaler as a TOML file",
-    )
-    .required(true)
+    let table = needed_file(alloc, "A precedence table as a TOML file");
+    with_word(Ok(rules), Ok(table))
 }
 
 fn terms_check<'a>(alloc: Global) -> Result<Command<'a>, AllocError>
@@ -311,7 +289,11 @@ fn terms_check<'a>(alloc: Global) -> Result<Command<'a>, AllocError>
         "Read the shop's terms with a wholesaler, and write how many there are",
         "Reads a table of the shop's terms with a wholesaler, a TOML file, and writes 'terms N', with the number of its terms. If the file is not a table of terms, or cannot be read, the status is 2, and a line on standard error says which term is bad, and why. A line on standard error names each term that never counts, since an earlier one fits every price that it fits.\n\nExample: onixdesk terms north.toml",
     );
-    with_word(Ok(terms), Ok(terms_file(alloc)))
+    let table = needed_file(
+        alloc,
+        "A table of the shop's terms with a wholesaler as a TOML file",
+    );
+    with_word(Ok(terms), Ok(table))
 }
 
 fn parts<'a>(alloc: Global) -> Arg<'a>

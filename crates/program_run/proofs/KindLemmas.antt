@@ -14,7 +14,7 @@ use Rattle.program_words.specs.declared.invocation.Action.{Action}
 use Rattle.program_words.specs.declared.invocation.Action.TheVariants.{InMemory, InFile}
 use Rattle.program_words.specs.declared.invocation.Task.{Task}
 use Rattle.program_words.specs.declared.invocation.Task.TheVariants as task
-use Rattle.program_run.specs.Kinds.{ActionEnds, AsksGaps, BatchRun, Batches, CheckRun, ConvertRun, DeliverRun, Delivers, GapsRun, ListRun, MigrateRun, RunEnds, RunsTask, SendRun, ServeRun, Serves, Written}
+use Rattle.program_run.specs.Kinds.{ActionEnds, AsksGaps, BatchRun, Batches, CheckRun, Checks, ConvertRun, Converts, DeliverRun, Delivers, GapsRun, ListRun, Lists, MigrateRun, Migrates, RunEnds, RunsTask, SendRun, Sends, ServeRun, Serves, Written}
 use Rattle.program_run.specs.OverFiles.{EndsOverFiles}
 use Rattle.program_run.specs.TaskEnds.{TaskEnds}
 use Rattle.program_run.specs.declared.machine.Machine.{Machine}
@@ -39,7 +39,7 @@ module _ {M : Type 0} {m : DeskKind} (seen : M → View m) {K : Type 0} {k : Des
       → (rules : List Rule) (action : Action) → RunsTask seen files holds lacks_folder contents remaining databases old new result Tasks rules action → RunsTask seen files holds lacks_folder contents remaining databases old new result ends rules action
   task_as ends f rules (InMemory task) (untouched, first, last, is_new, sound, ended) = (untouched, first, last, is_new, sound, f task _ _ ended)
   task_as ends f rules (InFile db task) (stay, ended) = (stay, over_as files databases _ _ _ _ _ (λ first last own is. f task _ own is) result.0 result.1 ended)
-  task_as ends f rules action ended = tt
+  task_as ends f rules other ended = tt
 
   run_as : (words : List (Bor (List ℕ))) (ends : List Rule → Action → Type 0) → ((rules : List Rule) (action : Action) → Ended rules action → ends rules action) → RunEnds seen files holds lacks_folder contents remaining databases old new result words Ended → RunEnds seen files holds lacks_folder contents remaining databases old new result words ends
   run_as words ends f (inl (invocation, reads, inl (rules, read, ended))) = inl (invocation, reads, inl (rules, read, f rules invocation.action ended))
@@ -48,19 +48,19 @@ module _ {M : Type 0} {m : DeskKind} (seen : M → View m) {K : Type 0} {k : Des
 
   is_batch : (task : Task) (asked : List Step → Type 0) (own : ℕ) → Tasks task asked own → Batches seen files holds lacks_folder contents remaining databases old new result task asked own
   is_batch task.Batch asked own ended = ended
-  is_batch task asked own ended = tt
+  is_batch other asked own ended = tt
 
   is_deliver : (task : Task) (asked : List Step → Type 0) (own : ℕ) → Tasks task asked own → Delivers seen files holds lacks_folder contents remaining databases old new result task asked own
   is_deliver (task.Deliver names) asked own ended = ended
-  is_deliver task asked own ended = tt
+  is_deliver other asked own ended = tt
 
   is_gaps : (task : Task) (asked : List Step → Type 0) (own : ℕ) → Tasks task asked own → AsksGaps seen files holds lacks_folder contents remaining databases old new result task asked own
   is_gaps (task.Gaps name) asked own ended = ended
-  is_gaps task asked own ended = tt
+  is_gaps other asked own ended = tt
 
   is_serve : (task : Task) (asked : List Step → Type 0) (own : ℕ) → Tasks task asked own → Serves seen files holds lacks_folder contents remaining databases old new result task asked own
   is_serve (task.Serve port requests batches) asked own ended = ended
-  is_serve task asked own ended = tt
+  is_serve other asked own ended = tt
 
   -- each kind
   pub record Kinds (words : List (Bor (List ℕ))) : Type 0 where
@@ -76,13 +76,13 @@ module _ {M : Type 0} {m : DeskKind} (seen : M → View m) {K : Type 0} {k : Des
 
   pub kinds : (words : List (Bor (List ℕ))) → RunEnds seen files holds lacks_folder contents remaining databases old new result words Ended → Kinds words
   kinds words ended = record {
-    batch = run_as words _ (λ rules action is. task_as (Batches seen files holds lacks_folder contents remaining databases old new result) is_batch rules action is.0) ended;
-    deliver = run_as words _ (λ rules action is. task_as (Delivers seen files holds lacks_folder contents remaining databases old new result) is_deliver rules action is.0) ended;
-    gaps = run_as words _ (λ rules action is. task_as (AsksGaps seen files holds lacks_folder contents remaining databases old new result) is_gaps rules action is.0) ended;
-    serve = run_as words _ (λ rules action is. task_as (Serves seen files holds lacks_folder contents remaining databases old new result) is_serve rules action is.0) ended;
-    list = run_as words _ (λ rules action is. is.1) ended;
-    migrate = run_as words _ (λ rules action is. is.2) ended;
-    send = run_as words _ (λ rules action is. is.3) ended;
-    convert = run_as words _ (λ rules action is. is.4) ended;
-    check = run_as words _ (λ rules action is. is.5) ended;
+    batch = run_as words (RunsTask seen files holds lacks_folder contents remaining databases old new result (Batches seen files holds lacks_folder contents remaining databases old new result)) (λ rules action is. task_as (Batches seen files holds lacks_folder contents remaining databases old new result) is_batch rules action is.0) ended;
+    deliver = run_as words (RunsTask seen files holds lacks_folder contents remaining databases old new result (Delivers seen files holds lacks_folder contents remaining databases old new result)) (λ rules action is. task_as (Delivers seen files holds lacks_folder contents remaining databases old new result) is_deliver rules action is.0) ended;
+    gaps = run_as words (RunsTask seen files holds lacks_folder contents remaining databases old new result (AsksGaps seen files holds lacks_folder contents remaining databases old new result)) (λ rules action is. task_as (AsksGaps seen files holds lacks_folder contents remaining databases old new result) is_gaps rules action is.0) ended;
+    serve = run_as words (RunsTask seen files holds lacks_folder contents remaining databases old new result (Serves seen files holds lacks_folder contents remaining databases old new result)) (λ rules action is. task_as (Serves seen files holds lacks_folder contents remaining databases old new result) is_serve rules action is.0) ended;
+    list = run_as words (Lists seen files holds lacks_folder contents remaining databases old new result) (λ rules action is. is.1) ended;
+    migrate = run_as words (Migrates seen files holds lacks_folder contents remaining databases old new result) (λ rules action is. is.2) ended;
+    send = run_as words (Sends seen files holds lacks_folder contents remaining databases old new result) (λ rules action is. is.3) ended;
+    convert = run_as words (Converts seen files holds lacks_folder contents remaining databases old new result) (λ rules action is. is.4) ended;
+    check = run_as words (Checks seen files holds lacks_folder contents remaining databases old new result) (λ rules action is. is.5) ended;
   }

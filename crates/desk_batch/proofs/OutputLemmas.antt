@@ -9,7 +9,7 @@ use Rattle.series_rules.specs.declared.requests.Request.{Request}
 use Rattle.desk_texts.specs.Requests.{HasRecords, RecordsFit, requests_of}
 use Rattle.desk_batch.specs.Batch.{BatchGives, RunsBatch}
 use Rattle.desk_batch.specs.Lists.{IsAsStopped, IsWritten, output, refusals}
-use Rattle.desk_batch.specs.Outputs.{AreAnswered, AreAnsweredUpTo, BatchEnds, BatchesEnd}
+use Rattle.desk_batch.specs.Outputs.{AreAnswered, AreAnsweredUpTo, BatchComesTo, BatchesComeTo}
 use Rattle.desk_batch.specs.Talks.{Stop, Talk, Talks, cut, ended, failed, refusals_in, unsaid}
 use Rattle.desk_batch.specs.declared.batch.BatchFault.{BatchFault}
 use Rattle.desk_batch.specs.declared.batch.BatchFault.TheVariants as fault
@@ -46,7 +46,7 @@ module _ {k : DeskKind} (rules : List Rule) (asked : List Step → Type 0) (old 
       subst (λ n. new.stands_for (followed_by L (take n rs))) (sym is) stands,
     )
 
-  ends : (result : Result ℕ BatchFault) → RunsBatch asked written text result → BatchEnds rules L text written new.stands_for result
+  ends : (result : Result ℕ BatchFault) → RunsBatch asked written text result → BatchComesTo rules L text written new.stands_for result
   ends (Ok n) (has, talks) =
       let it = stopped (BatchGives (Ok n)) talks ended talks.result_is.0 in
       let w = (told (BatchGives (Ok n)) talks).0 in
@@ -82,5 +82,5 @@ module _ {k : DeskKind} (rules : List Rule) (asked : List Step → Type 0) (old 
       let it = stopped gives talks unsaid talks.result_is.0 in
       (has, subst (AreAnsweredUpTo rules L (requests_of text) written new.stands_for done) it.3 (up_to gives talks done it.0 (sym talks.result_is.1 ∙ it.1)))
 
-pub batches_end : {k : DeskKind} (rules : List Rule) (asked : List Step → Type 0) (written : List ℕ → Type 0) (old new : View k) → ((steps : List Step) → asked steps → Leads rules steps old new) → BatchesEnd rules asked written old new
+pub batches_end : {k : DeskKind} (rules : List Rule) (asked : List Step → Type 0) (written : List ℕ → Type 0) (old new : View k) → ((steps : List Step) → asked steps → Leads rules steps old new) → BatchesComeTo rules asked written old new
 batches_end rules asked written old new leads = λ text result ran L stood sound. ends rules asked old new leads L stood sound text written result ran

@@ -32,26 +32,26 @@ module _ (rules : List Rule) (L rs : List Request) (written : List ℕ → Type 
 -- answered with nothing.
 module _ (rules : List Rule) (L : List Request) (text : List ℕ) (written : List ℕ → Type 0)
     (stands : List Request → Type 0) where
-  abbrev pub BatchEnds : Result ℕ BatchFault → Type 0
-  BatchEnds (Ok n) =
+  abbrev pub BatchComesTo : Result ℕ BatchFault → Type 0
+  BatchComesTo (Ok n) =
       HasRecords text × (n ≡ refusals rules L (requests_of text))
       × written (output rules L (requests_of text)) × stands (followed_by L (requests_of text))
-  BatchEnds (Err (fault.Records f)) = RecordsFit text f × written [] × stands L
-  BatchEnds (Err fault.Read) = written [] × stands L
-  BatchEnds (Err (fault.Store done f)) =
+  BatchComesTo (Err (fault.Records f)) = RecordsFit text f × written [] × stands L
+  BatchComesTo (Err fault.Read) = written [] × stands L
+  BatchComesTo (Err (fault.Store done f)) =
       HasRecords text × (done < length (requests_of text))
       × AreAnswered rules L (requests_of text) written stands done
-  BatchEnds (Err (fault.Write done)) =
+  BatchComesTo (Err (fault.Write done)) =
       HasRecords text
       × (part : List ℕ) × AreAnsweredUpTo rules L (requests_of text) written stands done part
-  BatchEnds (Err (fault.Memory done)) =
+  BatchComesTo (Err (fault.Memory done)) =
       HasRecords text × AreAnsweredUpTo rules L (requests_of text) written stands done []
 
 -- whatever batch was run, it ended so after each list for which the desk stood. Asked: a desk was
 -- asked these steps
-abbrev pub BatchesEnd : {k : DeskKind} → List Rule → (List Step → Type 0) → (List ℕ → Type 0)
+abbrev pub BatchesComeTo : {k : DeskKind} → List Rule → (List Step → Type 0) → (List ℕ → Type 0)
     → (old new : View k) → Type 0
-BatchesEnd rules asked written old new =
+BatchesComeTo rules asked written old new =
     (text : List ℕ) (result : Result ℕ BatchFault) → RunsBatch asked written text result
     → (L : List Request) → old.stands_for L → new.sound
-    → BatchEnds rules L text written new.stands_for result
+    → BatchComesTo rules L text written new.stands_for result

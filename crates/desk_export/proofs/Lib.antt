@@ -4,7 +4,6 @@ pub mod MessageBack
 pub mod MapEntries
 pub mod ExportLaw
 pub mod ExportTexts
-pub mod WrittenRequests
 pub mod Waivers
 pub mod TakenTexts
 pub mod AskedDesks

@@ -1,18 +1,16 @@
 //! Laws: facts about the definitions alone. Each is the contract of a function that does nothing.
 
 ghost use Rattle.std.specs.Prelude.{◌≡◌, ℕ, List, Some, length};
-ghost use Rattle.std.specs.List.{AllByRecursion};
 ghost use Rattle.onix_records.specs.Message.{message_of};
 ghost use Rattle.onix_records.specs.declared.parts.Header.{Header};
 ghost use Rattle.onix_records.specs.declared.parts.Product.{Product};
-ghost use Rattle.desk_texts.specs.Requests.{requests_of};
 ghost use Rattle.desk_export.specs.Exports.{ExportIsTrue};
 ghost use Rattle.desk_export.specs.MessageRecords.{message_records, numbered_header};
-ghost use Rattle.desk_export.specs.RequestTexts.{CanBeWritten, ExportIsRead};
+ghost use Rattle.desk_export.specs.RequestTexts.{ExportIsRead};
 
 use csv_records::laws::one_text;
 use onix_records::laws::contents_of_messages;
-use onix_terms::laws::{number_reads_back, terms_are_in_range, texts_are_themselves};
+use onix_terms::laws::{number_reads_back, terms_are_in_range};
 
 /// A message with a number is read again from the records that are written of its parties, its
 /// number and its contents: these records are a message with just that, and are as many as those
@@ -47,13 +45,4 @@ pub fn export_is_read()
 {
     one_text();
     export_is_true();
-}
-
-/// Each request that is read from a batch can be written.
-pub fn requests_can_be_written()
-    ensures { (text : List ℕ) → AllByRecursion CanBeWritten (requests_of text) }
-{
-    number_reads_back();
-    terms_are_in_range();
-    texts_are_themselves();
 }

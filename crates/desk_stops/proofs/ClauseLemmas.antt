@@ -1,23 +1,9 @@
 -- What the desk's methods promise makes their calls events of a run.
-use Rattle.std.specs.Prelude.{◌⊎◌, IsTrue}
-use Rattle.std.proofs.Common.{◌≡◌, true, false, List, [], ◌∷◌, Result, Ok, Err, refl, sym, ap, ◌∙◌, subst, inl, inr}
-use Rattle.std.proofs.Math.Logic.{∥∥₁_elim, ∥∥₁_map}
-use Rattle.sqlite.proofs.Theorems.{next_run}
-use Rattle.sqlite.specs.Effect.{Database, IsDatabase}
-use Rattle.sqlite.specs.Files.{Finds, IsOpened, file_state, image_of, over_files}
+use Rattle.std.proofs.Common.{◌≡◌, true, List, [], ◌∷◌, Result, Ok, Err, refl, sym, ap, ◌∙◌, subst, inl}
 use Rattle.sqlite.specs.Held.{Held, state}
-use Rattle.sqlite.specs.State as sqlite
-use Rattle.sqlite.specs.State.{State, HasCleanDisk, IsLive}
-use Rattle.sqlite_disk.specs.declared.Disk as disk
-use Rattle.sqlite_disk.specs.declared.Files.{Files}
-use Rattle.sqlite_store.specs.FileStore.{recovers}
-use Rattle.sqlite_store.specs.declared.store.FileStore.{FileStore}
-use Rattle.sqlite_trees.specs.Props.{Trees-set}
+use Rattle.sqlite.specs.State.{HasCleanDisk}
 use Rattle.sqlite_trees.specs.Tree.{Trees}
 use Rattle.sqlite_trees.specs.declared.store.Store.{Ghosts}
-use Rattle.sqlite_wal.specs.Reads.{AreClean}
-use Rattle.desk_tables.proofs.OneSchema.{holds_again, one_schema, unindexed_holds_again}
-use Rattle.desk_tables.specs.Rows.{DeskRows}
 use Rattle.onix_records.specs.declared.faults.StoreFault.{StoreFault}
 use Rattle.price_rules.specs.declared.precedence.Rule.{Rule}
 use Rattle.series_rules.specs.Answers.{answer_to}
@@ -25,13 +11,11 @@ use Rattle.series_rules.specs.declared.answers.Answer.{Answer}
 use Rattle.series_rules.specs.declared.requests.Request.{Request}
 use Rattle.desk_rows.proofs.ComesTo.{come_rows, or_rows}
 use Rattle.desk_rows.specs.ContentLemmas.{keeps_by_content}
-use Rattle.desk_rows.specs.Desks.{AreRowsOf, HoldsSecond, KeepsRequests}
-use Rattle.desk_versions.specs.Openings.{HoldRowsOf, IsReady, ShowsOnly}
-use Rattle.desk_versions.specs.Openings as openings
+use Rattle.desk_rows.specs.Desks.{AreRowsOf}
 use Rattle.desk_stops.specs.Connections.{storage}
-use Rattle.desk_stops.specs.Clauses.{ClosingsAreEvents, TracesAreRuns, IsEvent, IsQuestionEvent, OpeningsAreEvents, QuestionsAreEvents, RequestsAreEvents, StopsAreEvents, UnaskedAreEvents, events_after, seen}
+use Rattle.desk_stops.specs.Clauses.{TracesAreRuns, IsEvent, IsQuestionEvent, QuestionsAreEvents, RequestsAreEvents, UnaskedAreEvents, events_after, seen}
 use Rattle.desk_stops.specs.Events.{Event, Answered, Faulted, Open}
-use Rattle.desk_stops.specs.Runs.{Closes, IsFoundFor, Runs}
+use Rattle.desk_stops.specs.Runs.{Runs}
 use Rattle.series_rules.proofs.TraceLemmas.{trace_premise}
 use Rattle.series_rules.proofs.Questions.{question_changes_nothing, question_left}
 use Rattle.series_rules.proofs.ViewLemmas.{asks_of}
@@ -108,65 +92,3 @@ module _ {Store : Type 0} (g : Ghosts Store) (rules : List Rule) where
     };
     faulted = λ r desk. record { err = λ sound L stands. stands; crash = λ sound L stands d leaves. inl leaves };
   }
-
-  -- ---- openings
-
-  -- rows of version 2, with the index or without it, are those of its trees
-  second_again : (a b : Database) (rows : DeskRows) → IsDatabase b → b.trees ≡ a.trees → HoldsSecond a rows → HoldsSecond b rows
-  second_again a b rows live same (inl is) = inl (holds_again a b rows is live same)
-  second_again a b rows live same (inr is) = inr (unindexed_holds_again a b rows is.0 live same, is.1)
-
-  -- what was found, as the database of the connection that was just opened
-  found_for : (s : State) (L : List Request) → IsDatabase s.now → IsFoundFor (storage g rules) s.now.trees L → openings.IsFoundFor s.now L
-  found_for s L live (inl (db, same, (rows, held, stands))) = inl (rows, second_again db s.now rows live (sym same) held, stands)
-  found_for s L live (inr ((db, same, bare), none)) =
-      let schema = one_schema db s.now bare.1 live (sym same) (ap (λ x. x.views) bare.0.schema_is) in
-      inr (record { schema_is = schema ∙ bare.0.schema_is; empty = tt }, none)
-
-  shows : (s : State) → sqlite.Opens s → ShowsOnly s.now s
-  shows s opens = λ up. (opens.autocommit, refl, sym opens.clean)
-
-  module _ (settled : (s : Store) (db : Trees) → IsTrue (g.view s).is_open → g.recovers s db → db ≡ (g.view s).committed) where
-    pub openings_are_events : OpeningsAreEvents g rules
-    openings_are_events = record {
-      ok = λ opened new just ready. record {
-        stands = λ sound L found. let it = just (ready.premise sound) in ready.ok sound (state g opened).now (shows (state g opened) it.0) L (found_for (state g opened) L (it.1 it.0.is_open).0 found);
-        alone = λ sound L found. let it = just (ready.premise sound) in ready.alone sound (state g opened).now (shows (state g opened) it.0) L (found_for (state g opened) L (it.1 it.0.is_open).0 found);
-      };
-      files = λ image found new same stands alone. record { stands = λ sound L is. stands sound L (same L is); alone = λ sound L is. alone sound L (same L is) };
-      crash = λ opened last result just ready sound left leaves L found.
-          let it = just (ready.premise sound) in
-          kept opened left L it.0 found (ready.crash sound (state g opened).now (shows (state g opened) it.0) L (found_for (state g opened) L (it.1 it.0.is_open).0 found) left leaves);
-    }
-      where
-        kept : (opened : Held Store) (left : Trees) (L : List Request) → sqlite.Opens (state g opened) → IsFoundFor (storage g rules) (state g opened).now.trees L → MayLeave opened left ⊎ AreRowsOf left L → IsFoundFor (storage g rules) left L
-        kept opened left L opens found (inl was) =
-            let same : left ≡ (state g opened).now.trees = settled opened.store left opens.is_open was ∙ sym (ap (λ (db : Database). db.trees) opens.clean) in
-            subst (λ (d : Trees). IsFoundFor (storage g rules) d L) (sym same) found
-        kept opened left L opens found (inr rows) = inl rows
-
--- ---- closings
-
-module _ {D : Type 0} (g : disk.Ghosts D) (rules : List Rule) where
-  closed : (old opened : Held (FileStore D g)) (files : Files D) → (HasCleanDisk (file_state opened) → IsOpened opened) → (HasCleanDisk (file_state opened) → Finds files opened)
-      → (AreClean g files.log files.db → (L : List Request) → KeepsRequests (file_state old) L → HoldRowsOf (image_of g files) L)
-      → HasCleanDisk (file_state opened) → Closes (storage (over_files {g = g}) rules) old (file_state opened).now.trees
-  closed old opened files shown finds holds sound L stands = go (holds (finds sound).honest L stands)
-    where
-      trees : (file_state opened).committed.trees ≡ (file_state opened).now.trees
-      trees = sym (ap (λ (db : Database). db.trees) (shown sound).0.clean)
-
-      go : HoldRowsOf (image_of g files) L → IsFoundFor (storage (over_files {g = g}) rules) (file_state opened).now.trees L
-      go (held, both, rows) =
-          let same : (file_state opened).committed.trees ≡ held = ∥∥₁_elim both (Trees-set _ _) ((finds sound).holds held) in
-          inl (subst (λ (d : Trees). AreRowsOf d L) (sym same ∙ trees) rows)
-
-  pub closings_are_events : ClosingsAreEvents g rules
-  closings_are_events = record { ok = closed; stop = λ old last it left leaves. it.quiet.outcomes left leaves }
-
--- ---- stops
-
-pub stops_are_events : {D E : Type 0} (g : disk.Ghosts D) (next : disk.Ghosts E) (rules : List Rule) → StopsAreEvents g next rules
-stops_are_events g next rules old opened image connected clean leaves just finds sound =
-    let trees : (file_state opened).committed.trees ≡ (file_state opened).now.trees = sym (ap (λ (db : Database). db.trees) (just sound).0.clean) in
-    ∥∥₁_map (next_run old.store (connected.numbered clean) (connected.found clean) image leaves (file_state opened) (finds sound)) (subst (recovers old.store) trees)

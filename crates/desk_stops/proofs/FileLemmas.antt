@@ -1,5 +1,5 @@
 -- What is promised of a desk's files makes their openings, closings and stops events of a run.
-use Rattle.std.proofs.Common.{◌≡◌, ◌⊎◌, List, [], inl, inr, refl, sym, ap, ◌∙◌, subst}
+use Rattle.std.proofs.Common.{◌≡◌, ◌⊎◌, List, [], inl, inr, refl, sym, subst}
 use Rattle.std.proofs.Math.Logic.{∥∥₁_elim, ∥∥₁_map}
 use Rattle.sqlite.proofs.Theorems.{opens_again}
 use Rattle.sqlite.specs.Effect.{Database}
@@ -77,4 +77,5 @@ module _ {D : Type 0} (g : disk.Ghosts D) (rules : List Rule) where
     closing = λ old files copied clean.
         let it = copied clean in
         (inl it.seen.both, λ L stands. inl ((file_state old).committed, refl, stored (file_state old).committed L (stands it.was_open).2));
+    failed = λ old last it left leaves. it.quiet.outcomes left leaves;
   }

@@ -3,5 +3,4 @@ pub mod WholeLists
 pub mod ConnectionLaws
 pub mod ClauseLemmas
 pub mod FileLemmas
-mod SessionLemmas
 pub mod OneContent

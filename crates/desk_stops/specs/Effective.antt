@@ -1,5 +1,5 @@
 -- The effective lists of a run with stops. Events and requests stand with the latest first.
-use Rattle.std.specs.Prelude.{◌≡◌, ◌⊎◌, ◌↔◌, ℕ, zero, suc, true, false, List, [], ◌∷◌, ◌++◌}
+use Rattle.std.specs.Prelude.{◌≡◌, ◌⊎◌, ℕ, zero, suc, false, List, [], ◌∷◌, ◌++◌}
 use Rattle.desk_stops.specs.Events.{Event, Answered, Faulted, StopInside, Stop, Opening, Open, Closed}
 use Rattle.desk_stops.specs.Runs.{Storage, IsFoundFor, LeavesOnly, Runs, Steps}
 
@@ -18,28 +18,21 @@ module _ {R A D Desk : Type 0} (k : Storage R A D Desk) where
       IsSuch M ⊎ ((f : R) × (L : List R) × (M ≡ f ∷ L) × IsInDoubt h L f × IsSuch L)
 
   -- M is an effective list of the events, where the database was that of L0 at first: it has L0 and
-  -- then the answered requests, and at a stop it may have one in doubt
+  -- then the answered requests, each of which had the answer to it after what the list has before
+  -- it, and at a stop it may have one in doubt
   abbrev pub IsEffective : List R → List (Event R A) → List R → Type 0
   IsEffective L0 [] M = M ≡ L0
-  IsEffective L0 (Answered r a ∷ h) M = (L : List R) × (M ≡ r ∷ L) × IsEffective L0 h L
+  IsEffective L0 (Answered r a ∷ h) M =
+      (L : List R) × (M ≡ r ∷ L) × (a ≡ k.answer_to L r) × IsEffective L0 h L
   IsEffective L0 (StopInside r ∷ h) M = WithDoubt (IsEffective L0 h) (Faulted r ∷ h) M
   IsEffective L0 (Stop ∷ h) M = WithDoubt (IsEffective L0 h) h M
   IsEffective L0 (_ ∷ h) M = IsEffective L0 h M
-
-  -- the same, and each answer is that to its request after what the list has before it
-  abbrev pub Explains : List R → List (Event R A) → List R → Type 0
-  Explains L0 [] M = M ≡ L0
-  Explains L0 (Answered r a ∷ h) M =
-      (L : List R) × (M ≡ r ∷ L) × (a ≡ k.answer_to L r) × Explains L0 h L
-  Explains L0 (StopInside r ∷ h) M = WithDoubt (Explains L0 h) (Faulted r ∷ h) M
-  Explains L0 (Stop ∷ h) M = WithDoubt (Explains L0 h) h M
-  Explains L0 (_ ∷ h) M = Explains L0 h M
 
   -- a desk that was just opened, after any run, stands for an effective list, and a stop leaves the
   -- rows of that list and nothing else. An effective list (`IsEffective`) has the first list and
   -- then the answered requests, in order, and at each stop perhaps one more: no question, faulted
   -- or stopped inside since the last opening, with no answered request since then that changed the
-  -- desk
+  -- desk. It explains all answers
   abbrev pub WhatIsOpenedIsEffective : Type 0
   WhatIsOpenedIsEffective =
       (L0 : List R) (found : D) (h : List (Event R A)) (desk : Desk) → IsFoundFor k found L0
@@ -53,13 +46,6 @@ module _ {R A D Desk : Type 0} (k : Storage R A D Desk) where
       → Runs k found h (Closed left)
       → (L : List R) × IsEffective L0 h L × IsFoundFor k left L
 
-  -- one effective list explains all answers of a run, and the open desk stands for it
-  abbrev pub AnswersAreExplained : Type 0
-  AnswersAreExplained =
-      (L0 : List R) (found : D) (h : List (Event R A)) (desk : Desk) → IsFoundFor k found L0
-      → Runs k found h (Open desk)
-      → (L : List R) × Explains L0 h L × k.StandsFor desk L
-
   -- the open desk stands for an effective list, and answers each further request, or one that comes
   -- again, as a desk that was never stopped does after that list
   abbrev pub AnsweredAsIfNeverStopped : Type 0
@@ -70,20 +56,6 @@ module _ {R A D Desk : Type 0} (k : Storage R A D Desk) where
       × k.StandsFor desk L
       × ((r : R) (a : A) (next : Desk) → Steps k (Open desk) (Answered r a) (Open next)
       → a ≡ k.answer_to L r)
-
--- After events h over one kind of store, all explained by one list, for which the database is found
--- that they left, a run over another kind of store begins at that database. One effective list
--- explains the answers of both, and the open desk stands for it, or the database that is left is
--- that of it. Each database may be opened by a store of another kind in turn, since what is left is
--- as at the beginning.
-abbrev pub RunsGoOn : {R A D S T : Type 0} → Storage R A D S → Storage R A D T → Type 0
-RunsGoOn {R = R} {A = A} {D = D} {T = T} k l =
-    (L0 L1 : List R) (h next : List (Event R A)) (found : D) → Explains k L0 h L1
-    → IsFoundFor k found L1
-    → ((desk : T) → Runs l found next (Open desk)
-    → (L : List R) × Explains l L0 (next ++ h) L × l.StandsFor desk L)
-    × ((left : D) → Runs l found next (Closed left)
-    → (L : List R) × Explains l L0 (next ++ h) L × IsFoundFor l left L)
 
 -- the requests that were answered
 abbrev pub answered_in : {R A : Type 0} → List (Event R A) → List R
@@ -110,17 +82,3 @@ abbrev pub AnsweredAreWhole : {R A D Desk : Type 0} → Storage R A D Desk → T
 AnsweredAreWhole {R = R} {A = A} k =
     (L0 : List R) (h : List (Event R A)) (M : List R) → IsEffective k L0 h M
     → HasMore (stops_in h) (answered_in h ++ L0) M
-
--- a request r was faulted, q was answered after it, and then a stop came
-abbrev pub answered_after_a_fault : {R A : Type 0} → R → R → A → List (Event R A)
-answered_after_a_fault r q a = Stop ∷ Answered q a ∷ Faulted r ∷ Opening ∷ []
-
--- of two requests after an opening, the first faulted and no question, the second answered: after a
--- stop the second stands, alone where it changed something, and else perhaps with the first behind
--- it
-pub record DoubtEndsWithAChange {R A D Desk : Type 0} (k : Storage R A D Desk) : Type 0 where
-  pub stays : (L : List R) (r q : R) (a : A) → k.is_question r ≡ false → k.changes L q ≡ false
-      → (M : List R)
-      → IsEffective k L (answered_after_a_fault r q a) M ↔ ((M ≡ q ∷ L) ⊎ (M ≡ r ∷ q ∷ L))
-  pub ends : (L : List R) (r q : R) (a : A) → k.changes L q ≡ true
-      → (M : List R) → IsEffective k L (answered_after_a_fault r q a) M ↔ (M ≡ q ∷ L)

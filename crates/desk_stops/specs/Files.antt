@@ -2,7 +2,7 @@
 -- for.
 use Rattle.std.specs.Prelude.{◌≡◌, ◌⊎◌, List, []}
 use Rattle.sqlite.specs.Closing.{IsCopied}
-use Rattle.sqlite.specs.Files.{HoldsDatabase, IsCleanLeft, IsEmpty, file_state, image_of, over_files}
+use Rattle.sqlite.specs.Files.{HoldsDatabase, IsCleanLeft, IsClosed, IsEmpty, file_state, image_of, over_files}
 use Rattle.sqlite.specs.Held.{Held, IsConnected, state}
 use Rattle.sqlite.specs.State.{HasCleanDisk}
 use Rattle.sqlite.specs.declared.file.Leftover.TheVariants as leftover
@@ -65,3 +65,8 @@ pub record FilesAreLeft {D : Type 0} (g : disk.Ghosts D) (rules : List Rule) : T
       → AreClean g files.log files.db
       → AreFilesAt (image_of g files) (file_state old).committed.trees
       × Closes (storage (over_files {g = g}) rules) old (file_state old).committed.trees
+  -- a closing that failed, or that a stop came into, is a stop: it leaves what a stop before it may
+  -- leave
+  pub failed : (old : Held (FileStore D g)) (last : FileStore D g) → IsClosed old last
+      → (left : Trees) → recovers last left
+      → Steps (storage over_files rules) (Open old) Stop (Closed left)

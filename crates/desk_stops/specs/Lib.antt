@@ -4,4 +4,3 @@ pub mod Effective
 pub mod Connections
 pub mod Clauses
 pub mod Files
-pub mod Sessions

@@ -2,10 +2,8 @@
 //! of a run asks for.
 
 ghost use Rattle.std.specs.Prelude.{List};
-ghost use Rattle.desk_stops.specs.Clauses.{ClosingsAreEvents, TracesAreRuns, OpeningsAreEvents, QuestionsAreEvents, RequestsAreEvents, StopsAreEvents, UnaskedAreEvents};
+ghost use Rattle.desk_stops.specs.Clauses.{QuestionsAreEvents, RequestsAreEvents, TracesAreRuns, UnaskedAreEvents};
 ghost use Rattle.desk_stops.specs.Files.{FileOpeningsAreEvents, FilesAreLeft};
-ghost use Rattle.desk_stops.specs.Sessions.{AskedAreRuns, SessionsAreRuns};
-ghost use Rattle.desk_store.specs.declared.desk.DeskStore.{DeskStore};
 ghost use Rattle.price_rules.specs.declared.precedence.Rule.{Rule};
 
 use sqlite::Alter;
@@ -28,38 +26,9 @@ pub fn traces_are_runs<S: Alter>()
     ensures { (rules : List Rule) → TracesAreRuns S.Store rules }
 {}
 
-/// What was asked of a desk one after the other, as a batch is, goes on with a run.
-pub fn asked_are_runs<S: Alter>()
-    ensures { (rules : List Rule)
-        → AskedAreRuns S.Store (λ (desk : DeskStore S). desk.tables.connection) rules }
-{}
-
-/// A desk in two files that is opened, asked, closed and opened again is a run, by the clauses of
-/// its calls alone.
-pub fn sessions_are_runs<D: Disk>()
-    ensures { (rules : List Rule) → SessionsAreRuns D.Disk rules }
-{}
-
 /// A request that was answered or faulted before the desk was asked is an event too.
 pub fn unasked_are_events<S: Alter>()
     ensures { (rules : List Rule) → UnaskedAreEvents S.Store rules }
-{}
-
-/// What the opening of a desk promises makes it an event of a run, with a desk or without one.
-pub fn openings_are_events<S: Alter>()
-    ensures { (rules : List Rule) → OpeningsAreEvents S.Store rules }
-{}
-
-/// What the closing of a desk's files promises makes it an event of a run, where the next opening
-/// is of these files. A closing that fails, or that a stop comes into, is a stop.
-pub fn closings_are_events<D: Disk>()
-    ensures { (rules : List Rule) → ClosingsAreEvents D.Disk rules }
-{}
-
-/// What a stop leaves of a desk's files makes it an event of a run: a connection that is opened on
-/// them finds one of the databases that the stop may leave.
-pub fn stops_are_events<D: Disk, E: Disk>()
-    ensures { (rules : List Rule) → StopsAreEvents D.Disk E.Disk rules }
 {}
 
 /// At files that hold a database, or whose database has no byte yet, the clauses of an opening of
@@ -69,7 +38,7 @@ pub fn file_openings_are_events<D: Disk>()
 {}
 
 /// The files that a stop may leave, and those that a closing gives back, hold a database at which
-/// the next opening is an event.
+/// the next opening is an event. A closing that fails, or that a stop comes into, is a stop.
 pub fn files_are_left<D: Disk>()
     ensures { (rules : List Rule) → FilesAreLeft D.Disk rules }
 {}

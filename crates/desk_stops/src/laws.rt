@@ -1,8 +1,8 @@
 //! Laws over runs with stops.
 
 ghost use Rattle.std.specs.Prelude.{List};
-ghost use Rattle.desk_stops.specs.Connections.{EmptyHoldsNoRows, RowsHaveOneContent, storage};
-ghost use Rattle.desk_stops.specs.Effective.{AnsweredAreWhole, AnsweredAsIfNeverStopped, AnswersAreExplained, DoubtEndsWithAChange, RunsGoOn, WhatIsLeftIsEffective, WhatIsOpenedIsEffective};
+ghost use Rattle.desk_stops.specs.Connections.{RowsHaveOneContent, storage};
+ghost use Rattle.desk_stops.specs.Effective.{AnsweredAreWhole, AnsweredAsIfNeverStopped, WhatIsLeftIsEffective, WhatIsOpenedIsEffective};
 ghost use Rattle.price_rules.specs.declared.precedence.Rule.{Rule};
 
 use desk_rows::laws::one_standing_text;
@@ -11,8 +11,9 @@ use sqlite::Alter;
 /// The law over runs with stops. For every list of events in which each step keeps the clauses of
 /// the desk's methods and openings: a desk that was opened last stands for an effective list, and
 /// a stop then leaves the rows of that list and nothing else. An effective list has what was there
-/// at first and each answered request, whole and in order; of the requests that were faulted or
-/// stopped inside since the last change it has at most one for each stop, whole.
+/// at first and each answered request, whole and in order, and each answer is that of a desk that
+/// has seen what the list has before its request; of the requests that were faulted or stopped
+/// inside since the last change it has at most one for each stop, whole.
 pub fn what_is_opened_is_effective<S: Alter>()
     ensures { (rules : List Rule) → WhatIsOpenedIsEffective (storage S.Store rules) }
 {}
@@ -23,13 +24,6 @@ pub fn what_is_left_is_effective<S: Alter>()
     ensures { (rules : List Rule) → WhatIsLeftIsEffective (storage S.Store rules) }
 {}
 
-/// After every such list of events that ends with an open desk there is one effective list that
-/// explains all answers, each as that of a desk that has seen what the list has before its
-/// request, and the desk stands for that list.
-pub fn answers_are_explained<S: Alter>()
-    ensures { (rules : List Rule) → AnswersAreExplained (storage S.Store rules) }
-{}
-
 /// After every such list of events that ends with an open desk, the desk stands for an effective
 /// list, and a message that comes again, or any other request, gets the answer of a desk that was
 /// never stopped, after that list.
@@ -37,29 +31,10 @@ pub fn answered_as_if_never_stopped<S: Alter>()
     ensures { (rules : List Rule) → AnsweredAsIfNeverStopped (storage S.Store rules) }
 {}
 
-/// A run goes on over another kind of store, as where a file is opened again by its path: it begins
-/// at the database that the events before it left, and one effective list explains the answers of
-/// both. The desk that is open then stands for that list, or what is left is its database.
-pub fn runs_go_on<S: Alter, T: Alter>()
-    ensures { (rules : List Rule) → RunsGoOn (storage S.Store rules) (storage T.Store rules) }
-{}
-
 /// An effective list is what was there at first and all that was answered, in order, with at most
 /// one further request for each stop that found a desk open.
 pub fn answered_are_whole<S: Alter>()
     ensures { (rules : List Rule) → AnsweredAreWhole (storage S.Store rules) }
-{}
-
-/// A request that was faulted may stand after a stop, behind one that was answered meanwhile and
-/// changed nothing. Behind one that changed something it does not.
-pub fn doubt_ends_with_a_change<S: Alter>()
-    ensures { (rules : List Rule) → DoubtEndsWithAChange (storage S.Store rules) }
-{}
-
-/// A database with no table holds the rows of no list of requests. So what a run begins at is
-/// either empty or holds rows.
-pub fn empty_holds_no_rows()
-    ensures { EmptyHoldsNoRows }
 {}
 
 /// Whatever list the rows of a desk are found to be those of, its content is one: the same agreement

@@ -1,11 +1,15 @@
 -- Whatever lists of requests two files are found to hold, the content is one.
 use Rattle.std.proofs.Common.{◌∙◌, List, inl, inr, refl, subst, sym}
+use Rattle.sqlite.specs.Files.{image_of}
 use Rattle.sqlite_disk.specs.declared.Disk.{Ghosts}
+use Rattle.sqlite_disk.specs.declared.Files.{Files}
 use Rattle.sqlite_trees.specs.Tree.{Trees}
+use Rattle.sqlite_wal.specs.Reads.{AreClean}
 use Rattle.sqlite_wal.specs.Recovery.{Image}
+use Rattle.price_rules.specs.declared.precedence.Rule.{Rule}
 use Rattle.desk_tables.specs.Schema.{schema_0}
 use Rattle.series_rules.specs.Content.{SameContent, same_trans}
-use Rattle.series_rules.specs.Steps.{with_answered}
+use Rattle.series_rules.specs.Steps.{Leads, Step, with_answered}
 use Rattle.series_rules.specs.declared.requests.Request.{Request}
 use Rattle.desk_rows.specs.ContentLemmas.{rows_by_content}
 use Rattle.desk_rows.specs.Desks.{AreRowsOf}
@@ -15,8 +19,7 @@ use Rattle.desk_versions.proofs.EmptyFiles.{bare_database, nothing_found}
 use Rattle.desk_versions.specs.Openings.{AreEmptyFiles, AreFilesOf, AreFoundAs, HoldRowsOf}
 use Rattle.program_desks.specs.declared.kept_desks.Creation.{Creation}
 use Rattle.program_databases.proofs.ViewLemmas.{found_trees, same_refl}
-use Rattle.program_databases.specs.FileViews.{MayBeTaken, seen_image}
-use Rattle.program_databases.specs.FilesMean.{HandsOn}
+use Rattle.program_databases.specs.FileViews.{MayBeTaken, seen_files, seen_image}
 
 same_sym : (L M : List Request) → SameContent L M → SameContent M L
 same_sym L M same = record { agreements = λ name. sym (same.agreements name); firsts = λ series number. sym (same.firsts series number) }
@@ -46,6 +49,7 @@ image_holds_one one image creation sound L M (one_list, files, same) (other, als
     (same_trans one_list other M (one_of one image sound.found.0 sound.found.1 one_list other files also) comes)
 
 -- a run that led from files to others hands on of which list they are
-pub hands_on : {D : Type 0} (g : Ghosts D) → HandsOn g
+pub hands_on : {D : Type 0} (g : Ghosts D) (rules : List Rule) (steps : List Step) (image : Image) (creation : Creation) (now : Files D) (L : List Request)
+    → Leads rules steps (seen_image image creation) (seen_files g now) → AreClean g now.log now.db → AreFilesOf image L → AreFilesOf (image_of g now) (with_answered L steps)
 hands_on g rules steps image creation now L leads clean are =
-    let (M, (trees, both, rows), same) = (leads.follows L (L, are, same_refl L) clean).stands in (trees, both, rows_by_content trees M (with_answered L steps) same rows)
+    let (M, (trees, both, rows), same) = (leads.follows L (L, are, same_refl L) clean).stands in inl (trees, both, rows_by_content trees M (with_answered L steps) same rows)

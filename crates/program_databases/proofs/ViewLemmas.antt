@@ -28,7 +28,7 @@ use Rattle.desk_rows.specs.Seen.{seen_in}
 use Rattle.program_desks.specs.DeskFiles.{LeavesAs, OpensAs}
 use Rattle.program_desks.specs.declared.kept_desks.Creation.{Creation}
 use Rattle.program_databases.specs.FileViews.{HoldMeta, MayBeTaken, seen_files, seen_image, seen_store}
-use Rattle.program_databases.specs.Found.{creation_by}
+use Rattle.program_databases.specs.Found.{store_creation}
 
 pub same_refl : (L : List Request) → SameContent L L
 same_refl L = record { agreements = λ name. refl; firsts = λ series number. refl }
@@ -56,7 +56,7 @@ holds_meta image s taken d (db, sound, trees, both, meta, whole) = λ up.
     ap (λ (x : Database). x.trees) (only.0 up).2 ∙ same
 
 -- what was taken for a desk may be taken for one
-may_be_taken : (image : Image) (creation : Creation) (s : State) → TakesFound image s → ¬ AreRefused (creation_by creation) image → MayBeTaken image creation
+may_be_taken : (image : Image) (creation : Creation) (s : State) → TakesFound image s → ¬ AreRefused (store_creation creation) image → MayBeTaken image creation
 may_be_taken image creation s taken may = record {
   found = (taken.found.0.trees, taken.found.2);
   version = λ db both meta holds. (taken.told db both meta holds).0;
@@ -67,7 +67,7 @@ may_be_taken image creation s taken may = record {
 pub opens_as : (image : Image) (creation : Creation) (s : State)
     → (HasCleanDisk s → (L : List Request) → AreFilesOf image L → KeepsRequests s L)
     → (HasCleanDisk s → (L : List Request) → AreFilesOf image L → (d : Trees) → s.may_leave d → AreRowsOf d L)
-    → (HasCleanDisk s → TakesFound image s) → (HasCleanDisk s → ¬ AreRefused (creation_by creation) image) → OpensAs (seen_image image creation) (seen_in s)
+    → (HasCleanDisk s → TakesFound image s) → (HasCleanDisk s → ¬ AreRefused (store_creation creation) image) → OpensAs (seen_image image creation) (seen_in s)
 opens_as image creation s stands alone taken may = record {
   premise = λ sound. may_be_taken image creation s (taken sound) (may sound);
   stands = λ sound M files. (seen_in s).by_content files.0 M files.2 (stands sound files.0 files.1);

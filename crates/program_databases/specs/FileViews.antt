@@ -25,7 +25,7 @@ use Rattle.desk_versions.specs.Migrations.{AreFilesOfEither, MakesSecond}
 use Rattle.desk_versions.specs.Openings.{AreFilesOf, AreFoundAs, HoldRowsOf, MakesIndex}
 use Rattle.program_desks.specs.DeskFiles.{DeskFiles}
 use Rattle.program_desks.specs.declared.kept_desks.Creation.{Creation}
-use Rattle.program_databases.specs.Found.{creation_by}
+use Rattle.program_databases.specs.Found.{store_creation}
 use Rattle.program_databases.specs.Migrated.{IsMigrationDone}
 use Rattle.program_databases.specs.Unopened.{LeavesFound}
 use Rattle.program_databases.specs.declared.unopened.Unopened.{Unopened}
@@ -43,7 +43,7 @@ pub record MayBeTaken (image : Image) (creation : Creation) : Type 0 where
   pub found : (db : Trees) × AreFoundAs image db
   pub version : (db : Database) → ∥ HoldsDatabase image db.trees ∥₁ → (meta : List MetaRow)
       → HoldsMeta db meta → version_among meta ≡ Some 2
-  pub taken : ¬ AreRefused (creation_by creation) image
+  pub taken : ¬ AreRefused (store_creation creation) image
 
 -- two files before they are opened, which are opened only if they may be taken for a desk: they
 -- hold what a list comes to, and once they are opened only the rows of such a list are left. A
@@ -94,9 +94,10 @@ stored_files g held = record {
   closed = seen_files g;
   hold_alone = HoldAlone g;
   unclosed = seen_store;
-  spared = λ desks name creation. LeavesFound MakesIndex (creation_by creation) (held desks name);
+  spared = λ desks name creation.
+      LeavesFound MakesIndex (store_creation creation) (held desks name);
   of_any_version = λ desks name. AreFilesOfEither (held desks name);
-  migrated = λ desks name creation. IsMigrationDone g (creation_by creation) (held desks name);
+  migrated = λ desks name creation. IsMigrationDone g (store_creation creation) (held desks name);
   unmigrated = λ desks name creation.
-      LeavesFound MakesSecond (creation_by creation) (held desks name);
+      LeavesFound MakesSecond (store_creation creation) (held desks name);
 }

@@ -11,10 +11,10 @@ use Rattle.program_desks.specs.declared.kept_desks.Creation as kept_type
 use Rattle.program_desks.specs.declared.kept_desks.Creation.TheVariants as kept
 
 -- the databases in which a desk is created, by the files in which one is made
-abbrev pub creation_by : kept_type.Creation → Creation
-creation_by kept.Anywhere = Anywhere
-creation_by kept.InEmpty = InEmpty
-creation_by kept.Never = Never
+abbrev pub store_creation : kept_type.Creation → Creation
+store_creation kept.Anywhere = Anywhere
+store_creation kept.InEmpty = InEmpty
+store_creation kept.Never = Never
 
 -- there is no such file
 abbrev pub IsMissing : Result Metadata Error → Type 0

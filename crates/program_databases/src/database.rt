@@ -1,7 +1,7 @@
 //! The database file, looked at before it is opened.
 
 ghost use Rattle.std.specs.Prelude.{◌≡◌, ◌⊎◌, ◌↔◌, IfErr, IsTrue, OnOk};
-ghost use Rattle.program_databases.specs.Found.{IsEmpty, IsMissing, IsRefused, IsStray, creation_by};
+ghost use Rattle.program_databases.specs.Found.{IsEmpty, IsMissing, IsRefused, IsStray, store_creation};
 ghost use Rattle.onix_records.specs.declared.faults.StoreFault.TheVariants.{Unusable};
 
 use desk_store::Creation;
@@ -15,7 +15,7 @@ const LARGE: u64 = 50_000_000;
 
 // In which databases a desk is created.
 pub(crate) fn creation_of(creation: kept_desks::Creation) -> Creation
-    ensures { result ≡ creation_by creation }
+    ensures { result ≡ store_creation creation }
 {
     match creation {
         kept_desks::Creation::Anywhere => Creation::Anywhere,

@@ -1,9 +1,7 @@
 //! The desks in SQLite files.
 
-ghost use Rattle.std.specs.Prelude.{[]};
-ghost use Rattle.sqlite_wal.specs.Recovery.{Image};
-ghost use Rattle.desk_versions.specs.Openings.{AreEmptyFiles, AreFilesOf};
-ghost use Rattle.program_databases.specs.FilesMean.{AreByTheirFiles, AreOfOneContent, HandsOn};
+ghost use Rattle.desk_versions.specs.Openings.{AreFilesOf};
+ghost use Rattle.program_databases.specs.FilesMean.{AreTakenRightly, MeanLists};
 
 use crate::database::creation_of;
 use crate::databases::{Databases, open_database};
@@ -26,9 +24,6 @@ pub struct StoredDesks<O> {
 }
 
 impl<O: Databases> KeepsDesks<DeskStore<FileStore<O::File>>> for StoredDesks<O> {
-    ghost use Rattle.sqlite.specs.Files.{file_state};
-    ghost use Rattle.desk_rows.specs.Seen.{in_tables, seen_in};
-    ghost use Rattle.program_desks.specs.DeskFiles.{one_way};
     ghost use Rattle.program_databases.specs.FileViews.{stored_files};
 
     type Closed = Files<O::File>;
@@ -37,11 +32,7 @@ impl<O: Databases> KeepsDesks<DeskStore<FileStore<O::File>>> for StoredDesks<O> 
 
     type Unopened = Unopened<O, O::NotOpened, O::File>;
 
-    ghost kind = { in_tables };
-
     ghost files = { stored_files O.File.Disk (λ desks. O.held desks.databases) };
-
-    ghost seen = { λ desk. seen_in (file_state desk.tables.connection) };
 
     fn open<E: Write>(
         self,
@@ -101,24 +92,17 @@ impl<O: Databases> KeepsDesks<DeskStore<FileStore<O::File>>> for StoredDesks<O> 
             Err((fault, left)) => Err((fault_of(&places, name, fault), Unopened::Left(left))),
         }
     }
-
-    fn hold_one_content() {
-        rows_have_one_content();
-    }
-
-    ghost same = { one_way (λ desk. seen_in (file_state desk.tables.connection)) };
 }
 
 /// What the files mean, as a law without code: there is a relation of files to lists of requests, by
 /// what the files hold, by which the desks are seen in them. Files without a desk are of the empty
 /// list, a run hands on the list with what it answered, and lists of which the same files are come to
-/// the same.
+/// the same. It is the relation by the rows of the tables, but nothing rests on that.
 pub fn files_mean_lists<O: Databases>()
-    ensures seen { AreByTheirFiles O.File.Disk (λ desks. O.held desks.databases)
+    ensures lists { MeanLists O.File.Disk (λ desks. O.held desks.databases)
+        ⟦<StoredDesks<O> as KeepsDesks<DeskStore<FileStore<O::File>>>>⟧.files AreFilesOf }
+    ensures taken { AreTakenRightly O.File.Disk (λ desks. O.held desks.databases)
         ⟦<StoredDesks<O> as KeepsDesks<DeskStore<FileStore<O::File>>>>⟧.files }
-    ensures blank { (image : Image) → AreEmptyFiles image → AreFilesOf image [] }
-    ensures handed { HandsOn O.File.Disk }
-    ensures one { AreOfOneContent }
 {
     rows_have_one_content();
 }

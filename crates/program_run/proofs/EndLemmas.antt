@@ -15,7 +15,7 @@ use Rattle.program_desks.specs.DeskFiles.{DeskFiles, LeavesAs, OpensAs}
 use Rattle.program_desks.specs.declared.files_left.FilesLeft.{FilesLeft}
 use Rattle.program_desks.specs.declared.kept_desks.Creation.{Creation}
 use Rattle.program_desks.specs.declared.files_left.FilesLeft.TheVariants.{Closed, Unclosed, Unopened, Untouched}
-use Rattle.program_run.specs.FileEnds.{TaskEnds, TaskLeads}
+use Rattle.program_run.specs.TaskEnds.{TaskEnds, TaskLeads}
 use Rattle.program_run.specs.OverFiles.{Closes, EndsOverFiles}
 use Rattle.program_commands.proofs.TalkEnds.{batch_as, talks_as}
 use Rattle.program_commands.specs.CommandEnds.{GapsEnds, RequestsEnd}

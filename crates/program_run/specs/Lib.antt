@@ -1,4 +1,6 @@
 pub mod ConvertEnds
-pub mod FileEnds
+pub mod Kinds
 pub mod ListingEnds
 pub mod OverFiles
+pub mod TaskEnds
+pub mod Unread

@@ -2,7 +2,9 @@
 
 ghost use Rattle.std.specs.Prelude.{◌≡◌, ◌≤◌, IfErr, IfOk, map};
 ghost use Rattle.std.specs.Io.KnownBytes.{Appends};
-ghost use Rattle.program_run.specs.FileEnds.{ActionEnds, IsUnread, NewDeskEnds, ReadsRules, RunEnds, TaskLeads};
+ghost use Rattle.program_run.specs.Kinds.{ActionEnds, BatchRun, CheckRun, ConvertRun, DeliverRun, GapsRun, ListRun, MigrateRun, RunEnds, SendRun, ServeRun};
+ghost use Rattle.program_run.specs.TaskEnds.{NewDeskEnds, TaskLeads};
+ghost use Rattle.program_run.specs.Unread.{IsUnread, ReadsRules};
 ghost use Rattle.program_words.specs.Asked.{Reads};
 ghost use Rattle.program_run.specs.OverFiles.{EndsOverFiles, creation_by};
 
@@ -143,11 +145,9 @@ fn run_action<
     machine: &mut Machine<O, N, F, R, W, E>,
 ) -> (u8, FilesLeft<K, K::Unopened, K::Unclosed, K::Closed>)
     ensures status { result.0 ≤ 3 }
-    ensures end { ActionEnds ⟦<MemoryDesk as Desk>⟧.seen K.files databases
-        (F.holds machine.old.files) (F.holds machine.new.files)
-        (F.lacks_folder machine.old.files)
-        (Appends (W.contents machine.old.streams.output) (W.contents machine.new.streams.output))
-        (R.remaining machine.old.streams.input) precedence.now action.now result.0 result.1 }
+    ensures end { ActionEnds ⟦<MemoryDesk as Desk>⟧.seen K.files F.holds F.lacks_folder
+        W.contents R.remaining databases machine.old machine.new result precedence.now
+        action.now }
 {
     let Machine {
         desks,
@@ -238,6 +238,56 @@ fn read_words<'a, R, W: Write, E: Write>(
     }
 }
 
+// Does what the words ask for.
+fn run_words<
+    D: ListedDesk,
+    K: KeepsDesks<D>,
+    T: Clock,
+    O: OpenDesks,
+    N: Entrances,
+    F: NamedFiles,
+    R: Read,
+    W: Write,
+    E: Write,
+>(
+    alloc: Global,
+    clock: &T,
+    words: &[&str],
+    databases: K,
+    machine: &mut Machine<O, N, F, R, W, E>,
+) -> (u8, FilesLeft<K, K::Unopened, K::Unclosed, K::Closed>)
+    ensures status { result.0 ≤ 3 }
+    ensures end { RunEnds ⟦<MemoryDesk as Desk>⟧.seen K.files F.holds F.lacks_folder
+        W.contents R.remaining databases machine.old machine.new result words.now
+        (ActionEnds ⟦<MemoryDesk as Desk>⟧.seen K.files F.holds F.lacks_folder
+        W.contents R.remaining databases machine.old machine.new result) }
+{
+    let invocation = match read_words(alloc, words, &mut machine.streams) {
+        Ok(invocation) => invocation,
+        Err(status) => return (status, FilesLeft::Untouched(databases)),
+    };
+    let precedence = match rules_of(alloc, &machine.files, invocation.rules) {
+        Ok(precedence) => precedence,
+        Err(fault) => {
+            let name = invocation.rules.unwrap_or("");
+            let errors = &mut machine.streams.errors.writer;
+            let status = report_rules(&fault, name, errors);
+            checking::tell_cause(alloc, &machine.files, name, errors);
+            return (status, FilesLeft::Untouched(databases));
+        }
+    };
+    let ended = run_action(
+        alloc,
+        clock,
+        &invocation.action,
+        databases,
+        &precedence,
+        machine,
+    );
+    drop(precedence);
+    ended
+}
+
 /// Runs the program on these words, of which the first is its name, and gives its exit status:
 /// 0, or 1 where an answer was a refusal, 2 for a bad command line, rules file or table of terms, 3
 /// for a fault of storage, a file, input, output, the port or the socket, or when out of memory. The
@@ -266,35 +316,25 @@ pub fn run<
     machine: &mut Machine<O, N, F, R, W, E>,
 ) -> (u8, FilesLeft<K, K::Unopened, K::Unclosed, K::Closed>)
     ensures status { result.0 ≤ 3 }
-    ensures end { RunEnds ⟦<MemoryDesk as Desk>⟧.seen K.files databases
-        (F.holds machine.old.files) (F.holds machine.new.files)
-        (F.lacks_folder machine.old.files)
-        (Appends (W.contents machine.old.streams.output) (W.contents machine.new.streams.output))
-        (R.remaining machine.old.streams.input) (map (λ word. word.now) words.now)
-        result.0 result.1 }
+    // How each kind of command ends, if the words ask for one.
+    ensures batch { BatchRun ⟦<MemoryDesk as Desk>⟧.seen K.files F.holds F.lacks_folder
+        W.contents R.remaining databases machine.old machine.new result words.now }
+    ensures deliver { DeliverRun ⟦<MemoryDesk as Desk>⟧.seen K.files F.holds F.lacks_folder
+        W.contents R.remaining databases machine.old machine.new result words.now }
+    ensures gaps { GapsRun ⟦<MemoryDesk as Desk>⟧.seen K.files F.holds F.lacks_folder
+        W.contents R.remaining databases machine.old machine.new result words.now }
+    ensures serve { ServeRun ⟦<MemoryDesk as Desk>⟧.seen K.files F.holds F.lacks_folder
+        W.contents R.remaining databases machine.old machine.new result words.now }
+    ensures list { ListRun ⟦<MemoryDesk as Desk>⟧.seen K.files F.holds F.lacks_folder
+        W.contents R.remaining databases machine.old machine.new result words.now }
+    ensures migrate { MigrateRun ⟦<MemoryDesk as Desk>⟧.seen K.files F.holds F.lacks_folder
+        W.contents R.remaining databases machine.old machine.new result words.now }
+    ensures send { SendRun ⟦<MemoryDesk as Desk>⟧.seen K.files F.holds F.lacks_folder
+        W.contents R.remaining databases machine.old machine.new result words.now }
+    ensures convert { ConvertRun ⟦<MemoryDesk as Desk>⟧.seen K.files F.holds F.lacks_folder
+        W.contents R.remaining databases machine.old machine.new result words.now }
+    ensures check { CheckRun ⟦<MemoryDesk as Desk>⟧.seen K.files F.holds F.lacks_folder
+        W.contents R.remaining databases machine.old machine.new result words.now }
 {
-    let invocation = match read_words(alloc, words, &mut machine.streams) {
-        Ok(invocation) => invocation,
-        Err(status) => return (status, FilesLeft::Untouched(databases)),
-    };
-    let precedence = match rules_of(alloc, &machine.files, invocation.rules) {
-        Ok(precedence) => precedence,
-        Err(fault) => {
-            let name = invocation.rules.unwrap_or("");
-            let errors = &mut machine.streams.errors.writer;
-            let status = report_rules(&fault, name, errors);
-            checking::tell_cause(alloc, &machine.files, name, errors);
-            return (status, FilesLeft::Untouched(databases));
-        }
-    };
-    let ended = run_action(
-        alloc,
-        clock,
-        &invocation.action,
-        databases,
-        &precedence,
-        machine,
-    );
-    drop(precedence);
-    ended
+    run_words(alloc, clock, words, databases, machine)
 }

@@ -3,7 +3,7 @@
 ghost use Rattle.std.specs.Prelude.{◌≤◌};
 ghost use Rattle.std.specs.Io.KnownBytes.{Appends};
 ghost use Rattle.series_rules.specs.Steps.{Asked};
-ghost use Rattle.program_run.specs.FileEnds.{TaskEnds};
+ghost use Rattle.program_run.specs.TaskEnds.{TaskEnds};
 
 use price_rules::precedence::Precedence;
 use program_clients::entrances::Entrances;

@@ -21,4 +21,3 @@ pub mod laws;
 pub mod listing;
 mod price_answers;
 pub mod requests;
-pub mod run;

@@ -1,17 +1,19 @@
-use Rattle.std.proofs.Common.{inr, refl}
+use Rattle.std.proofs.Common.{inl, inr, refl}
 use Rattle.program_databases.proofs.ContentLemmas.{hands_on, image_holds_one}
 use Rattle.program_databases.proofs.ViewLemmas.{same_refl}
 use Rattle.program_databases.proofs.stored_desks.files_mean_lists.Goals as goal
 
-pub returns : goal.returns
-returns g c = record {
-  seen = record {
-    found = λ desks name creation L. (λ is. is, λ is. is);
-    taken = λ desks name creation. (λ is. is, λ is. is);
-    closed = λ now L. (λ is. is, λ is. is);
-    clean = λ now. (λ is. is, λ is. is);
-  };
-  blank = λ image empty. inr (empty, refl);
-  handed = hands_on g.O.File.Disk;
-  one = λ image creation sound L M a b. image_holds_one c.rows_have_one_content.ensures image creation sound L M (L, a, same_refl L) (M, b, same_refl M);
-}
+pub returns-clause-lists : goal.returns-clause-lists
+returns-clause-lists g c =
+    let held = g.O.Databases.held in
+    record {
+      found = λ desks name creation L. (λ is. is, λ is. is);
+      closed = λ now L is. (is.0, inl is.1, is.2);
+      clean = λ now. (λ is. is, λ is. is);
+      blank = λ image empty. inr (empty, refl);
+      handed = λ rules steps desks name creation now L leads clean are. hands_on g.O.File.Disk rules steps (held desks.databases name) creation now L leads clean are;
+      one = λ desks name creation sound L M a b. image_holds_one c.rows_have_one_content.ensures (held desks.databases name) creation sound L M (L, a, same_refl L) (M, b, same_refl M);
+    }
+
+pub returns-clause-taken : goal.returns-clause-taken
+returns-clause-taken g c = λ desks name creation. (λ is. is, λ is. is)

@@ -4,21 +4,21 @@ use Rattle.program_run.proofs.program.run_action.Goals.{in-CheckRules, in-CheckT
 use Rattle.program_run.proofs.program.run_action.Goals as goal
 
 pub returns-in-InFile-clause-end : goal.returns-in-InFile-clause-end
-returns-in-InFile-clause-end g c = rw c.in-InFile.is (ap g.F.NamedFiles.holds c.run_in_file.ensures.files, c.run_in_file.ensures.end)
+returns-in-InFile-clause-end g c = rw c.in-InFile.is ((ap g.F.NamedFiles.holds c.run_in_file.ensures.files, c.run_in_file.ensures.end), tt, tt, tt, tt, tt)
 
 pub returns-in-Listed-clause-end : goal.returns-in-Listed-clause-end
-returns-in-Listed-clause-end g c = rw c.in-Listed.is (refl, c.list_file.ensures.end)
+returns-in-Listed-clause-end g c = rw c.in-Listed.is (tt, (refl, c.list_file.ensures.end), tt, tt, tt, tt)
 
 pub returns-in-Migrate-clause-end : goal.returns-in-Migrate-clause-end
-returns-in-Migrate-clause-end g c = rw c.in-Migrate.is (refl, c.migrate_file.ensures.end)
+returns-in-Migrate-clause-end g c = rw c.in-Migrate.is (tt, tt, (refl, c.migrate_file.ensures.end), tt, tt, tt)
 
 pub returns-clause-end : goal.returns-clause-end
 returns-clause-end g c =
     elim c.match-action.branch [
-      | in-InMemory w ↦ rw (w.in-InMemory.is, w.status-is, w.machine-is) (refl, tt, w.run_in_memory-status.ensures.end)
-      | in-Send w ↦ rw (w.in-Send.is, w.status-is, w.machine-is) (refl, tt, w.send_input-status.ensures.end)
-      | in-Convert w ↦ rw (w.in-Convert.is, w.status-is, w.machine-is) (tt, w.convert-status.ensures.end)
-      | in-CheckRules w ↦ rw (w.in-CheckRules.is, w.status-is, w.machine-is) (refl, tt, w.check_rules-status.ensures.end)
-      | in-CheckTerms w ↦ rw (w.in-CheckTerms.is, w.status-is, w.machine-is) (refl, tt, w.check_terms-status.ensures.end)
-      | in-CheckTexts w ↦ rw (w.in-CheckTexts.is, w.machine-is) (refl, tt, Appends-nil (g.W.Write.contents c.args.machine.now.streams.output))
+      | in-InMemory w ↦ rw (w.in-InMemory.is, w.status-is, w.machine-is) (((refl, tt), w.run_in_memory-status.ensures.end), tt, tt, tt, tt, tt)
+      | in-Send w ↦ rw (w.in-Send.is, w.status-is, w.machine-is) (tt, tt, tt, ((refl, tt), w.send_input-status.ensures.end), tt, tt)
+      | in-Convert w ↦ rw (w.in-Convert.is, w.status-is, w.machine-is) (tt, tt, tt, tt, (tt, w.convert-status.ensures.end), tt)
+      | in-CheckRules w ↦ rw (w.in-CheckRules.is, w.status-is, w.machine-is) (tt, tt, tt, tt, tt, ((refl, tt), w.check_rules-status.ensures.end))
+      | in-CheckTerms w ↦ rw (w.in-CheckTerms.is, w.status-is, w.machine-is) (tt, tt, tt, tt, tt, ((refl, tt), w.check_terms-status.ensures.end))
+      | in-CheckTexts w ↦ rw (w.in-CheckTexts.is, w.machine-is) (tt, tt, tt, tt, tt, ((refl, tt), Appends-nil (g.W.Write.contents c.args.machine.now.streams.output)))
     ]

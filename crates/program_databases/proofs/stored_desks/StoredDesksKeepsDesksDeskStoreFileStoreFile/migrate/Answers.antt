@@ -12,7 +12,7 @@ use Rattle.desk_versions.specs.declared.version_two.MigrateAnswer.{MigrateAnswer
 use Rattle.program_desks.specs.declared.kept_desks.Migration.{Migration}
 use Rattle.program_databases.proofs.SettledLemmas.{none_left, spares_refused, spares_settled}
 use Rattle.program_databases.proofs.ViewLemmas.{same_refl}
-use Rattle.program_databases.specs.Found.{creation_by}
+use Rattle.program_databases.specs.Found.{store_creation}
 use Rattle.program_databases.specs.Migrated.{IsMigrationDone, answer_as}
 use Rattle.program_databases.proofs.stored_desks.StoredDesksKeepsDesksDeskStoreFileStoreFile.migrate.Goals as goal
 
@@ -33,18 +33,18 @@ returns-in-Ok-migrate_files_with-clause-ok g c =
     let image = g.O.Databases.held c.args.self.databases c.args.name.now in
     let made_by = c.in-Ok.ensures.chosen ∙ c.creation_of-creation.ensures in
     record {
-      requests = λ clean L either. (L, (done g.O.File.Disk c.in-Ok.opened.1.creation (creation_by c.args.creation) image c.in-Ok.opened.0 c.in-Ok-migrate_files_with.files c.in-Ok-migrate_files_with.answer c.migration_of.result c.in-Ok.ensures.settled.0 c.migration_of.ensures made_by (it.kept clean) (it.answer clean) (it.holds clean) (it.chosen clean)).holds L either, same_refl L);
+      requests = λ clean L either. (L, (done g.O.File.Disk c.in-Ok.opened.1.creation (store_creation c.args.creation) image c.in-Ok.opened.0 c.in-Ok-migrate_files_with.files c.in-Ok-migrate_files_with.answer c.migration_of.result c.in-Ok.ensures.settled.0 c.migration_of.ensures made_by (it.kept clean) (it.answer clean) (it.holds clean) (it.chosen clean)).holds L either, same_refl L);
       alone = λ clean. let one = it.copied clean in (one.0, (one.1, one.2));
-      made = λ clean. done g.O.File.Disk c.in-Ok.opened.1.creation (creation_by c.args.creation) image c.in-Ok.opened.0 c.in-Ok-migrate_files_with.files c.in-Ok-migrate_files_with.answer c.migration_of.result c.in-Ok.ensures.settled.0 c.migration_of.ensures made_by (it.kept clean) (it.answer clean) (it.holds clean) (it.chosen clean);
+      made = λ clean. done g.O.File.Disk c.in-Ok.opened.1.creation (store_creation c.args.creation) image c.in-Ok.opened.0 c.in-Ok-migrate_files_with.files c.in-Ok-migrate_files_with.answer c.migration_of.result c.in-Ok.ensures.settled.0 c.migration_of.ensures made_by (it.kept clean) (it.answer clean) (it.holds clean) (it.chosen clean);
     }
 
 pub returns-clause-err : goal.returns-clause-err
 returns-clause-err g c = λ clean.
     let image = g.O.Databases.held c.args.self.databases c.args.name.now in (
       spares_settled g.O.File.Disk MakesSecond image c.in-Ok.opened.0 c.in-Err-migrate_files_with.left c.in-Ok.ensures.settled (c.in-Err-migrate_files_with.ensures.left clean),
-      spares_refused g.O.File.Disk c.in-Ok.opened.1.creation (creation_by c.args.creation) image c.in-Ok.opened.0 c.in-Err-migrate_files_with.left c.in-Ok.ensures.settled (c.in-Ok.ensures.chosen ∙ c.creation_of-creation.ensures)
+      spares_refused g.O.File.Disk c.in-Ok.opened.1.creation (store_creation c.args.creation) image c.in-Ok.opened.0 c.in-Err-migrate_files_with.left c.in-Ok.ensures.settled (c.in-Ok.ensures.chosen ∙ c.creation_of-creation.ensures)
           (c.in-Err-migrate_files_with.ensures.spared clean),
     )
 
 pub returns-in-Err-clause-err : goal.returns-in-Err-clause-err
-returns-in-Err-clause-err g c = none_left g.O.File.Disk MakesSecond (creation_by c.args.creation) (g.O.Databases.held c.args.self.databases c.args.name.now) c.in-Err.none c.in-Err.ensures.none
+returns-in-Err-clause-err g c = none_left g.O.File.Disk MakesSecond (store_creation c.args.creation) (g.O.Databases.held c.args.self.databases c.args.name.now) c.in-Err.none c.in-Err.ensures.none

@@ -1,0 +1,185 @@
+-- How each kind of command ends, by the words of the command line. What is said of a kind cites no
+-- other one: of other commands it says nothing.
+use Rattle.std.specs.Prelude.{◌≡◌, ◌⊎◌, ℕ, List, [], Option, Ok, Err, is_some, map, ⊤}
+use Rattle.std.specs.Borrow.{Bor}
+use Rattle.std.specs.Io.KnownBytes.{Appends}
+use Rattle.onix_terms.specs.SeriesName.{series_name_of}
+use Rattle.price_rules.specs.declared.precedence.Rule.{Rule}
+use Rattle.series_rules.specs.Steps.{Leads, Step}
+use Rattle.series_rules.specs.Views.{DeskKind, View}
+use Rattle.program_files.specs.Holdings.{Holdings}
+use Rattle.program_desks.specs.DeskFiles.{DeskFiles}
+use Rattle.program_desks.specs.declared.files_left.FilesLeft.{FilesLeft}
+use Rattle.program_desks.specs.declared.kept_desks.Creation.TheVariants.{Never}
+use Rattle.program_words.specs.Asked.{Reads}
+use Rattle.program_words.specs.ConvertWords.{asked_view}
+use Rattle.program_words.specs.declared.invocation.Action.{Action}
+use Rattle.program_words.specs.declared.invocation.Action.TheVariants.{CheckRules, CheckTerms, CheckTexts, Convert, InMemory, InFile, Listed, Migrate, Send}
+use Rattle.program_words.specs.declared.invocation.Invocation.{Invocation}
+use Rattle.program_words.specs.declared.invocation.Reading.TheVariants as reading
+use Rattle.program_words.specs.declared.invocation.Task.{Task}
+use Rattle.program_words.specs.declared.invocation.Task.TheVariants as task
+use Rattle.program_commands.specs.CommandEnds.{BatchEnds, DeliverEnds, GapsEnds, ServeEnds}
+use Rattle.program_commands.specs.Sending.{SendEnds}
+use Rattle.program_rules.specs.RulesFile.{CheckEnds, status_of}
+use Rattle.program_rules.specs.TermsRead.{CheckTermsEnds}
+use Rattle.program_rules.specs.declared.rules.RulesFault.{RulesFault}
+use Rattle.program_run.specs.ConvertEnds.{ConvertEnds}
+use Rattle.program_run.specs.ListingEnds.{ListingEnds}
+use Rattle.program_run.specs.OverFiles.{EndsOverFiles, IsUntouched, MigrateEnds, creation_by}
+use Rattle.program_run.specs.TaskEnds.{TaskEnds}
+use Rattle.program_run.specs.Unread.{IsUnread, ReadsRules}
+use Rattle.program_run.specs.declared.machine.Machine.{Machine}
+
+-- Seen: what is seen of a desk in memory. Files: what is seen of the files that `databases` opens.
+-- Holds, lacks folder: what names hold, and that no folder has the name. Contents: what was written.
+-- Remaining: what the input tells of its bytes. Old, new: before the run and behind it. Result: the
+-- exit status, and what is left of the files of a desk
+module _ {M : Type 0} {m : DeskKind} (seen : M → View m) {K : Type 0} {k : DeskKind}
+    {C U N : Type 0} (files : DeskFiles K k C U N) {O P F R W E : Type 0} (holds : F → Holdings)
+    (lacks_folder : F → List ℕ → Type 0) (contents : W → Option (List ℕ))
+    (remaining : R → Option (List ℕ)) (databases : K) (old new : Machine O P F R W E)
+    (result : ℕ × FilesLeft K N U C) where
+  -- these bytes were written
+  abbrev pub Written : List ℕ → Type 0
+  Written = Appends (contents old.streams.output) (contents new.streams.output)
+
+  -- names hold what they held
+  abbrev pub NamesStay : Type 0
+  NamesStay = holds new.files ≡ holds old.files
+
+  -- neither files of a desk nor what names hold was touched
+  abbrev pub NoFileIsTouched : Type 0
+  NoFileIsTouched = NamesStay × IsUntouched result.1
+
+  -- how the program can end by what a command line asks for: by its action, under rules that are
+  -- read; or, where these cannot be read, with nothing done. Ended: how an action ended under rules
+  abbrev pub InvocationEnds : Invocation → (List Rule → Action → Type 0) → Type 0
+  InvocationEnds invocation ended =
+      ((rules : List Rule) × ReadsRules (holds old.files) invocation.rules (Ok rules)
+      × ended rules invocation.action)
+      ⊎ ((fault : RulesFault) × ReadsRules (holds old.files) invocation.rules (Err fault)
+      × (result.0 ≡ status_of fault) × Written [] × NoFileIsTouched)
+
+  -- how it can end on these words, of which the first is its name: by what they ask for; or with
+  -- nothing done, where they are read as no command line
+  abbrev pub RunEnds : List (Bor (List ℕ)) → (List Rule → Action → Type 0) → Type 0
+  RunEnds words ended =
+      ((invocation : Invocation) × Reads (map (λ word. word.now) words) (reading.Run invocation)
+      × InvocationEnds invocation ended)
+      ⊎ (IsUnread Written (map (λ word. word.now) words) result.0 × NoFileIsTouched)
+
+  -- ---- actions
+
+  -- A command over a desk: a new one in memory, which has seen no request, or the one in a file.
+  -- What it asked (`asked`) led from the desk as it was to the desk as it is. Ends: how a task ended
+  abbrev pub RunsTask : (Task → (List Step → Type 0) → ℕ → Type 0) → List Rule → Action → Type 0
+  RunsTask ends rules (InMemory task) =
+      NoFileIsTouched
+      × (first last : M) × (seen first).stands_for [] × (seen last).sound
+      × ends task (λ steps. Leads rules steps (seen first) (seen last)) result.0
+  RunsTask ends rules (InFile db task) =
+      NamesStay
+      × EndsOverFiles files databases db.name.now (creation_by db.is_existing) Written
+      (λ first last. ends task (λ steps. Leads rules steps first last)) result.0 result.1
+  RunsTask ends rules _ = ⊤
+
+  -- `agreements`, `export` and `gaps` of all series
+  abbrev pub Lists : List Rule → Action → Type 0
+  Lists rules (Listed db listing) =
+      NamesStay
+      × EndsOverFiles files databases db.name.now Never Written (ListingEnds Written listing)
+      result.0 result.1
+  Lists rules _ = ⊤
+
+  abbrev pub Migrates : List Rule → Action → Type 0
+  Migrates rules (Migrate db) =
+      NamesStay
+      × MigrateEnds files databases db.name.now (creation_by db.is_existing) Written result.0
+      result.1
+  Migrates rules _ = ⊤
+
+  -- `batch` to an open desk
+  abbrev pub Sends : List Rule → Action → Type 0
+  Sends rules (Send socket) =
+      NoFileIsTouched × SendEnds (remaining old.streams.input) Written result.0
+  Sends rules _ = ⊤
+
+  -- `convert`, which alone changes what names hold
+  abbrev pub Converts : List Rule → Action → Type 0
+  Converts rules (Convert c) =
+      IsUntouched result.1
+      × ConvertEnds (holds old.files) (holds new.files) (lacks_folder old.files)
+      (remaining old.streams.input) Written (asked_view c) result.0
+  Converts rules _ = ⊤
+
+  -- `rules`, `terms` and `check`
+  abbrev pub Checks : List Rule → Action → Type 0
+  Checks rules (CheckRules file) =
+      NoFileIsTouched × CheckEnds Written (holds old.files file.now) result.0
+  Checks rules (CheckTerms file) =
+      NoFileIsTouched × CheckTermsEnds Written (holds old.files file.now) result.0
+  Checks rules (CheckTexts files) = NoFileIsTouched × Written []
+  Checks rules _ = ⊤
+
+  -- ---- tasks
+
+  abbrev pub Batches : Task → (List Step → Type 0) → ℕ → Type 0
+  Batches task.Batch asked status =
+      BatchEnds asked Written (remaining old.streams.input) status
+  Batches _ asked status = ⊤
+
+  abbrev pub Delivers : Task → (List Step → Type 0) → ℕ → Type 0
+  Delivers (task.Deliver names) asked status =
+      DeliverEnds asked Written (holds old.files) (remaining old.streams.input)
+      (map (λ name. name.now) names.items) status
+  Delivers _ asked status = ⊤
+
+  abbrev pub AsksGaps : Task → (List Step → Type 0) → ℕ → Type 0
+  AsksGaps (task.Gaps name) asked status =
+      GapsEnds asked Written (series_name_of name.now) status
+  AsksGaps _ asked status = ⊤
+
+  abbrev pub Serves : Task → (List Step → Type 0) → ℕ → Type 0
+  Serves (task.Serve port requests batches) asked status =
+      ServeEnds asked Written (is_some batches) port requests status
+  Serves _ asked status = ⊤
+
+  -- ---- commands, if the words ask for one
+
+  abbrev pub BatchRun : List (Bor (List ℕ)) → Type 0
+  BatchRun words = RunEnds words (RunsTask Batches)
+
+  abbrev pub DeliverRun : List (Bor (List ℕ)) → Type 0
+  DeliverRun words = RunEnds words (RunsTask Delivers)
+
+  abbrev pub GapsRun : List (Bor (List ℕ)) → Type 0
+  GapsRun words = RunEnds words (RunsTask AsksGaps)
+
+  abbrev pub ServeRun : List (Bor (List ℕ)) → Type 0
+  ServeRun words = RunEnds words (RunsTask Serves)
+
+  abbrev pub ListRun : List (Bor (List ℕ)) → Type 0
+  ListRun words = RunEnds words Lists
+
+  abbrev pub MigrateRun : List (Bor (List ℕ)) → Type 0
+  MigrateRun words = RunEnds words Migrates
+
+  abbrev pub SendRun : List (Bor (List ℕ)) → Type 0
+  SendRun words = RunEnds words Sends
+
+  abbrev pub ConvertRun : List (Bor (List ℕ)) → Type 0
+  ConvertRun words = RunEnds words Converts
+
+  abbrev pub CheckRun : List (Bor (List ℕ)) → Type 0
+  CheckRun words = RunEnds words Checks
+
+  -- ---- within the program
+
+  -- an action ended as one of its kind, whichever that is
+  abbrev pub ActionEnds : List Rule → Action → Type 0
+  ActionEnds rules action =
+      RunsTask (λ task asked own. TaskEnds asked Written task (holds old.files)
+      (remaining old.streams.input) own) rules action
+      × Lists rules action × Migrates rules action × Sends rules action × Converts rules action
+      × Checks rules action

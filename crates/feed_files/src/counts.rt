@@ -63,9 +63,7 @@ fn is_composite(name: &[u8]) -> bool {
 // Whether all SupplyDetails of a ProductSupply, which has some, are of others than the supplier that
 // is named: it is as absent.
 fn is_supply_of_others(named: Option<Pair<'_>>, supply: &Elements<'_>) -> bool {
-    named.is_some()
-        && next_detail(None, supply).is_some()
-        && next_detail(named, supply).is_none()
+    named.is_some() && next_detail(None, supply).is_some() && next_detail(named, supply).is_none()
 }
 
 // Whether an element is not looked at: in a Price or a Market a second one is wrong, and has a note;

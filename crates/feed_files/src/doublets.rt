@@ -65,11 +65,7 @@ fn minimum_of(record: &Record<'_>) -> u32 {
 }
 
 // In what a Price is alike others: type, currency, minimum, days, and where it holds.
-fn key_of(
-    alloc: Global,
-    defaults: &Defaults,
-    record: &Record<'_>,
-) -> Result<String, AllocError> {
+fn key_of(alloc: Global, defaults: &Defaults, record: &Record<'_>) -> Result<String, AllocError> {
     let mut key = String::new(alloc);
     key.push_str(or_default(field(record, 1), defaults.price_type.as_str()))?;
     key.push_str(",")?;

@@ -274,7 +274,15 @@ impl<'a> Notes<'a> {
         let mut fields = FieldBuffer::new(alloc);
         let mut records = RecordBuffer::new(alloc);
         let mut notes = Vec::new(alloc);
-        add_product(alloc, opening, &choices, product, &mut fields, &mut records, &mut notes)?;
+        add_product(
+            alloc,
+            opening,
+            &choices,
+            product,
+            &mut fields,
+            &mut records,
+            &mut notes,
+        )?;
         count_doublets(alloc, &self.defaults, &records)
     }
 

@@ -1,6 +1,6 @@
 -- What an ONIX message says to the desk: messages that the desk takes and notes on what is left
 -- out, or why it is refused.
-use Rattle.std.specs.Prelude.{ℕ, ◌+◌, false, List, ◌∷◌, Option, Some, None}
+use Rattle.std.specs.Prelude.{ℕ, ◌+◌, List, ◌∷◌, Option, Some, None}
 use Rattle.std.specs.Prelude.{Result, Ok, Err, if◌then◌else◌, codes, decimal}
 use Rattle.std.specs.Option.{option_map_or}
 use Rattle.std.specs.Str.{bytes_eq}
@@ -42,7 +42,6 @@ supply_choices o = record {
   supplier = o.choices.supplier;
   preferred = o.choices.id_type;
   terms = o.terms;
-  is_plain = false;
 }
 
 -- the Header that counts: the first one, where no Product stands before it

@@ -187,7 +187,6 @@ fn supply_choices<'a>(options: &Options<'a>) -> SupplyChoices<'a>
         supplier: options.choices.supplier,
         id_type: options.choices.id_type,
         terms: options.terms,
-        is_plain: false,
     }
 }
 

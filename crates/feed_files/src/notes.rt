@@ -270,7 +270,6 @@ impl<'a> Notes<'a> {
             supplier: self.scope.choices.supplier,
             id_type: self.scope.choices.id_type,
             terms: None,
-            is_plain: false,
         };
         let mut fields = FieldBuffer::new(alloc);
         let mut records = RecordBuffer::new(alloc);

@@ -1,5 +1,5 @@
 -- What comes of a Product with a table of no term, or one none of whose terms fits.
-use Rattle.std.proofs.Common.{◌≡◌, ℕ, Bool, true, false, List, [], ◌∷◌, ◌++◌, Option, Some, None, map, refl, ap, ◌∙◌}
+use Rattle.std.proofs.Common.{◌≡◌, ℕ, Bool, List, [], ◌∷◌, ◌++◌, Option, Some, None, map, refl, ap, ◌∙◌}
 use Rattle.std.specs.Prelude.{codes, filter, if◌then◌else◌, is_some, not, option_map, ◌==◌}
 use Rattle.std.specs.List.{AllByRecursion, flat_map}
 use Rattle.std.specs.Option.{option_map_or, option_or}
@@ -47,7 +47,7 @@ none_behind terms supplier held (g ∷ given) (fields ∷ records) (is, none) =
     ∙ ap (λ (rest : List (List (List ℕ))). fields ∷ rest) (none_behind terms supplier held given records none)
 
 pub none-fits : (o : Opening) (terms : List Term) (preferred : List ℕ) (nodes : Nodes) → NoneFits o terms preferred nodes
-    → priced_records o (Some terms) false preferred nodes ≡ priced_records o None false preferred nodes
+    → priced_records o (Some terms) preferred nodes ≡ priced_records o None preferred nodes
 none-fits o terms preferred nodes none =
     let context = context_in o nodes in
     let given = all_given context (prices_in nodes) in
@@ -56,32 +56,30 @@ none-fits o terms preferred nodes none =
 
 -- ---- a table of no term
 
-no_remarks : (supplier : Option (List ℕ)) (held : GivenPrice → ComputedPrice → Bool) (is_plain : Bool) (elements : List Element) (given : List GivenPrice)
-    → all_remark_notes is_plain elements (map (remarks_of [] supplier held) given) ≡ []
-no_remarks supplier held is_plain [] given = refl
-no_remarks supplier held is_plain (element ∷ elements) [] = refl
-no_remarks supplier held true (element ∷ elements) (g ∷ given) = no_remarks supplier held true elements given
-no_remarks supplier held false (element ∷ elements) (g ∷ given) = no_remarks supplier held false elements given
+no_remarks : (supplier : Option (List ℕ)) (held : GivenPrice → ComputedPrice → Bool) (elements : List Element) (given : List GivenPrice)
+    → all_remark_notes elements (map (remarks_of [] supplier held) given) ≡ []
+no_remarks supplier held [] given = refl
+no_remarks supplier held (element ∷ elements) [] = refl
+no_remarks supplier held (element ∷ elements) (g ∷ given) = no_remarks supplier held elements given
 
 module _ (by_none : NothingByNoTerms) (o : Opening) where
-  records_same : (is_plain : Bool) (preferred : List ℕ) (nodes : Nodes) → priced_records o (Some []) is_plain preferred nodes ≡ priced_records o None is_plain preferred nodes
-  records_same true preferred nodes = refl
-  records_same false preferred nodes =
+  records_same : (preferred : List ℕ) (nodes : Nodes) → priced_records o (Some []) preferred nodes ≡ priced_records o None preferred nodes
+  records_same preferred nodes =
       by_none (supplier_of (supplier_id preferred nodes)) (closed_kinds (context_in o nodes) (prices_in nodes)) (all_given (context_in o nodes) (prices_in nodes))
       (all_records (price_in o nodes) (prices_in nodes))
 
-  notes_same : (is_plain : Bool) (preferred : List ℕ) (nodes : Nodes) → priced_notes o (Some []) is_plain preferred nodes ≡ priced_notes o None is_plain preferred nodes
-  notes_same is_plain preferred nodes =
+  notes_same : (preferred : List ℕ) (nodes : Nodes) → priced_notes o (Some []) preferred nodes ≡ priced_notes o None preferred nodes
+  notes_same preferred nodes =
       let context = context_in o nodes in
       let given = all_given context (prices_in nodes) in
       let supplier = supplier_of (supplier_id preferred nodes) in
-      no_remarks supplier (is_held_back [] supplier given (closed_kinds context (prices_in nodes))) is_plain (flat_map (elements_in context) (prices_in nodes)) given
+      no_remarks supplier (is_held_back [] supplier given (closed_kinds context (prices_in nodes))) (flat_map (elements_in context) (prices_in nodes)) given
 
   details_same : (choices : SupplyChoices) → detail_outcome o (by_terms (Some []) choices) ≡ detail_outcome o (by_terms None choices)
   details_same choices =
       λ i nodes. written_unless (detail_reason choices.preferred nodes)
-      ((codes "SupplyDetail" ∷ detail_fields choices.preferred nodes) ∷ records_same choices.is_plain choices.preferred nodes i)
-      (all_notes (price_in o nodes) (prices_in nodes) ++ notes_same choices.is_plain choices.preferred nodes i)
+      ((codes "SupplyDetail" ∷ detail_fields choices.preferred nodes) ∷ records_same choices.preferred nodes i)
+      (all_notes (price_in o nodes) (prices_in nodes) ++ notes_same choices.preferred nodes i)
 
   supplies_same : (choices : SupplyChoices) → supply_outcome o (by_terms (Some []) choices) ≡ supply_outcome o (by_terms None choices)
   supplies_same choices =

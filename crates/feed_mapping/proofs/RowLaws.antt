@@ -71,20 +71,19 @@ one-detail o fields d ps prices all utf8 is reads =
     (one-first o (codes "SupplyDetail" ∷ fields) (row.SupplyDetail (record d { prices = [] })) prices (map row.Price ps) first (named-utf8 (codes "SupplyDetail") fields refl utf8) reads)
 
 -- the records of the Prices of a SupplyDetail
-priced-rows : TermLaws → (o : Opening) (choices : SupplyChoices) (nodes : Nodes) → MayCompute o choices.terms → ArePrices o (priced_records o choices.terms choices.is_plain choices.preferred nodes)
-priced-rows laws o choices nodes may = go choices.terms choices.is_plain may
+priced-rows : TermLaws → (o : Opening) (choices : SupplyChoices) (nodes : Nodes) → MayCompute o choices.terms → ArePrices o (priced_records o choices.terms choices.preferred nodes)
+priced-rows laws o choices nodes may = go choices.terms may
   where
-    go : (terms : Option (List Term)) (is_plain : Bool) → MayCompute o terms → ArePrices o (priced_records o terms is_plain choices.preferred nodes)
-    go None is_plain may = prices-rows o nodes (prices_in nodes)
-    go (Some terms) true may = prices-rows o nodes (prices_in nodes)
-    go (Some terms) false (two, coded) = (
+    go : (terms : Option (List Term)) → MayCompute o terms → ArePrices o (priced_records o terms choices.preferred nodes)
+    go None may = prices-rows o nodes (prices_in nodes)
+    go (Some terms) (two, coded) = (
       _,
       all-with laws (context_in o nodes) two terms coded (supplier_of (supplier_id choices.preferred nodes))
           (is_held_back terms (supplier_of (supplier_id choices.preferred nodes)) (all_given (context_in o nodes) (prices_in nodes)) (closed_kinds (context_in o nodes) (prices_in nodes))) (prices_in nodes),
     )
 
 detail-rows : TermLaws → (o : Opening) (choices : SupplyChoices) (nodes : Nodes) → MayCompute o choices.terms → (notes : List Note) (kind : Option Reason) → detail_reason choices.preferred nodes ≡ kind
-    → AreDetails o (outcome_records (written_unless kind ((codes "SupplyDetail" ∷ detail_fields choices.preferred nodes) ∷ priced_records o choices.terms choices.is_plain choices.preferred nodes) notes))
+    → AreDetails o (outcome_records (written_unless kind ((codes "SupplyDetail" ∷ detail_fields choices.preferred nodes) ∷ priced_records o choices.terms choices.preferred nodes) notes))
 detail-rows laws o choices nodes may notes (Some kind) e = ([], no-rows o)
 detail-rows laws o choices nodes may notes None e =
     let fields = detail_fields choices.preferred nodes in
@@ -93,7 +92,7 @@ detail-rows laws o choices nodes may notes None e =
     let s = said-read detail_of fields d read in
     let (ps, prices) = priced-rows laws o choices nodes may in (
       record d { prices = ps } ∷ [],
-      one-detail o fields d ps (priced_records o choices.terms choices.is_plain choices.preferred nodes) s.clean s.utf8 s.is prices,
+      one-detail o fields d ps (priced_records o choices.terms choices.preferred nodes) s.clean s.utf8 s.is prices,
     )
 
 details-rows : TermLaws → (o : Opening) (choices : SupplyChoices) → MayCompute o choices.terms → (cs : List Composite) → AreDetails o (all_records (detail_in o choices) cs)

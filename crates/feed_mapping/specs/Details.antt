@@ -1,5 +1,5 @@
 -- A SupplyDetail: the records that are written of it and of its Prices.
-use Rattle.std.specs.Prelude.{ℕ, Bool, List, [], ◌∷◌, ◌++◌, Option, Some, None}
+use Rattle.std.specs.Prelude.{ℕ, List, [], ◌∷◌, ◌++◌, Option, Some, None}
 use Rattle.std.specs.Prelude.{if◌then◌else◌, codes, is_some, map}
 use Rattle.std.specs.Prelude.{option_and_then, option_map}
 use Rattle.std.specs.Option.{option_or, unwrap_or}
@@ -132,24 +132,24 @@ module _ (o : Opening) where
 
   -- the records of the Prices of a SupplyDetail, with those that the terms compute, where there are
   -- terms
-  abbrev pub priced_records : Option (List Term) → Bool → List ℕ → Nodes → Records
-  priced_records None is_plain preferred nodes = all_records (price_in nodes) (prices_in nodes)
-  priced_records (Some terms) is_plain preferred nodes =
+  abbrev pub priced_records : Option (List Term) → List ℕ → Nodes → Records
+  priced_records None preferred nodes = all_records (price_in nodes) (prices_in nodes)
+  priced_records (Some terms) preferred nodes =
       records_with terms (supplier_of (supplier_id preferred nodes)) (context_in nodes)
-      (prices_in nodes) is_plain
+      (prices_in nodes)
 
   -- what the terms say of the Prices besides
-  abbrev pub priced_notes : Option (List Term) → Bool → List ℕ → Nodes → List Note
-  priced_notes None is_plain preferred nodes = []
-  priced_notes (Some terms) is_plain preferred nodes =
+  abbrev pub priced_notes : Option (List Term) → List ℕ → Nodes → List Note
+  priced_notes None preferred nodes = []
+  priced_notes (Some terms) preferred nodes =
       terms_notes terms (supplier_of (supplier_id preferred nodes)) (context_in nodes)
-      (prices_in nodes) is_plain
+      (prices_in nodes)
 
   -- what a SupplyDetail comes to: its record with those of its Prices, or it is left out
   abbrev pub detail_outcome : SupplyChoices → Nodes → Outcome
   detail_outcome choices nodes =
       written_unless (detail_reason choices.preferred nodes)
       ((codes "SupplyDetail" ∷ detail_fields choices.preferred nodes)
-      ∷ priced_records choices.terms choices.is_plain choices.preferred nodes)
+      ∷ priced_records choices.terms choices.preferred nodes)
       (all_notes (price_in nodes) (prices_in nodes)
-      ++ priced_notes choices.terms choices.is_plain choices.preferred nodes)
+      ++ priced_notes choices.terms choices.preferred nodes)

@@ -25,10 +25,10 @@ IsPrice context nodes (left_out reason) = ⊤
 pub record HasPrices (o : Opening) (choices : SupplyChoices) (nodes : Nodes) : Type 0 where
   pub own : List (List ℕ)
   pub records : outcome_records (detail_outcome o choices nodes)
-      ≡ own ∷ priced_records o choices.terms choices.is_plain choices.preferred nodes
+      ≡ own ∷ priced_records o choices.terms choices.preferred nodes
   pub notes : notes_below (detail_outcome o choices nodes)
       ≡ all_notes (price_in o nodes) (prices_in nodes)
-      ++ priced_notes o choices.terms choices.is_plain choices.preferred nodes
+      ++ priced_notes o choices.terms choices.preferred nodes
   pub each : AllByRecursion (λ p. IsPrice (context_in o nodes) p.below (price_in o nodes p))
       (prices_in nodes)
 

@@ -1,5 +1,5 @@
 -- What the terms of the shop see of the Prices of a SupplyDetail, and what comes of them by these.
-use Rattle.std.specs.Prelude.{◌≡◌, ℕ, Bool, true, false, ◌&&◌, ◌||◌, List, [], ◌∷◌, ◌++◌, Option, Some, None}
+use Rattle.std.specs.Prelude.{◌≡◌, ℕ, Bool, false, ◌&&◌, ◌||◌, List, [], ◌∷◌, ◌++◌, Option, Some, None}
 use Rattle.std.specs.Prelude.{if◌then◌else◌, codes, length, map, nat_lt, replicate, drop, take}
 use Rattle.std.specs.List.{flat_map, list_any}
 use Rattle.std.specs.Option.{option_to_list}
@@ -170,36 +170,32 @@ unfitted_notes element is = if is then note element (foreign other.NoTerm []) �
 abbrev pub free_notes : Element → Bool → List Note
 free_notes element is = if is then note element (foreign other.NothingToPay []) ∷ [] else []
 
--- notes on a Price of which that is said, one for each computed price that is held back; where the
--- computed prices are left out, none but that no term fits it
-abbrev pub remark_notes : Bool → Element → Remarks → List Note
-remark_notes true element r = unfitted_notes element r.is_unfitted
-remark_notes false element r =
+-- notes on a Price of which that is said, one for each computed price that is held back
+abbrev pub remark_notes : Element → Remarks → List Note
+remark_notes element r =
     unfitted_notes element r.is_unfitted
     ++ (free_notes element r.is_free
     ++ replicate r.held (note element (foreign other.HeldBack [])))
 
 -- the notes on Prices with these elements, of each of which that is said
-abbrev pub all_remark_notes : Bool → List Element → List Remarks → List Note
-all_remark_notes is_plain [] remarks = []
-all_remark_notes is_plain (element ∷ elements) [] = []
-all_remark_notes is_plain (element ∷ elements) (r ∷ remarks) =
-    remark_notes is_plain element r ++ all_remark_notes is_plain elements remarks
+abbrev pub all_remark_notes : List Element → List Remarks → List Note
+all_remark_notes [] remarks = []
+all_remark_notes (element ∷ elements) [] = []
+all_remark_notes (element ∷ elements) (r ∷ remarks) =
+    remark_notes element r ++ all_remark_notes elements remarks
 
 module _ (terms : List Term) (supplier : Option (List ℕ)) (context : PriceContext)
     (prices : List Composite) where
-  -- the records of the Prices of a SupplyDetail, as they stand, or with those that the terms
-  -- compute
-  abbrev pub records_with : Bool → Records
-  records_with true = all_records (outcome_in context) prices
-  records_with false =
+  -- the records of the Prices of a SupplyDetail, with those that the terms compute
+  abbrev pub records_with : Records
+  records_with =
       with_terms terms supplier (closed_kinds context prices) (all_given context prices)
       (all_records (outcome_in context) prices)
 
   -- notes on what else comes of them
-  abbrev pub terms_notes : Bool → List Note
-  terms_notes is_plain =
-      all_remark_notes is_plain (flat_map (elements_in context) prices)
+  abbrev pub terms_notes : List Note
+  terms_notes =
+      all_remark_notes (flat_map (elements_in context) prices)
       (map (remarks_of terms supplier
       (is_held_back terms supplier (all_given context prices) (closed_kinds context prices)))
       (all_given context prices))

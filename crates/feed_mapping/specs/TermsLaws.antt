@@ -1,5 +1,5 @@
 -- What the terms of the shop change of the records of a SupplyDetail.
-use Rattle.std.specs.Prelude.{◌≡◌, ℕ, false, List, Option, Some, None, map, length}
+use Rattle.std.specs.Prelude.{◌≡◌, ℕ, List, Option, Some, None, map, length}
 use Rattle.std.specs.List.{AllByRecursion}
 use Rattle.feed_outline.specs.Nodes.{Nodes}
 use Rattle.onix_records.specs.Row.{row_of}
@@ -44,15 +44,15 @@ module _ (o : Opening) (terms : List Term) (preferred : List ℕ) (nodes : Nodes
   -- the records less the computed ones behind each are those without terms
   abbrev pub IsAdded : Type 0
   IsAdded =
-      less_behind computed_counts (priced_records o (Some terms) false preferred nodes)
-      ≡ priced_records o None false preferred nodes
+      less_behind computed_counts (priced_records o (Some terms) preferred nodes)
+      ≡ priced_records o None preferred nodes
 
   -- of the offer that the desk makes of the records, a price that holds without terms does so with
   -- them
   abbrev pub GivenStands : Type 0
   GivenStands =
       (offer : Offer) (with_computed : List Price) (q : PriceQuery) (amount : ℕ)
-      → AreRead o (priced_records o None false preferred nodes) offer.prices
-      → AreRead o (priced_records o (Some terms) false preferred nodes) with_computed
+      → AreRead o (priced_records o None preferred nodes) offer.prices
+      → AreRead o (priced_records o (Some terms) preferred nodes) with_computed
       → IsCurrent offer q (Some amount)
       → IsCurrent (record offer { prices = with_computed }) q (Some amount)

@@ -2,10 +2,10 @@
 
 ghost use Rattle.std.specs.Prelude.{◌≡◌, ◌++◌, ◌∷◌, ◌+◌, ◌<◌, [], ℕ, List, None, Some, IfOk, OnOk, true, is_some, map, codes, option_map};
 ghost use Rattle.std.specs.List.{list_all};
-ghost use Rattle.std.specs.Option.{option_copied, unwrap_or};
+ghost use Rattle.std.specs.Option.{unwrap_or};
 ghost use Rattle.std.specs.Str.{is_utf8};
 ghost use Rattle.feed_mapping.specs.Details.{context_by, context_in, default_minimum, old_supply, detail_fields, detail_outcome, detail_reasons, detail_reason, first_detail_reason, identifier_reasons, name_reason, price_in, priced_notes, priced_records, prices_in, supplier_id, unpriced_in, unpriced_price};
-ghost use Rattle.feed_mapping.specs.Elements.{composites, first, text_or_empty, below_of};
+ghost use Rattle.feed_mapping.specs.Elements.{composites, text_or_empty};
 ghost use Rattle.feed_mapping.specs.Notes.{note_views, reason_view, wrong};
 ghost use Rattle.feed_mapping.specs.Outcomes.{all_notes, all_records, notes_below, outcome_reason, outcome_records, written_unless};
 ghost use Rattle.feed_mapping.specs.PartyViews.{pair_view};
@@ -17,7 +17,6 @@ ghost use Rattle.feed_mapping.specs.declared.notes.Wrong.TheVariants as bad;
 ghost use Rattle.onix_records.specs.declared.row.Opening.{Opening as Said};
 ghost use Rattle.onix_records.specs.Detail.{detail_of};
 ghost use Rattle.onix_records.specs.Gives.{Gives};
-ghost use Rattle.feed_outline.specs.Views.{line_views};
 
 use crate::elements::{elements_in, next_composite, text_or_empty};
 use crate::identifiers::{SUPPLIER, choose_identifier, is_there};
@@ -34,7 +33,7 @@ use crate::supply_choices::SupplyChoices;
 use csv_records::buffer::RecordBuffer;
 use csv_records::fields::FieldBuffer;
 use csv_records::record::Record;
-use feed_outline::{Elements, Line, text_in};
+use feed_outline::{Elements, text_in};
 use onix_records::detail::read_detail;
 use onix_records::fields::read_fields;
 use onix_records::parts::SupplyDetail;
@@ -343,14 +342,14 @@ fn add_priced<'a>(
         → pair_view supplier.entry
         ≡ supplier_id (supply_choices_view choices.now).preferred elements.now
         → OnOk result (records.new ≡ records.old
-        ++ priced_records o (supply_choices_view choices.now).terms choices.now.is_plain
+        ++ priced_records o (supply_choices_view choices.now).terms
         (supply_choices_view choices.now).preferred elements.now) }
     ensures notes { (o : Said) → context_view context.now ≡ context_in o elements.now
         → pair_view supplier.entry
         ≡ supplier_id (supply_choices_view choices.now).preferred elements.now
         → OnOk result (note_views notes.new.items ≡ note_views notes.old.items
         ++ (all_notes (price_in o elements.now) (prices_in elements.now)
-        ++ priced_notes o (supply_choices_view choices.now).terms choices.now.is_plain
+        ++ priced_notes o (supply_choices_view choices.now).terms
         (supply_choices_view choices.now).preferred elements.now)) }
 {
     let alloc = *notes.allocator();
@@ -361,7 +360,6 @@ fn add_priced<'a>(
     add_computed_prices(
         terms,
         supplier.as_ref(),
-        choices.is_plain,
         context,
         elements,
         fields,

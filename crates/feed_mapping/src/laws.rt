@@ -1,7 +1,7 @@
 //! What the definitions of the mapping come to. Each law is the contract of a function that does
 //! nothing.
 
-ghost use Rattle.std.specs.Prelude.{◌≡◌, ◌+◌, ◌<◌, ◌≤◌, ◌++◌, [], ℕ, List, None, Ok, Some, false, length};
+ghost use Rattle.std.specs.Prelude.{◌≡◌, ◌+◌, ◌<◌, ◌≤◌, ◌++◌, [], ℕ, List, None, Ok, Some, length};
 ghost use Rattle.feed_mapping.specs.Header.{Choices, Heading, heading_in};
 ghost use Rattle.std.specs.List.{AllByRecursion};
 ghost use Rattle.feed_mapping.specs.Elements.{Composite};
@@ -88,8 +88,8 @@ pub fn terms_only_add()
         → MayCompute o (Some terms) → GivenStands o terms preferred nodes }
     ensures fitting { (o : Opening) (terms : List Term) (preferred : List ℕ) (nodes : Nodes)
         → NoneFits o terms preferred nodes
-        → priced_records o (Some terms) false preferred nodes
-        ≡ priced_records o None false preferred nodes }
+        → priced_records o (Some terms) preferred nodes
+        ≡ priced_records o None preferred nodes }
 {
     less_computed_is_without();
     given_price_stands();

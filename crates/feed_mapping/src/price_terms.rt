@@ -1,6 +1,6 @@
 //! What the terms of the shop see of the Prices of a SupplyDetail, and what comes of them by these.
 
-ghost use Rattle.std.specs.Prelude.{◌≡◌, ◌≤◌, ◌++◌, ◌∷◌, [], IfOk, OnOk, true, codes, length, map, replicate, if◌then◌else◌};
+ghost use Rattle.std.specs.Prelude.{◌≡◌, ◌≤◌, ◌++◌, ◌∷◌, [], IfOk, OnOk, true, codes, length, map, replicate};
 ghost use Rattle.std.specs.List.{flat_map};
 ghost use Rattle.std.specs.Str.{bytes_eq};
 ghost use Rattle.feed_outline.specs.Names.{stranger_apart};
@@ -12,8 +12,6 @@ ghost use Rattle.feed_mapping.specs.PartyViews.{pair_view};
 ghost use Rattle.feed_mapping.specs.Prices.{PriceContext as Seen, context_view};
 ghost use Rattle.feed_mapping.specs.PriceTerms.{AreWritten, all_given, area_text, closed_by, code_in, discount_in, elements_in, given_in, given_of, is_garbled, is_mixed, is_of_terms, is_seen, kind_in, kinds_closed, outcome_in, rate_in, records_with, all_remark_notes, remark_notes, supplier_of, tax_in, terms_notes};
 ghost use Rattle.feed_mapping.specs.declared.notes.Foreign.TheVariants as other;
-ghost use Rattle.feed_terms.specs.HeldBack.{is_held_back};
-ghost use Rattle.feed_terms.specs.WithTerms.{HavePrices, remarks_of, with_terms};
 
 use crate::again::comes_again;
 use crate::elements::{Composite, next_composite, text_or_empty};
@@ -386,19 +384,15 @@ fn push_held<'a>(held: usize, line: &'a Line, notes: &mut Vec<Note<'a>>) -> Resu
 
 // Adds the notes on a Price of which that is said.
 fn push_remarks<'a>(
-    is_plain: bool,
     line: &'a Line,
     remarks: Remarks,
     notes: &mut Vec<Note<'a>>,
 ) -> Result<(), AllocError>
     ensures { OnOk result (note_views notes.new.items ≡ note_views notes.old.items
-        ++ remark_notes is_plain (element_view line.now) remarks) }
+        ++ remark_notes (element_view line.now) remarks) }
 {
     if remarks.is_unfitted {
         push_foreign(notes, line, Foreign::NoTerm)?;
-    }
-    if is_plain {
-        return Ok(());
     }
     if remarks.is_free {
         push_foreign(notes, line, Foreign::NothingToPay)?;
@@ -408,7 +402,6 @@ fn push_remarks<'a>(
 
 // Adds the notes on those of the Prices that are written, of each of which that is said.
 fn push_all_remarks<'a>(
-    is_plain: bool,
     elements: &Elements<'a>,
     are_written: &[bool],
     remarks: &[Remarks],
@@ -418,7 +411,7 @@ fn push_all_remarks<'a>(
         → are_written.now ≡ map (is_seen context) (composites (codes "Price") elements.now)
         → length remarks.now ≡ length (all_given context (composites (codes "Price") elements.now))
         → OnOk result (note_views notes.new.items ≡ note_views notes.old.items
-        ++ all_remark_notes is_plain (flat_map (elements_in context)
+        ++ all_remark_notes (flat_map (elements_in context)
         (composites (codes "Price") elements.now)) remarks.now) }
 {
     let mut rest = elements.copy();
@@ -436,73 +429,17 @@ fn push_all_remarks<'a>(
         let [first, others @ ..] = left else {
             return Ok(());
         };
-        push_remarks(is_plain, price.line, *first, notes)?;
+        push_remarks(price.line, *first, notes)?;
         left = others;
     }
     Ok(())
 }
 
-// Adds records.
-fn push_records(from: &RecordBuffer, records: &mut RecordBuffer) -> Result<(), AllocError>
-    ensures { OnOk result (records.new ≡ records.old ++ from.now) }
-{
-    for place in 0..from.len() {
-        records.push(&from.record(place))?;
-    }
-    Ok(())
-}
-
-// Adds the records of the Prices that are written, each with those behind it that the terms
-// compute, unless these are left out, and says what else comes of each.
-fn add_records(
-    alloc: Global,
-    terms: &Terms,
-    supplier: Option<&Text>,
-    is_plain: bool,
-    written: &WrittenPrices,
-    records: &mut RecordBuffer,
-) -> Result<Vec<Remarks>, AllocError>
-    requires { HavePrices written.now.records written.now.given.items }
-    ensures records { OnOk result (records.new ≡ records.old
-        ++ (if is_plain then written.now.records else with_terms terms.now
-        (option_copied supplier.entry) written.now.closed.items written.now.given.items
-        written.now.records)) }
-    ensures remarks { IfOk result (λ r. r.items ≡ map (remarks_of terms.now
-        (option_copied supplier.entry) (is_held_back terms.now (option_copied supplier.entry)
-        written.now.given.items written.now.closed.items)) written.now.given.items) }
-{
-    let given = written.given.as_slice();
-    let closed = written.closed.as_slice();
-    if !is_plain {
-        return add_with_terms(
-            alloc,
-            terms,
-            supplier,
-            closed,
-            given,
-            &written.records,
-            records,
-        );
-    }
-    push_records(&written.records, records)?;
-    let mut computed = RecordBuffer::new(alloc);
-    add_with_terms(
-        alloc,
-        terms,
-        supplier,
-        closed,
-        given,
-        &written.records,
-        &mut computed,
-    )
-}
-
 /// Adds the records of the Prices of a SupplyDetail, each with those behind it that the terms
-/// compute, unless these are left out, and notes.
+/// compute, and notes.
 pub(crate) fn add_computed_prices<'a>(
     terms: &Terms,
     supplier: Option<&Text>,
-    is_plain: bool,
     context: &PriceContext<'_, '_, '_>,
     elements: &Elements<'a>,
     fields: &mut FieldBuffer,
@@ -511,18 +448,25 @@ pub(crate) fn add_computed_prices<'a>(
 ) -> Result<(), AllocError>
     ensures records { OnOk result (records.new ≡ records.old ++ records_with terms.now
         (option_copied supplier.entry) (context_view context.now)
-        (composites (codes "Price") elements.now) is_plain) }
+        (composites (codes "Price") elements.now)) }
     ensures notes { OnOk result (note_views notes.new.items ≡ note_views notes.old.items
         ++ (all_notes (outcome_in (context_view context.now))
         (composites (codes "Price") elements.now)
         ++ terms_notes terms.now (option_copied supplier.entry) (context_view context.now)
-        (composites (codes "Price") elements.now) is_plain)) }
+        (composites (codes "Price") elements.now))) }
 {
     let alloc = *notes.allocator();
     let written = written_in(alloc, context, elements, fields, notes)?;
-    let remarks = add_records(alloc, terms, supplier, is_plain, &written, records)?;
+    let remarks = add_with_terms(
+        alloc,
+        terms,
+        supplier,
+        written.closed.as_slice(),
+        written.given.as_slice(),
+        &written.records,
+        records,
+    )?;
     push_all_remarks(
-        is_plain,
         elements,
         written.are_written.as_slice(),
         remarks.as_slice(),

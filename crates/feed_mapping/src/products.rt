@@ -1,15 +1,14 @@
 //! A Product by itself: its reference, its NotificationType and its identifiers.
 
-ghost use Rattle.std.specs.Prelude.{◌≡◌, ◌++◌, ◌<◌, ◌||◌, ℕ, List, IfOk, OnOk, Some, map, option_map};
+ghost use Rattle.std.specs.Prelude.{◌≡◌, ◌++◌, ◌<◌, ◌||◌, [], ℕ, List, IfOk, OnOk, Some, map, option_map};
 ghost use Rattle.std.specs.Char.{is_ascii_digit};
 ghost use Rattle.std.specs.List.{list_all};
 ghost use Rattle.std.specs.Str.{chars};
 ghost use Rattle.feed_mapping.specs.Notes.{note_views, reason_view};
 ghost use Rattle.feed_mapping.specs.PartyViews.{pair_view};
 ghost use Rattle.feed_mapping.specs.PriceViews.{reason_read};
-ghost use Rattle.std.specs.Prelude.{[], not};
-ghost use Rattle.feed_mapping.specs.Products.{MayBe, are_some, beside_isbn, graded, identifiers_in, digit_byte, dropping, has_isbn, identifier_note, identifier_notes, is_blank, is_deletion, is_gtin_type, is_hyphen, is_isbn, is_strange, is_thirteen, notification_in, or_reference, own_reasons, pair_reason, product_record, reference_in, right_pair, right_pairs, thirteen_of, type_of, value_of, without_marks, written_value};
-ghost use Rattle.feed_mapping.specs.Records.{first_some, option_filter, unless};
+ghost use Rattle.feed_mapping.specs.Products.{MayBe, are_some, beside_isbn, graded, digit_byte, dropping, has_isbn, identifier_note, identifier_notes, is_blank, is_deletion, is_gtin_type, is_hyphen, is_isbn, is_strange, is_thirteen, notification_in, or_reference, own_reasons, pair_reason, product_record, reference_in, right_pair, right_pairs, thirteen_of, type_of, value_of, without_marks, written_value};
+ghost use Rattle.feed_mapping.specs.Records.{first_some, unless};
 ghost use Rattle.feed_mapping.specs.declared.notes.Wrong.TheVariants as bad;
 
 use crate::elements::{Composite, next_composite, text_or_empty};
@@ -149,24 +148,6 @@ fn or_value<'b>(digits: &'b Option<Vec<u8>>, value: &'b [u8]) -> &'b [u8]
     match digits {
         Some(digits) => digits.as_slice(),
         None => value,
-    }
-}
-
-/// The thirteen digits of an identifier of this type and value as it is written, where it has them.
-pub fn thirteen_written(
-    alloc: Global,
-    id_type: &[u8],
-    value: &[u8],
-) -> Result<Option<Vec<u8>>, AllocError>
-    ensures { IfOk result (λ d. option_map (λ v. v.items) d
-        ≡ option_filter is_thirteen (Some (written_value id_type.now value.now))) }
-{
-    let digits = digits_of(alloc, id_type, value)?;
-    let written = or_value(&digits, value);
-    if is_thirteen(written) {
-        Ok(Some(Vec::from_slice(alloc, written)?))
-    } else {
-        Ok(None)
     }
 }
 

@@ -1,4 +1,4 @@
-use Rattle.std.proofs.Common.{◌≡◌, ◌++◌, ◌∙◌, ℕ, Bool, List, Option, Some, ap, sym}
+use Rattle.std.proofs.Common.{◌≡◌, ◌++◌, ◌∙◌, ℕ, List, Option, Some, ap, sym}
 use denote.Bor.{Bor}
 use Rattle.std.specs.Prelude.{option_map}
 use Rattle.std.specs.Option.{option_copied}
@@ -15,12 +15,12 @@ use Rattle.feed_mapping.specs.PriceTerms.{outcome_in, supplier_of, terms_notes}
 use Rattle.feed_mapping.proofs.details.add_priced.Goals as goal
 
 noted : (o : Opening) (nodes : Nodes) (context : PriceContext) → context ≡ context_in o nodes → (terms : Option (List Term)) (t : List Term) → terms ≡ Some t → (preferred : List ℕ) (s : Option (List ℕ))
-    → s ≡ supplier_of (supplier_id preferred nodes) → (is_plain : Bool)
-    → all_notes (outcome_in context) (prices_in nodes) ++ terms_notes t s context (prices_in nodes) is_plain ≡ all_notes (price_in o nodes) (prices_in nodes) ++ priced_notes o terms is_plain preferred nodes
-noted o nodes context same terms t is preferred s own is_plain =
-    ap (λ (x : PriceContext). all_notes (outcome_in x) (prices_in nodes) ++ terms_notes t s x (prices_in nodes) is_plain) same
-    ∙ ap (λ (k : Option (List ℕ)). all_notes (price_in o nodes) (prices_in nodes) ++ terms_notes t k (context_in o nodes) (prices_in nodes) is_plain) own
-    ∙ ap (λ (k : Option (List Term)). all_notes (price_in o nodes) (prices_in nodes) ++ priced_notes o k is_plain preferred nodes) (sym is)
+    → s ≡ supplier_of (supplier_id preferred nodes)
+    → all_notes (outcome_in context) (prices_in nodes) ++ terms_notes t s context (prices_in nodes) ≡ all_notes (price_in o nodes) (prices_in nodes) ++ priced_notes o terms preferred nodes
+noted o nodes context same terms t is preferred s own =
+    ap (λ (x : PriceContext). all_notes (outcome_in x) (prices_in nodes) ++ terms_notes t s x (prices_in nodes)) same
+    ∙ ap (λ (k : Option (List ℕ)). all_notes (price_in o nodes) (prices_in nodes) ++ terms_notes t k (context_in o nodes) (prices_in nodes)) own
+    ∙ ap (λ (k : Option (List Term)). all_notes (price_in o nodes) (prices_in nodes) ++ priced_notes o k preferred nodes) (sym is)
 
 pub returns-clause-notes : goal.returns-clause-notes
 returns-clause-notes c = λ o same mine.
@@ -28,5 +28,5 @@ returns-clause-notes c = λ o same mine.
     (λ told. told
     ∙ ap (λ (k : List Note). note_views c.args.notes.now.items ++ k)
     (noted o c.args.elements.now (context_view c.args.context.now) same _ c.in-Some.terms.now (ap (option_map (λ (t : Bor Terms). t.now)) c.in-Some.is)
-    c.args.choices.now.id_type.now (option_copied c.as_ref.result) (c.as_ref.ensures.value ∙ c.in_ok-supplier.ensures ∙ ap supplier_of mine) c.args.choices.now.is_plain))
+    c.args.choices.now.id_type.now (option_copied c.as_ref.result) (c.as_ref.ensures.value ∙ c.in_ok-supplier.ensures ∙ ap supplier_of mine)))
     c.add_computed_prices.ensures.notes

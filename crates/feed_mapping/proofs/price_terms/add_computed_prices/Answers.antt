@@ -1,11 +1,13 @@
-use Rattle.std.proofs.Common.{◌≡◌, ◌++◌, ◌∙◌, List, append_assoc, ap, length, map}
+use Rattle.std.proofs.Common.{◌≡◌, ◌++◌, ◌∙◌, List, append_assoc, ap, length, map, subst, sym}
 use Rattle.std.specs.Prelude.{OnOk, codes}
 use Rattle.std.specs.List.{flat_map}
 use Rattle.std.specs.Option.{option_copied}
 use Rattle.std.proofs.lemmas.List.{length-map}
 use Rattle.std.proofs.lemmas.Result.{on_ok_weaker}
 use Rattle.feed_terms.specs.HeldBack.{is_held_back}
-use Rattle.feed_terms.specs.WithTerms.{remarks_of}
+use Rattle.feed_terms.specs.WithTerms.{HavePrices, remarks_of, with_terms}
+use Rattle.feed_terms.specs.declared.price.GivenPrice.{GivenPrice}
+use Rattle.feed_terms.specs.declared.price.Kind.{Kind}
 use Rattle.feed_terms.specs.declared.with_terms.Remarks.{Remarks}
 use Rattle.feed_mapping.specs.Elements.{composites}
 use Rattle.feed_mapping.specs.Notes.{Note, note_views}
@@ -16,29 +18,41 @@ use Rattle.feed_mapping.specs.Records.{Records}
 use Rattle.feed_mapping.proofs.SeenPrices.{have-prices, records-are, said-of-each}
 use Rattle.feed_mapping.proofs.price_terms.add_computed_prices.Goals as goal
 
-pub add_records-requires : goal.add_records-requires
-add_records-requires c =
-    have-prices (context_view c.args.context.now) (composites (codes "Price") c.args.elements.now) c.in_ok-written.written.records c.in_ok-written.written.given.items
-    c.in_ok-written.written.are_written.items c.in_ok-written.written.closed.items c.in_ok-written.ensures.written
+pub add_with_terms-requires : goal.add_with_terms-requires
+add_with_terms-requires c =
+    subst (λ (g : List GivenPrice). HavePrices c.in_ok-written.written.records g) (sym c.as_slice-2.ensures.value)
+    (have-prices (context_view c.args.context.now) (composites (codes "Price") c.args.elements.now) c.in_ok-written.written.records c.in_ok-written.written.given.items
+    c.in_ok-written.written.are_written.items c.in_ok-written.written.closed.items c.in_ok-written.ensures.written)
 
 records-of : (c : goal.After-drop-written-6)
-    → c.add_records.new.records ≡ c.args.records.now ++ records_with c.args.terms.now (option_copied c.args.supplier) (context_view c.args.context.now) (composites (codes "Price") c.args.elements.now) c.args.is_plain
+    → c.add_with_terms.new.output ≡ c.args.records.now ++ records_with c.args.terms.now (option_copied c.args.supplier) (context_view c.args.context.now) (composites (codes "Price") c.args.elements.now)
 records-of c =
+    let terms = c.args.terms.now in
+    let supplier = option_copied c.args.supplier in
+    let records = c.in_ok-written.written.records in
     c.in_ok-remarks.ensures.records
+    ∙ ap (λ (k : List Kind). c.args.records.now ++ with_terms terms supplier k c.as_slice-2.result.now records) c.as_slice.ensures.value
+    ∙ ap (λ (g : List GivenPrice). c.args.records.now ++ with_terms terms supplier c.in_ok-written.written.closed.items g records) c.as_slice-2.ensures.value
     ∙ ap (λ (k : Records). c.args.records.now ++ k)
-    (records-are c.args.terms.now (option_copied c.args.supplier) (context_view c.args.context.now) (composites (codes "Price") c.args.elements.now) c.in_ok-written.written.records c.in_ok-written.written.given.items
-    c.in_ok-written.written.are_written.items c.in_ok-written.written.closed.items c.in_ok-written.ensures.written c.args.is_plain)
+    (records-are terms supplier (context_view c.args.context.now) (composites (codes "Price") c.args.elements.now) records c.in_ok-written.written.given.items
+    c.in_ok-written.written.are_written.items c.in_ok-written.written.closed.items c.in_ok-written.ensures.written)
 
-remarks-of : (c : goal.After-drop-written-6) → c.as_slice-2.result.now
+remarks-of : (c : goal.After-drop-written-6) → c.as_slice-4.result.now
     ≡ map (remarks_of c.args.terms.now (option_copied c.args.supplier) (is_held_back c.args.terms.now (option_copied c.args.supplier) c.in_ok-written.written.given.items c.in_ok-written.written.closed.items)) c.in_ok-written.written.given.items
-remarks-of c = c.as_slice-2.ensures.value ∙ c.in_ok-remarks.ensures.remarks
+remarks-of c =
+    let terms = c.args.terms.now in
+    let supplier = option_copied c.args.supplier in
+    let given = c.as_slice-2.result.now in
+    c.as_slice-4.ensures.value ∙ c.in_ok-remarks.ensures.remarks
+    ∙ ap (λ (k : List Kind). map (remarks_of terms supplier (is_held_back terms supplier given k)) given) c.as_slice.ensures.value
+    ∙ ap (λ (g : List GivenPrice). map (remarks_of terms supplier (is_held_back terms supplier g c.in_ok-written.written.closed.items)) g) c.as_slice-2.ensures.value
 
 noted : (c : goal.After-drop-written-6) → OnOk c.push_all_remarks.result
     (note_views c.push_all_remarks.new.notes.items ≡ note_views c.written_in.new.notes.items
-    ++ all_remark_notes c.args.is_plain (flat_map (elements_in (context_view c.args.context.now)) (composites (codes "Price") c.args.elements.now)) c.as_slice-2.result.now)
+    ++ all_remark_notes (flat_map (elements_in (context_view c.args.context.now)) (composites (codes "Price") c.args.elements.now)) c.as_slice-4.result.now)
 noted c =
     let are = c.in_ok-written.ensures.written in
-    c.push_all_remarks.ensures (context_view c.args.context.now) (c.as_slice.ensures.value ∙ are.are_written)
+    c.push_all_remarks.ensures (context_view c.args.context.now) (c.as_slice-3.ensures.value ∙ are.are_written)
     (ap length (remarks-of c) ∙ length-map c.in_ok-written.written.given.items _ ∙ ap length are.given)
 
 pub returns-clause-records : goal.returns-clause-records
@@ -48,12 +62,12 @@ pub returns-clause-notes : goal.returns-clause-notes
 returns-clause-notes c =
     let context = context_view c.args.context.now in
     let prices = composites (codes "Price") c.args.elements.now in
-    let said = all_remark_notes c.args.is_plain (flat_map (elements_in context) prices) in
+    let said = all_remark_notes (flat_map (elements_in context) prices) in
     let remarks = remarks-of c
     ∙ said-of-each c.args.terms.now (option_copied c.args.supplier) context prices c.in_ok-written.written.records c.in_ok-written.written.given.items
     c.in_ok-written.written.are_written.items c.in_ok-written.written.closed.items c.in_ok-written.ensures.written in
     on_ok_weaker c.push_all_remarks.result
     (λ told. told ∙ ap (λ (k : List Remarks). note_views c.written_in.new.notes.items ++ said k) remarks
-    ∙ ap (λ (k : List Note). k ++ terms_notes c.args.terms.now (option_copied c.args.supplier) context prices c.args.is_plain) c.in_ok-written.ensures.notes
-    ∙ append_assoc (note_views c.args.notes.now.items) (all_notes (outcome_in context) prices) (terms_notes c.args.terms.now (option_copied c.args.supplier) context prices c.args.is_plain))
+    ∙ ap (λ (k : List Note). k ++ terms_notes c.args.terms.now (option_copied c.args.supplier) context prices) c.in_ok-written.ensures.notes
+    ∙ append_assoc (note_views c.args.notes.now.items) (all_notes (outcome_in context) prices) (terms_notes c.args.terms.now (option_copied c.args.supplier) context prices))
     (noted c)

@@ -11,8 +11,8 @@ use Rattle.feed_mapping.proofs.price_terms.push_all_remarks.Given as goal
 abbrev pub invariant-loop-price : goal.invariant-loop-price
 invariant-loop-price l =
     (context : PriceContext) → l.are_written ≡ map (is_seen context) (composites (codes "Price") l.elements) → length l.remarks ≡ length (all_given context (composites (codes "Price") l.elements))
-    → IsLeft context l.is_plain (composites (codes "Price") l.rest) l.written l.left (note_views l.notes.items)
-    (note_views l.initial.notes.items ++ all_remark_notes l.is_plain (flat_map (elements_in context) (composites (codes "Price") l.elements)) l.remarks)
+    → IsLeft context (composites (codes "Price") l.rest) l.written l.left (note_views l.notes.items)
+    (note_views l.initial.notes.items ++ all_remark_notes (flat_map (elements_in context) (composites (codes "Price") l.elements)) l.remarks)
 
 abbrev pub decreases-loop-price : goal.decreases-loop-price
 decreases-loop-price l = length (composites (codes "Price") l.rest)

@@ -70,7 +70,8 @@ def status_of(machine: Machine, run: Restore) -> int:
         machine.tell(ERROR, f"systemctl start {DESK}; the desk did not run, and is not started")
         return FAILED
     inboxes = inboxes_in(machine, run.options.inboxes, run.options.settings)
-    return DONE if run.work.is_started and wait_for_all(machine, inboxes, run.planned) and run.has_all else FAILED
+    has_all = run.work.is_started and wait_for_all(machine, inboxes, run.planned, run.work.started) and run.has_all
+    return DONE if has_all else FAILED
 
 
 def main() -> int:

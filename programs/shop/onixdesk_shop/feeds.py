@@ -19,7 +19,7 @@ TOTAL = re.compile(r"([0-9]+) notes?(?:, ([0-9]+) products? wrong)?")
 COUNTED = re.compile(r"(.*): ([0-9]+)")
 
 # What the converter proposes on a command line, but the number, stands in WORDS of an inbox.
-REMEDY = re.compile(r"(--(?:sender|addressee|wrong) \S+)")
+REMEDY = re.compile(r"(--(?:sender|addressee|supplier|wrong) \S+)")
 
 
 class Refusal(Exception):

@@ -131,7 +131,7 @@ def look_at(inbox: Inbox, feed: Feed, gaps: Gaps) -> None:
             if not product.is_deletion:
                 records.update(product.isbns)
     if mixed:
-        said = f"{count(mixed, 'product')} with several suppliers: ask the wholesaler for its own offers alone"
+        said = f"{count(mixed, 'product')} with several suppliers: --supplier TYPE,VALUE in WORDS takes one's alone"
         inbox.tell_file(WARNING, feed.file, said)
     for isbn, most in records.most_common(1):
         if most > MOST_RECORDS_OF_ONE_ISBN:

@@ -70,7 +70,7 @@ def remarks(sample: Sample, net: str, terms: bytes | None) -> Iterator[str]:
     if updates := sample.types[UPDATE]:
         yield f"{count(updates, 'update')} of products: ask for a full feed first, since a desk drops those it has not"
     if len(sample.suppliers) > 1:
-        yield "several suppliers: where they are other firms, ask for a feed of the sender's own offers alone"
+        yield "several suppliers: where they are other firms, --supplier TYPE,VALUE in WORDS takes the sender's offers alone"
     if unfitted := {in_words(code): n for code, n in sample.codes.items() if not is_fitted(code, terms)}:
         yield f"no term names these codes: {'; '.join(f'{cut(words)}: {n}' for words, n in unfitted.items())}"
     if sample.number and is_date(str(sample.number)):

@@ -1,5 +1,6 @@
 """What is said of a sample: what is in it, what follows from that, and what to paste."""
 
+import json
 import re
 import shlex
 import tomllib
@@ -24,8 +25,8 @@ is_retail = re.compile("[0-4][1-4]").fullmatch
 TERM = """\
 [[term]]
 types = ["{kind}"]
-codes = ["{code}"]{scheme}
-net = "{net}"
+codes = ["{code}"]
+{scheme}net = "{net}"
 percent = ""  # the discount that is agreed, as 42.5
 """
 
@@ -82,7 +83,10 @@ def remarks(sample: Sample, net: str, terms: bytes | None) -> Iterator[str]:
 def is_fitted(code: Code, terms: bytes | None) -> bool:
     """Whether a term names a code, or takes each; also where there is no table."""
     table = tomllib.loads(terms.decode("utf-8-sig")).get("term", []) if terms is not None else []
-    return terms is None or any(code[0] in each["types"] and code[1] in each.get("codes", [code[1]]) for each in table)
+    return terms is None or any(
+        code[0] in each["types"] and code[1] in each.get("codes", [code[1]]) and code[2] == each.get("scheme", code[2])
+        for each in table
+    )
 
 
 def needs_terms(sample: Sample, net: str) -> bool:
@@ -95,8 +99,8 @@ def terms_to_paste(sample: Sample, net: str) -> str:
     found = []
     for kind, code, scheme in sample.codes:
         if is_retail(kind) and not {'"', "\\"} & {*code}:
-            remark = f"  # {cut(scheme)}" if scheme else ""
-            found.append(TERM.format(kind=kind, code=shown(code), scheme=remark, net=net))
+            line = f"scheme = {json.dumps(scheme, ensure_ascii=False)}\n" if scheme else ""
+            found.append(TERM.format(kind=kind, code=shown(code), scheme=line, net=net))
     return "".join(found)
 
 

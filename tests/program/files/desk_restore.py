@@ -10,7 +10,7 @@ from typing import Any
 
 from onixdesk_shop.ends import status_of
 from onixdesk_shop.inbox import decide
-from onixdesk_shop.restores.command_line import restore
+from onixdesk_shop.restores.command_line import work as restore
 from onixdesk_shop.settings import NEXT
 from tests.program.room import Group, Room
 from tests.running import Outcome

@@ -49,7 +49,9 @@ def one_supplier(room: Room) -> Iterator[Outcome]:
     text = feed(1, [Book(1, "10.00"), Book(2, "20.00")]).replace("</SupplierRole>", own, 1)
     inbox.send("mixed.xml", text.replace("</SupplierRole><SupplierName>", f"{other}<SupplierName>"))
     inbox.run()
-    yield Outcome("its prices", [record[2] for record in inbox.series.had[1] if record[0] == "Price"], ["10.00"])
+    yield Outcome("its prices", [record[2] for record in inbox.series.had[1] if record[0] == "Price"], ["10.000"])
+    inbox.send("others.xml", feed(2, [Book(3)]).replace("</SupplierRole>", other))
+    yield Outcome("none of its own", (len(inbox.run()), inbox.states()["others.xml"]), (1, "quarantined"))
 
 
 # Of a message of twelve products, behind a first one of as many: what is wrong in it, and its right form.

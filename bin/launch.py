@@ -20,4 +20,5 @@ sys.path.insert(0, str(Path(__file__).resolve().parent.parent / "programs" / "sh
 
 
 def main() -> None:
-    sys.exit(import_module(f"onixdesk_shop.{MODULES[Path(sys.argv[0]).name]}").main())
+    ends, program = (import_module(f"onixdesk_shop.{name}") for name in ("ends", MODULES[Path(sys.argv[0]).name]))
+    sys.exit(ends.call(program.command_line(), program.work))

@@ -6,7 +6,7 @@ import shutil
 import signal
 import sys
 import traceback
-from collections.abc import Callable, Sequence
+from collections.abc import Callable
 from datetime import date
 from pathlib import Path
 
@@ -31,6 +31,7 @@ def parser_of(program: str, description: str, /, **paths: Path | None) -> argpar
     )
     for name, path in paths.items():
         parser.add_argument(f"--{name}", metavar="PATH", type=Path, default=path, help=f"{path or 'none'} without it")
+    parser.set_defaults(goes_on=False)
     return parser
 
 
@@ -53,22 +54,17 @@ def program_of(word: Path) -> Path:
 Work = Callable[[Machine, argparse.Namespace], int]
 
 
-def call(parser: argparse.ArgumentParser, work: Work, words: Sequence[str] | None = None, goes_on: bool = False) -> int:
-    """The status of a program's work by the words of its command line."""
-    options = parser.parse_args(words)
-    return run_program(parser.prog, lambda machine: work(machine, options), goes_on)
-
-
-def run_program(name: str, work: Callable[[Machine], int], goes_on: bool = False) -> int:
-    """The status of a program's work on this machine. A program that `goes_on` is not ended by a terminal that hangs
-    up."""
+def call(parser: argparse.ArgumentParser, work: Work) -> int:
+    """The status of a program's work on this machine, by the words of its command line. One that `goes_on` is not ended by
+    a terminal that hangs up."""
+    options = parser.parse_args()
     os.umask(0o077)
     for number in (signal.SIGTERM, signal.SIGHUP):
         signal.signal(number, lambda number, _: sys.exit(128 + number))
-    if goes_on:
+    if options.goes_on:
         signal.signal(signal.SIGHUP, signal.SIG_IGN)
-    machine = Machine(name)
-    status = status_of(machine, work)
+    machine = Machine(parser.prog)
+    status = status_of(machine, lambda machine: work(machine, options))
     return status or (FAULT if machine.is_output_broken else DONE)
 
 

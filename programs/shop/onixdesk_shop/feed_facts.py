@@ -6,7 +6,7 @@ from collections import Counter
 from collections.abc import Iterator
 from xml.etree.ElementTree import Element
 
-from onixdesk_shop.feed_products import read_input, text_in
+from onixdesk_shop.feed_products import text_in
 
 # The elements that count, by their short tags.
 TAGS = """
@@ -45,7 +45,3 @@ def codes_of(price: Element, kind: str) -> set[tuple[str, str, str]]:
         code = f"{text_in(each, 'DiscountCodeType')},{text_in(each, 'DiscountCode')}"
         found.add((kind, code, text_in(each, "DiscountCodeTypeName")))
     return found
-
-
-def main() -> None:
-    read_input(TAGS, write)

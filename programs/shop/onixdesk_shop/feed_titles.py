@@ -7,7 +7,7 @@ from collections.abc import Iterator
 from typing import Any
 from xml.etree.ElementTree import Element
 
-from onixdesk_shop.feed_products import LONGEST, read_input, text_in
+from onixdesk_shop.feed_products import LONGEST, text_in
 
 # How many contributors are kept.
 CONTRIBUTORS = 3
@@ -64,7 +64,3 @@ def write(elements: Iterator[Element]) -> None:
     for row in map(row_of, elements):
         if row[0] and (row[1] or row[2]):
             print(json.dumps(row))
-
-
-def main() -> None:
-    read_input(TAGS, write)

@@ -16,10 +16,10 @@ CONVERSION_SECONDS, READING_SECONDS, CHECK_SECONDS = 1800, 600, 60
 PROGRAM_SAYS = "onixdesk: "
 ON_INPUT = re.compile(r"onixdesk: -(?::([0-9]+):([0-9]+))?: ")
 TOTAL = re.compile(r"([0-9]+) notes?(?:, ([0-9]+) products? wrong)?")
-COUNTED = re.compile(r"(.*): ([0-9]+)")
+COUNTED, OF_ALL = re.compile(r"(.*): ([0-9]+)"), re.compile(r"([0-9]+) of [0-9]+ (products?) (.*)")
 
 # What the converter proposes on a command line, but the number, stands in WORDS of an inbox.
-REMEDY = re.compile(r"(--(?:sender|addressee|wrong) \S+)")
+REMEDY = re.compile(r"(--(?:sender|addressee|supplier|wrong) \S+)")
 
 
 class Refusal(Exception):
@@ -53,6 +53,8 @@ def said_in(errors: bytes) -> Said:
             said.wrong = int(total[2] or 0)
         elif counted := COUNTED.fullmatch(text):
             said.reasons[counted[1]] = said.reasons.get(counted[1], 0) + int(counted[2])
+        elif of_all := OF_ALL.fullmatch(text):
+            said.reasons[f"{of_all[2]} {of_all[3]}"] = int(of_all[1])
     return said
 
 
@@ -68,7 +70,10 @@ def refusal_of(said: Said) -> str:
 def read_by(machine: Machine, module: str, source: Path) -> bytes:
     """What a module of the package says of a feed, as a child. BadEnd where it does not read it to its end."""
     package = Path(__file__).parent
-    start = f"import sys; sys.path[0] = {str(package.parent)!r}; from {package.name} import {module}; {module}.main()"
+    modules = f"from {package.name} import feed_products, {module} as said"
+    start = (
+        f"import sys; sys.path[0] = {str(package.parent)!r}; {modules}; feed_products.read_input(said.TAGS, said.write)"
+    )
     call = [sys.executable, "-EsSB", "-c", start]
     try:
         return machine.run(call, text=pieces_of(source), seconds=READING_SECONDS).output

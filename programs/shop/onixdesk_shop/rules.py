@@ -6,9 +6,16 @@ import tomllib
 from pathlib import Path
 from typing import Any
 
-from onixdesk_shop.ends import call, parser_of
+from onixdesk_shop.ends import parser_of
 from onixdesk_shop.faults import BAD_CALL, DONE, BadCall
 from onixdesk_shop.machine import Machine
+
+
+def command_line() -> argparse.ArgumentParser:
+    parser = parser_of("write-rules", "Writes the rules of a desk that starts for the page, as FOLDER/rules.json.")
+    parser.add_argument("rules", metavar="RULES", type=Path)
+    parser.add_argument("folder", metavar="FOLDER", type=Path)
+    return parser
 
 
 def rules_of(text: bytes) -> list[dict[str, Any]]:
@@ -28,15 +35,8 @@ def rules_by(machine: Machine, program: Path, file: Path) -> list[dict[str, Any]
     return rules_of(text)
 
 
-def write(machine: Machine, options: argparse.Namespace) -> int:
+def work(machine: Machine, options: argparse.Namespace) -> int:
     found = rules_of(machine.read(options.rules)) if machine.exists(options.rules) else []
     text = json.dumps({"version": 1, "at": int(machine.now()), "rules": found}, default=str)
     machine.write_whole(options.folder / "rules.json", f"{text}\n".encode())
     return DONE
-
-
-def main() -> int:
-    parser = parser_of("write-rules", "Writes the rules of a desk that starts for the page, as FOLDER/rules.json.")
-    parser.add_argument("rules", metavar="RULES", type=Path)
-    parser.add_argument("folder", metavar="FOLDER", type=Path)
-    return call(parser, write)

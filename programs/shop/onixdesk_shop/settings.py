@@ -40,8 +40,16 @@ class Settings:
     @property
     def parts(self) -> int:
         """How many messages the converter makes of a feed by its words."""
-        found = re.search(r"--parts[ =]([1-9][0-9]{0,3})(?= |$)", " ".join(self.words))
-        return int(found[1]) if found else 1
+        return self.given("--parts", 1)
+
+    @property
+    def offset(self) -> int:
+        """What the converter adds to the numbers of feeds by its words."""
+        return self.given("--number-offset", 0)
+
+    def given(self, word: str, usual: int) -> int:
+        found = re.search(rf"{word}[ =]([0-9]{{1,9}})(?= |$)", " ".join(self.words))
+        return int(found[1]) if found else usual
 
     def is_full(self, name: str) -> bool:
         """Whether a file of that name says all that its wholesaler has."""

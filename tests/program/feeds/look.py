@@ -175,11 +175,11 @@ def terms(room: Room) -> Iterator[Outcome]:
     """Of retail prices alone a shop that pays net prices is told to write terms, with the table for their codes."""
     products = [
         product(place, supplied(price))
-        for place, price in enumerate([coded("A", "Harper"), coded("A", "Harper"), coded("B"), PRICE])
+        for place, price in enumerate([coded("A", "Harper"), coded("B"), coded("B"), PRICE])
     ]
     room.write("north-7.xml", feed(products))
     found = sections(look(room, "north-7.xml", price_type="05"))
-    codes = ["2  02,A of Harper, of prices of type 02", "1  02,B, of prices of type 02"]
+    codes = ["2  02,B, of prices of type 02", "1  02,A of Harper, of prices of type 02"]
     yield Outcome("discount codes", found["Discount codes by prices"], codes)
     yield Outcome("no price", f"Of 4 articles 0 have a price: {DAY},GB,GBP,05" in found, True)
     (remark,) = found["To look at"]
@@ -189,11 +189,18 @@ def terms(room: Room) -> Iterator[Outcome]:
     yield Outcome("nobody has written a percent", room.run("terms", "shop.toml").status, 2)
     room.write("shop.toml", table.replace('percent = ""', 'percent = "40"').encode())
     yield Outcome("each is written", room.run("terms", "shop.toml").output, b"terms 2\n")
-    room.write("a.toml", b'[[term]]\ntypes = ["02"]\ncodes = ["02,A"]\nnet = "05"\npercent = "40"\n')
-    found = sections(look(room, "--terms", "a.toml", "north-7.xml", price_type="05"))
-    yield Outcome("with terms", found["Prices by type and currency"], ["4  02 GBP", "2  05 GBP"])
-    line = "no term names these codes: 02,B, of prices of type 02: 1"
-    yield Outcome("a code without one", found["To look at"], [line])
+    yield Outcome(
+        "that of a scheme goes first", 0 < table.find('scheme = "Harper"') < table.find('codes = ["02,B"]'), True
+    )
+    for scheme, net, unfitted in ("Harper", 1, ["02,B"]), ("Pan", 0, ["02,A", "02,B"]):
+        lines = "[[term]]", 'types = ["02"]', 'codes = ["02,A"]', f'scheme = "{scheme}"', 'net = "05"', 'percent = "40"'
+        room.write("a.toml", "\n".join(lines).encode())
+        found = sections(look(room, "--terms", "a.toml", "north-7.xml", price_type="05"))
+        yield Outcome(
+            f"with terms of {scheme}", found["Prices by type and currency"], ["4  02 GBP", *["1  05 GBP"] * net]
+        )
+        remark = next(line for line in found["To look at"] if line.startswith("no term names these codes: "))
+        yield Outcome("codes without one", sorted(re.findall("02,[AB]", remark)), unfitted)
     room.write("shop.toml", b"shop = 1")
     came = look(room, "--terms", "shop.toml", "north-7.xml")
     yield Outcome("no terms", (came.status, b"terms: not TOML" in came.errors), (2, True))

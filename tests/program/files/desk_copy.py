@@ -14,7 +14,7 @@ from contextlib import closing, contextmanager
 from functools import partial
 from pathlib import Path
 
-from onixdesk_shop.copies.command_line import command_line, copy as take, tell_room
+from onixdesk_shop.copies.command_line import command_line, tell_room, work as take
 from onixdesk_shop.copies.copying import Copied
 from onixdesk_shop.ends import status_of
 from tests.program.databases import DATABASE, batch

@@ -9,7 +9,7 @@ from onixdesk_shop.children import Ended, Words
 from onixdesk_shop.ends import status_of
 from onixdesk_shop.machine import Machine
 from onixdesk_shop.renewals import catalogue
-from onixdesk_shop.renewals.command_line import command_line, renew
+from onixdesk_shop.renewals.command_line import command_line, work as renew
 from tests.program.databases import DATABASE, all_rows, batch
 from tests.program.inbox.inboxes import script
 from tests.program.room import Group, Ran, Room

@@ -10,7 +10,7 @@ from typing import Any
 
 from onixdesk_shop.ends import status_of
 from onixdesk_shop.inbox import decide
-from onixdesk_shop.restores.command_line import restore
+from onixdesk_shop.restores.command_line import work as restore
 from onixdesk_shop.settings import NEXT
 from tests.program.room import Group, Room
 from tests.running import Outcome
@@ -123,12 +123,29 @@ def desk_that_does_not_start(room: Room) -> Iterator[Outcome]:
     yield Outcome("then", (has(shop), price(shop)), ([1, 2, 3, 4, 5], "15.000"))
 
 
+def inbox_that_is_off(room: Room) -> Iterator[Outcome]:
+    """Of a wholesaler that is gone: it is not waited for, and the line is what posts again what the desk lacks."""
+    shop = shop_in(room, "off")
+    copy = four_days(shop)
+    shop.started, shop.is_inbox_run = {*UNITS[:2]}, False
+    before = shop.inbox.clock
+    yield Outcome("the status", (run(shop, copy), has(shop), shop.started), (1, [1], {*UNITS[:2]}))
+    yield Outcome("nobody waits", shop.inbox.clock - before < 10, True)
+    command = "onixdesk-inbox north; no unit runs this inbox, and the desk lacks 3 numbers from 2 to 4"
+    yield Outcome("the command", [line for line in shop.lines if "inbox north" in line], [command])
+    shop.inbox.run()
+    copy = shop.take_copy("2026-11-30T02-30-12Z")
+    yield Outcome("where nothing is lacking", (run(shop, copy), has(shop)), (0, [1, 2, 3, 4]))
+
+
 def what_cannot_come_again(room: Room) -> Iterator[Outcome]:
     shop = shop_in(room, "gone")
     copy = four_days(shop)
     shop.inbox.work(lambda inbox: inbox.ledger.do("UPDATE message SET text = NULL WHERE number > 1"))
     yield Outcome("texts that are gone", (run(shop, copy), has(shop), shop.units), (1, [1, 2, 3, 4], []))
     yield Outcome("say so", "the texts of 3 numbers from 2 to 4 are not kept any more" in shop.lines[-1], True)
+    before = shop.inbox.clock
+    yield Outcome("are not waited for", (run(shop, copy, gaps=True), shop.inbox.clock - before < 10), (1, True))
     shop = shop_in(room, "posted")
     copy = four_days(shop)
     shop.inbox.series.had[5] = ()

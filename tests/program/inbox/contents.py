@@ -41,6 +41,19 @@ def packed_again(room: Room) -> Iterator[Outcome]:
     yield Outcome("10.00 less 4.25 and 42.5 percent", nets, [["9.580"], ["5.750"]])
 
 
+def one_supplier(room: Room) -> Iterator[Outcome]:
+    """Of several suppliers the one that WORDS names counts alone."""
+    inbox = FakeInbox(room.folder, room.program, words=("--supplier", f"06,{SENDER[1]}"))
+    form = "<SupplierIdentifier><SupplierIDType>06</SupplierIDType><IDValue>{}</IDValue></SupplierIdentifier>"
+    own, other = (f"</SupplierRole>{form.format(value)}" for value in (SENDER[1], "4012345000010"))
+    text = feed(1, [Book(1, "10.00"), Book(2, "20.00")]).replace("</SupplierRole>", own, 1)
+    inbox.send("mixed.xml", text.replace("</SupplierRole><SupplierName>", f"{other}<SupplierName>"))
+    inbox.run()
+    yield Outcome("its prices", [record[2] for record in inbox.series.had[1] if record[0] == "Price"], ["10.000"])
+    inbox.send("others.xml", feed(2, [Book(3)]).replace("</SupplierRole>", other))
+    yield Outcome("none of its own", (len(inbox.run()), inbox.states()["others.xml"]), (1, "quarantined"))
+
+
 # Of a message of twelve products, behind a first one of as many: what is wrong in it, and its right form.
 MALFORMED = {
     "amount": ("13.99", '"13,99"'),

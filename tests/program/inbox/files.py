@@ -2,6 +2,7 @@
 
 import os
 from collections.abc import Iterator
+from dataclasses import replace
 from typing import Any
 from unittest.mock import patch
 
@@ -220,6 +221,12 @@ def begins_again(room: Room) -> Iterator[Outcome]:
     yield Outcome("the setting", line.partition(";")[0], "if it begins again at 1: WORDS=--number-offset 3")
     inbox.send("2.xml", feed_of(2, {"R1": "9.00"}))
     yield Outcome("another one that was had", "begins again" in "".join(inbox.run()), False)
+    inbox.settings = replace(inbox.settings, words=("--number-offset", "3"))
+    inbox.run()
+    yield Outcome("it is number 4", price_of(inbox, "R1"), "9.000")
+    inbox.send("newer.xml", feed_of(1, {"R1": "8.00"}))
+    line = next(line for line in inbox.run() if line.endswith("newer.xml"))
+    yield Outcome("once more", line.partition(";")[0], "if it begins again at 1: WORDS=--number-offset 5")
 
 
 def said_of_products(room: Room) -> Iterator[Outcome]:
@@ -228,7 +235,7 @@ def said_of_products(room: Room) -> Iterator[Outcome]:
     records = message_of(1, [product_of("R1", "1.00", None) + [["SupplyDetail", "04", "", "", "South", "21", ""]]])
     inbox.send("two.csv", records)
     lines = inbox.run()
-    yield Outcome("several suppliers", lines[0].partition(":")[0], "1 product with several suppliers")
+    yield Outcome("several suppliers", lines[0].partition(":")[0], "2 suppliers")
     inbox.send("gone.csv", message_of(2, [product_of("R2", "-", None)]))
     lines = inbox.run()
     yield Outcome("what is not there", lines[0].partition(":")[0], "1 change of what the desk has not")

@@ -56,12 +56,14 @@ def whole_files(room: Room) -> Iterator[Outcome]:
 
 WORK = """\
 import os, signal, sys
-from onixdesk_shop.ends import run_program
-def work(machine):
+from onixdesk_shop.ends import call, parser_of
+def work(machine, options):
     {lines}
     machine.tell(5, "done")
     return 0
-sys.exit(run_program("test", work, {goes_on}))
+parser = parser_of("test", "")
+parser.set_defaults(goes_on={goes_on})
+sys.exit(call(parser, work))
 """
 
 

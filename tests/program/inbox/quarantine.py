@@ -29,7 +29,7 @@ def some_with(count: int, **changes: Any) -> Feed:
 QUARANTINED: dict[str, Feed] = {
     "a hundredfold": all_with(price="1000.00"),
     "in pence, eleven of forty": some_with(11, price="1000.00"),
-    "a hundredfold from the day after tomorrow": all_with(later=("20261202", "1000.00")),
+    "a hundredfold from a later day on": all_with(later=("20261202", "1000.00")),
     "a third of the price": all_with(price="3.33"),
     "a half less for all": all_with(price="5.50"),
     "in another currency": all_with(currency="EUR"),

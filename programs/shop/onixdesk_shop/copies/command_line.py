@@ -7,7 +7,7 @@ from pathlib import Path
 from onixdesk_shop.copies.copying import Copied, copy_desk
 from onixdesk_shop.copies.keeping import UNFINISHED, free_name, keep_latest
 from onixdesk_shop.desk_files import check
-from onixdesk_shop.ends import call, parser_of
+from onixdesk_shop.ends import parser_of
 from onixdesk_shop.faults import DONE, Fault
 from onixdesk_shop.lines import ERROR
 from onixdesk_shop.machine import Machine
@@ -44,7 +44,7 @@ def copy_ledgers(machine: Machine, inboxes: Path, target: Path) -> None:
             machine.backup(ledger, target / f"{entry.name}.db")
 
 
-def copy(machine: Machine, options: argparse.Namespace) -> int:
+def work(machine: Machine, options: argparse.Namespace) -> int:
     """Makes a copy under a hidden name, which a run that is killed leaves to the next one."""
     folder = options.folder.absolute()
     parent = folder if options.keep else folder.parent
@@ -86,7 +86,3 @@ def tell_room(machine: Machine, file: Path, found: Copied) -> None:
     if needed > LIMIT // 2:
         megabytes = f"{needed // 1_000_000} MB of memory, of {LIMIT // 1_000_000} MB"
         machine.tell(ERROR, f"desk-renew; the next start of the desk may take {megabytes}: {file} has grown")
-
-
-def main() -> int:
-    return call(command_line(), copy)

@@ -9,7 +9,7 @@ from collections.abc import Iterator
 from pathlib import Path
 
 from onixdesk_shop.desk import Desk
-from onixdesk_shop.ends import call, parser_of, program_of
+from onixdesk_shop.ends import parser_of, program_of
 from onixdesk_shop.faults import BadCall
 from onixdesk_shop.inbox import decide, report, run, show
 from onixdesk_shop.inbox.context import Inbox, Places
@@ -54,10 +54,14 @@ def numbers_word(word: str) -> range:
     return found
 
 
-def parser_for(name: str) -> argparse.ArgumentParser:
-    """The words behind the name of a command, or of a run, which has none."""
+def command_line() -> argparse.ArgumentParser:
+    """A series may have the name of a command; alone it is a series."""
+    name = sys.argv[1] if len(sys.argv) > 2 and sys.argv[1] in ("waive", "show", "report") else ""
     parser = parser_of("onixdesk-inbox", DESCRIPTION, **PATHS)
-    if not name:
+    parser.set_defaults(command=name)
+    if name:
+        parser.add_argument("command", metavar=name)
+    else:
         what = parser.add_mutually_exclusive_group()
         for decision in decide.DECISIONS:
             what.add_argument(f"--{decision}", metavar="MARK")
@@ -111,22 +115,15 @@ def opened(machine: Machine, options: argparse.Namespace) -> Iterator[Inbox]:
         yield Inbox(machine, options.series, settings, places, ledger, desk, shop, terms)
 
 
-def work(machine: Machine, name: str, options: argparse.Namespace) -> int:
+def work(machine: Machine, options: argparse.Namespace) -> int:
     with opened(machine, options) as inbox:
-        if name == "waive":
+        if options.command == "waive":
             return (decide.take_back if options.back else decide.waive)(inbox, options.numbers)
-        if name == "show":
+        if options.command == "show":
             return show.show(inbox, options.number, options.isbn, options.file)
-        if name == "report":
+        if options.command == "report":
             return report.report(inbox)
         for decision in decide.DECISIONS:
             if mark := getattr(options, decision.replace("-", "_")):
                 return decide.decide(inbox, decision, mark)
         return run.run(inbox)
-
-
-def main() -> int:
-    words = sys.argv[1:]
-    # A series may have the name of a command; alone it is a series.
-    name = words.pop(0) if len(words) > 1 and words[0] in ("waive", "show", "report") else ""
-    return call(parser_for(name), lambda machine, options: work(machine, name, options), words)

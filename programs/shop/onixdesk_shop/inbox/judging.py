@@ -1,6 +1,7 @@
 """One file, judged: converted, checked, compared, and put into the ledger in one transaction."""
 
 import json
+import re
 import shlex
 import sqlite3
 import traceback
@@ -16,7 +17,7 @@ from onixdesk_shop.inbox.context import Inbox
 from onixdesk_shop.inbox.ledger import File, Message, Row, State
 from onixdesk_shop.inbox.posting import why_refused
 from onixdesk_shop.inbox.quarantine import Quarantine
-from onixdesk_shop.lines import ERROR, NOTICE, WARNING, count, cut, ranges
+from onixdesk_shop.lines import ERROR, NOTICE, WARNING, cut, ranges
 from onixdesk_shop.messages import header_of, is_message, products_of
 from onixdesk_shop.places import WORK
 from onixdesk_shop.settings import NEXT, OWN
@@ -67,12 +68,14 @@ def judge(inbox: Inbox, file: File, gaps: Gaps) -> None:
 
 def offset_for(inbox: Inbox, file: File, gaps: Gaps) -> list[str]:
     """The setting by which a wholesaler that seems to begin again at 1 goes on."""
-    parts, last = inbox.settings.parts, inbox.ledger.last_taken()
-    before = max(gaps.next - 1, gaps.greatest or 0) // parts
-    is_first = inbox.settings.number == OWN and file.number is not None and file.number <= parts
-    if not is_first or file.ending == ".csv" or before < 2 or last is None or file.time < last:
+    settings, last = inbox.settings, inbox.ledger.last_taken()
+    if settings.number != OWN or file.ending == ".csv" or file.number is None or last is None or file.time < last:
         return []
-    return [f"if it begins again at 1: WORDS={shlex.join([*inbox.settings.words, '--number-offset', str(before)])}"]
+    before = max(gaps.next - 1, gaps.greatest or 0) // settings.parts
+    if before < 2 or file.number > (settings.offset + 1) * settings.parts:
+        return []
+    words = re.sub(r"--number-offset[ =]\S+", "", shlex.join(settings.words)).split()
+    return [f"if it begins again at 1: WORDS={' '.join([*words, '--number-offset', str(before)])}"]
 
 
 def quarantine_file(inbox: Inbox, file: File, why: str) -> None:
@@ -122,16 +125,16 @@ def message_of(inbox: Inbox, text: bytes) -> Message:
 def look_at(inbox: Inbox, feed: Feed, gaps: Gaps) -> None:
     """Counts its products. Refusal where one ISBN has too many records, or a number is not taken any more."""
     records: Counter[str] = Counter()
-    mixed = 0
+    suppliers: set[tuple[str, ...]] = set()
     for message in feed.messages:
         for product in products_of(message.text):
             feed.products += 1
             feed.bare += product.is_block and not product.has_supply
-            mixed += len(product.suppliers) > 1
+            suppliers |= product.suppliers
             if not product.is_deletion:
                 records.update(product.isbns)
-    if mixed:
-        said = f"{count(mixed, 'product')} with several suppliers: ask the wholesaler for its own offers alone"
+    if len(suppliers) > 1 and not any(word.startswith("--supplier") for word in feed.words):
+        said = f"{len(suppliers)} suppliers: ask the wholesaler for its own offers (--supplier TYPE,VALUE in WORDS)"
         inbox.tell_file(WARNING, feed.file, said)
     for isbn, most in records.most_common(1):
         if most > MOST_RECORDS_OF_ONE_ISBN:

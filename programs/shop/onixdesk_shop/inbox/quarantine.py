@@ -55,6 +55,8 @@ def judge_numbers(inbox: Inbox, feed: Feed, gaps: Gaps) -> None:
 def judge_products(feed: Feed) -> None:
     if feed.said.count("a FILE without a Product"):
         raise Quarantine("it has neither a Product nor a NoProduct")
+    if feed.said.count("no SupplyDetail of the supplier"):
+        raise Quarantine("it has no SupplyDetail of the supplier that WORDS names, and some of others")
     emptied = feed.said.count("Product emptied", "Product left out")
     wrong = max(emptied, feed.said.wrong) if feed.file.ending != ".csv" else feed.bare
     total = feed.products + feed.said.count("Product left out")

@@ -5,7 +5,7 @@ import sys
 from pathlib import Path
 
 from onixdesk_shop.desk_files import DeskFile
-from onixdesk_shop.ends import call, day_word, parser_of, program_of
+from onixdesk_shop.ends import day_word, parser_of, program_of
 from onixdesk_shop.faults import DONE, FAILED, Fault
 from onixdesk_shop.feeds import Refusal
 from onixdesk_shop.lines import count
@@ -34,7 +34,7 @@ def command_line() -> argparse.ArgumentParser:
     return parser
 
 
-def look(machine: Machine, options: argparse.Namespace) -> int:
+def work(machine: Machine, options: argparse.Namespace) -> int:
     shop, program = read_shop(machine, options.like), program_of(options.program)
     terms = machine.read(options.terms) if options.terms else None
     if not machine.exists(options.file):
@@ -57,7 +57,3 @@ def look(machine: Machine, options: argparse.Namespace) -> int:
         lines += [*page.section_of("A table for TERMS, once each percent is written", table.splitlines())]
     machine.write("".join(f"{line}\n" for line in lines))
     return FAILED if sample.said.wrong else DONE
-
-
-def main() -> int:
-    return call(command_line(), look)

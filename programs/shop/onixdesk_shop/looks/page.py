@@ -1,11 +1,13 @@
 """What is said of a sample: what is in it, what follows from that, and what to paste."""
 
+import json
 import re
 import shlex
 import tomllib
 from collections.abc import Iterable, Iterator, Mapping
+from functools import partial
 
-from onixdesk_shop.lines import count, cut, shown
+from onixdesk_shop.lines import count, cut
 from onixdesk_shop.looks.sample import Code, Sample, agreement
 from onixdesk_shop.messages import UPDATE
 
@@ -21,11 +23,14 @@ is_date = re.compile(r"(?:20)?[0-9]{2}(?:0[1-9]|1[0-2])(?:0[1-9]|[12][0-9]|3[01]
 # The types of prices that readers pay.
 is_retail = re.compile("[0-4][1-4]").fullmatch
 
+# A text as TOML has it.
+in_toml = partial(json.dumps, ensure_ascii=False)
+
 TERM = """\
 [[term]]
 types = ["{kind}"]
-codes = ["{code}"]{scheme}
-net = "{net}"
+codes = [{code}]
+{scheme}net = "{net}"
 percent = ""  # the discount that is agreed, as 42.5
 """
 
@@ -69,20 +74,23 @@ def remarks(sample: Sample, net: str, terms: bytes | None) -> Iterator[str]:
     yield from sample.remarks
     if updates := sample.types[UPDATE]:
         yield f"{count(updates, 'update')} of products: ask for a full feed first, since a desk drops those it has not"
-    if len(sample.suppliers) > 1:
-        yield "several suppliers: where they are other firms, ask for a feed of the sender's own offers alone"
-    if unfitted := {in_words(code): n for code, n in sample.codes.items() if not is_fitted(code, terms)}:
-        yield f"no term names these codes: {'; '.join(f'{cut(words)}: {n}' for words, n in unfitted.items())}"
+    if len(sample.suppliers) > 1 and not sample.said.count("SupplyDetail of another supplier"):
+        yield "several suppliers: where they are other firms, ask for the sender's own offers (--supplier TYPE,VALUE in WORDS)"
+    if terms is not None and (codes := [*unfitted(sample, terms)]):
+        yield f"no term names these codes: {'; '.join(codes)}"
     if sample.number and is_date(str(sample.number)):
         yield "its number is a date, so that a gap does not show: NUMBER=next"
     if needs_terms(sample, net):
         yield f"no price of type {net}, and what readers pay says nothing of what the shop pays: write terms (TERMS)"
 
 
-def is_fitted(code: Code, terms: bytes | None) -> bool:
-    """Whether a term names a code, or takes each; also where there is no table."""
-    table = tomllib.loads(terms.decode("utf-8-sig")).get("term", []) if terms is not None else []
-    return terms is None or any(code[0] in each["types"] and code[1] in each.get("codes", [code[1]]) for each in table)
+def unfitted(sample: Sample, terms: bytes) -> Iterator[str]:
+    """The codes of what readers pay that no term of a table names or takes."""
+    table = tomllib.loads(terms.decode("utf-8-sig")).get("term", [])
+    for (kind, code, scheme), number in sample.codes.items():
+        fitting = (each for each in table if kind in each["types"] and code in each.get("codes", [code]))
+        if is_retail(kind) and not any(scheme == each.get("scheme", scheme) for each in fitting):
+            yield f"{cut(in_words((kind, code, scheme)))}: {number}"
 
 
 def needs_terms(sample: Sample, net: str) -> bool:
@@ -91,12 +99,13 @@ def needs_terms(sample: Sample, net: str) -> bool:
 
 
 def terms_to_paste(sample: Sample, net: str) -> str:
-    """A table with a term for each code of retail prices. The converter takes it once each percent is written."""
+    """A table with a term for each code of retail prices, first for those of a scheme, since the first that fits counts.
+    The converter takes it once each percent is written."""
     found = []
-    for kind, code, scheme in sample.codes:
-        if is_retail(kind) and not {'"', "\\"} & {*code}:
-            remark = f"  # {cut(scheme)}" if scheme else ""
-            found.append(TERM.format(kind=kind, code=shown(code), scheme=remark, net=net))
+    for kind, code, scheme in sorted(sample.codes, key=lambda code: not code[2]):
+        if is_retail(kind):
+            line = f"scheme = {in_toml(scheme)}\n" if scheme else ""
+            found.append(TERM.format(kind=kind, code=in_toml(code), scheme=line, net=net))
     return "".join(found)
 
 

@@ -5,7 +5,7 @@ import time
 from pathlib import Path
 
 from onixdesk_shop.copies.copying import copied
-from onixdesk_shop.ends import call, parser_of, program_of
+from onixdesk_shop.ends import parser_of, program_of
 from onixdesk_shop.faults import DONE
 from onixdesk_shop.machine import Machine
 from onixdesk_shop.places import PROGRAM
@@ -29,7 +29,7 @@ def command_line() -> argparse.ArgumentParser:
     return parser
 
 
-def follow(machine: Machine, options: argparse.Namespace) -> int:
+def work(machine: Machine, options: argparse.Namespace) -> int:
     program = program_of(options.program)
     rules = rules_by(machine, program, options.rules) if options.rules else []
     with copied(machine, options.file) as (copy, taken), machine.reading(copy) as source:
@@ -40,7 +40,3 @@ def follow(machine: Machine, options: argparse.Namespace) -> int:
     at = time.strftime("as of %Y-%m-%d %H:%M:%S UTC", time.gmtime(taken.moment // 1_000_000_000))
     machine.write(f"{at}: {messages} messages, {records} records\n")
     return DONE
-
-
-def main() -> int:
-    return call(command_line(), follow)

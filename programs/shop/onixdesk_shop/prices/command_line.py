@@ -7,7 +7,7 @@ from pathlib import Path
 from onixdesk_shop.copies.copying import copied
 from onixdesk_shop.desk import answers_in
 from onixdesk_shop.desk_files import DeskFile
-from onixdesk_shop.ends import call, day_word, parser_of, program_of
+from onixdesk_shop.ends import day_word, parser_of, program_of
 from onixdesk_shop.faults import DONE, Fault
 from onixdesk_shop.lines import WARNING
 from onixdesk_shop.machine import Machine
@@ -55,7 +55,7 @@ def asked(desk: DeskFile, day: str, shop: Shop, isbns: list[str]) -> Iterator[tu
             yield isbn, found
 
 
-def write(machine: Machine, options: argparse.Namespace) -> int:
+def work(machine: Machine, options: argparse.Namespace) -> int:
     shop = read_shop(machine, options.settings)
     form = form_of(shop)
     day, beside = options.day or machine.today(), Beside(machine, options.state)
@@ -75,7 +75,3 @@ def write(machine: Machine, options: argparse.Namespace) -> int:
     if isbns and not chosen:
         machine.tell(WARNING, f"of {len(isbns)} articles nothing is chosen, and none has a price (PRICES.md)")
     return DONE
-
-
-def main() -> int:
-    return call(command_line(), write)

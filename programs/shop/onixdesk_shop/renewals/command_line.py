@@ -2,7 +2,7 @@
 
 import argparse
 
-from onixdesk_shop.ends import call, parser_of
+from onixdesk_shop.ends import parser_of
 from onixdesk_shop.machine import Machine
 from onixdesk_shop.places import COPIES
 from onixdesk_shop.renewals.renewing import Renewing
@@ -19,14 +19,10 @@ desk is in place, the old one is. After a kill the same command ends what was be
 def command_line() -> argparse.ArgumentParser:
     parser = parser_of("desk-renew", DESCRIPTION, **PATHS)
     parser.add_argument("--yes", action="store_true", help="asks nothing")
-    parser.set_defaults(copies=COPIES, text=None, gaps=False)
+    parser.set_defaults(copies=COPIES, text=None, gaps=False, goes_on=True)
     return parser
 
 
-def renew(machine: Machine, options: argparse.Namespace) -> int:
+def work(machine: Machine, options: argparse.Namespace) -> int:
     options.copy = Work(machine, options.db).folder / "copy"
     return put(machine, Renewing(machine, options), options.yes)
-
-
-def main() -> int:
-    return call(command_line(), renew, goes_on=True)

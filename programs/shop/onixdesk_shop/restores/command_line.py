@@ -3,7 +3,7 @@
 import argparse
 from pathlib import Path
 
-from onixdesk_shop.ends import call, parser_of
+from onixdesk_shop.ends import parser_of
 from onixdesk_shop.copies.keeping import CORRECTED
 from onixdesk_shop.faults import DONE, FAILED, Failed, Fault
 from onixdesk_shop.lines import ERROR, WARNING
@@ -25,6 +25,7 @@ After a kill the same command ends what was begun."""
 
 def command_line() -> argparse.ArgumentParser:
     parser = parser_of("desk-restore", DESCRIPTION, **PATHS, copies=COPIES)
+    parser.set_defaults(goes_on=True)
     add = parser.add_argument
     add("--yes", action="store_true", help="asks nothing")
     add("--gaps", action="store_true", help="accepts a copy that lacks messages which no inbox can post again")
@@ -34,7 +35,7 @@ def command_line() -> argparse.ArgumentParser:
     return parser
 
 
-def restore(machine: Machine, options: argparse.Namespace) -> int:
+def work(machine: Machine, options: argparse.Namespace) -> int:
     options.copy = options.copy.resolve()
     if options.copy.name.endswith(CORRECTED):
         if not options.before_correction:
@@ -70,8 +71,5 @@ def status_of(machine: Machine, run: Restore) -> int:
         machine.tell(ERROR, f"systemctl start {DESK}; the desk did not run, and is not started")
         return FAILED
     inboxes = inboxes_in(machine, run.options.inboxes, run.options.settings)
-    return DONE if run.work.is_started and wait_for_all(machine, inboxes, run.planned) and run.has_all else FAILED
-
-
-def main() -> int:
-    return call(command_line(), restore, goes_on=True)
+    has_all = run.work.is_started and wait_for_all(machine, inboxes, run.planned, run.work.started) and run.has_all
+    return DONE if has_all else FAILED

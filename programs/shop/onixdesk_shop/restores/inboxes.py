@@ -11,6 +11,7 @@ from onixdesk_shop.lines import ERROR, ranges, token
 from onixdesk_shop.machine import Machine
 from onixdesk_shop.places import BATCHES, LEDGER
 from onixdesk_shop.settings import Settings, read_settings
+from onixdesk_shop.units import BEGIN
 
 # How long a desk that starts is waited for, and an inbox that posts nothing, in seconds.
 PATIENCE = 600
@@ -91,7 +92,7 @@ def inboxes_in(machine: Machine, folder: Path, settings: Path) -> list[Inbox]:
     ]
 
 
-def wait_for_inbox(inbox: Inbox, numbers: list[int]) -> bool:
+def wait_for_inbox(inbox: Inbox, numbers: list[int], goes_on: bool) -> bool:
     """Until the desk has these numbers again, or the inbox does not go on. Whether it has them."""
     machine, settings = inbox.machine, inbox.settings()
     if settings is None:
@@ -105,25 +106,31 @@ def wait_for_inbox(inbox: Inbox, numbers: list[int]) -> bool:
                 ERROR, f"{inbox.agreement()}; the desk has agreed no series {inbox.series}, and its files wait"
             )
             return False
-        before, left = left, {number for number in left if gaps.lacks(number)} | set(inbox.again(gaps).numbers)
+        again = inbox.again(gaps)
+        before, left = left, {number for number in left if gaps.lacks(number)} | set(again.numbers)
         if not left:
             return True
+        if not goes_on:
+            command = f"onixdesk-inbox {inbox.series}"
+            machine.tell(ERROR, f"{command}; no unit runs this inbox, and the desk lacks {ranges(sorted(left))}")
+            return False
         if left != before:
             end = machine.now() + PATIENCE
-        if all(map(inbox.has_refused, left)) or machine.now() > end:
+        if again.gone or all(map(inbox.has_refused, left)) or machine.now() > end:
             machine.tell(ERROR, f"{inbox.series}: the desk still lacks {ranges(sorted(left))}")
             return False
         machine.sleep(PAUSE)
 
 
-def wait_for_all(machine: Machine, inboxes: list[Inbox], planned: dict[str, list[int]]) -> bool:
-    """Until the desk answers, and has again what the inboxes post. Whether it has all."""
+def wait_for_all(machine: Machine, inboxes: list[Inbox], planned: dict[str, list[int]], units: list[str]) -> bool:
+    """Until the desk answers, and has again what the inboxes post, as far as these units run them. Whether it has all."""
     has_all = True
     try:
         if not inboxes:
             Desk(machine, BATCHES, PATIENCE).gaps("north")
         for inbox in inboxes:
-            has_all &= wait_for_inbox(inbox, planned.get(inbox.series, []))
+            goes_on = any(f"onixdesk-inbox@{inbox.series}{kind}" in units for kind in BEGIN)
+            has_all &= wait_for_inbox(inbox, planned.get(inbox.series, []), goes_on)
     except Fault as fault:
         machine.tell(ERROR, str(fault))
         return False

@@ -184,7 +184,7 @@ def check(kind: Kind, share: int, room: Room) -> Iterator[Outcome]:
     yield Outcome(f"{kind.name}, share {share}, delivered", came, Ran(1, b"refused,unknown-series\n" * len(messages)))
 
 
-# What `onixdesk terms` says of a term, by a word of it.
+# What `onixdesk terms` says of a term, by its first words.
 TOLD = re.compile("onixdesk: terms: term ([0-9]+) (.*)")
 SAID = {"never counts": NEVER, "has no tax": MIXED, "has a tax": TAXED}
 
@@ -199,7 +199,7 @@ def tables_of_terms(room: Room) -> Iterator[Outcome]:
         room.write(TERMS, table.encode())
         came = room.run("terms", TERMS)
         told = [
-            (int(number), SAID.get(" ".join(why.split()[:2]), why))
+            (int(number), next((said for words, said in SAID.items() if why.startswith(words)), why))
             for number, why in TOLD.findall(came.errors.decode())
         ]
         outcome = Outcome(f"terms: {table}", (came.status, told), (0, told_of(terms)))

@@ -160,8 +160,9 @@ class FakeDesk:
     def answer(self, record: list[str]) -> Records:
         kind, *words = record
         if kind == "Agree":
-            self.series.setdefault(words[0], Series(tuple(words[1:5]), int(words[5])))
-            return [["agreed", words[0], words[5]]]
+            agreed = self.series.setdefault(words[0], Series(tuple(words[1:5]), int(words[5])))
+            is_same = [*agreed.parties, str(agreed.first)] == words[1:]
+            return [["agreed", words[0], words[5]] if is_same else ["refused", "name-taken", words[0]]]
         if kind == "Waive":
             return [self.waive(self.series[words[0]], words[0], int(words[1]))]
         if kind == "AskGaps":

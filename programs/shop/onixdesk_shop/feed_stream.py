@@ -2,6 +2,7 @@
 
 import codecs
 import gzip
+import itertools
 import lzma
 import zipfile
 import zlib
@@ -15,8 +16,6 @@ PIECE = 65_536
 OF_A_MAC = "__MACOSX/"
 
 DAMAGE = (zipfile.BadZipFile, EOFError, zlib.error, lzma.LZMAError, RuntimeError, ValueError, OSError)
-
-ENCODINGS = {codecs.BOM_UTF16_LE: "utf-16-le", codecs.BOM_UTF16_BE: "utf-16-be"}
 
 
 class Damaged(Exception):
@@ -42,16 +41,11 @@ def unpacked(path: Path) -> Iterator[bytes]:
 def recoded(pieces: Iterator[bytes]) -> Iterator[bytes]:
     """The same in UTF-8 where it begins with the mark of UTF-16; the mark of UTF-8 outweighs what it declares."""
     first = next(pieces, b"")
-    encoding = ENCODINGS.get(first[:2])
-    if not encoding:
-        yield first
-        yield from pieces
-        return
-    decoder = codecs.getincrementaldecoder(encoding)()
-    yield codecs.BOM_UTF8 + decoder.decode(first[2:]).encode("utf-8")
-    for piece in pieces:
-        yield decoder.decode(piece).encode("utf-8")
-    yield decoder.decode(b"", final=True).encode("utf-8")
+    whole = itertools.chain([first], pieces)
+    if first.startswith((codecs.BOM_UTF16_LE, codecs.BOM_UTF16_BE)):
+        yield codecs.BOM_UTF8
+        whole = codecs.iterencode(codecs.iterdecode(whole, "utf-16"), "utf-8")
+    yield from whole
 
 
 def pieces_of(path: Path) -> Iterator[bytes]:

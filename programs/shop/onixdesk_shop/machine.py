@@ -4,6 +4,7 @@ output. The tests put their faults here, and nowhere else."""
 import contextlib
 import fcntl
 import hashlib
+import json
 import os
 import shutil
 import socket
@@ -14,7 +15,7 @@ import tempfile
 import time
 from collections.abc import Iterable, Iterator
 from pathlib import Path
-from typing import NamedTuple
+from typing import Any, NamedTuple
 
 from onixdesk_shop import children
 from onixdesk_shop.children import Ended, Words
@@ -93,6 +94,13 @@ class Machine:
         """What a file has, or so many bytes of its beginning."""
         with open(path, "rb") as file:
             return file.read(most)
+
+    def read_json(self, path: Path) -> Any:
+        """What a file of JSON has, an empty object where it cannot be read."""
+        try:
+            return json.loads(self.read(path))
+        except (OSError, ValueError):
+            return {}
 
     def lines_of(self, path: Path) -> Iterator[bytes]:
         """The lines of a file, each with its end."""

@@ -17,7 +17,6 @@ OWN, NEXT = "own", "next"
 
 # Words of the converter that the inbox gives itself.
 RESERVED = re.compile(r"-o.*|--(number|terms)(=.*)?|-h|--help|--?")
-OFFSET = re.compile(r"--number-offset(=.*)?")
 
 # Two names are those of other files beside SERIES.json.
 is_series = re.compile("(?!(?:rules|titles)$)[a-z0-9-]{1,32}").fullmatch
@@ -125,7 +124,7 @@ def read_settings(machine: Machine, path: Path) -> Settings:
     if "sender" not in found:
         raise BadCall(f"{path}: SENDER is missing: the sender that messages must have")
     settings = Settings(**found)
-    if settings.number == NEXT and any(OFFSET.fullmatch(word) for word in settings.words):
+    if settings.number == NEXT and any(word.startswith("--number-offset") for word in settings.words):
         raise BadCall(f"{path}: NUMBER=next and --number-offset do not go together")
     return settings
 
@@ -133,10 +132,7 @@ def read_settings(machine: Machine, path: Path) -> Settings:
 def terms_of(machine: Machine, path: Path, today: str) -> bytes:
     """The table of terms that holds today: of the file, or of the latest FILE.YYYY-MM-DD beside it whose day has
     come."""
-    dated = re.compile(re.escape(path.name) + r"\.([0-9]{4})-([0-9]{2})-([0-9]{2})").fullmatch
-    days = {}
-    for entry in machine.entries(path.parent):
-        if found := dated(entry.name):
-            days["".join(found.groups())] = entry.name
-    begun = [day for day in days if day <= today]
-    return machine.read(path.with_name(days[max(begun)]) if begun else path)
+    dated = re.compile(re.escape(path.name) + r"\.[0-9]{4}-[0-9]{2}-[0-9]{2}").fullmatch
+    last = f"{path.name}.{today[:4]}-{today[4:6]}-{today[6:]}"
+    begun = [entry.name for entry in machine.entries(path.parent) if dated(entry.name) and entry.name <= last]
+    return machine.read(path.with_name(max(begun)) if begun else path)

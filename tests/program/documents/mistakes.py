@@ -153,7 +153,7 @@ def a_copy_from_before_it(room: Room) -> Iterator[Outcome]:
         yield from what_comes_then(desk)
 
 
-TERMS = '[[term]]\ntypes = ["02"]\nnet = "05"\npercent = "4.25"\n'
+TERMS = '[[term]]\ntypes = ["02"]\nnet = "05"\npercent = "4.25"\ntax = "0"\n'
 
 
 def a_wrong_percent(room: Room) -> Iterator[Outcome]:

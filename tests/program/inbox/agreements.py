@@ -1,13 +1,16 @@
 """Files whose sender and addressee are another series' of the desk, or nobody's, until the agreement is corrected."""
 
 from collections.abc import Iterator
+from dataclasses import replace
 
+from onixdesk_shop.inbox import report
 from onixdesk_shop.settings import NEXT
 from tests.program.inbox.files import inbox_in, price_of
 from tests.program.room import Room
 from tests.running import Outcome
 from tests.shop.fake_desk import FakeDesk, Series
 from tests.shop.fake_program import SENDER, feed_of
+from tests.shop.inboxes import SHOP
 
 ADDRESSEE = "06", "5012345678900"
 
@@ -30,6 +33,32 @@ def mistyped(room: Room) -> Iterator[Outcome]:
         inbox.run()
         found = sorted(inbox.series.had), price_of(inbox, "R1"), inbox.run()
         yield Outcome(f"{name}: the next one", found, ([*range(1, 2 * parts + 1)], "2.000", []))
+
+
+# What the report says of an agreement, desk.json or terms that are otherwise than these.
+ALIKE = {"parties": (*SENDER, "", ""), "first": 1, "page": {"name": "north", "parts": 2}, "net": "02"}
+OTHERWISE = {
+    "": {},
+    f"the desk has another agreement than Agree,north,{','.join(SENDER)},,,1": {"parties": (*SENDER, *ADDRESSEE)},
+    "no feed of 2 parts begins with the agreed first number, 2": {"first": 2},
+    "desk.json: name is none, not north": {"page": {"name": "south", "parts": 2}},
+    "desk.json: parts is 1, not 2": {"page": {"name": "north"}},
+    "desk.json: number_offset is 3, not 0": {"page": {"name": "north", "parts": 2, "number_offset": 3}},
+    "desk.json: price_type is 02, not 05 as in TERMS": {"net": "05"},
+}
+
+
+def otherwise(room: Room) -> Iterator[Outcome]:
+    inbox = inbox_in(room, "otherwise", words=("--parts", "2"))
+    inbox.send("1.xml", feed_of(1, {"R1": "1.00"}))
+    inbox.run()
+    for wanted, given in OTHERWISE.items():
+        given = ALIKE | given
+        inbox.series.parties, inbox.series.first = given["parties"], given["first"]
+        inbox.shop = replace(SHOP, given={"series": [given["page"]]})
+        inbox.terms = f'term = [{{ net = "{given["net"]}" }}]'.encode()
+        found = [*inbox.work(lambda each: [*report.not_alike(each, each.gaps())])]
+        yield Outcome(wanted or "nothing", wanted in found if wanted else not found, True)
 
 
 def over_a_restored_desk(room: Room) -> Iterator[Outcome]:

@@ -145,8 +145,7 @@ def below_first(inbox: Inbox, gaps: Gaps) -> None:
     """Refuses what has no answer and a number that the desk does not take any more."""
     query = "state IN ('ready', 'posted') AND number < ?"
     for number, file in inbox.ledger.rows(f"SELECT number, file FROM message WHERE {query}", gaps.first):
-        members = {"number": number, "first": gaps.first}
-        refused = Refused("before-first", members, "")
+        refused = Refused("before-first", {"number": number, "first": gaps.first}, "")
         row = inbox.ledger.row(number)
         if row and inbox.ledger.file(file).state != State.REJECTED:
             with inbox.ledger.step():

@@ -1,8 +1,9 @@
 """How an inbox stands, for whoever asks."""
 
+import tomllib
 from collections.abc import Iterator
 
-from onixdesk_shop.desk import NoDesk
+from onixdesk_shop.desk import Gaps, NoDesk
 from onixdesk_shop.faults import DONE
 from onixdesk_shop.inbox import series_json
 from onixdesk_shop.inbox.context import Inbox
@@ -44,6 +45,7 @@ def lines(inbox: Inbox) -> Iterator[str]:
         yield f"{file.mark}: {file.state} since {moment(file.at)}: {cut(file.why) or '-'}; {token(file.name)}"
     yield from of_the_week(inbox)
     yield from not_verified(inbox)
+    yield from not_alike(inbox, gaps)
     yield from not_named(inbox)
 
 
@@ -53,6 +55,27 @@ def of_the_week(inbox: Inbox) -> Iterator[str]:
         yield f"{file.mark}: applied {moment(file.at)}; {token(file.name)}"
     since = int(inbox.machine.now()) - WEEK
     yield f"{count(inbox.ledger.value(DELETED, since), 'article')} deleted in seven days"
+
+
+def not_alike(inbox: Inbox, gaps: Gaps | None) -> Iterator[str]:
+    """What the agreement, desk.json or the terms have otherwise than the settings. Of an agreement that is there the desk
+    only says whether it is the same."""
+    settings, shop = inbox.settings, inbox.shop
+    if gaps:
+        agreement = inbox.ledger.agreement(inbox.series, settings.sender, gaps.first)
+        is_known = inbox.ledger.value("SELECT count(*) FROM message WHERE text IS NOT NULL")
+        if is_known and inbox.desk.batch(f"{agreement}\n")[0][0] != "agreed":
+            yield f"the desk has another agreement than {agreement}"
+        if (gaps.first - 1) % settings.parts:
+            yield f"no feed of {settings.parts} parts begins with the agreed first number, {gaps.first}"
+    if shop:
+        given = next((each for each in shop.given.get("series", []) if each["name"] == inbox.series), {})
+        page = {"name": "none", "parts": 1, "number_offset": 0} | given
+        own = {"name": inbox.series, "parts": settings.parts, "number_offset": settings.offset}
+        yield from (f"desk.json: {key} is {page[key]}, not {value}" for key, value in own.items() if page[key] != value)
+        table = tomllib.loads((inbox.terms or b"").decode("utf-8-sig"))
+        nets = {term["net"] for term in table.get("term", [])} - {shop.price_type}
+        yield from (f"desk.json: price_type is {shop.price_type}, not {net} as in TERMS" for net in sorted(nets))
 
 
 def not_named(inbox: Inbox) -> Iterator[str]:

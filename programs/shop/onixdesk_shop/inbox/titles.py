@@ -3,7 +3,6 @@ digits. An object has a list for each ISBN, and that an entry for each series, t
 
 import json
 from collections import defaultdict
-from pathlib import Path
 from typing import Any
 
 from onixdesk_shop.faults import BadEnd
@@ -56,18 +55,10 @@ def write(inbox: Inbox, entries: dict[str, Entry]) -> None:
         for digits, some in by_digits.items():
             machine.make_folder(folder / digits[:FOLDER_DIGITS], 0o755)
             path = folder / digits[:FOLDER_DIGITS] / f"{digits}.json"
-            kept = kept_in(inbox, path)
+            kept: dict[str, list[Entry]] = machine.read_json(path)
             for isbn, entry in some.items():
                 # Of a series the message of the greatest number counts.
                 of_series = {each[0]: each for each in kept.get(isbn, [])}
                 of_series[inbox.series] = max(entry, of_series.get(inbox.series, entry), key=lambda each: int(each[1]))
                 kept[isbn] = sorted(of_series.values(), key=lambda each: int(each[2]), reverse=True)
             machine.write_whole(path, json.dumps(kept, separators=(",", ":"), ensure_ascii=False).encode())
-
-
-def kept_in(inbox: Inbox, path: Path) -> dict[str, list[Entry]]:
-    try:
-        kept: dict[str, list[Entry]] = json.loads(inbox.machine.read(path))
-        return kept
-    except (FileNotFoundError, ValueError):
-        return {}

@@ -1,9 +1,7 @@
 """What a line of the file says of an article, by the desk's answers, and by how its wholesaler's inbox stands."""
 
 import functools
-import json
 from pathlib import Path
-from typing import Any
 
 from onixdesk_shop.inbox.titles import DIGITS, FOLDER, FOLDER_DIGITS
 from onixdesk_shop.machine import Machine
@@ -38,14 +36,7 @@ class Beside:
         self.machine = machine
         self.state = state
         # The articles of a file of titles come one after the other.
-        self.read = functools.lru_cache(1)(self.read_file)
-
-    def read_file(self, path: Path) -> Any:
-        """A file of JSON, an empty object where it cannot be read."""
-        try:
-            return json.loads(self.machine.read(path))
-        except (OSError, ValueError):
-            return {}
+        self.read = functools.lru_cache(1)(machine.read_json)
 
     def title(self, isbn: str, series: str) -> str:
         """The title of that series, else the one that a feed said last."""

@@ -64,6 +64,21 @@ def order_without_ledger(room: Room) -> Iterator[Outcome]:
     yield Outcome("the first one", price_of(inbox, "R1"), "1.000")
 
 
+def order_of_one_number(room: Room) -> Iterator[Outcome]:
+    """Of files of one number the first has it once it is free, also where that comes again behind the others."""
+    inbox = inbox_in(room, "one")
+    for amount in "1.00", "2.00", "3.00":
+        inbox.send(f"{amount}.xml", feed_of(1, {"R1": amount}))
+        inbox.run()
+    inbox.work(
+        lambda each: decide.decide(each, "refuse", each.ledger.files("state = 'held' OR state = 'applied'")[0].mark)
+    )
+    inbox.series.had.clear()
+    inbox.send("again.xml", feed_of(1, {"R1": "2.00"}))
+    inbox.run()
+    yield Outcome("the first one", price_of(inbox, "R1"), "2.000")
+
+
 def numbers(room: Room) -> Iterator[Outcome]:
     """Which number a file gets where the inbox gives it."""
     inbox = inbox_in(room, "others", number=NEXT, words=("--parts", "2"))

@@ -79,7 +79,8 @@ def take_file(inbox: Inbox, entry: Entry) -> str:
     machine.sync_folder(inbox.store)
     before = inbox.ledger.latest(digest)
     file = inbox.ledger.take(
-        digest, shown(entry.name), ending, entry.size, entry.modified, time_of(entry), int(machine.now())
+        *(digest, shown(entry.name), ending, entry.size, entry.modified, time_of(entry), int(machine.now())),
+        inbox.settings.gives_number(ending),
     )
     if before:
         if before.ending != file.ending:

@@ -19,7 +19,7 @@ from onixdesk_shop.inbox.quarantine import Quarantine
 from onixdesk_shop.lines import ERROR, NOTICE, WARNING, count, cut, ranges
 from onixdesk_shop.messages import header_of, is_message, products_of
 from onixdesk_shop.places import WORK
-from onixdesk_shop.settings import NEXT, OWN
+from onixdesk_shop.settings import OWN
 
 MOST_BYTES = 4_194_304
 
@@ -81,11 +81,6 @@ def quarantine_file(inbox: Inbox, file: File, why: str) -> None:
     inbox.tell_file(ERROR, file, f"quarantined: {why}; later files wait", *commands)
 
 
-def is_given_number(inbox: Inbox, file: File) -> bool:
-    """Whether the inbox gives the file its number. A file of records has its own, always."""
-    return inbox.settings.number == NEXT and file.ending != ".csv"
-
-
 def feed_of(inbox: Inbox, file: File, gaps: Gaps, words: list[str], terms: bytes | None) -> Feed:
     """A file as messages, under the number that it has or would be given."""
     source = inbox.stored(file)
@@ -95,7 +90,7 @@ def feed_of(inbox: Inbox, file: File, gaps: Gaps, words: list[str], terms: bytes
         texts, said = [inbox.machine.read(source)], Said()
     else:
         number = []
-        if is_given_number(inbox, file):
+        if inbox.settings.gives_number(file.ending):
             first = inbox.ledger.next_number(gaps, inbox.settings.parts)
             number = ["--number", str((first - 1) // inbox.settings.parts + 1)]
         texts, said = convert(
@@ -137,7 +132,7 @@ def look_at(inbox: Inbox, feed: Feed, gaps: Gaps) -> None:
         if most > MOST_RECORDS_OF_ONE_ISBN:
             raise Refusal(f"{most} of its records have the ISBN {isbn}, and {MOST_RECORDS_OF_ONE_ISBN} may")
     inbox.ledger.set_of_file(feed.file, products=feed.products)
-    if not is_given_number(inbox, feed.file):
+    if not inbox.settings.gives_number(feed.file.ending):
         inbox.ledger.set_of_file(feed.file, number=feed.messages[0].number)
     for message in feed.messages:
         if message.number < gaps.first and not final_row(inbox, feed.file, message.number):

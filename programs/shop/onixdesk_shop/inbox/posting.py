@@ -10,7 +10,6 @@ from onixdesk_shop.inbox.context import Inbox
 from onixdesk_shop.inbox.ledger import Decision, File, Row, State
 from onixdesk_shop.lines import ERROR, NOTICE, WARNING, count, cut, ranges
 from onixdesk_shop.messages import products_of
-from onixdesk_shop.settings import NEXT
 
 # How often the desk is asked anew: what closes a gap lets it apply what waited.
 ROUNDS = 3
@@ -106,7 +105,7 @@ def settle_refused(inbox: Inbox, row: Row, answer: Refused) -> None:
     ledger, why = inbox.ledger, why_refused(answer)
     file = ledger.file(row.file)
     ledger.set_message(row.number, State.REFUSED, answer.said)
-    is_next = inbox.settings.number == NEXT and file.ending != ".csv"
+    is_next = inbox.settings.gives_number(file.ending)
     if is_next and not ledger.has_stood(file, (State.HELD, State.APPLIED)):
         for each in ledger.messages_of(file):
             ledger.set_message(each.number, State.RETURNED)
@@ -167,7 +166,7 @@ def settle_rejected(inbox: Inbox, gaps: Gaps) -> None:
         if not gaps.lacks(number):
             continue
         with ledger.step():
-            is_given = inbox.settings.number == NEXT and ledger.file(row.file).ending != ".csv"
+            is_given = inbox.settings.gives_number(ledger.file(row.file).ending)
             ledger.set_message(number, State.REFUSED if is_given else State.RETURNED)
             ledger.forget_references(number)
             ledger.retry_refused()

@@ -2,6 +2,8 @@
 
 import os
 from collections.abc import Iterator
+from contextlib import suppress
+from dataclasses import replace
 from typing import Any
 from unittest.mock import patch
 
@@ -176,6 +178,27 @@ def gone(room: Room) -> Iterator[Outcome]:
     yield Outcome("the agreement", lines[0].partition(";")[0], f"Agree,{SERIES},06,{SENDER[1]},,,1")
 
 
+def gone_with_the_machine(room: Room) -> Iterator[Outcome]:
+    """A ledger on a new machine, which has none of its files: what was refused is not judged anew, and keeps nothing
+    waiting."""
+    inbox = inbox_in(room, "moved")
+    for name, data in {
+        "1.xml": feed_of(1, {"R1": "1.00"}),
+        "1-other.csv": message_of(1, [product_of("R1", "2.00", None)]),
+        "1-other.xml": feed_of(1, {"R1": "3.00"}),
+    }.items():
+        inbox.send(name, data)
+        inbox.run()
+    for path in (inbox.places.inboxes / SERIES / "store").iterdir():
+        path.unlink()
+    inbox.settings = replace(inbox.settings, silent_days=5)
+    inbox.send("2.xml", feed_of(2, {"R1": "2.00"}))
+    lines = inbox.run()
+    wanted = {"1.xml": "applied", "1-other.csv": "refused", "1-other.xml": "refused", "2.xml": "applied"}
+    yield Outcome("the states", inbox.states(), wanted)
+    yield Outcome("the lines", sum("its bytes are not kept any more" in line for line in lines), 2)
+
+
 def renewed(room: Room) -> Iterator[Outcome]:
     """A desk that begins later, and has all that stood before: nothing below is posted, and a repeat is known."""
     inbox = inbox_in(room, "renewed")
@@ -274,9 +297,14 @@ def returned(room: Room) -> Iterator[Outcome]:
         inbox.send("a.xml", feed_of(None, {"R1": "1.00"}))
         inbox.run()
     texts, inbox.desk = inbox.series.had, before
+    inbox.settings = replace(inbox.settings, words=())
     inbox.send("b.xml", feed_of(None, {"R1": "2.00"}))
     inbox.run()
     yield Outcome("a number that the desk took is not given back", inbox.series.had[1], texts[1])
+    yield Outcome("nor is that of its other half", sorted(inbox.series.had), [1, 3])
+    inbox.work(lambda each: decide.decide(each, "refuse", each.ledger.files("name = 'a.xml'")[0].mark))
+    inbox.run()
+    yield Outcome("and the other half is waived once a person refused the file", inbox.series.had.get(2), WAIVED)
 
 
 def refused(room: Room) -> Iterator[Outcome]:
@@ -289,6 +317,16 @@ def refused(room: Room) -> Iterator[Outcome]:
     machine = inbox.machine()
     inbox.run(machine)
     yield Outcome("the other one alone", sum(text.startswith(b"Message") for text in machine.posted), 1)
+    inbox = inbox_in(room, "unanswered")
+    inbox.send("1.xml", feed_of(1, {"R1": "1.00"}))
+    machine = FakeMachine(inbox.disk, inbox.desk, inbox.clock, ("kill", "answered", 3))
+    with suppress(Killed):
+        inbox.run(machine)
+    inbox.work(lambda each: decide.decide(each, "refuse", each.ledger.files("1")[0].mark))
+    inbox.send("1-other.xml", feed_of(1, {"R1": "2.00"}))
+    inbox.run()
+    found = inbox.states(), inbox.work(lambda each: each.ledger.row(1).state)
+    yield Outcome("a text without an answer", found, ({"1.xml": "rejected", "1-other.xml": "refused"}, "posted"))
 
 
 def halves(room: Room) -> Iterator[Outcome]:

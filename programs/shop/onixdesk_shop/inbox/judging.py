@@ -84,6 +84,8 @@ def quarantine_file(inbox: Inbox, file: File, why: str) -> None:
 def feed_of(inbox: Inbox, file: File, gaps: Gaps, words: list[str], terms: bytes | None) -> Feed:
     """A file as messages, under the number that it has or would be given."""
     source = inbox.stored(file)
+    if not inbox.machine.exists(source):
+        raise Refusal("its bytes are not kept any more; have it sent again")
     if file.ending == ".csv":
         if inbox.machine.entry(source).size > MOST_BYTES:
             raise Refusal(f"it has more than {MOST_BYTES} bytes of records")

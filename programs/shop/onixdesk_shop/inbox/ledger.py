@@ -128,11 +128,10 @@ class Ledger:
     def file(self, number: int) -> File:
         return self.files("id = ?", number)[0]
 
-    def take(
-        self, digest: str, name: str, ending: str, size: int, modified: int, time: int, now: int, is_new: bool = False
-    ) -> File:
+    def take(self, digest: str, name: str, ending: str, size: int, modified: int, time: int, is_new: bool) -> File:
         """Writes the row of bytes that came in. What came before keeps its state, but for what was refused, which is
         tried again: `is_new`, as if it had not come before; else in its place of then, before others of its number."""
+        now = int(self.machine.now())
         with self.step():
             known = self.latest(digest)
             if not known:

@@ -157,21 +157,21 @@ def settle_rejected(inbox: Inbox, gaps: Gaps) -> None:
     waived, so that nothing waits for them."""
     ledger = inbox.ledger
     query = (
-        "SELECT number FROM message WHERE state IN ('ready', 'posted', 'held', 'applied')"
+        "SELECT number, file FROM message WHERE (state IN ('ready', 'posted', 'held', 'applied')"
+        " OR state = 'refused' AND number NOT IN (SELECT number FROM decision WHERE what = 'waive'))"
         " AND file IN (SELECT id FROM file WHERE state = 'rejected')"
     )
-    for (number,) in ledger.rows(query):
-        row = ledger.row(number)
-        assert row
+    for number, of_file in ledger.rows(query):
         if not gaps.lacks(number):
             continue
+        file = ledger.file(of_file)
+        is_given = inbox.settings.gives_number(file.ending)
         with ledger.step():
-            is_given = inbox.settings.gives_number(ledger.file(row.file).ending)
             ledger.set_message(number, State.REFUSED if is_given else State.RETURNED)
             ledger.forget_references(number)
             ledger.retry_refused()
             if is_given:
-                ledger.decide(Decision.WAIVE, ledger.file(row.file), number)
+                ledger.decide(Decision.WAIVE, file, number)
 
 
 def waive(inbox: Inbox, gaps: Gaps) -> Gaps:

@@ -148,16 +148,12 @@ def gone(room: Room) -> Iterator[Outcome]:
     inbox.clock += 121 * DAY
     inbox.run()
     kept = inbox.work(lambda each: each.ledger.value("SELECT min(number) FROM message WHERE text IS NOT NULL"))
-    yield Outcome(
-        "a clock of later takes nothing away", (kept, len(os.listdir(inbox.places.inboxes / SERIES / "store"))), (1, 1)
-    )
+    yield Outcome("a clock of later takes nothing away", (kept, len(os.listdirinbox.store)), (1, 1))
     before = keeping.KEPT_FILES, keeping.KEPT_NUMBERS
     keeping.KEPT_FILES = keeping.KEPT_NUMBERS = 0
     inbox.send("b.xml", feed_of(2, {"R1": "2.00"}))
     inbox.run()
-    kept = [
-        file.name for file in inbox.files() if (inbox.places.inboxes / SERIES / "store" / f"{file.digest}.xml").exists()
-    ]
+    kept = [file.name for file in inbox.files() if (inbox.store / f"{file.digest}.xml").exists()]
     keeping.KEPT_FILES, keeping.KEPT_NUMBERS = before
     yield Outcome("bytes are kept for 120 days", kept, ["b.xml"])
     inbox.series.had.clear()
@@ -189,7 +185,7 @@ def gone_with_the_machine(room: Room) -> Iterator[Outcome]:
     }.items():
         inbox.send(name, data)
         inbox.run()
-    for path in (inbox.places.inboxes / SERIES / "store").iterdir():
+    for path in inbox.store.iterdir():
         path.unlink()
     inbox.settings = replace(inbox.settings, silent_days=5)
     inbox.send("2.xml", feed_of(2, {"R1": "2.00"}))
@@ -363,6 +359,22 @@ def waived(room: Room) -> Iterator[Outcome]:
     yield Outcome("waived again", (inbox.series.had[1], inbox.states()), (WAIVED, {"1.xml": "refused"}))
 
 
+def waived_half(room: Room) -> Iterator[Outcome]:
+    """A part of a feed that came to a waived number is posted again at a desk that has that waiver no more."""
+    inbox = inbox_in(room, "waived half", words=("--parts", "2"))
+    assert inbox.desk
+    before = inbox.desk.copy()
+    inbox.work(lambda each: decide.waive(each, [2]))
+    inbox.run()
+    inbox.send("1.xml", feed_of(1, {"R1": "1.00", "R2": "2.00"}))
+    inbox.run()
+    yield Outcome("its other part alone", (inbox.states(), price_of(inbox, "R2")), ({"1.xml": "refused"}, ""))
+    inbox.work(lambda each: decide.take_back(each, [2]))
+    inbox.desk = before
+    inbox.run()
+    yield Outcome("both", (inbox.states(), price_of(inbox, "R2")), ({"1.xml": "applied"}, "2.000"))
+
+
 def endings(room: Room) -> Iterator[Outcome]:
     """A file that came under a wrong ending is put there again under the right one."""
     inbox = inbox_in(room, "ending")
@@ -371,7 +383,7 @@ def endings(room: Room) -> Iterator[Outcome]:
     inbox.send("a.xml", feed_of(1, {"R1": "1.00"}))
     inbox.run()
     yield Outcome("by its new ending", inbox.states(), {"a.xml": "applied"})
-    yield Outcome("the old one is gone", len(os.listdir(inbox.places.inboxes / SERIES / "store")), 1)
+    yield Outcome("the old one is gone", len(os.listdirinbox.store), 1)
 
 
 def left(room: Room) -> Iterator[Outcome]:

@@ -14,7 +14,7 @@ from onixdesk_shop.feeds import Refusal, Said, check, convert
 from onixdesk_shop.inbox import full, quarantine
 from onixdesk_shop.inbox.context import Inbox
 from onixdesk_shop.inbox.ledger import File, Message, Row, State
-from onixdesk_shop.inbox.posting import why_refused
+from onixdesk_shop.inbox.posting import begin_again, why_refused
 from onixdesk_shop.inbox.quarantine import Quarantine
 from onixdesk_shop.lines import ERROR, NOTICE, WARNING, count, cut, ranges
 from onixdesk_shop.messages import header_of, is_message, products_of
@@ -213,10 +213,12 @@ def retry_refused(inbox: Inbox, gaps: Gaps) -> None:
     ledger = inbox.ledger
     ledger.retry_refused(inbox.basis(gaps.first))
     was_had = "answer LIKE '%\"other-contents\"%' OR answer LIKE '%\"waived\"%'"
-    query = f"SELECT number FROM message WHERE state = 'refused' AND ({was_had})"
-    lacking = [number for (number,) in ledger.rows(query) if gaps.lacks(number)]
+    query = f"SELECT number, file FROM message WHERE state = 'refused' AND ({was_had})"
+    lacking = [(number, ledger.file(file)) for number, file in ledger.rows(query) if gaps.lacks(number)]
     if lacking:
         with ledger.step():
-            for number in lacking:
+            for number, file in lacking:
                 ledger.do("UPDATE message SET answer = '' WHERE number = ?", number)
+                if file.state == State.REFUSED and ledger.has_stood(file):
+                    begin_again(inbox, file)
             ledger.retry_refused()

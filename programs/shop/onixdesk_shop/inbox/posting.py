@@ -131,8 +131,8 @@ def retry_unknown(inbox: Inbox, gaps: Gaps) -> None:
             begin_again(inbox, inbox.ledger.file(file), number)
 
 
-def begin_again(inbox: Inbox, file: File, taken: int) -> None:
-    """Has all messages of a refused file posted again, of which the desk has taken one."""
+def begin_again(inbox: Inbox, file: File, taken: int = 0) -> None:
+    """Has all messages of a refused file posted again, of which the desk has taken one, or may take another one now."""
     with inbox.ledger.step():
         for row in inbox.ledger.messages_of(file):
             if row.state in (State.REFUSED, State.RETURNED):

@@ -1,8 +1,8 @@
 """What becomes of files: in which order they are judged, under which numbers, and what people read of them."""
 
+import contextlib
 import os
 from collections.abc import Iterator
-from contextlib import suppress
 from dataclasses import replace
 from typing import Any
 from unittest.mock import patch
@@ -316,7 +316,7 @@ def refused(room: Room) -> Iterator[Outcome]:
     inbox = inbox_in(room, "unanswered")
     inbox.send("1.xml", feed_of(1, {"R1": "1.00"}))
     machine = FakeMachine(inbox.disk, inbox.desk, inbox.clock, ("kill", "answered", 3))
-    with suppress(Killed):
+    with contextlib.suppress(Killed):
         inbox.run(machine)
     inbox.work(lambda each: decide.decide(each, "refuse", each.ledger.files("1")[0].mark))
     inbox.send("1-other.xml", feed_of(1, {"R1": "2.00"}))

@@ -54,7 +54,7 @@ class FakeInbox:
         self.places = Places(program or folder / "program", *(folder / name for name in names))
         for place in (self.places.incoming, self.places.inboxes, self.places.state):
             (place / SERIES).mkdir(parents=True)
-        (self.places.inboxes / SERIES / STORE).mkdir()
+        self.store.mkdir()
         (folder / "program").touch()
         self.program = program
         given: dict[str, Any] = {"unchanged_seconds": 0, **settings}
@@ -70,6 +70,10 @@ class FakeInbox:
     @property
     def incoming(self) -> Path:
         return self.places.incoming / SERIES
+
+    @property
+    def store(self) -> Path:
+        return self.places.inboxes / SERIES / STORE
 
     @property
     def ledger(self) -> Path:
@@ -115,7 +119,7 @@ class FakeInbox:
         return {file.name: file.state for file in self.files()}
 
     def stored(self, file: File) -> bytes:
-        return (self.places.inboxes / SERIES / STORE / f"{file.digest}{file.ending}").read_bytes()
+        return (self.store / f"{file.digest}{file.ending}").read_bytes()
 
     def shown(self) -> dict[str, Any]:
         found: dict[str, Any] = json.loads((self.places.state / f"{SERIES}.json").read_bytes())

@@ -8,17 +8,19 @@ import shutil
 import sqlite3
 import tempfile
 import unittest
-from contextlib import closing
+from contextlib import closing, suppress
+from copy import deepcopy
 from dataclasses import dataclass, field, replace
 from hashlib import sha256
 from pathlib import Path
+from typing import Any
 
 from hypothesis import HealthCheck, Phase
 from hypothesis import settings as hypothesis_settings
 from hypothesis import strategies as st
 from hypothesis.stateful import RuleBasedStateMachine, initialize, precondition, rule
 
-from onixdesk_shop.faults import Fault
+from onixdesk_shop.faults import Failed, Fault
 from onixdesk_shop.inbox import decide
 from onixdesk_shop.inbox.context import Inbox
 from onixdesk_shop.inbox.ledger import File
@@ -57,11 +59,13 @@ class Sent:
     is_gone: bool = False
     # Whether a desk had it that is here or in a copy, as an older ledger was put back.
     was_had: bool = False
+    # Whether the machine with its bytes is gone.
+    is_lost: bool = False
     terms: set[bytes | None] = field(default_factory=set)
 
-    @property
-    def digest(self) -> str:
-        return sha256(self.data).hexdigest()
+
+def digest_of(data: bytes) -> str:
+    return sha256(data).hexdigest()
 
 
 @functools.cache
@@ -94,8 +98,10 @@ class Model(RuleBasedStateMachine):
         self.inbox = FakeInbox(self.folder, words=("--parts", str(parts)), number=number, leave=leave, full=full)
         self.is_next, self.parts = number == NEXT, parts
         self.copies = [self.desk.copy()]
+        # Of the ledger, and what was known then.
         self.ledgers: list[Path] = []
-        self.sent: dict[bytes, Sent] = {}
+        self.known: list[Any] = []
+        self.sent: dict[str, Sent] = {}
         self.waived: set[int] = set()
         self.ever: dict[int, Contents] = {}
         self.unsure: set[int] = set()
@@ -114,8 +120,16 @@ class Model(RuleBasedStateMachine):
             self.clean()
         time = self.inbox.clock + 60 - (100_000 if is_late else 0)
         self.inbox.send(name, data, time)
-        sent = self.sent.setdefault(data, Sent(data, time, is_whole, number))
+        sent = self.sent.setdefault(digest_of(data), Sent(data, time, is_whole, number))
         sent.terms.add(self.inbox.terms)
+        if sent.is_lost and self.is_next and self.file_of(sent).state == "refused":
+            # It is a new file then.
+            sent.time = time
+        sent.is_lost = False
+
+    def file_of(self, sent: Sent) -> File:
+        found: File = self.inbox.work(lambda inbox: inbox.ledger.latest(digest_of(sent.data)))
+        return found
 
     # Which of what there is: a number, so that the steps of a run can be made again as they are printed.
     some = st.integers(0, 11)
@@ -130,7 +144,7 @@ class Model(RuleBasedStateMachine):
         of_sender = None if self.is_next else number
         # Other bytes of the same contents are a resend where the sender numbers its files, and else another file.
         data = fake_program.feed_of(of_sender, products, sent="" if self.is_next else sent)
-        self.upload(name, data, True, of_sender, is_late and self.is_next and data not in self.sent)
+        self.upload(name, data, True, of_sender, is_late and self.is_next and digest_of(data) not in self.sent)
 
     @rule(name=names, number=numbers, sent=moments, is_late=st.booleans(), price=large)
     def send_many(self, name: str, number: int, sent: str, is_late: bool, price: str) -> None:
@@ -168,10 +182,12 @@ class Model(RuleBasedStateMachine):
     def copy(self) -> None:
         self.copies.append(self.desk.copy())
         target = self.folder / f"ledger-{len(self.ledgers)}"
-        self.inbox.files()
+        digests = {file.digest for file in self.inbox.files()}
         with closing(sqlite3.connect(self.inbox.ledger)) as old, closing(sqlite3.connect(target)) as new:
             old.backup(new)
         self.ledgers.append(target)
+        sent = {digest: sent for digest, sent in self.sent.items() if digest in digests}
+        self.known.append(deepcopy((sent, self.waived, self.ever, self.unsure)))
 
     @rule(which=some)
     def restore(self, which: int) -> None:
@@ -188,19 +204,42 @@ class Model(RuleBasedStateMachine):
     def all_parts(self, sent: Sent) -> list[Contents | str | None]:
         return [each for part in range(self.parts) for each in self.may_be(sent, part)] if sent.is_whole else []
 
-    @precondition(lambda self: bool(self.ledgers) and not self.is_next and self.parts == 1)
+    @precondition(lambda self: bool(self.ledgers))
     @rule(which=some)
-    def put_back_ledger(self, which: int) -> None:
+    def move(self, which: int) -> None:
+        """Another machine gets a night's copy, of the desk and the ledger; what came since and all bytes of files are
+        gone."""
+        at = which % len(self.ledgers)
+        del self.ledgers[at + 1 :], self.known[at + 1 :], self.copies[at + 2 :]
+        self.inbox.desk, self.inbox.disk.undo = self.copies[-1].copy(), []
+        self.sent, self.waived, self.ever, self.unsure = deepcopy(self.known[-1])
+        self.is_restored = True
+        for path in [*self.inbox.incoming.iterdir(), *self.inbox.store.iterdir()]:
+            path.unlink()
+        for sent in self.sent.values():
+            sent.is_lost = True
+        self.replace_ledger(self.ledgers[-1])
+
+    def replace_ledger(self, before: Path) -> None:
         for ending in ("", "-wal", "-shm"):
             self.inbox.ledger.with_name(f"{self.inbox.ledger.name}{ending}").unlink(missing_ok=True)
-        shutil.copyfile(self.ledgers[which % len(self.ledgers)], self.inbox.ledger)
+        shutil.copyfile(before, self.inbox.ledger)
+
+    def may_replace_ledger(self) -> bool:
+        is_lost = any(sent.is_lost for sent in self.sent.values())
+        return bool(self.ledgers) and not self.is_next and self.parts == 1 and not is_lost
+
+    @precondition(may_replace_ledger)
+    @rule(which=some)
+    def put_back_ledger(self, which: int) -> None:
+        self.replace_ledger(self.ledgers[which % len(self.ledgers)])
         with closing(sqlite3.connect(self.inbox.ledger)) as ledger:
             rejected = {digest for digest, in ledger.execute("SELECT digest FROM file WHERE state = 'rejected'")}
         # What came since is converted with the terms of then, should a desk lack it too.
         numbers = (number for desk in self.desks() for number in desk.series[SERIES].had)
         self.unsure |= {0, *self.ever, *numbers}
         for sent in self.sent.values():
-            sent.is_rejected, sent.is_gone = sent.digest in rejected, False
+            sent.is_rejected, sent.is_gone = digest_of(sent.data) in rejected, False
             sent.was_had = sent.was_had or any(self.is_at(sent, desk.series[SERIES]) for desk in self.desks())
 
     def desks(self) -> list[FakeDesk]:
@@ -231,7 +270,7 @@ class Model(RuleBasedStateMachine):
             self.inbox.work(lambda inbox: self.take_out(inbox, sent))
 
     def refuse_file(self, inbox: Inbox, sent: Sent) -> None:
-        file = inbox.ledger.latest(sent.digest)
+        file = inbox.ledger.latest(digest_of(sent.data))
         if file and file.state not in ("rejected", "replaced"):
             decide.decide(inbox, "refuse", file.mark)
             sent.is_rejected = True
@@ -239,7 +278,7 @@ class Model(RuleBasedStateMachine):
                 sent.refused = {inbox.ledger.text(row.number) for row in inbox.ledger.messages_of(file)}
 
     def take_out(self, inbox: Inbox, sent: Sent) -> None:
-        file = inbox.ledger.latest(sent.digest)
+        file = inbox.ledger.latest(digest_of(sent.data))
         for row in inbox.ledger.messages_of(file) if file else []:
             if sent.is_rejected and row.state in ("posted", "held", "applied"):
                 self.inbox.series.had.pop(row.number, None)
@@ -258,7 +297,7 @@ class Model(RuleBasedStateMachine):
     def let_in_first(self, inbox: Inbox) -> None:
         for file in inbox.ledger.files("state = 'quarantined'")[:1]:
             decide.decide(inbox, "let-in", file.mark)
-            self.sent[self.inbox.stored(file)].is_let_in = True
+            self.sent[file.digest].is_let_in = True
 
     @precondition(lambda self: not self.is_next)
     @rule(number=st.integers(1, 8))
@@ -272,6 +311,15 @@ class Model(RuleBasedStateMachine):
             self.waived.add(number)
         except Fault:
             assert inbox.ledger.stands(number)
+
+    @precondition(lambda self: bool(self.waived))
+    @rule(which=some)
+    def take_back(self, which: int) -> None:
+        """A waiver is not made again; the desk has it until it is restored."""
+        self.clean()
+        number = sorted(self.waived)[which % len(self.waived)]
+        with suppress(Failed):
+            self.inbox.work(lambda inbox: decide.take_back(inbox, [number]))
 
     # Running it
 
@@ -303,29 +351,33 @@ class Model(RuleBasedStateMachine):
         files = inbox.ledger.files("1")
         self.check_seen(files)
         series = self.inbox.series
-        waiting = {self.inbox.stored(file) for file in files if file.state in ("new", "quarantined", "replaced")}
-        resent = {self.inbox.stored(file) for file in files if file.state == "had"}
+        waiting = [self.sent[file.digest] for file in files if file.state in ("new", "quarantined", "replaced")]
+        refused = [file for file in files if file.state == "refused" and not inbox.ledger.has_stood(file)]
+        waiting += [sent for file in refused if (sent := self.sent[file.digest]).is_lost]
+        resent = [self.sent[file.digest] for file in files if file.state == "had"]
         whole = sorted((sent for sent in self.sent.values() if sent.is_whole), key=lambda sent: sent.time)
-        judged = [sent for sent in whole if sent.data not in waiting]
+        judged = [sent for sent in whole if sent not in waiting]
         if self.is_next:
             self.check_next(series, judged)
             if not self.is_restored:
                 self.check_prices(series)
         else:
-            self.check_own(series, judged, [sent for sent in whole if sent.data in waiting], resent)
+            self.check_own(series, judged, [sent for sent in whole if sent in waiting], resent)
         self.check_texts(series)
         self.check_states(inbox, files, series)
         self.check_full(inbox, series)
 
     def check_seen(self, files: list[File]) -> None:
         """Each file that was sent has a row, its bytes are there, and what waits is counted."""
-        assert {self.inbox.stored(file) for file in files} == set(self.sent)
+        assert {file.digest for file in files} == set(self.sent)
         first = min(((file.time, file.name, file.id) for file in files if file.state == "quarantined"), default=None)
         for file in files:
+            sent = self.sent[file.digest]
+            assert sent.is_lost or self.inbox.stored(file) == sent.data, file
             if file.state == "new":
                 assert first and (file.time, file.name, file.id) > first, file
             assert file.state != "posting", file
-            assert self.sent[self.inbox.stored(file)].is_whole or file.state not in ("applied", "held", "had"), file
+            assert sent.is_whole or file.state not in ("applied", "held", "had"), file
         shown = self.inbox.shown()
         assert shown["waiting"] == sum(file.state in ("new", "posting", "held") for file in files)
         assert shown["quarantined"] == sum(file.state == "quarantined" for file in files)
@@ -345,9 +397,10 @@ class Model(RuleBasedStateMachine):
                 for row in inbox.ledger.messages_of(file):
                     had, text = series.had.get(row.number), inbox.ledger.text(row.number).decode()
                     assert had == contents_of(records_of(text)) or bare(had) in rejected, (file, had)
-            if file.state == "refused" and self.sent[self.inbox.stored(file)].is_whole:
+            sent = self.sent[file.digest]
+            if file.state == "refused" and sent.is_whole and not sent.is_lost:
                 assert not self.is_next, file
-                assert not self.is_had(self.sent[self.inbox.stored(file)], series), file
+                assert not self.is_had(sent, series), file
 
     def is_had(self, sent: Sent, series: Series) -> bool:
         """Whether the desk has a feed of that number with the same products, by whichever terms."""
@@ -369,12 +422,12 @@ class Model(RuleBasedStateMachine):
         """What a part of a feed may be, by the tables of terms since it came."""
         return [contents(sent.data, self.parts, terms)[part] for terms in sent.terms]
 
-    def check_own(self, series: Series, judged: list[Sent], waiting: list[Sent], resent: set[bytes]) -> None:
+    def check_own(self, series: Series, judged: list[Sent], waiting: list[Sent], resent: list[Sent]) -> None:
         for number in NUMBERS:
             candidates = [sent for sent in judged if sent.number == number]
             # What a person refused does not come back by a resend, nor what an older ledger took for one.
             refused = [products_of(sent) for sent in candidates if sent.is_rejected]
-            had = [sent for sent in candidates if sent.data in resent] if refused else []
+            had = [sent for sent in candidates if sent in resent] if refused else []
             over = [sent for sent in had if self.unsure or products_of(sent) in refused]
             standing = next((sent for sent in candidates if not sent.is_rejected and sent not in over), None)
             stays = [sent for sent in candidates if sent.is_rejected and not sent.is_gone]
@@ -447,7 +500,7 @@ class Model(RuleBasedStateMachine):
             return
         prices: dict[str, str] = {}
         for file in reversed(last):
-            prices |= json.loads(self.inbox.stored(file))["products"]
+            prices |= json.loads(self.sent[file.digest].data)["products"]
         assert set(series.catalogue()) == {name for name, price in prices.items() if price != "-"}, last
 
 

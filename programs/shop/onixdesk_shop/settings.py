@@ -50,6 +50,10 @@ class Settings:
         found = re.search(rf"{word}[ =]([0-9]{{1,9}})(?= |$)", " ".join(self.words))
         return int(found[1]) if found else usual
 
+    def gives_number(self, ending: str) -> bool:
+        """Whether the inbox gives a file its number. A file of records has its own, always."""
+        return self.number == NEXT and ending != ".csv"
+
     def is_full(self, name: str) -> bool:
         """Whether a file of that name says all that its wholesaler has."""
         if not self.full:

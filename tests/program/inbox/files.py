@@ -1,5 +1,6 @@
 """What becomes of files: in which order they are judged, under which numbers, and what people read of them."""
 
+import contextlib
 import os
 from collections.abc import Iterator
 from dataclasses import replace
@@ -63,6 +64,21 @@ def order_without_ledger(room: Room) -> Iterator[Outcome]:
     inbox.desk = desk
     inbox.run()
     yield Outcome("the first one", price_of(inbox, "R1"), "1.000")
+
+
+def order_of_one_number(room: Room) -> Iterator[Outcome]:
+    """Of files of one number the first has it once it is free, also where that comes again behind the others."""
+    inbox = inbox_in(room, "one")
+    for amount in "1.00", "2.00", "3.00":
+        inbox.send(f"{amount}.xml", feed_of(1, {"R1": amount}))
+        inbox.run()
+    inbox.work(
+        lambda each: decide.decide(each, "refuse", each.ledger.files("state = 'held' OR state = 'applied'")[0].mark)
+    )
+    inbox.series.had.clear()
+    inbox.send("again.xml", feed_of(1, {"R1": "2.00"}))
+    inbox.run()
+    yield Outcome("the first one", price_of(inbox, "R1"), "2.000")
 
 
 def numbers(room: Room) -> Iterator[Outcome]:
@@ -132,16 +148,12 @@ def gone(room: Room) -> Iterator[Outcome]:
     inbox.clock += 121 * DAY
     inbox.run()
     kept = inbox.work(lambda each: each.ledger.value("SELECT min(number) FROM message WHERE text IS NOT NULL"))
-    yield Outcome(
-        "a clock of later takes nothing away", (kept, len(os.listdir(inbox.places.inboxes / SERIES / "store"))), (1, 1)
-    )
+    yield Outcome("a clock of later takes nothing away", (kept, len(os.listdirinbox.store)), (1, 1))
     before = keeping.KEPT_FILES, keeping.KEPT_NUMBERS
     keeping.KEPT_FILES = keeping.KEPT_NUMBERS = 0
     inbox.send("b.xml", feed_of(2, {"R1": "2.00"}))
     inbox.run()
-    kept = [
-        file.name for file in inbox.files() if (inbox.places.inboxes / SERIES / "store" / f"{file.digest}.xml").exists()
-    ]
+    kept = [file.name for file in inbox.files() if (inbox.store / f"{file.digest}.xml").exists()]
     keeping.KEPT_FILES, keeping.KEPT_NUMBERS = before
     yield Outcome("bytes are kept for 120 days", kept, ["b.xml"])
     inbox.series.had.clear()
@@ -160,6 +172,27 @@ def gone(room: Room) -> Iterator[Outcome]:
     inbox.desk.series.clear()
     lines = inbox.run()
     yield Outcome("the agreement", lines[0].partition(";")[0], f"Agree,{SERIES},06,{SENDER[1]},,,1")
+
+
+def gone_with_the_machine(room: Room) -> Iterator[Outcome]:
+    """A ledger on a new machine, which has none of its files: what was refused is not judged anew, and keeps nothing
+    waiting."""
+    inbox = inbox_in(room, "moved")
+    for name, data in {
+        "1.xml": feed_of(1, {"R1": "1.00"}),
+        "1-other.csv": message_of(1, [product_of("R1", "2.00", None)]),
+        "1-other.xml": feed_of(1, {"R1": "3.00"}),
+    }.items():
+        inbox.send(name, data)
+        inbox.run()
+    for path in inbox.store.iterdir():
+        path.unlink()
+    inbox.settings = replace(inbox.settings, silent_days=5)
+    inbox.send("2.xml", feed_of(2, {"R1": "2.00"}))
+    lines = inbox.run()
+    wanted = {"1.xml": "applied", "1-other.csv": "refused", "1-other.xml": "refused", "2.xml": "applied"}
+    yield Outcome("the states", inbox.states(), wanted)
+    yield Outcome("the lines", sum("its bytes are not kept any more" in line for line in lines), 2)
 
 
 def renewed(room: Room) -> Iterator[Outcome]:
@@ -266,9 +299,14 @@ def returned(room: Room) -> Iterator[Outcome]:
         inbox.send("a.xml", feed_of(None, {"R1": "1.00"}))
         inbox.run()
     texts, inbox.desk = inbox.series.had, before
+    inbox.settings = replace(inbox.settings, words=())
     inbox.send("b.xml", feed_of(None, {"R1": "2.00"}))
     inbox.run()
     yield Outcome("a number that the desk took is not given back", inbox.series.had[1], texts[1])
+    yield Outcome("nor is that of its other half", sorted(inbox.series.had), [1, 3])
+    inbox.work(lambda each: decide.decide(each, "refuse", each.ledger.files("name = 'a.xml'")[0].mark))
+    inbox.run()
+    yield Outcome("and the other half is waived once a person refused the file", inbox.series.had.get(2), WAIVED)
 
 
 def refused(room: Room) -> Iterator[Outcome]:
@@ -281,6 +319,16 @@ def refused(room: Room) -> Iterator[Outcome]:
     machine = inbox.machine()
     inbox.run(machine)
     yield Outcome("the other one alone", sum(text.startswith(b"Message") for text in machine.posted), 1)
+    inbox = inbox_in(room, "unanswered")
+    inbox.send("1.xml", feed_of(1, {"R1": "1.00"}))
+    machine = FakeMachine(inbox.disk, inbox.desk, inbox.clock, ("kill", "answered", 3))
+    with contextlib.suppress(Killed):
+        inbox.run(machine)
+    inbox.work(lambda each: decide.decide(each, "refuse", each.ledger.files("1")[0].mark))
+    inbox.send("1-other.xml", feed_of(1, {"R1": "2.00"}))
+    inbox.run()
+    found = inbox.states(), inbox.work(lambda each: each.ledger.row(1).state)
+    yield Outcome("a text without an answer", found, ({"1.xml": "rejected", "1-other.xml": "refused"}, "posted"))
 
 
 def halves(room: Room) -> Iterator[Outcome]:
@@ -317,6 +365,22 @@ def waived(room: Room) -> Iterator[Outcome]:
     yield Outcome("waived again", (inbox.series.had[1], inbox.states()), (WAIVED, {"1.xml": "refused"}))
 
 
+def waived_half(room: Room) -> Iterator[Outcome]:
+    """A part of a feed that came to a waived number is posted again at a desk that has that waiver no more."""
+    inbox = inbox_in(room, "waived half", words=("--parts", "2"))
+    assert inbox.desk
+    before = inbox.desk.copy()
+    inbox.work(lambda each: decide.waive(each, [2]))
+    inbox.run()
+    inbox.send("1.xml", feed_of(1, {"R1": "1.00", "R2": "2.00"}))
+    inbox.run()
+    yield Outcome("its other part alone", (inbox.states(), price_of(inbox, "R2")), ({"1.xml": "refused"}, ""))
+    inbox.work(lambda each: decide.take_back(each, [2]))
+    inbox.desk = before
+    inbox.run()
+    yield Outcome("both", (inbox.states(), price_of(inbox, "R2")), ({"1.xml": "applied"}, "2.000"))
+
+
 def endings(room: Room) -> Iterator[Outcome]:
     """A file that came under a wrong ending is put there again under the right one."""
     inbox = inbox_in(room, "ending")
@@ -325,7 +389,7 @@ def endings(room: Room) -> Iterator[Outcome]:
     inbox.send("a.xml", feed_of(1, {"R1": "1.00"}))
     inbox.run()
     yield Outcome("by its new ending", inbox.states(), {"a.xml": "applied"})
-    yield Outcome("the old one is gone", len(os.listdir(inbox.places.inboxes / SERIES / "store")), 1)
+    yield Outcome("the old one is gone", len(os.listdirinbox.store), 1)
 
 
 def left(room: Room) -> Iterator[Outcome]:

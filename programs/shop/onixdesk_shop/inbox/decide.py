@@ -6,7 +6,7 @@ from onixdesk_shop.faults import DONE, BadCall, Failed
 from onixdesk_shop.inbox.context import Inbox
 from onixdesk_shop.inbox.ledger import Decision, File, State
 from onixdesk_shop.lines import ranges, token
-from onixdesk_shop.settings import NEXT, OWN
+from onixdesk_shop.settings import OWN
 
 
 def file_of(inbox: Inbox, mark: str) -> File:
@@ -56,7 +56,7 @@ def dismiss(inbox: Inbox, file: File) -> str:
 
 def again(inbox: Inbox, file: File) -> str:
     """Takes the bytes of a file again, as if they came in now."""
-    if inbox.settings.number != NEXT or file.ending == ".csv":
+    if not inbox.settings.gives_number(file.ending):
         raise Failed("a file with a number of its own has to be sent again under a new one")
     if file.state not in (State.APPLIED, State.HAD, State.REFUSED, State.REJECTED):
         raise Failed(f"{file.mark} is {file.state}")

@@ -78,9 +78,8 @@ def take_file(inbox: Inbox, entry: Entry) -> str:
         machine.rename(copy, stored)
     machine.sync_folder(inbox.store)
     before = inbox.ledger.latest(digest)
-    file = inbox.ledger.take(
-        digest, shown(entry.name), ending, entry.size, entry.modified, time_of(entry), int(machine.now())
-    )
+    is_new = inbox.settings.gives_number(ending)
+    file = inbox.ledger.take(digest, shown(entry.name), ending, entry.size, entry.modified, time_of(entry), is_new)
     if before:
         if before.ending != file.ending:
             machine.remove(inbox.stored(before))
@@ -130,5 +129,4 @@ def adopt(inbox: Inbox) -> None:
         if not found:
             machine.remove(inbox.store / entry.name)
         elif not inbox.ledger.latest(found[1]):
-            time = time_of(entry)
-            inbox.ledger.take(found[1], entry.name, found[2], entry.size, entry.modified, time, int(machine.now()))
+            inbox.ledger.take(found[1], entry.name, found[2], entry.size, entry.modified, time_of(entry), False)

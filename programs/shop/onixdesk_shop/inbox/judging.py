@@ -15,12 +15,12 @@ from onixdesk_shop.feeds import Refusal, Said, check, convert
 from onixdesk_shop.inbox import full, quarantine
 from onixdesk_shop.inbox.context import Inbox
 from onixdesk_shop.inbox.ledger import File, Message, Row, State
-from onixdesk_shop.inbox.posting import why_refused
+from onixdesk_shop.inbox.posting import begin_again, why_refused
 from onixdesk_shop.inbox.quarantine import Quarantine
 from onixdesk_shop.lines import ERROR, NOTICE, WARNING, cut, ranges
 from onixdesk_shop.messages import header_of, is_message, products_of
 from onixdesk_shop.places import WORK
-from onixdesk_shop.settings import NEXT, OWN
+from onixdesk_shop.settings import OWN
 
 MOST_BYTES = 4_194_304
 
@@ -84,21 +84,18 @@ def quarantine_file(inbox: Inbox, file: File, why: str) -> None:
     inbox.tell_file(ERROR, file, f"quarantined: {why}; later files wait", *commands)
 
 
-def is_given_number(inbox: Inbox, file: File) -> bool:
-    """Whether the inbox gives the file its number. A file of records has its own, always."""
-    return inbox.settings.number == NEXT and file.ending != ".csv"
-
-
 def feed_of(inbox: Inbox, file: File, gaps: Gaps, words: list[str], terms: bytes | None) -> Feed:
     """A file as messages, under the number that it has or would be given."""
     source = inbox.stored(file)
+    if not inbox.machine.exists(source):
+        raise Refusal("its bytes are not kept any more; have it sent again")
     if file.ending == ".csv":
         if inbox.machine.entry(source).size > MOST_BYTES:
             raise Refusal(f"it has more than {MOST_BYTES} bytes of records")
         texts, said = [inbox.machine.read(source)], Said()
     else:
         number = []
-        if is_given_number(inbox, file):
+        if inbox.settings.gives_number(file.ending):
             first = inbox.ledger.next_number(gaps, inbox.settings.parts)
             number = ["--number", str((first - 1) // inbox.settings.parts + 1)]
         texts, said = convert(
@@ -140,7 +137,7 @@ def look_at(inbox: Inbox, feed: Feed, gaps: Gaps) -> None:
         if most > MOST_RECORDS_OF_ONE_ISBN:
             raise Refusal(f"{most} of its records have the ISBN {isbn}, and {MOST_RECORDS_OF_ONE_ISBN} may")
     inbox.ledger.set_of_file(feed.file, products=feed.products)
-    if not is_given_number(inbox, feed.file):
+    if not inbox.settings.gives_number(feed.file.ending):
         inbox.ledger.set_of_file(feed.file, number=feed.messages[0].number)
     for message in feed.messages:
         if message.number < gaps.first and not final_row(inbox, feed.file, message.number):
@@ -219,10 +216,12 @@ def retry_refused(inbox: Inbox, gaps: Gaps) -> None:
     ledger = inbox.ledger
     ledger.retry_refused(inbox.basis(gaps.first))
     was_had = "answer LIKE '%\"other-contents\"%' OR answer LIKE '%\"waived\"%'"
-    query = f"SELECT number FROM message WHERE state = 'refused' AND ({was_had})"
-    lacking = [number for (number,) in ledger.rows(query) if gaps.lacks(number)]
+    query = f"SELECT number, file FROM message WHERE state = 'refused' AND ({was_had})"
+    lacking = [(number, ledger.file(file)) for number, file in ledger.rows(query) if gaps.lacks(number)]
     if lacking:
         with ledger.step():
-            for number in lacking:
+            for number, file in lacking:
                 ledger.do("UPDATE message SET answer = '' WHERE number = ?", number)
+                if file.state == State.REFUSED and ledger.has_stood(file):
+                    begin_again(inbox, file)
             ledger.retry_refused()

@@ -128,9 +128,10 @@ class Ledger:
     def file(self, number: int) -> File:
         return self.files("id = ?", number)[0]
 
-    def take(self, digest: str, name: str, ending: str, size: int, modified: int, time: int, now: int) -> File:
+    def take(self, digest: str, name: str, ending: str, size: int, modified: int, time: int, is_new: bool) -> File:
         """Writes the row of bytes that came in. What came before keeps its state, but for what was refused, which is
-        tried again."""
+        tried again: `is_new`, as if it had not come before; else in its place of then, before others of its number."""
+        now = int(self.machine.now())
         with self.step():
             known = self.latest(digest)
             if not known:
@@ -144,7 +145,7 @@ class Ledger:
             if known.state == State.NEW:
                 self.set_of_file(known, time=min(time, known.time))
             if known.state == State.REFUSED and not self.has_stood(known):
-                self.set_of_file(known, time=time, ending=ending)
+                self.set_of_file(known, time=time if is_new else min(time, known.time), ending=ending)
                 self.set_state(known, State.NEW, "its bytes were put there again")
             return self.file(known.id)
 

@@ -10,7 +10,6 @@ from onixdesk_shop.inbox.context import Inbox
 from onixdesk_shop.inbox.ledger import Decision, File, Row, State
 from onixdesk_shop.lines import ERROR, NOTICE, WARNING, count, cut, ranges
 from onixdesk_shop.messages import products_of
-from onixdesk_shop.settings import NEXT
 
 # How often the desk is asked anew: what closes a gap lets it apply what waited.
 ROUNDS = 3
@@ -106,7 +105,7 @@ def settle_refused(inbox: Inbox, row: Row, answer: Refused) -> None:
     ledger, why = inbox.ledger, why_refused(answer)
     file = ledger.file(row.file)
     ledger.set_message(row.number, State.REFUSED, answer.said)
-    is_next = inbox.settings.number == NEXT and file.ending != ".csv"
+    is_next = inbox.settings.gives_number(file.ending)
     if is_next and not ledger.has_stood(file, (State.HELD, State.APPLIED)):
         for each in ledger.messages_of(file):
             ledger.set_message(each.number, State.RETURNED)
@@ -132,8 +131,8 @@ def retry_unknown(inbox: Inbox, gaps: Gaps) -> None:
             begin_again(inbox, inbox.ledger.file(file), number)
 
 
-def begin_again(inbox: Inbox, file: File, taken: int) -> None:
-    """Has all messages of a refused file posted again, of which the desk has taken one."""
+def begin_again(inbox: Inbox, file: File, taken: int = 0) -> None:
+    """Has all messages of a refused file posted again, of which the desk has taken one, or may take another one now."""
     with inbox.ledger.step():
         for row in inbox.ledger.messages_of(file):
             if row.state in (State.REFUSED, State.RETURNED):
@@ -157,21 +156,21 @@ def settle_rejected(inbox: Inbox, gaps: Gaps) -> None:
     waived, so that nothing waits for them."""
     ledger = inbox.ledger
     query = (
-        "SELECT number FROM message WHERE state IN ('ready', 'posted', 'held', 'applied')"
+        "SELECT number, file FROM message WHERE (state IN ('ready', 'posted', 'held', 'applied')"
+        " OR state = 'refused' AND number NOT IN (SELECT number FROM decision WHERE what = 'waive'))"
         " AND file IN (SELECT id FROM file WHERE state = 'rejected')"
     )
-    for (number,) in ledger.rows(query):
-        row = ledger.row(number)
-        assert row
+    for number, of_file in ledger.rows(query):
         if not gaps.lacks(number):
             continue
+        file = ledger.file(of_file)
+        is_given = inbox.settings.gives_number(file.ending)
         with ledger.step():
-            is_given = inbox.settings.number == NEXT and ledger.file(row.file).ending != ".csv"
             ledger.set_message(number, State.REFUSED if is_given else State.RETURNED)
             ledger.forget_references(number)
             ledger.retry_refused()
             if is_given:
-                ledger.decide(Decision.WAIVE, ledger.file(row.file), number)
+                ledger.decide(Decision.WAIVE, file, number)
 
 
 def waive(inbox: Inbox, gaps: Gaps) -> Gaps:

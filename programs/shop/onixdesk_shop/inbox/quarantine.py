@@ -9,7 +9,6 @@ from onixdesk_shop.desk import Gaps
 from onixdesk_shop.faults import BadEnd
 from onixdesk_shop.inbox.comparing import Findings, look_at
 from onixdesk_shop.inbox.context import Inbox
-from onixdesk_shop.settings import NEXT
 
 if TYPE_CHECKING:
     from onixdesk_shop.inbox.judging import Feed
@@ -42,7 +41,7 @@ def look(inbox: Inbox, feed: Feed, gaps: Gaps) -> None:
 
 
 def judge_numbers(inbox: Inbox, feed: Feed, gaps: Gaps) -> None:
-    if inbox.settings.number == NEXT and feed.file.ending != ".csv":
+    if inbox.settings.gives_number(feed.file.ending):
         last = inbox.ledger.last_taken()
         if last is not None and feed.file.time < last:
             raise Quarantine("it is older than the last one that was taken")

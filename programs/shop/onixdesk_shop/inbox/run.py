@@ -8,7 +8,6 @@ from onixdesk_shop.inbox.full import tell_in_a_row
 from onixdesk_shop.inbox.judging import judge, retry_refused
 from onixdesk_shop.inbox.ledger import File, State
 from onixdesk_shop.lines import ERROR, WARNING
-from onixdesk_shop.settings import NEXT
 
 # How long a series may wait for a number.
 DAY = 86_400
@@ -69,7 +68,7 @@ def next_file(inbox: Inbox, seen: set[int]) -> File | None:
             continue
         if first is None or (file.time, file.name, file.id) < first:
             return file
-        if inbox.settings.number == NEXT and file.ending != ".csv" and inbox.settings.is_full(file.name):
+        if inbox.settings.gives_number(file.ending) and inbox.settings.is_full(file.name):
             return file
     return None
 

@@ -26,7 +26,7 @@ use program_desks::kept_desks::KeepsDesks;
 use program_files::NamedFiles;
 use program_rules::rules::{RulesFault, open_table, report_rules};
 use program_rules::{checking, terms_checking};
-use program_words::hints::{hint_of_file, hint_of_socket, lack_of_file};
+use program_words::hints::{BATCH_TO_SOCKET, FILE_BEFORE};
 use program_words::invocation::{self, Action, Database, Invocation, Reading, Task};
 use series_rules::desk::Desk;
 use series_rules::listing::ListedDesk;
@@ -221,17 +221,17 @@ fn read_words<'a, R, W: Write, E: Write>(
         Reading::Wrong(text) => Err(help::print_wrong(text.as_str(), errors)),
         Reading::NoDatabase => Err(help::print_hinted(
             "onixdesk: migrate needs --db\n",
-            hint_of_file(words),
+            FILE_BEFORE,
             errors,
         )),
         Reading::NoDesk => Err(help::print_hinted(
-            lack_of_file(words),
-            hint_of_file(words),
+            "onixdesk: this command needs --db\n",
+            FILE_BEFORE,
             errors,
         )),
         Reading::NoBatch => Err(help::print_hinted(
             "onixdesk: --batches goes with batch\n",
-            hint_of_socket(words),
+            BATCH_TO_SOCKET,
             errors,
         )),
         Reading::Memory => Err(report(&Fault::Memory, errors)),

@@ -113,7 +113,7 @@ fn error_reading<'a>(alloc: Global, words: &[&str], error: &Error) -> Reading<'a
     if !error.use_stderr() {
         return Reading::Help(text);
     }
-    match text.push_str(hint(words, error.kind())) {
+    match text.push_str(hint(words)) {
         Ok(()) => Reading::Wrong(text),
         Err(_) => Reading::Memory,
     }

@@ -85,9 +85,8 @@ def empty_desks(room: Room) -> Iterator[Outcome]:
     batch(room, b"")
     for command in LISTS:
         yield Outcome(f"an empty desk: {command}", listed(room, command), Ran(0))
-        lacks = command.replace("gaps", "gaps without a NAME")
-        why = f"write the database file before the command, as in: onixdesk --db FILE {command}"
-        wanted = Ran(2, b"", f"onixdesk: {lacks} needs --db\nonixdesk: {why}\n".encode())
+        why = b"write the database file before the command, as in: onixdesk --db FILE COMMAND"
+        wanted = Ran(2, b"", b"onixdesk: this command needs --db\nonixdesk: " + why + b"\n")
         yield Outcome(f"no desk: {command}", room.told(command, given=UNREADABLE), wanted)
 
 

@@ -1,5 +1,5 @@
 -- What the steps of a desk come to, for every list of requests that it stood for.
-use Rattle.std.specs.Prelude.{◌≡◌, ◌⊎◌, ◌||◌, All, Bool, true, false, Contains, IfErr, List, [], ◌∷◌, Result, Ok, Err, if◌then◌else◌, is_err, ⊤}
+use Rattle.std.specs.Prelude.{◌≡◌, ◌⊎◌, ◌||◌, All, Bool, true, false, Contains, IfErr, List, [], ◌∷◌, Result, Ok, Err, if◌then◌else◌, is_err, map, ⊤}
 use Rattle.onix_records.specs.declared.faults.StoreFault.{StoreFault}
 use Rattle.price_rules.specs.declared.precedence.Rule.{Rule}
 use Rattle.series_rules.specs.Answers.{answer_to}
@@ -17,6 +17,12 @@ Step = Request × Result Answer StoreFault
 abbrev pub Asked : {D : Type 0} → {k : DeskKind} → (D → View k) → List Rule → D → D
     → List Step → Type 0
 Asked seen rules old new steps = Trace seen rules steps old new
+
+-- these requests had these outcomes, one after the other. Asked: a desk was asked these steps
+abbrev pub AsksAll : (List Step → Type 0) → List Request → List (Result Answer StoreFault) → Type 0
+AsksAll asked requests outcomes =
+    (steps : List Step) × (map (λ s. s.0) steps ≡ requests) × (map (λ s. s.1) steps ≡ outcomes)
+    × asked steps
 
 -- L and then each request that was answered
 abbrev pub with_answered : List Request → List Step → List Request

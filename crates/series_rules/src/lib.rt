@@ -21,3 +21,4 @@ pub mod laws;
 pub mod listing;
 mod price_answers;
 pub mod requests;
+pub mod run;

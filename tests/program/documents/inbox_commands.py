@@ -5,7 +5,7 @@ import os
 from collections.abc import Iterator
 
 from tests.program.documents.examples import blocks, written
-from tests.program.documents.mistakes import AGREED, AGREEMENT, mark
+from tests.program.documents.mistakes import AGREED, AGREEMENT, TERMS, mark
 from tests.program.files.machines import Machine, feed, machine
 from tests.program.inbox.inboxes import script
 from tests.program.room import Room, needs
@@ -41,15 +41,18 @@ def what_is_shown(room: Room) -> Iterator[Outcome]:
 
 
 def problems(room: Room) -> Iterator[Outcome]:
-    """Each command of docs/PROBLEMS.md that asks an inbox something, and the one that waives a number."""
-    lines = [line for block in blocks("docs/PROBLEMS.md") for line in block if line.startswith("onixdesk-inbox ")]
+    """Each command of docs/PROBLEMS.md that asks an inbox or converts a feed, and the one that waives a number."""
+    run = "onixdesk-inbox ", "onixdesk convert "
+    lines = [line for block in blocks("docs/PROBLEMS.md") for line in block if line.startswith(run)]
     with machine(room, AGREEMENT.format("4012345000009", 40)) as desk:
         desk.take({"before.xml": feed(40, a="7.00"), "friday.xml": feed(41, a="8.00")})
+        room.write("feed.xml", feed(42, a="9.00"))
+        room.write("etc/onixdesk/terms/north.toml", TERMS.encode())
         for line in lines:
             line = line.replace("north 41", "north 42")
             ran = desk.run([line])
             yield Outcome(f"docs/PROBLEMS.md: {line}", (ran.status, ran.errors), (0, b""))
-    yield Outcome("docs/PROBLEMS.md: its commands", len(lines), 5)
+    yield Outcome("docs/PROBLEMS.md: its commands", len(lines), 7)
 
 
 def a_number_that_never_comes(room: Room) -> Iterator[Outcome]:

@@ -1,5 +1,4 @@
-"""The keys of a rule, as the table of docs/FORMATS.md has them, and those of a term, as the example of docs/ONIX.md does:
-each program that reads such a file has the same."""
+"""The keys of a rule, as the table of docs/FORMATS.md has them, and those of a term, as the example of docs/ONIX.md does."""
 
 import re
 from collections.abc import Iterator
@@ -10,20 +9,11 @@ from tools.root import ROOT
 
 ROW = re.compile(r"^\| `([a-z]+)` \| [^|]* \| (yes|no) \|$", re.MULTILINE)
 
-# Where each of the others names them, one at a time.
-READERS = {
-    "the desk": ("crates/price_rules/src/toml_rules.rt", r'key == "([a-z]+)"'),
-    "the line of a fault": ("crates/program_rules/src/rules_faults.rt", r'(?:&str\||\|\|) key == "([a-z]+)"'),
-    "the page": ("page/desk/rules.js", r"(?:isRule\(\{ |, )([a-z]+)(?=[^\n]*, \.\.\.others)"),
-}
+# Where the page names them.
+IN_PAGE = re.compile(r"(?:isRule\(\{ |, )([a-z]+)(?=[^\n]*, \.\.\.others)")
 
-
-# A line of the example of a term, and whether it may be left out; and where the keys of a term are named.
+# A line of the example of a term, and whether it may be left out.
 TERM_LINE = re.compile(r"^    ([a-z]+) = ([^#]*[^# ]) +# (optional: )?", re.MULTILINE)
-TERM_READERS = {
-    "the converter": ("crates/feed_terms/src/toml_terms.rt", r'key == "([a-z]+)"'),
-    "the line of a fault": ("crates/program_rules/src/terms_faults.rt", r'"([a-z]+)" (?:\||=>)'),
-}
 
 
 def text_of(name: str) -> str:
@@ -31,18 +21,15 @@ def text_of(name: str) -> str:
 
 
 def keys(room: Room) -> Iterator[Outcome]:
+    """The page has the keys of the table; the desk takes a rule with all, none without one that has to be there, and no
+    other key."""
     table = dict(ROW.findall(text_of("docs/FORMATS.md").partition("| Key of a rule |")[2].partition("\n\n")[0]))
-    for reader, (file, pattern) in READERS.items():
-        yield Outcome(f"keys of a rule: {reader}", set(re.findall(pattern, text_of(file))), table.keys())
-
-
-def each_alone(room: Room) -> Iterator[Outcome]:
-    """The desk takes a rule with all keys, none without one that has to be there, and no other key."""
+    yield Outcome("keys of a rule: the page", set(IN_PAGE.findall(text_of("page/desk/rules.js"))), table.keys())
     rule = {"series": '"north"', "codes": '["20"]', "max": '"12.99"'}
-    for left_out in ("", *rule):
-        text = "".join(f"{key} = {value}\n" for key, value in rule.items() if key != left_out)
+    for left_out in ("", *table):
+        text = "".join(f"{key} = {rule[key]}\n" for key in table if key != left_out)
         room.write("rules.toml", f"[[rule]]\n{text}".encode())
-        status = 2 if left_out in ("series", "codes") else 0
+        status = 2 if table.get(left_out) == "yes" else 0
         came = room.run("rules", "rules.toml").status
         yield Outcome(f"keys of a rule, without one: {left_out}", came, status)
     room.write("rules.toml", b'[[rule]]\nseries = "*"\ncodes = ["20"]\nmin = "1"\n')
@@ -57,8 +44,6 @@ def example_term() -> tuple[dict[str, str], set[str]]:
 
 def keys_of_a_term(room: Room) -> Iterator[Outcome]:
     term, needed = example_term()
-    for reader, (file, pattern) in TERM_READERS.items():
-        yield Outcome(f"keys of a term: {reader}", set(re.findall(pattern, text_of(file))), term.keys())
     for left_out in ("", *term):
         # A scheme stands beside codes alone.
         without = {left_out, "scheme"} if left_out == "codes" else {left_out}

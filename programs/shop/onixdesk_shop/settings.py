@@ -41,12 +41,8 @@ class Settings:
         """How many messages the converter makes of a feed by its words."""
         return self.given("--parts", 1)
 
-    @property
-    def offset(self) -> int:
-        """What the converter adds to the numbers of feeds by its words."""
-        return self.given("--number-offset", 0)
-
     def given(self, word: str, usual: int) -> int:
+        """The number behind a word of the converter."""
         found = re.search(rf"{word}[ =]([0-9]{{1,9}})(?= |$)", " ".join(self.words))
         return int(found[1]) if found else usual
 

@@ -234,6 +234,9 @@ def unanswered(room: Room) -> Iterator[Outcome]:
     shop.is_inbox_run = False
     status, stopped = run(shop), [words for words in shop.units if words.startswith("stop")]
     yield Outcome("never answered", (status, stopped, standing(shop)), (1, [], (1, [1, 2, 3, 5])))
+    shop.started, before = {*UNITS[:2]}, shop.inbox.clock
+    yield Outcome("no unit runs its inbox", (run(shop), standing(shop)), (1, (1, [1, 2, 3, 5])))
+    yield Outcome("nobody waits", shop.inbox.clock - before < 10, True)
 
 
 class WrittenMeanwhile(ShopMachine):

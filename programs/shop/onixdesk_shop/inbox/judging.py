@@ -72,7 +72,7 @@ def offset_for(inbox: Inbox, file: File, gaps: Gaps) -> list[str]:
     if settings.number != OWN or file.ending == ".csv" or file.number is None or last is None or file.time < last:
         return []
     before = max(gaps.next - 1, gaps.greatest or 0) // settings.parts
-    if before < 2 or file.number > (settings.offset + 1) * settings.parts:
+    if before < 2 or file.number > (settings.given("--number-offset", 0) + 1) * settings.parts:
         return []
     words = re.sub(r"--number-offset[ =]\S+", "", shlex.join(settings.words)).split()
     return [f"if it begins again at 1: WORDS={' '.join([*words, '--number-offset', str(before)])}"]

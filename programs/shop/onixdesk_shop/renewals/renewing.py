@@ -49,9 +49,11 @@ class Renewing(Restore):
 
     def wait_for_answers(self) -> None:
         end = self.machine.now() + PATIENCE
-        while waiting := [inbox.series for inbox in self.inboxes() if inbox.has_unanswered()]:
-            if self.machine.now() > end:
-                raise Failed(f"{', '.join(waiting)}: a message has no answer yet; the desk is as it was")
+        while waiting := [inbox for inbox in self.inboxes() if inbox.has_unanswered()]:
+            off = [inbox for inbox in waiting if not inbox.goes_on(self.units.begun)]
+            if off or self.machine.now() > end:
+                series = [*off, *waiting][0].series
+                raise Failed(f"onixdesk-inbox {series}; a message of it has no answer yet; the desk is as it was")
             self.machine.sleep(1)
 
 

@@ -68,6 +68,10 @@ class Inbox:
         with closing(Ledger(self.machine, self.file)) as ledger:
             return ledger.agreement(self.series, settings.sender if settings else ("", ""))
 
+    def goes_on(self, units: list[str]) -> bool:
+        """Whether one of these units runs it."""
+        return any(f"onixdesk-inbox@{self.series}{kind}" in units for kind in BEGIN)
+
     def has_unanswered(self) -> bool:
         """Whether the desk has not said yet what it makes of a message."""
         with closing(Ledger(self.machine, self.file)) as ledger:
@@ -129,8 +133,7 @@ def wait_for_all(machine: Machine, inboxes: list[Inbox], planned: dict[str, list
         if not inboxes:
             Desk(machine, BATCHES, PATIENCE).gaps("north")
         for inbox in inboxes:
-            goes_on = any(f"onixdesk-inbox@{inbox.series}{kind}" in units for kind in BEGIN)
-            has_all &= wait_for_inbox(inbox, planned.get(inbox.series, []), goes_on)
+            has_all &= wait_for_inbox(inbox, planned.get(inbox.series, []), inbox.goes_on(units))
     except Fault as fault:
         machine.tell(ERROR, str(fault))
         return False

@@ -180,6 +180,9 @@ class Model(RuleBasedStateMachine):
 
     @rule()
     def copy(self) -> None:
+        if self.unsure:
+            # A night's copy comes long after an older ledger was put back.
+            self.clean()
         self.copies.append(self.desk.copy())
         target = self.folder / f"ledger-{len(self.ledgers)}"
         digests = {file.digest for file in self.inbox.files()}

@@ -41,7 +41,7 @@ def unpacked(path: Path) -> Iterator[bytes]:
 def recoded(pieces: Iterator[bytes]) -> Iterator[bytes]:
     """The same in UTF-8 where it begins with the mark of UTF-16; the mark of UTF-8 outweighs what it declares."""
     first = next(pieces, b"")
-    whole = itertools.chain([first], pieces)
+    whole: Iterator[bytes] = itertools.chain([first], pieces)
     if first.startswith((codecs.BOM_UTF16_LE, codecs.BOM_UTF16_BE)):
         yield codecs.BOM_UTF8
         whole = codecs.iterencode(codecs.iterdecode(whole, "utf-16"), "utf-8")

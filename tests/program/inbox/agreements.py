@@ -2,6 +2,7 @@
 
 from collections.abc import Iterator
 from dataclasses import replace
+from typing import Any
 
 from onixdesk_shop.inbox import report
 from onixdesk_shop.settings import NEXT
@@ -36,8 +37,8 @@ def mistyped(room: Room) -> Iterator[Outcome]:
 
 
 # What the report says of an agreement, desk.json or terms that are otherwise than these.
-ALIKE = {"parties": (*SENDER, "", ""), "first": 1, "page": {"name": "north", "parts": 2}, "net": "02"}
-OTHERWISE = {
+ALIKE: dict[str, Any] = {"parties": (*SENDER, "", ""), "first": 1, "page": {"name": "north", "parts": 2}, "net": "02"}
+OTHERWISE: dict[str, dict[str, Any]] = {
     "": {},
     f"the desk has another agreement than Agree,north,{','.join(SENDER)},,,1": {"parties": (*SENDER, *ADDRESSEE)},
     "no feed of 2 parts begins with the agreed first number, 2": {"first": 2},
@@ -45,6 +46,7 @@ OTHERWISE = {
     "desk.json: parts is 1, not 2": {"page": {"name": "north"}},
     "desk.json: number_offset is 3, not 0": {"page": {"name": "north", "parts": 2, "number_offset": 3}},
     "desk.json: price_type is 02, not 05 as in TERMS": {"net": "05"},
+    "desk.json: price_type is 02, not 06 as in TERMS": {"net": '06" wrong'},
 }
 
 

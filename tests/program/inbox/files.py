@@ -148,7 +148,7 @@ def gone(room: Room) -> Iterator[Outcome]:
     inbox.clock += 121 * DAY
     inbox.run()
     kept = inbox.work(lambda each: each.ledger.value("SELECT min(number) FROM message WHERE text IS NOT NULL"))
-    yield Outcome("a clock of later takes nothing away", (kept, len(os.listdirinbox.store)), (1, 1))
+    yield Outcome("a clock of later takes nothing away", (kept, len(os.listdir(inbox.store))), (1, 1))
     before = keeping.KEPT_FILES, keeping.KEPT_NUMBERS
     keeping.KEPT_FILES = keeping.KEPT_NUMBERS = 0
     inbox.send("b.xml", feed_of(2, {"R1": "2.00"}))
@@ -180,7 +180,7 @@ def gone_with_the_machine(room: Room) -> Iterator[Outcome]:
     inbox = inbox_in(room, "moved")
     for name, data in {
         "1.xml": feed_of(1, {"R1": "1.00"}),
-        "1-other.csv": message_of(1, [product_of("R1", "2.00", None)]),
+        "1-other.csv": message_of(1, [product_of("R1", "2.00", None)]).encode(),
         "1-other.xml": feed_of(1, {"R1": "3.00"}),
     }.items():
         inbox.send(name, data)
@@ -327,8 +327,9 @@ def refused(room: Room) -> Iterator[Outcome]:
     inbox.work(lambda each: decide.decide(each, "refuse", each.ledger.files("1")[0].mark))
     inbox.send("1-other.xml", feed_of(1, {"R1": "2.00"}))
     inbox.run()
-    found = inbox.states(), inbox.work(lambda each: each.ledger.row(1).state)
-    yield Outcome("a text without an answer", found, ({"1.xml": "rejected", "1-other.xml": "refused"}, "posted"))
+    state = inbox.work(lambda each: each.ledger.value("SELECT state FROM message WHERE number = 1"))
+    wanted = {"1.xml": "rejected", "1-other.xml": "refused"}
+    yield Outcome("a text without an answer", (inbox.states(), state), (wanted, "posted"))
 
 
 def halves(room: Room) -> Iterator[Outcome]:
@@ -389,7 +390,7 @@ def endings(room: Room) -> Iterator[Outcome]:
     inbox.send("a.xml", feed_of(1, {"R1": "1.00"}))
     inbox.run()
     yield Outcome("by its new ending", inbox.states(), {"a.xml": "applied"})
-    yield Outcome("the old one is gone", len(os.listdirinbox.store), 1)
+    yield Outcome("the old one is gone", len(os.listdir(inbox.store)), 1)
 
 
 def left(room: Room) -> Iterator[Outcome]:

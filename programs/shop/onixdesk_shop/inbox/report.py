@@ -1,6 +1,6 @@
 """How an inbox stands, for whoever asks."""
 
-import tomllib
+import re
 from collections.abc import Iterator
 
 from onixdesk_shop.desk import Gaps, NoDesk
@@ -59,7 +59,7 @@ def of_the_week(inbox: Inbox) -> Iterator[str]:
 
 def not_alike(inbox: Inbox, gaps: Gaps | None) -> Iterator[str]:
     """What the agreement, desk.json or the terms have otherwise than the settings. Of an agreement that is there the desk
-    only says whether it is the same."""
+    only says whether it is the same. The table of terms may be a wrong one."""
     settings, shop = inbox.settings, inbox.shop
     if gaps:
         agreement = inbox.ledger.agreement(inbox.series, settings.sender, gaps.first)
@@ -69,13 +69,13 @@ def not_alike(inbox: Inbox, gaps: Gaps | None) -> Iterator[str]:
         if (gaps.first - 1) % settings.parts:
             yield f"no feed of {settings.parts} parts begins with the agreed first number, {gaps.first}"
     if shop:
-        given = next((each for each in shop.given.get("series", []) if each["name"] == inbox.series), {})
-        page = {"name": "none", "parts": 1, "number_offset": 0} | given
-        own = {"name": inbox.series, "parts": settings.parts, "number_offset": settings.offset}
+        of_page = (each for each in shop.given.get("series", []) if each["name"] == inbox.series)
+        page = {"name": "none", "parts": 1, "number_offset": 0} | next(of_page, {})
+        own = {"name": inbox.series, "parts": settings.parts, "number_offset": settings.given("--number-offset", 0)}
         yield from (f"desk.json: {key} is {page[key]}, not {value}" for key, value in own.items() if page[key] != value)
-        table = tomllib.loads((inbox.terms or b"").decode("utf-8-sig"))
-        nets = {term["net"] for term in table.get("term", [])} - {shop.price_type}
-        yield from (f"desk.json: price_type is {shop.price_type}, not {net} as in TERMS" for net in sorted(nets))
+        nets = re.findall(rb'(?m)^[^#\n]*\bnet\s*=\s*"([0-9]{2})"', inbox.terms or b"")
+        for net in sorted({net.decode() for net in nets} - {shop.price_type}):
+            yield f"desk.json: price_type is {shop.price_type}, not {net} as in TERMS"
 
 
 def not_named(inbox: Inbox) -> Iterator[str]:

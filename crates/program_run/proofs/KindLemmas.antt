@@ -3,7 +3,7 @@ use Rattle.std.specs.Prelude.{ℕ, List, Option}
 use Rattle.std.specs.Borrow.{Bor}
 use Rattle.std.proofs.Common.{inl, inr}
 use Rattle.price_rules.specs.declared.precedence.Rule.{Rule}
-use Rattle.series_rules.specs.Steps.{Step}
+use Rattle.series_rules.specs.Steps.{Leads, Step}
 use Rattle.series_rules.specs.Views.{DeskKind, View}
 use Rattle.program_files.specs.Holdings.{Holdings}
 use Rattle.program_desks.specs.DeskFiles.{DeskFiles}
@@ -15,7 +15,7 @@ use Rattle.program_words.specs.declared.invocation.Action.TheVariants.{InMemory,
 use Rattle.program_words.specs.declared.invocation.Task.{Task}
 use Rattle.program_words.specs.declared.invocation.Task.TheVariants as task
 use Rattle.program_run.specs.Kinds.{ActionEnds, AsksGaps, BatchRun, Batches, CheckRun, Checks, ConvertRun, Converts, DeliverRun, Delivers, GapsRun, ListRun, Lists, MigrateRun, Migrates, RunEnds, RunsTask, SendRun, Sends, ServeRun, Serves, Written}
-use Rattle.program_run.specs.OverFiles.{EndsOverFiles}
+use Rattle.program_run.specs.OverFiles.{EndsOverFiles, creation_by}
 use Rattle.program_run.specs.TaskEnds.{TaskEnds}
 use Rattle.program_run.specs.declared.machine.Machine.{Machine}
 
@@ -37,8 +37,10 @@ module _ {M : Type 0} {m : DeskKind} (seen : M → View m) {K : Type 0} {k : Des
 
   task_as : (ends : Task → (List Step → Type 0) → ℕ → Type 0) → ((task : Task) (asked : List Step → Type 0) (own : ℕ) → Tasks task asked own → ends task asked own)
       → (rules : List Rule) (action : Action) → RunsTask seen files holds lacks_folder contents remaining databases old new result Tasks rules action → RunsTask seen files holds lacks_folder contents remaining databases old new result ends rules action
-  task_as ends f rules (InMemory task) (untouched, first, last, is_new, sound, ended) = (untouched, first, last, is_new, sound, f task _ _ ended)
-  task_as ends f rules (InFile db task) (stay, ended) = (stay, over_as files databases _ _ _ _ _ (λ first last own is. f task _ own is) result.0 result.1 ended)
+  task_as ends f rules (InMemory task) (untouched, first, last, is_new, sound, ended) = (untouched, first, last, is_new, sound, f task (λ steps. Leads rules steps (seen first) (seen last)) result.0 ended)
+  task_as ends f rules (InFile db task) (stay, ended) =
+      (stay, over_as files databases db.name.now (creation_by db.is_existing) (Written seen files holds lacks_folder contents remaining databases old new result) (λ first last. Tasks task (λ steps. Leads rules steps first last))
+      (λ first last. ends task (λ steps. Leads rules steps first last)) (λ first last own is. f task (λ steps. Leads rules steps first last) own is) result.0 result.1 ended)
   task_as ends f rules other ended = tt
 
   run_as : (words : List (Bor (List ℕ))) (ends : List Rule → Action → Type 0) → ((rules : List Rule) (action : Action) → Ended rules action → ends rules action) → RunEnds seen files holds lacks_folder contents remaining databases old new result words Ended → RunEnds seen files holds lacks_folder contents remaining databases old new result words ends

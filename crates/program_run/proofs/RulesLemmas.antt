@@ -3,7 +3,7 @@ use Rattle.std.proofs.Common.{◌≡◌, ℕ, List, Option, Some, Result, subst,
 use Rattle.std.specs.Borrow.{Bor}
 use Rattle.price_rules.specs.declared.precedence.Rule.{Rule}
 use Rattle.program_files.specs.Holdings.{Holdings}
-use Rattle.program_run.specs.TaskEnds.{ReadsRules}
+use Rattle.program_run.specs.Unread.{ReadsRules}
 use Rattle.program_rules.specs.RulesFile.{ReadsTable}
 use Rattle.program_rules.specs.declared.rules.RulesFault.{RulesFault}
 

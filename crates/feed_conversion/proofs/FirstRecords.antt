@@ -18,7 +18,7 @@ use Rattle.onix_records.specs.declared.row.Opening.{Opening}
 use Rattle.onix_records.specs.declared.row.Row.{Row}
 use Rattle.feed_mapping.specs.Header.{Heading}
 use Rattle.feed_conversion.specs.Conversion.{first_record}
-use Rattle.feed_conversion.specs.Messages.{end_record, fits, message_text}
+use Rattle.feed_conversion.specs.Messages.{closing_record, fits, message_text}
 use Rattle.feed_conversion.proofs.TextLaws.{text_first}
 
 -- ---- how large a record is
@@ -74,7 +74,7 @@ clean_opening name fields o says = go (list_all is_clean (name ∷ fields)) refl
     go true e = e
     go false e = let no = rw e at says in absurd cc
 
-end_size : length (records_text (end_record 1 ∷ [])) ≤ 4102
+end_size : length (records_text (closing_record 1 ∷ [])) ≤ 4102
 unfolding digits
 end_size = row_size (codes "EndMessage") (decimal 1) [] refl
 
@@ -84,7 +84,7 @@ empty_fits h header before o says =
     let first = first_record h header before in
     let all = clean_opening (codes "Message") _ o says in
     let one : length (records_text (first ∷ [])) ≤ 22561 = row_size (codes "Message") (codes "2") _ all in
-    let texts = ap length (text_first first (end_record 1 ∷ [])) ∙ length-append (records_text (first ∷ [])) (records_text (end_record 1 ∷ [])) in
+    let texts = ap length (text_first first (closing_record 1 ∷ [])) ∙ length-append (records_text (first ∷ [])) (records_text (closing_record 1 ∷ [])) in
     let size : length (message_text first []) ≤ limit = omega (arith, one, texts, end_size) in
     le-leb (length (message_text first [])) limit size
 

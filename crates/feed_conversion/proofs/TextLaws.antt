@@ -4,7 +4,7 @@ use Rattle.std.specs.Prelude.{◌&&◌, nat_le}
 use Rattle.std.proofs.lemmas.Grind.{flat_map-append}
 use Rattle.csv_records.specs.RecordTexts.{limit, records_text}
 use Rattle.onix_records.specs.Grammar.{most_records}
-use Rattle.feed_conversion.specs.Messages.{end_record, fits, message, message_text}
+use Rattle.feed_conversion.specs.Messages.{closing_record, fits, message, message_text}
 use Rattle.feed_conversion.specs.private.Stages.{end_text, has_room}
 
 pub text_append : (xs ys : List (List (List ℕ))) → records_text (xs ++ ys) ≡ records_text xs ++ records_text ys
@@ -17,7 +17,7 @@ text_first first records = text_append (first ∷ []) records
 
 -- a part with its end is the message
 pub closed : (first : List (List ℕ)) (records : List (List (List ℕ))) → records_text (first ∷ records) ++ end_text (1 + length records) ≡ message_text first records
-closed first records = sym (text_append (first ∷ records) (end_record (1 + length records) ∷ []))
+closed first records = sym (text_append (first ∷ records) (closing_record (1 + length records) ∷ []))
 
 -- more records at the end
 pub grown : (first : List (List ℕ)) (begun records : List (List (List ℕ))) → records_text (first ∷ (begun ++ records)) ≡ records_text (first ∷ begun) ++ records_text records
@@ -37,7 +37,7 @@ size_is first begun records =
 
 count_is : (first : List (List ℕ)) (begun records : List (List (List ℕ))) → length (message first (begun ++ records)) ≡ 1 + length begun + length records + 1
 count_is first begun records =
-    omega (arith, length-append begun records, length-append (begun ++ records) (end_record (1 + length (begun ++ records)) ∷ []))
+    omega (arith, length-append begun records, length-append (begun ++ records) (closing_record (1 + length (begun ++ records)) ∷ []))
 
 -- a part has room for records exactly where it is a message within bounds with them
 pub room : (first : List (List ℕ)) (begun records : List (List (List ℕ)))

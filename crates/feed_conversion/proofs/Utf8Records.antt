@@ -17,7 +17,7 @@ use Rattle.feed_mapping.specs.declared.header.HeaderRefusal.TheVariants as denie
 use Rattle.feed_mapping.proofs.PartLaws.{number-within}
 use Rattle.feed_mapping.proofs.PriceRows.{cond-then}
 use Rattle.feed_conversion.specs.Conversion.{first_record}
-use Rattle.feed_conversion.specs.Messages.{end_record, message}
+use Rattle.feed_conversion.specs.Messages.{closing_record, message}
 use Rattle.feed_conversion.proofs.PartLaws.{value}
 use Rattle.feed_conversion.proofs.Utf8Texts.{are_utf8, ascii_utf8, joined_utf8}
 
@@ -68,12 +68,12 @@ first_utf8 c header h e before less =
     subst (λ (k : Heading). list_all is_utf8 (first_record k header before) ≡ true) (ap (value h) o.2)
     (named (codes "Message") (message_fields s.0 a.0 (decimal (n.0 + before)) header) (ascii_utf8 (codes "Message") refl) now)
 
-end_utf8 : (n : ℕ) → n < 1000000000 → list_all is_utf8 (end_record n) ≡ true
+end_utf8 : (n : ℕ) → n < 1000000000 → list_all is_utf8 (closing_record n) ≡ true
 end_utf8 n small = named (codes "EndMessage") (decimal n ∷ []) (ascii_utf8 (codes "EndMessage") refl) (and_from (is_utf8 (decimal n)) true (number_utf8 n small) refl)
 
 -- a message of such records
 pub message_utf8 : (first : List (List ℕ)) (records : List (List (List ℕ))) → list_all is_utf8 first ≡ true → are_utf8 records ≡ true → length (message first records) ≤ most_records → are_utf8 (message first records) ≡ true
 message_utf8 first records one some few =
-    let size = length-append records (end_record (1 + length records) ∷ []) in
+    let size = length-append records (closing_record (1 + length records) ∷ []) in
     let end = end_utf8 (1 + length records) (omega (arith, few, size)) in
-    first_one first (records ++ end_record (1 + length records) ∷ []) one (joined_utf8 records (end_record (1 + length records) ∷ []) some (first_one (end_record (1 + length records)) [] end refl))
+    first_one first (records ++ closing_record (1 + length records) ∷ []) one (joined_utf8 records (closing_record (1 + length records) ∷ []) some (first_one (closing_record (1 + length records)) [] end refl))

@@ -6,13 +6,13 @@ use Rattle.onix_records.specs.Grammar.{most_records}
 use Rattle.feed_mapping.specs.Records.{Fields, Records}
 
 -- the record that ends a message, behind so many
-abbrev pub end_record : ℕ → Fields
-end_record before = codes "EndMessage" ∷ decimal before ∷ []
+abbrev pub closing_record : ℕ → Fields
+closing_record before = codes "EndMessage" ∷ decimal before ∷ []
 
 module _ (first : Fields) (records : Records) where
   -- the records of a message: its first one, those of its products, and the one that ends it
   abbrev pub message : Records
-  message = first ∷ (records ++ (end_record (1 + length records) ∷ []))
+  message = first ∷ (records ++ (closing_record (1 + length records) ∷ []))
 
   -- the text of a message
   abbrev pub message_text : List ℕ

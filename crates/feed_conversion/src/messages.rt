@@ -3,7 +3,7 @@
 ghost use Rattle.std.specs.Prelude.{◌≡◌, ◌∷◌, [], IfOk};
 ghost use Rattle.std.specs.String.{string_bytes};
 ghost use Rattle.csv_records.specs.RecordTexts.{records_text};
-ghost use Rattle.feed_conversion.specs.Messages.{end_record};
+ghost use Rattle.feed_conversion.specs.Messages.{closing_record};
 
 use csv_records::buffer::RecordBuffer;
 use csv_records::fields::FieldBuffer;
@@ -22,7 +22,7 @@ pub(crate) fn record_text(alloc: Global, fields: &FieldBuffer) -> Result<String,
 
 /// The text of the record that ends a message, behind so many.
 pub(crate) fn end_text(alloc: Global, before: usize) -> Result<String, AllocError>
-    ensures { IfOk result (λ text. string_bytes text ≡ records_text (end_record before ∷ [])) }
+    ensures { IfOk result (λ text. string_bytes text ≡ records_text (closing_record before ∷ [])) }
 {
     let mut buffer = Buffer::new();
     let mut fields = FieldBuffer::new(alloc);

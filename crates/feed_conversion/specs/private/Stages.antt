@@ -21,7 +21,7 @@ use Rattle.feed_mapping.specs.declared.header.HeaderRefusal.{HeaderRefusal}
 use Rattle.feed_mapping.specs.declared.notes.Wrong.TheVariants.{TooLarge}
 use Rattle.feed_conversion.specs.Conversion.{Options, header_refused, supply_choices}
 use Rattle.feed_conversion.specs.Keeping.{Keeping}
-use Rattle.feed_conversion.specs.Messages.{end_record}
+use Rattle.feed_conversion.specs.Messages.{closing_record}
 use Rattle.feed_conversion.specs.Packing.{beyond_at, product_notes}
 use Rattle.feed_conversion.specs.Tallies.{counted, no_tally, place_of, refused_for, tallied}
 use Rattle.feed_conversion.specs.Tallies.{with_suppliers}
@@ -88,7 +88,7 @@ numbered b before = b.front ++ (decimal (b.number + before) ∷ b.back)
 
 -- the text of the record that ends a message, behind so many
 abbrev pub end_text : ℕ → List ℕ
-end_text before = records_text (end_record before ∷ [])
+end_text before = records_text (closing_record before ∷ [])
 
 -- the text with which the part behind so many begins
 abbrev pub first_text : OpenParts → ℕ → List ℕ

@@ -46,7 +46,7 @@ supply-has o choices nodes e = go (details_in choices nodes) refl (outcome_reaso
     none false a d = let no' = rw (d, a) at e in absurd cc
     none true a d = record { own = []; markets = []; records = rw (d, a) refl; notes = rw (d, a) refl }
 
-    go : (ds : List Composite) → details_in choices nodes ≡ ds → (kind : Option Reason) → outcome_reason (supply_markets nodes) ≡ kind → (rs : List (List (List ℕ))) → all_records (detail_in o choices) (details_in choices nodes) ≡ rs
+    go : (ds : List Composite) → details_in choices nodes ≡ ds → (kind : Option Reason) → outcome_reason (supply_markets nodes) ≡ kind → (rs : List (List (List ℕ))) → all_records (detail_in o choices) ds ≡ rs
         → HasDetails o choices nodes
     go [] d kind m rs r = none (is_some (first (each_at "SupplyDetail" nodes))) refl d
     go (x ∷ ds) d (Some reason) m rs r = let no' = rw (d, m) at e in absurd cc

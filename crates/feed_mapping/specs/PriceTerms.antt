@@ -148,11 +148,11 @@ module _ (context : PriceContext) where
 -- what the terms see of the Prices of a SupplyDetail fits these records, and whether each is
 -- written
 pub record AreWritten (context : PriceContext) (prices : List Composite) (kept : Records)
-    (seen : List GivenPrice) (flags : List Bool) (closed : List Kind) : Type 0 where
+    (seen : List GivenPrice) (flags : List Bool) (kinds : List Kind) : Type 0 where
   pub records : kept ≡ all_records (outcome_in context) prices
   pub given : seen ≡ all_given context prices
   pub are_written : flags ≡ map (is_seen context) prices
-  pub closed : closed ≡ closed_kinds context prices
+  pub closed : kinds ≡ closed_kinds context prices
 
 -- a supplier as a term has it, by an identifier that is there and UTF-8
 abbrev pub supplier_of : Pair → Option (List ℕ)

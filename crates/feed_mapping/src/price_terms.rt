@@ -10,7 +10,7 @@ ghost use Rattle.feed_mapping.specs.Notes.{foreign, note, note_views};
 ghost use Rattle.feed_mapping.specs.Outcomes.{all_notes, outcome_notes, outcome_records};
 ghost use Rattle.feed_mapping.specs.PartyViews.{pair_view};
 ghost use Rattle.feed_mapping.specs.Prices.{PriceContext as Seen, context_view};
-ghost use Rattle.feed_mapping.specs.PriceTerms.{AreWritten, all_given, area_text, closed_by, code_in, discount_in, elements_in, given_in, given_of, is_garbled, is_mixed, is_of_terms, is_seen, kind_in, kinds_closed, outcome_in, rate_in, records_with, all_remark_notes, remark_notes, supplier_of, tax_in, terms_notes};
+ghost use Rattle.feed_mapping.specs.PriceTerms.{AreWritten, all_given, area_text, closed_by, code_in, discount_in, elements_in, given_in, given_of, is_garbled, is_mixed, is_of_terms, is_seen, kinds_closed, outcome_in, rate_in, records_with, all_remark_notes, remark_notes, supplier_of, tax_in, terms_notes};
 ghost use Rattle.feed_mapping.specs.declared.notes.Foreign.TheVariants as other;
 
 use crate::again::comes_again;
@@ -225,27 +225,8 @@ fn given_of(
     })
 }
 
-// The type and the currency of a Price, or those of the header, each where it is one.
-fn kind_in(opening: &Opening, elements: &Elements<'_>) -> Kind
-    ensures { result ≡ kind_in opening.now elements.now }
-{
-    let price_type = text_or_empty(b"PriceType", elements);
-    let currency = text_or_empty(b"CurrencyCode", elements);
-    Kind {
-        price_type: value_or_default(
-            opening.header.default_type,
-            price_type,
-            parsed_code(price_type),
-        ),
-        currency: value_or_default(
-            opening.header.default_currency,
-            currency,
-            parsed_currency(currency),
-        ),
-    }
-}
-
-// Adds the type and the currency of a Price that gives no record, unless it is for others.
+// Adds the type and the currency of a Price that gives no record, or those of the header, each where
+// it is one, unless it is for others.
 fn push_closed(
     opening: &Opening,
     elements: &Elements<'_>,
@@ -257,7 +238,20 @@ fn push_closed(
     if is_for_others(elements) {
         return Ok(());
     }
-    closed.push(kind_in(opening, elements))?;
+    let price_type = text_or_empty(b"PriceType", elements);
+    let currency = text_or_empty(b"CurrencyCode", elements);
+    closed.push(Kind {
+        price_type: value_or_default(
+            opening.header.default_type,
+            price_type,
+            parsed_code(price_type),
+        ),
+        currency: value_or_default(
+            opening.header.default_currency,
+            currency,
+            parsed_currency(currency),
+        ),
+    })?;
     Ok(())
 }
 

@@ -24,7 +24,7 @@ add_with_terms-requires c =
     (have-prices (context_view c.args.context.now) (composites (codes "Price") c.args.elements.now) c.in_ok-written.written.records c.in_ok-written.written.given.items
     c.in_ok-written.written.are_written.items c.in_ok-written.written.closed.items c.in_ok-written.ensures.written)
 
-records-of : (c : goal.After-drop-written-6)
+records-of : (c : goal.After-drop-written-7)
     → c.add_with_terms.new.output ≡ c.args.records.now ++ records_with c.args.terms.now (option_copied c.args.supplier) (context_view c.args.context.now) (composites (codes "Price") c.args.elements.now)
 records-of c =
     let terms = c.args.terms.now in
@@ -37,7 +37,7 @@ records-of c =
     (records-are terms supplier (context_view c.args.context.now) (composites (codes "Price") c.args.elements.now) records c.in_ok-written.written.given.items
     c.in_ok-written.written.are_written.items c.in_ok-written.written.closed.items c.in_ok-written.ensures.written)
 
-remarks-of : (c : goal.After-drop-written-6) → c.as_slice-4.result.now
+remarks-of : (c : goal.After-drop-written-7) → c.as_slice-4.result.now
     ≡ map (remarks_of c.args.terms.now (option_copied c.args.supplier) (is_held_back c.args.terms.now (option_copied c.args.supplier) c.in_ok-written.written.given.items c.in_ok-written.written.closed.items)) c.in_ok-written.written.given.items
 remarks-of c =
     let terms = c.args.terms.now in
@@ -47,7 +47,7 @@ remarks-of c =
     ∙ ap (λ (k : List Kind). map (remarks_of terms supplier (is_held_back terms supplier given k)) given) c.as_slice.ensures.value
     ∙ ap (λ (g : List GivenPrice). map (remarks_of terms supplier (is_held_back terms supplier g c.in_ok-written.written.closed.items)) g) c.as_slice-2.ensures.value
 
-noted : (c : goal.After-drop-written-6) → OnOk c.push_all_remarks.result
+noted : (c : goal.After-drop-written-7) → OnOk c.push_all_remarks.result
     (note_views c.push_all_remarks.new.notes.items ≡ note_views c.written_in.new.notes.items
     ++ all_remark_notes (flat_map (elements_in (context_view c.args.context.now)) (composites (codes "Price") c.args.elements.now)) c.as_slice-4.result.now)
 noted c =

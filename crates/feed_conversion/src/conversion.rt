@@ -162,8 +162,8 @@ fn convert_by<R: Read, T: Target + Drop, W: Words + Drop>(
 ) -> Outcome<T>
     ensures { (o : Chosen) (parts : T.Parts) (notes : T.Notes)
         → vocabulary_by o.terms ≡ W.words → converter.entry ≡ first_state o parts notes
-        → Comes T.keeping (R.remaining reader.old) o (taken parts notes (counted no_tally)) result.ended
-        (T.parts result.target) (T.notes result.target) }
+        → Comes T.keeping (R.remaining reader.old) o (taken parts notes (counted no_tally))
+        result.ended (T.parts result.target) (T.notes result.target) }
 {
     outlines_tell();
     let words: PhantomData<W> = PhantomData;

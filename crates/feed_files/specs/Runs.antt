@@ -39,7 +39,8 @@ IsUnusable lacks_folder a = (folder : List ℕ) × (a.folder ≡ Some folder) ×
 
 -- Lacks folder: no folder has the name
 module _ (a : Asking) (told : Option (List ℕ)) (before after : Holdings)
-    (lacks_folder : List ℕ → Type 0) (names : List (List ℕ)) (such : List FileEnd → Type 0) (status : ℕ) where
+    (lacks_folder : List ℕ → Type 0) (names : List (List ℕ)) (such : List FileEnd → Type 0)
+    (status : ℕ) where
   -- FILEs of these names end with this status, such that this holds of how they do
   abbrev pub AllEnd : Type 0
   AllEnd =

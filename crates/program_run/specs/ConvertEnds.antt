@@ -7,8 +7,8 @@ use Rattle.feed_terms.specs.declared.term.Term.{Term}
 use Rattle.program_rules.specs.TermsRead.{IsUnreadTable, ReadsTerms}
 use Rattle.program_words.specs.ConvertWords.{Asked}
 
--- Before, after: what names hold. Lacks folder: no folder has the name. Told: what the input tells of
--- its bytes. Written: these bytes were written
+-- Before, after: what names hold. Lacks folder: no folder has the name. Told: what the input tells
+-- of its bytes. Written: these bytes were written
 module _ (before after : Holdings) (lacks_folder : List ℕ → Type 0) (told : Option (List ℕ))
     (written : List ℕ → Type 0) (asked : Asked) where
   -- how `convert` can end with this status by these terms or by none: as a run over its FILEs

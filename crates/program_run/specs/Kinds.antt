@@ -32,9 +32,9 @@ use Rattle.program_run.specs.Unread.{IsUnread, ReadsRules}
 use Rattle.program_run.specs.declared.machine.Machine.{Machine}
 
 -- Seen: what is seen of a desk in memory. Files: what is seen of the files that `databases` opens.
--- Holds, lacks folder: what names hold, and that no folder has the name. Contents: what was written.
--- Remaining: what the input tells of its bytes. Old, new: before the run and behind it. Result: the
--- exit status, and what is left of the files of a desk
+-- Holds, lacks folder: what names hold, and that no folder has the name. Contents: what was
+-- written. Remaining: what the input tells of its bytes. Old, new: before the run and behind it.
+-- Result: the exit status, and what is left of the files of a desk
 module _ {M : Type 0} {m : DeskKind} (seen : M → View m) {K : Type 0} {k : DeskKind}
     {C U N : Type 0} (files : DeskFiles K k C U N) {O P F R W E : Type 0} (holds : F → Holdings)
     (lacks_folder : F → List ℕ → Type 0) (contents : W → Option (List ℕ))
@@ -72,7 +72,8 @@ module _ {M : Type 0} {m : DeskKind} (seen : M → View m) {K : Type 0} {k : Des
   -- ---- actions
 
   -- A command over a desk: a new one in memory, which has seen no request, or the one in a file.
-  -- What it asked (`asked`) led from the desk as it was to the desk as it is. Ends: how a task ended
+  -- What it asked (`asked`) led from the desk as it was to the desk as it is. Ends: how a task
+  -- ended
   abbrev pub RunsTask : (Task → (List Step → Type 0) → ℕ → Type 0) → List Rule → Action → Type 0
   RunsTask ends rules (InMemory task) =
       NoFileIsTouched

@@ -13,7 +13,8 @@ use Rattle.feed_conversion.specs.declared.tally.Counted.{Counted}
 use Rattle.feed_conversion.specs.private.Stages.{Taken, taken}
 
 -- how it ended at the end of the message, by what comes of it
-abbrev pub Ends : {P N : Type 0} → Result Counted Fault → P → N → Result (Taken P N) Refusal → Type 0
+abbrev pub Ends : {P N : Type 0} → Result Counted Fault → P → N
+    → Result (Taken P N) Refusal → Type 0
 Ends (Ok told) parts notes comes = comes ≡ Ok (taken parts notes told)
 Ends (Err (fault.Refused refusal)) parts notes comes = comes ≡ Err refusal
 Ends (Err fault.Memory) parts notes comes = Unit {0}

@@ -8,7 +8,7 @@ from tests.program.room import UNREADABLE, Ran, Room
 from tests.program.written_cases import TESTS, Written, read_file, repeated, unescaped
 from tests.running import Outcome
 
-TERM = b'[[term]]\ntypes = ["02"]\nnet = "05"\npercent = "42.5"\n'
+TERM = b'[[term]]\ntypes = ["01"]\nnet = "05"\npercent = "42.5"\n'
 
 
 # The types of prices that include tax.

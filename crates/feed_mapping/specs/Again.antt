@@ -27,10 +27,11 @@ is_read_apart name =
 abbrev pub is_composite : List ℕ → Bool
 is_composite name =
     list_any (bytes_eq name)
-    (codes "Territory" ∷ codes "PriceCoded" ∷ codes "EpubLicense" ∷ codes "EpubLicenseWithDate" ∷ [])
+    (codes "Territory" ∷ codes "PriceCoded" ∷ codes "EpubLicense" ∷ codes "EpubLicenseWithDate"
+    ∷ [])
 
--- whether an element of this name and text comes again among these: a composite, empty or not; and of
--- one of text, which has a text, another with one
+-- whether an element of this name and text comes again among these: a composite, empty or not; and
+-- of one of text, which has a text, another with one
 abbrev pub comes_again : List ℕ → List ℕ → Nodes → Bool
 comes_again name text rest =
     if is_composite name then is_some (first (composites name rest))

@@ -20,8 +20,8 @@ use Rattle.feed_mapping.specs.declared.header.HeaderRefusal.TheVariants as why
 
 -- What the caller chooses: in how many parts the message is written, a number in place of the
 -- Header's or what is added to that one, the sender of a Header that names none, which of several
--- addressees is meant, the supplier whose SupplyDetails alone count, if one is named, and the type of
--- identifier that is preferred.
+-- addressees is meant, the supplier whose SupplyDetails alone count, if one is named, and the type
+-- of identifier that is preferred.
 pub record Choices : Type 0 where
   pub parts : ℕ
   pub number : Option ℕ

@@ -54,7 +54,8 @@ is_garbled (node n tag text below rest) =
 abbrev pub code_in : Composite → Option SaidCode
 code_in c =
     if is_utf8 (text_at "DiscountCodeType" c.below)
-    && (is_utf8 (text_at "DiscountCodeTypeName" c.below) && is_utf8 (text_at "DiscountCode" c.below))
+    && (is_utf8 (text_at "DiscountCodeTypeName" c.below)
+    && is_utf8 (text_at "DiscountCode" c.below))
     then code_said (text_at "DiscountCodeType" c.below) (text_at "DiscountCodeTypeName" c.below)
     (text_at "DiscountCode" c.below)
     else None

@@ -159,7 +159,8 @@ module _ (nodes : Nodes) where
 
   -- whether it is for those who have a licence
   abbrev pub is_licensed : Bool
-  is_licensed = is_some (mark_in nodes "EpubLicense") || is_some (mark_in nodes "EpubLicenseWithDate")
+  is_licensed =
+      is_some (mark_in nodes "EpubLicense") || is_some (mark_in nodes "EpubLicenseWithDate")
 
   -- whether it is one of these, or of 0
   abbrev pub is_for_others : Bool

@@ -62,7 +62,8 @@ module _ (supplier : Option Pair) (nodes : Nodes) where
   -- the NotificationType of one that stands: of one of other suppliers alone it is such that the
   -- desk drops the supplies that it has
   abbrev pub notification_written : List ℕ
-  notification_written = if is_alone then dropping (notification_in nodes) else notification_in nodes
+  notification_written =
+      if is_alone then dropping (notification_in nodes) else notification_in nodes
 
 -- whether it is emptied for such a reason or stands
 abbrev pub fate_by : Option Reason → Fate

@@ -1,5 +1,5 @@
--- Which strangers below a Product count: elements that are called as one that counts where they stand,
--- and do not count.
+-- Which strangers below a Product count: elements that are called as one that counts where they
+-- stand, and do not count.
 use Rattle.std.specs.Prelude.{ℕ, Bool, false, ◌&&◌, ◌||◌, List, Option, if◌then◌else◌, codes}
 use Rattle.std.specs.Str.{bytes_eq}
 use Rattle.feed_outline.specs.Composites.{has_stranger}

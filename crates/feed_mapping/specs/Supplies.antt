@@ -46,7 +46,8 @@ module _ (o : Opening) (choices : SupplyChoices) where
   abbrev pub supply_reasons : Nodes → Reasons
   supply_reasons nodes =
       outcome_reason (supply_markets nodes)
-      ∷ if_empty (all_records detail_in (details_in choices nodes)) (Some (wrong bad.NoDetailLeft [])) ∷ []
+      ∷ if_empty (all_records detail_in (details_in choices nodes))
+      (Some (wrong bad.NoDetailLeft [])) ∷ []
 
   -- what it comes to: the record of its Markets and those of its SupplyDetails
   abbrev pub detailed_outcome : Nodes → Outcome

@@ -92,6 +92,10 @@ impl<O: Databases> KeepsDesks<DeskStore<FileStore<O::File>>> for StoredDesks<O> 
             Err((fault, left)) => Err((fault_of(&places, name, fault), Unopened::Left(left))),
         }
     }
+
+    fn hold_one_content() {
+        rows_have_one_content();
+    }
 }
 
 /// What the files mean, as a law without code: there is a relation of files to lists of requests, by

@@ -1,5 +1,6 @@
 -- What is seen of the files of desks that are opened by their names.
 use Rattle.std.specs.Prelude.{◌⊎◌, ℕ, List}
+use Rattle.series_rules.specs.Content.{SameContent}
 use Rattle.series_rules.specs.Views.{DeskKind, LeavesOnly, View}
 use Rattle.series_rules.specs.declared.requests.Request.{Request}
 use Rattle.program_desks.specs.declared.kept_desks.Creation.{Creation}
@@ -49,6 +50,13 @@ module _ {K : Type 0} {k : DeskKind} {C U N : Type 0} (files : DeskFiles K k C U
   -- closed files hold one thing, and all that a crash leaves of them holds that
   abbrev pub LastsAlone : C → Type 0
   LastsAlone closed = (files.closed closed).sound → (x : k.Left) × files.hold_alone closed x
+
+  -- lists of requests that the files of a name hold, which may be opened, come to the same
+  abbrev pub HoldOneContent : Type 0
+  HoldOneContent = (databases : K) (name : List ℕ) (creation : Creation)
+      → (files.found databases name creation).sound → (L M : List Request)
+      → (files.found databases name creation).stands_for L
+      → (files.found databases name creation).stands_for M → SameContent L M
 
   -- What the files of a name held was brought to the present version: they hold each list of
   -- requests that they held.

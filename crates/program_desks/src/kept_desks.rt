@@ -74,7 +74,7 @@ pub enum Migration {
 /// held, and closed files for each list that the desk stood for.
 pub trait KeepsDesks<D: ListedDesk> {
     ghost use Rattle.std.specs.Prelude.{IfErr, IfOk};
-    ghost use Rattle.program_desks.specs.DeskFiles.{DeskFiles, IsMigrated, LastsAlone, LeavesAs, OpensAs};
+    ghost use Rattle.program_desks.specs.DeskFiles.{DeskFiles, HoldOneContent, IsMigrated, LastsAlone, LeavesAs, OpensAs};
 
     /// Files that were closed.
     type Closed;
@@ -115,4 +115,8 @@ pub trait KeepsDesks<D: ListedDesk> {
         ensures ok { IfOk result (λ done. IsMigrated files self name.now creation
             done.0 done.1) }
         ensures err { IfErr result (λ e. files.unmigrated self name.now creation e.1) };
+
+    /// A law, without code: whatever lists of requests files are found to hold, the content is one.
+    fn hold_one_content()
+        ensures { HoldOneContent files };
 }

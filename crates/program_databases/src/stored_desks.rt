@@ -24,6 +24,9 @@ pub struct StoredDesks<O> {
 }
 
 impl<O: Databases> KeepsDesks<DeskStore<FileStore<O::File>>> for StoredDesks<O> {
+    ghost use Rattle.sqlite.specs.Files.{file_state};
+    ghost use Rattle.desk_rows.specs.Seen.{in_tables, seen_in};
+    ghost use Rattle.program_desks.specs.DeskFiles.{one_way};
     ghost use Rattle.program_databases.specs.FileViews.{stored_files};
 
     type Closed = Files<O::File>;
@@ -32,7 +35,11 @@ impl<O: Databases> KeepsDesks<DeskStore<FileStore<O::File>>> for StoredDesks<O> 
 
     type Unopened = Unopened<O, O::NotOpened, O::File>;
 
+    ghost kind = { in_tables };
+
     ghost files = { stored_files O.File.Disk (λ desks. O.held desks.databases) };
+
+    ghost seen = { λ desk. seen_in (file_state desk.tables.connection) };
 
     fn open<E: Write>(
         self,
@@ -96,6 +103,8 @@ impl<O: Databases> KeepsDesks<DeskStore<FileStore<O::File>>> for StoredDesks<O> 
     fn hold_one_content() {
         rows_have_one_content();
     }
+
+    ghost same = { one_way (λ desk. seen_in (file_state desk.tables.connection)) };
 }
 
 /// What the files mean, as a law without code: there is a relation of files to lists of requests, by

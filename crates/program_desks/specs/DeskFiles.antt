@@ -1,5 +1,6 @@
 -- What is seen of the files of desks that are opened by their names.
-use Rattle.std.specs.Prelude.{◌⊎◌, ℕ, List}
+use Rattle.std.specs.Prelude.{◌⊎◌, ◌↔◌, ℕ, List}
+use Rattle.onix_records.specs.declared.faults.StoreFault.{StoreFault}
 use Rattle.series_rules.specs.Content.{SameContent}
 use Rattle.series_rules.specs.Views.{DeskKind, LeavesOnly, View}
 use Rattle.series_rules.specs.declared.requests.Request.{Request}
@@ -45,6 +46,32 @@ pub record LeavesAs {k : DeskKind} (desk last : View k) : Type 0 where
   pub left : last.sound → ((x : k.Left) → last.may_leave x → desk.may_leave x)
       ⊎ ((L : List Request) → desk.stands_for L → LeavesOnly last L)
   pub holds : last.sound → (x : k.Left) → desk.holds x → last.holds x
+
+-- The same is seen of desks in two ways, of which the second tells what a crash may leave by more
+-- or other than the first does.
+pub record SeenAs {D : Type 0} {j k : DeskKind} (first : D → View j) (second : D → View k)
+    : Type 0 where
+  pub to : k.Left → j.Left
+  pub comes_to : (x : k.Left) (L : List Request) → j.comes_to (to x) L → k.comes_to x L
+  pub may_give : (f : StoreFault) → j.may_give f → k.may_give f
+  pub sound : (desk : D) → (first desk).sound ↔ (second desk).sound
+  pub stands : (desk : D) (L : List Request)
+      → (first desk).stands_for L ↔ (second desk).stands_for L
+  pub may_leave : (desk : D) (x : k.Left)
+      → (first desk).may_leave (to x) ↔ (second desk).may_leave x
+  pub holds : (desk : D) (x : k.Left) → (first desk).holds (to x) ↔ (second desk).holds x
+
+-- what is seen in one way
+pub one_way : {D : Type 0} {k : DeskKind} (seen : D → View k) → SeenAs seen seen
+one_way seen = record {
+  to = λ x. x;
+  comes_to = λ x L comes. comes;
+  may_give = λ f may. may;
+  sound = λ desk. (λ is. is, λ is. is);
+  stands = λ desk L. (λ is. is, λ is. is);
+  may_leave = λ desk x. (λ is. is, λ is. is);
+  holds = λ desk x. (λ is. is, λ is. is);
+}
 
 module _ {K : Type 0} {k : DeskKind} {C U N : Type 0} (files : DeskFiles K k C U N) where
   -- closed files hold one thing, and all that a crash leaves of them holds that

@@ -74,7 +74,8 @@ pub enum Migration {
 /// held, and closed files for each list that the desk stood for.
 pub trait KeepsDesks<D: ListedDesk> {
     ghost use Rattle.std.specs.Prelude.{IfErr, IfOk};
-    ghost use Rattle.program_desks.specs.DeskFiles.{DeskFiles, HoldOneContent, IsMigrated, LastsAlone, LeavesAs, OpensAs};
+    ghost use Rattle.series_rules.specs.Views.{DeskKind, View};
+    ghost use Rattle.program_desks.specs.DeskFiles.{DeskFiles, HoldOneContent, IsMigrated, LastsAlone, LeavesAs, OpensAs, SeenAs};
 
     /// Files that were closed.
     type Closed;
@@ -83,8 +84,14 @@ pub trait KeepsDesks<D: ListedDesk> {
     /// What is left where no desk was opened.
     type Unopened;
 
+    /// What a crash may leave of the files.
+    ghost kind: { DeskKind };
+
     /// What is seen of the files, before they are opened and as they are left.
-    ghost files: { DeskFiles Self D.kind Self.Closed Self.Unclosed Self.Unopened };
+    ghost files: { DeskFiles Self kind Self.Closed Self.Unclosed Self.Unopened };
+
+    /// What is seen of a desk that was opened.
+    ghost seen: { D → View kind };
 
     /// Opens the desk in the files of that name. A line on `errors` may say that large files are
     /// checked.
@@ -95,15 +102,15 @@ pub trait KeepsDesks<D: ListedDesk> {
         errors: &mut E,
     ) -> Result<D, (OpenFault, Self::Unopened)>
         ensures ok { IfOk result (λ desk.
-            OpensAs (files.found self name.now creation) (D.seen desk)) }
+            OpensAs (files.found self name.now creation) (seen desk)) }
         ensures err { IfErr result (λ e. files.spared self name.now creation e.1) };
 
     /// Closes the files of a desk. After a fault, which comes with what is left of them, a crash
     /// leaves what it could leave before.
     fn close_files(desk: D) -> Result<Self::Closed, (StoreFault, Self::Unclosed)>
-        ensures ok { IfOk result (λ closed. LeavesAs (D.seen desk) (files.closed closed)) }
+        ensures ok { IfOk result (λ closed. LeavesAs (seen desk) (files.closed closed)) }
         ensures alone { IfOk result (λ closed. LastsAlone files closed) }
-        ensures err { IfErr result (λ e. LeavesAs (D.seen desk) (files.unclosed e.1)) };
+        ensures err { IfErr result (λ e. LeavesAs (seen desk) (files.unclosed e.1)) };
 
     /// Brings the desk in the files of that name to the present version, and closes them.
     fn migrate<E: Write>(
@@ -119,4 +126,7 @@ pub trait KeepsDesks<D: ListedDesk> {
     /// A law, without code: whatever lists of requests files are found to hold, the content is one.
     fn hold_one_content()
         ensures { HoldOneContent files };
+
+    /// That is what is seen of it as a desk.
+    ghost same: { SeenAs D.seen seen };
 }

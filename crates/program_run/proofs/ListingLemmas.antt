@@ -4,7 +4,7 @@ use Rattle.series_rules.specs.Views.{DeskKind, LeavesOnly, View}
 use Rattle.series_rules.specs.declared.requests.Request.{Request}
 use Rattle.desk_export.specs.Asking.{IsAsked}
 use Rattle.program_words.specs.declared.invocation.Listing.{Listing}
-use Rattle.program_desks.specs.DeskFiles.{LeavesAs, OpensAs}
+use Rattle.program_desks.specs.DeskFiles.{LeavesAs, OpensAs, SeenAs}
 use Rattle.program_run.specs.ListingEnds.{ListingEnds}
 
 -- what only asked a desk only asked that from which it came and what came of it
@@ -32,6 +32,19 @@ module _ {k : DeskKind} (old first last new : View k) (IsSo : List Request → T
     left = λ L held sound. leaves.stands sound L (stood sound L held);
     stays = λ sound x. (λ held. leaves.holds sound x ((asked.stays (ended sound) x).0 (opens.holds (opened sound) x held)), λ may. left_before sound x may);
     so = λ L held sound. asked.so L (opens.stands (opened sound) L held) (ended sound);
+  }
+
+-- what only asked a desk did so however that is seen
+module _ {D : Type 0} (j k : DeskKind) (first : D → View j) (second : D → View k) (same : SeenAs first second) (old new : D) (IsSo : List Request → Type 0) where
+  pub asked_seen : IsAsked (first old) (first new) IsSo → IsAsked (second old) (second new) IsSo
+  asked_seen asked = record {
+    premise = λ sound. (same.sound old).0 (asked.premise ((same.sound new).1 sound));
+    left = λ L held sound. (same.stands new L).0 (asked.left L ((same.stands old L).1 held) ((same.sound new).1 sound));
+    stays = λ sound x. (
+      λ held. (same.holds new x).0 ((asked.stays ((same.sound new).1 sound) (same.to x)).0 ((same.holds old x).1 held)),
+      λ may. (same.may_leave old x).0 ((asked.stays ((same.sound new).1 sound) (same.to x)).1 ((same.may_leave new x).1 may)),
+    );
+    so = λ L held sound. asked.so L ((same.stands old L).1 held) ((same.sound new).1 sound);
   }
 
 -- a listing that ended over a desk ended so over its files

@@ -29,7 +29,7 @@ pub(crate) fn close_desk<D: ListedDesk, K: KeepsDesks<D>, E: Write>(
 ) -> (u8, FilesLeft<K, K::Unopened, K::Unclosed, K::Closed>)
     requires { status ≤ 3 }
     ensures status { result.0 ≤ 3 }
-    ensures end { Closes K.files (D.seen desk) status result.0 result.1 }
+    ensures end { Closes K.files (K.seen desk) status result.0 result.1 }
 {
     match K::close_files(desk) {
         Ok(files) => (status, FilesLeft::Closed(files)),

@@ -2,6 +2,7 @@ use Rattle.std.proofs.Common.{subst}
 use Rattle.std.proofs.KnownBytes.{Appends-nil}
 use Rattle.std.specs.Io.KnownBytes.{Appends}
 use Rattle.series_rules.proofs.StepLemmas.{traces_lead}
+use Rattle.program_desks.proofs.SeenLemmas.{leads_as}
 use Rattle.program_desks.specs.DeskFiles.{OpensAs}
 use Rattle.program_run.proofs.EndLemmas.{over_files, task_as, task_between}
 use Rattle.program_run.specs.TaskEnds.{TaskLeads}
@@ -12,7 +13,8 @@ use Rattle.program_run.proofs.program.run_in_file.Goals as goal
 pub returns-in-Ok-clause-end : goal.returns-in-Ok-clause-end
 returns-in-Ok-clause-end g c =
     let rules = c.args.precedence.now in
-    let seen = g.D.Desk.seen in
+    let theirs = g.D.Desk.seen in
+    let seen = g.K.KeepsDesks.seen in
     let first = c.in-Ok.desk in
     let last = c.run_task-status.new.desk in
     let written = Appends (g.W.Write.contents c.args.machine.now.streams.output) (g.W.Write.contents c.run_task-status.new.streams.output) in
@@ -24,8 +26,8 @@ returns-in-Ok-clause-end g c =
     let creation = creation_by c.args.db.now.is_existing in
     over_files files c.args.databases name creation written (TaskLeads rules written task holds told) (task_between rules written task holds told) (seen first) (seen last) c.run_task-status.result c.close_desk.result.0
     c.close_desk.result.1 (subst (λ by. OpensAs (files.found c.args.databases name by) (seen first)) c.creation_of.ensures c.in-Ok.ensures.ok) c.close_desk.ensures.end
-    (task_as (Asked seen rules first last) (λ steps. Leads rules steps (seen first) (seen last)) written
-    (λ steps trace. traces_lead seen rules steps first last trace) task holds told c.run_task-status.result c.run_task-status.ensures.end)
+    (task_as (Asked theirs rules first last) (λ steps. Leads rules steps (seen first) (seen last)) written
+    (λ steps trace. leads_as g.D.Desk.kind g.K.KeepsDesks.kind theirs seen g.met.K.KeepsDesks.same rules steps first last (traces_lead theirs rules steps first last trace)) task holds told c.run_task-status.result c.run_task-status.ensures.end)
 
 pub returns-in-Err-clause-end : goal.returns-in-Err-clause-end
 returns-in-Err-clause-end g c = (

@@ -56,11 +56,6 @@ fn is_repeatable(name: &[u8]) -> bool {
     REPEATABLE.iter().any(|repeatable| repeatable.len() == name.len() && *repeatable == name)
 }
 
-// A composite that does not repeat, but in a Price or a Market.
-fn is_composite(name: &[u8]) -> bool {
-    name == b"Sender".as_slice() || name == b"Supplier".as_slice()
-}
-
 // Whether all SupplyDetails of a ProductSupply, which has some, are of others than the supplier that
 // is named: it is as absent.
 fn is_supply_of_others(named: Option<Pair<'_>>, supply: &Elements<'_>) -> bool {
@@ -90,7 +85,7 @@ fn is_first(line: &Line, elements: &Elements<'_>) -> bool {
 // text, which has a text, another with one.
 fn comes_again(element: &Node<'_>) -> bool {
     let name = element.line.name;
-    if is_composite(name) {
+    if name == b"Sender".as_slice() || name == b"Supplier".as_slice() {
         first_composite(name, &element.rest).is_some()
     } else {
         !element.line.text.as_slice().is_empty() && text_in(name, &element.rest).is_some()
@@ -168,16 +163,13 @@ fn has_record(name: &str, written: &RecordBuffer) -> bool {
     false
 }
 
-// Whether a note speaks of the element of a line.
-fn is_noted_at(line: &Line, notes: &[Note<'_>]) -> bool {
-    notes.iter().any(|note| note.line.place == line.place)
-}
-
 // Whether a ProductSupply has no Market, and is written, as these notes have it.
 fn is_of_world(named: Option<Pair<'_>>, supply: &Composite<'_>, notes: &[Note<'_>]) -> bool {
     first_composite(b"Market", &supply.below).is_none()
         && !is_supply_of_others(named, &supply.below)
-        && !is_noted_at(supply.line, notes)
+        && !notes
+            .iter()
+            .any(|note| note.line.place == supply.line.place)
 }
 
 // Whether one of the ProductSupplys of a Product is such.
@@ -263,11 +255,6 @@ pub(crate) fn is_of_others(notes: &[Note<'_>]) -> bool {
     notes.iter().any(|note| note.reason.kind.is_of_others())
 }
 
-// Whether a note says that a Product is emptied.
-fn has_emptied(notes: &[Note<'_>]) -> bool {
-    notes.iter().any(|note| is_emptied(note.reason.kind))
-}
-
 impl ProductCounts {
     /// What is counted of a Product, of which these records are written, with these notes, where
     /// that supplier is named, or none.
@@ -281,7 +268,8 @@ impl ProductCounts {
         let is_deletion = is_deletion(below);
         let is_priced = !is_deletion && has_priced_supply(named, below);
         let is_supplied = has_record("ProductSupply", written);
-        let is_emptied = written.len() != 0 && has_emptied(notes);
+        let has_emptied = notes.iter().any(|note| is_emptied(note.reason.kind));
+        let is_emptied = written.len() != 0 && has_emptied;
         let stands = written.len() != 0 && !is_emptied && !is_deletion;
         ProductCounts {
             is_emptied,

@@ -1,6 +1,8 @@
 //! Prices that stand behind another of their SupplyDetail, alike and for the same countries, with
 //! another amount: the desk takes the least of them.
 
+ghost use Rattle.std.specs.Prelude.{◌≤◌, length};
+
 use csv_records::buffer::RecordBuffer;
 use csv_records::record::Record;
 use onix_terms::amount::Amount;
@@ -108,7 +110,9 @@ fn count_in(
     written: &RecordBuffer,
     start: usize,
     end: usize,
-) -> Result<u64, AllocError> {
+) -> Result<u64, AllocError>
+    requires { end ≤ length written.now }
+{
     if end < start.saturating_add(2) {
         return Ok(0);
     }

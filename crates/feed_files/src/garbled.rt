@@ -15,11 +15,6 @@ pub enum Garbled {
     Untold,
 }
 
-// Whether a FILE that begins so is in UTF-16 without a byte order mark.
-fn is_unmarked(head: &[u8]) -> bool {
-    matches!(head, [b'<', 0, ..] | [0, b'<', ..])
-}
-
 // Whether a FILE that begins so is in another encoding than UTF-8, by its declaration.
 fn is_of_other(head: &[u8]) -> bool {
     match head {
@@ -76,7 +71,7 @@ fn first_garbled(bytes: &[u8]) -> Garbled {
 
 /// Why a FILE is no text that begins so, and of which these bytes were read last.
 pub(crate) fn garbled_in(head: &[u8], last: &[u8]) -> Garbled {
-    if is_unmarked(head) {
+    if matches!(head, [b'<', 0, ..] | [0, b'<', ..]) {
         return Garbled::Unmarked;
     }
     if !is_of_other(head) {

@@ -169,11 +169,6 @@ fn has_room(count: &mut u32) -> bool {
     has_room
 }
 
-// Whether one of the notes says that something is wrong.
-fn has_wrong(notes: &[Note<'_>]) -> bool {
-    notes.iter().any(|note| note.reason.kind.is_wrong())
-}
-
 impl Lines {
     fn new(alloc: Global) -> Lines {
         Lines {
@@ -318,7 +313,8 @@ impl<'a> Notes<'a> {
     ) -> Result<(), AllocError> {
         let named = self.scope.choices.supplier;
         let counts = ProductCounts::of(named, product, written, notes);
-        let is_wrong = has_wrong(notes) && !counts.is_of_others;
+        let has_wrong = notes.iter().any(|note| note.reason.kind.is_wrong());
+        let is_wrong = has_wrong && !counts.is_of_others;
         self.has_products = true;
         self.scope.product = self.scope.product.saturating_add(1);
         self.summary.count_product(&counts);

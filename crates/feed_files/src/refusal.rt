@@ -37,14 +37,6 @@ pub struct RefusedFile<'a> {
     pub notes: &'a Notes<'a>,
 }
 
-// Adds that a file is no text, or what it is.
-fn push_no_text(line: &mut String, seen: &Seen) -> Result<(), AllocError> {
-    match seen.kind {
-        Some(kind) => write!(line, "no XML, but {kind}"),
-        None => push_garbled(line, seen.garbled),
-    }
-}
-
 // Adds why a file is no document.
 fn push_unread(
     line: &mut String,
@@ -53,7 +45,10 @@ fn push_unread(
     seen: &Seen,
 ) -> Result<(), AllocError> {
     match fault {
-        feed_xml::Fault::NotText => push_no_text(line, seen),
+        feed_xml::Fault::NotText => match seen.kind {
+            Some(kind) => write!(line, "no XML, but {kind}"),
+            None => push_garbled(line, seen.garbled),
+        },
         feed_xml::Fault::TooDeep => line.push_str("more than 1,000 elements within one another"),
         feed_xml::Fault::TooLong => line.push_str(
             "a tag, name or comment of more than 4,194,304 bytes",

@@ -54,24 +54,6 @@ fn name_for_good<'a, F: NamedFiles>(
     files.sync_folder(folder)
 }
 
-// The same of files whose names no empty file has. With a fault the names that were given are taken
-// back.
-fn name_or_none<F: NamedFiles>(
-    alloc: Global,
-    files: &mut F,
-    folder: &str,
-    targets: &[Target<'_, F::Made>],
-) -> Result<(), FileFault> {
-    let mut given = Vec::new(alloc);
-    match name_for_good(files, folder, targets, &mut given) {
-        Ok(()) => Ok(()),
-        Err(fault) => {
-            take_names(files, given.as_slice());
-            Err(fault)
-        }
-    }
-}
-
 /// Gives files of this folder their names, all of them or, with a fault, none where those that were
 /// given can be taken back. A file that has a name already keeps it: that is a fault, unless it has
 /// the same text, or is empty, which counts as not there.
@@ -83,5 +65,12 @@ pub(crate) fn name_all<F: NamedFiles>(
 ) -> Result<(), FileFault> {
     check_names(files, targets)?;
     clear_names(files, targets);
-    name_or_none(alloc, files, folder, targets)
+    let mut given = Vec::new(alloc);
+    match name_for_good(files, folder, targets, &mut given) {
+        Ok(()) => Ok(()),
+        Err(fault) => {
+            take_names(files, given.as_slice());
+            Err(fault)
+        }
+    }
 }

@@ -1,20 +1,16 @@
-"""The feeds that the repository has, in one part, in three and in forty: converted, delivered to the desk, and through an
-inbox; what is to come is read off them by expat (`feed_reading`)."""
+"""The feeds that the repository has, in one part, in three and in forty: converted, and delivered to the desk; what is to
+come is read off them by expat (`feed_reading`)."""
 
 import re
-import json
 from collections.abc import Iterator
 from functools import partial
 from pathlib import Path
 from typing import NamedTuple
 
-from tests.program.databases import batch
 from tests.program.feeds.feed_oracle import Verdict, effect, judge, records_text
 from tests.program.feeds.feed_reading import read
 from tests.program.feeds.feed_trees import Words
-from tests.program.inbox.inboxes import SOCKET, WORDS, Inbox, of_series
 from tests.program.room import Group, Ran, Room
-from tests.program.serving import serving
 from tests.running import Outcome
 from tools.root import ROOT
 
@@ -70,34 +66,4 @@ def delivered(path: Path, parts: int, room: Room) -> Iterator[Outcome]:
     yield Outcome(f"{name}, delivered", room.run("batch", given=given), Ran(0, answers))
 
 
-def reply(number: int, counts: str) -> str:
-    """The reply to a message that was applied."""
-    return of_series(
-        number, "s", **{name: int(count) for name, count in (each.split("=") for each in counts.split(","))}
-    )
-
-
-def taken(path: Path, parts: int, room: Room) -> Iterator[Outcome]:
-    """An inbox takes it, and the desk applies each of its parts."""
-    hoped = wanted(path, Words(parts=parts, wrong="all"))
-    batch(room, hoped.agreement)
-    with serving(room, WORDS, None, ["--batches", SOCKET]) as desk:
-        sender = ",".join(hoped.agreement.decode().split(",")[2:4])
-        inbox = Inbox(room, "s", WORDS=f"--parts {parts} --wrong all", SENDER=sender)
-        inbox.put({path.name: path.read_bytes()})
-        came = inbox.run()
-        desk.stopped()
-    numbers = hoped.numbers()
-    is_applied = b"onixdesk-inbox: applied: number" in came.errors or parts > 1
-    found = came.status, is_applied, [*inbox.incoming.iterdir()]
-    yield Outcome(f"{path.name} in {parts} parts, in an inbox", found, (0, True, []))
-    replies = [json.loads(reply(number, counts)[4:]) for number, counts in zip(numbers, hoped.effects, strict=True)]
-    yield Outcome(f"{path.name} in {parts} parts, the answers", [*map(json.loads, inbox.answers())], replies)
-
-
-GROUPS = [
-    Group(f"{path.name} in {parts} parts, {check.__name__}", partial(check, path, parts))
-    for path in FEEDS
-    for parts in PARTS
-    for check in (delivered, taken)
-]
+GROUPS = [Group(f"{path.name} in {parts} parts", partial(delivered, path, parts)) for path in FEEDS for parts in PARTS]

@@ -1,9 +1,8 @@
-"""Desks that go on: what a desk in a file answers once it was closed and opened again, and what it and the
-desk in memory answer to many messages."""
+"""Desks that go on: what a desk in a file answers once it was closed and opened again."""
 
 from collections.abc import Iterator
 
-from tests.program.databases import DATABASE, batch
+from tests.program.databases import batch
 from tests.program.messages import AGREED, AGREEMENT, applied, bare, held, priced
 from tests.program.room import Ran, Room
 from tests.running import Outcome
@@ -44,30 +43,3 @@ def over_a_file(room: Room) -> Iterator[Outcome]:
     yield Outcome("a desk in a file, first", batch(room, asked), Ran(0, answers))
     asked, answers = SECOND
     yield Outcome("a desk in a file, opened again", batch(room, asked), Ran(1, answers))
-
-
-def over_memory(room: Room) -> Iterator[Outcome]:
-    asked, answers = (first + second for first, second in zip(FIRST, SECOND))
-    came = room.run("batch", given=asked)
-    yield Outcome("a desk in memory, both", came, Ran(1, answers))
-
-
-def numbered(number: int) -> bytes:
-    """A message with that number and a record of its own, and two questions."""
-    return priced(number, f"R{number}", "1") + b"AskPrice,9781234567897,20250301,GB,GBP,02\nAskGaps,north\n"
-
-
-def two_hundred_numbers_backwards(room: Room) -> Iterator[Outcome]:
-    """The desk in a file and the desk in memory answer alike."""
-    text = AGREEMENT + b"".join(map(numbered, range(200, 0, -1)))
-    in_memory = room.run("batch", given=text)
-    in_file = room.run("--db", DATABASE, "batch", given=text)
-    last = b"gaps,north,first=1,next=201,greatest=200,held=0,missing=0\n"
-    came = {
-        "status": in_file.status,
-        "errors": in_file.errors,
-        "alike": in_file == in_memory,
-        "last": in_file.output[-len(last) :],
-    }
-    wanted = {"status": 0, "errors": b"", "alike": True, "last": last}
-    yield Outcome("two hundred numbers backwards", came, wanted)

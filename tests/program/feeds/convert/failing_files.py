@@ -133,14 +133,6 @@ def empty_files(room: Room) -> Iterator[Outcome]:
     place.write_bytes(b"")
     found = convert(room, "-o", ".", "a.xml"), place.read_bytes()
     yield Outcome("convert: an empty file", found, (Ran(0), message_of("R1")))
-    room.path("out").mkdir()
-    room.write("out/a.part-01.csv", b"")
-    room.write("out/a.part-03.csv", b"other")
-    came = convert(room, "--parts", "3", "-o", "out", "a.xml")
-    wanted = Ran(3, b"", said(["out/a.part-03.csv: already exists, with different content"]))
-    left = names(room.path("out")), room.path("out/a.part-03.csv").read_bytes()
-    yield Outcome("convert: an empty file beside another", (came, left[1]), (wanted, b"other"))
-    yield Outcome("convert: no part beside another file", "a.part-02.csv" in left[0], False)
 
 
 def came_meanwhile(room: Room) -> Iterator[Outcome]:

@@ -34,7 +34,7 @@ lint: ## looks over the Python, the shell, the JavaScript, and the Rattle as far
 	@tools/lint
 
 definitions: ## writes docs/DEFINITIONS.md, which git does not keep
-	tools/definitions
+	tools/python -m tools.specs.page
 
 # It asks the program of 'make try'.
 commands: ## writes docs/COMMANDS.md, which git does not keep

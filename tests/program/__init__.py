@@ -18,7 +18,7 @@ from tests.program.room import Group, Room
 from tests.running import Cases, Outcome
 
 # Begun first: of the first two a client is waited for, and the others have groups that take longest.
-FIRST = ["clients", "open_desks", "generated_feeds", "kills", "large_answers", "broken_streams"]
+FIRST = ["clients", "open_desks", "generated_feeds", "kills", "broken_streams"]
 
 
 def checks_of(module: Any, *over: type) -> list[tuple[str, Callable[..., Iterator[Outcome]]]]:

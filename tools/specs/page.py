@@ -1,4 +1,4 @@
-"""docs/DEFINITIONS.md, as the comments of specs/ have it, which tools/definitions writes."""
+"""docs/DEFINITIONS.md, as the comments of specs/ have it, which `make definitions` writes."""
 
 import re
 from pathlib import Path

@@ -145,23 +145,8 @@ def a_port_that_is_taken(room: Room) -> Iterator[Outcome]:
         yield Outcome("a port that is taken", came, wanted)
 
 
-# Of the port 8080: as it may be written, and as it may not.
+# Of the port 8080; tests/refusals/commands.txt has others, which are refused.
 SPELLINGS = ["8080", "08080", "0000000000000000000008080", "+8080"]
-REFUSED = [
-    "",
-    "-8080",
-    "8080.0",
-    "8,080",
-    " 8080",
-    "8080 ",
-    "8080x",
-    "0x1f90",
-    "8e3",
-    "+",
-    "++8080",
-    "99999999999999999999",
-    "\uff18\uff10",
-]
 
 
 def spellings_of_a_port(room: Room) -> Iterator[Outcome]:
@@ -171,10 +156,6 @@ def spellings_of_a_port(room: Room) -> Iterator[Outcome]:
         for spelling in SPELLINGS:
             came = room.run("serve", "--port", spelling.replace("8080", port), "--requests", "1", given=UNREADABLE)
             yield Outcome(f"a port as {spelling!r}", came, Ran(3, b"", f"onixdesk: port {port}\n".encode()))
-        for spelling in REFUSED:
-            came = room.run("serve", "--port", spelling.replace("8080", port), "--requests", "1", given=UNREADABLE)
-            found = came.status, came.output, came.errors.startswith(b"error: ")
-            yield Outcome(f"a port as {spelling!r}", found, (2, b"", True))
 
 
 def unwritten_lines(room: Room) -> Iterator[Outcome]:

@@ -89,41 +89,6 @@ def deliver(case: Delivery, room: Room) -> Iterator[Outcome]:
     yield Outcome(f"deliver: {case.name}", (agreed, came), wanted)
 
 
-# A message in parts, each with the row at which a message is malformed that is cut off within this part
-# or at its end.
-PARTS = [
-    (b"Message,1,06,4012345000009,06,5012345678900,1,1,20250301,02", 1),
-    (b",", 2),
-    (b"GB", 1),
-    (b"P\nProduct,R1,03,15,", 2),
-    (b"9781234567897\nProductSupply,GB IE,", 3),
-    (b",\nSupplyDetail,04,06,4012345000009,North Books,21", 4),
-    (b",\nPrice,,12.99,,,,,", 5),
-    (b",\nEndMessage,", 6),
-]
-
-# The last byte of its last row. A line end may follow it.
-LAST = b"5"
-
-
-def cut_off_behind_each_byte(room: Room) -> Iterator[Outcome]:
-    """A message that is cut off is not applied, unless it lacks its last line end alone."""
-    yield Outcome("cut off: the agreement", batch(room, AGREEMENT), Ran(0, AGREED))
-    texts, answers = [b""], [b"refused,malformed,1\n"]
-    for part, row in PARTS:
-        for at in range(len(part)):
-            texts.append(texts[-1] + part[at : at + 1])
-            answers.append(b"refused,malformed,%d\n" % row)
-    texts.append(texts[-1] + LAST)
-    answers.append(APPLIED)
-
-    files = [f"{len(text)}.csv" for text in texts]
-    for file, text in zip(files, texts):
-        room.write(file, text)
-    came = room.run("--db", DATABASE, "deliver", *files, given=UNREADABLE)
-    yield Outcome("cut off behind each byte", came, Ran(1, b"".join(answers)))
-
-
 def without_agreements(room: Room) -> Iterator[Outcome]:
     """Without a database the desk has no agreements."""
     room.write("north.csv", FIRST)

@@ -3,7 +3,7 @@
 import shlex
 from collections.abc import Iterator
 
-from tests.program.databases import DATABASE, all_rows, batch, execute
+from tests.program.databases import DATABASE, all_rows, batch
 from tests.program.documents.examples import block
 from tests.program.room import UNREADABLE, Ran, Room
 from tests.program.written_cases import TESTS
@@ -95,10 +95,6 @@ def faults(room: Room) -> Iterator[Outcome]:
     for command in LISTS:
         came = room.run("--db", DATABASE, command, given=UNREADABLE, is_full=True)
         yield Outcome(f"a full output: {command}", came, Ran(3, b"", b"onixdesk: output\n"))
-    execute(room, "UPDATE meta SET amount = 7")
-    for command in LISTS:
-        wanted = Ran(3, b"", b"onixdesk: storage: other version 7\n")
-        yield Outcome(f"another version: {command}", listed(room, command), wanted)
 
 
 def too_large(room: Room) -> Iterator[Outcome]:

@@ -3,17 +3,14 @@
 import subprocess
 from collections.abc import Iterator
 
-from tests.program.databases import DATABASE, batch, gaps
-from tests.program.messages import AGREED, AGREEMENT, applied, bare
+from tests.program.databases import batch
+from tests.program.messages import AGREED, AGREEMENT, applied
 from tests.program.room import SECONDS, UNREADABLE, Ran, Room, without_reasons
 from tests.running import Outcome
 
 OPENING = b"Message,1,06,4012345000009,06,5012345678900,1,,,,\n"
 
 PRODUCT = b"Product,R1,03,15,9781234567897\n"
-
-# Two messages without products.
-MESSAGES = bare(1) + bare(2)
 
 INPUTS = [
     ("a text of 4,194,304 bytes", AGREEMENT + b"\n" * 4_194_256, Ran(0, AGREED)),
@@ -69,27 +66,3 @@ def unended_input(room: Room) -> Iterator[Outcome]:
         finally:
             process.kill()
     yield Outcome("an input that does not end", came, Ran(3, b"", b"onixdesk: input: too large\n"))
-
-
-def report(text: bytes) -> Ran:
-    return Ran(0, b"gaps,north,first=1,%s,held=0,missing=0\n" % text)
-
-
-def broken_streams_over_a_file(room: Room) -> Iterator[Outcome]:
-    """After a failed read the desk is as before, and after the failed write of an answer its request
-    has had its effect, and no later one."""
-    yield Outcome("broken streams: the agreement", batch(room, AGREEMENT), Ran(0, AGREED))
-
-    over_a_file = "--db", DATABASE, "batch"
-    for name, text, line in [
-        ("an input that cannot be read", UNREADABLE, b"input: read"),
-        ("a text that is not UTF-8", MESSAGES + b"\xff", b"input: not UTF-8"),
-        ("a text of 4,194,305 bytes", MESSAGES.ljust(4_194_305, b"\n"), b"input: too large"),
-    ]:
-        came = room.run(*over_a_file, given=text), gaps(room)
-        wanted = Ran(3, b"", b"onixdesk: %s\n" % line), report(b"next=1,greatest=")
-        yield Outcome(f"over a file: {name}", came, wanted)
-
-    came = room.run(*over_a_file, given=MESSAGES, is_full=True), gaps(room)
-    wanted = Ran(3, b"", b"onixdesk: output\n"), report(b"next=2,greatest=1")
-    yield Outcome("over a file: an output that takes nothing", came, wanted)

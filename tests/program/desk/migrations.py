@@ -19,7 +19,6 @@ from tests.program.databases import (
     rows,
     table_names,
 )
-from tests.program.desk.strangers_tables import STRANGERS, STRANGERS_ROWS, strangers_rows
 from tests.program.room import Group, Ran, Room
 from tests.program.written_cases import Written, read_file
 from tests.running import Outcome
@@ -84,20 +83,6 @@ def without_index(case: Case, room: Room) -> Iterator[Outcome]:
     execute(room, "DROP INDEX article_by_value")
     came = batch(room, case.asked), indexes(room), complaints(room)
     yield Outcome(f"without an index: {case.name}", came, (Ran(case.status, case.answers), INDEX, []))
-
-
-def index_beside_others(room: Room) -> Iterator[Outcome]:
-    """Beside the tables of another program the index is made too; the rows of both stay, then and later."""
-    case = CASES[0]
-    execute(room, f"{case.made} {MINIMUM} UPDATE meta SET amount = 2; {STRANGERS}")
-    kept = all_rows(room)
-    wanted = [*INDEX, ("panel_by_title", "panel", "title")]
-    came = batch(room, b""), sorted(indexes(room)), complaints(room), all_rows(room)
-    yield Outcome("an index is made beside others' tables", came, (Ran(0), sorted(wanted), [], kept))
-    execute(room, "DROP INDEX article_by_value")
-    came = batch(room, case.asked), sorted(indexes(room)), complaints(room), strangers_rows(room)
-    answered = Ran(case.status, case.answers)
-    yield Outcome("it is made with a batch", came, (answered, sorted(wanted), [], STRANGERS_ROWS))
 
 
 STRANGER = """

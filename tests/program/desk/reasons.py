@@ -93,13 +93,6 @@ def texts(room: Room) -> Iterator[Outcome]:
             yield Outcome(f"why: {words} {text!r}", (came.status, first), wanted)
             found = [other.decode().startswith(f"onixdesk: {name}{said}") for other in others]
             yield Outcome(f"why: {words} {text!r}: the line", found, [True])
-    large = b"\n" * 4_194_305
-    room.write("large.csv", large)
-    for words in ["batch"], ["check", "large.csv"], ["deliver", "large.csv"]:
-        came = room.told(*words, given=large)
-        first, *others = came.errors.splitlines()
-        ended = came.status, first, len(others)
-        yield Outcome(f"why: {' '.join(words)}: too large", ended, (3, b"onixdesk: input: too large", 1))
 
 
 def outputs(room: Room) -> Iterator[Outcome]:

@@ -10,9 +10,6 @@ from tests.program.feeds.convert.running import convert
 from tests.program.feeds.convert.wanted_runs import PRODUCT
 from tests.program.room import Group, Ran, Room
 from tests.running import Outcome
-from tools.root import ROOT
-
-ONIX = ROOT / "docs/ONIX.md"
 
 FRAME = FRAMES["products"]
 
@@ -77,27 +74,6 @@ def changed(change: Change, room: Room) -> Iterator[Outcome]:
     wanted += applied(first, change.after)
     wanted += f"gaps,north,first=1,next={last + 1},greatest={last},held=0,missing=0\n"
     yield Outcome(f"{change}", room.run("batch", given=given), Ran(0, wanted.encode()))
-
-
-def blocked(room: Room) -> Iterator[Outcome]:
-    """A greater number of parts without waivers."""
-    change = Change(2, 3, 2)
-    given = requests_before(change, room) + message(3, room, "--parts", "3") + b"AskGaps,north\n"
-    held = "".join(f"held,north,{number},waiting-for=5\n" for number in (7, 8, 9))
-    gaps = "gaps,north,first=1,next=5,greatest=9,held=3,missing=1\nmissing,5,6\n"
-    wanted = answers_before(change) + held + gaps
-    yield Outcome("more parts and no waivers", room.run("batch", given=given), Ran(0, wanted.encode()))
-
-
-def documented(room: Room) -> Iterator[Outcome]:
-    """The numbers of the examples in the document."""
-    more, fewer = Change(51, 60, 300), Change(60, 25, 7)
-    first, last = more.waived()[0], more.waived()[-1]
-    waivers = f"seq -f 'Waive,north,%.0f' {first} {last} | "
-    yield Outcome("the waivers for more parts", waivers in ONIX.read_text(encoding="utf-8"), True)
-    sentence = f"From 60 to 25 parts after message 7, K is {fewer.offset()}, and"
-    sentence += f" {fewer.waived()[0]} to {fewer.waived()[-1]} are waived."
-    yield Outcome("the offset for fewer parts", sentence in ONIX.read_text(encoding="utf-8"), True)
 
 
 CHANGES = [Change(2, 3, 3), Change(1, 2, 1), Change(3, 2, 3), Change(4, 2, 2), Change(5, 3, 2)]

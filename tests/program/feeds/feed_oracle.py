@@ -122,10 +122,6 @@ class Part:
     def text(self) -> bytes:
         return records_text(self.records)
 
-    def products(self) -> list[tuple[str, str]]:
-        """The reference and the NotificationType of each product."""
-        return [(record[1], record[2]) for record in self.records if record[0] == "Product"]
-
     def has_room(self, records: list[Record]) -> bool:
         """For these records, and an end behind them."""
         count = len(self.records) + len(records)
@@ -602,23 +598,3 @@ def judge(message: Message, words: Words) -> Verdict:
     judged.counts[WITHOUT_PRODUCT] = not message.products and not message.says_none
     products, wrong = len(message.products), len(judged.wrong)
     return Verdict(parts, notes, products, wrong, judged.counts, lacks_supplier(message))
-
-
-def effect(products: list[tuple[str, str]], catalogue: set[str]) -> str:
-    """What the desk answers of a message's effect on the references that it has, which is done."""
-    counts = dict.fromkeys(["replaced", "updated", "deleted", "unknown", "ignored"], 0)
-    for reference, notification in products:
-        is_there = reference in catalogue
-        if notification in ("01", "02", "03"):
-            counts["replaced"] += 1
-            catalogue.add(reference)
-        elif notification not in ("04", "05"):
-            counts["ignored"] += 1
-        elif not is_there:
-            counts["unknown"] += 1
-        elif notification == "04":
-            counts["updated"] += 1
-        else:
-            counts["deleted"] += 1
-            catalogue.remove(reference)
-    return ",".join(f"{name}={count}" for name, count in counts.items())

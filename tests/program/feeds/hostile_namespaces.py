@@ -47,11 +47,6 @@ AS_MANY = declared(range(1, 60), ROOT)
 
 CASES = [
     Case(
-        "many prefixes of the root's namespace",
-        lambda: feed(AS_MANY, element(declared(range(60, MOST), ROOT)), PRODUCT.format("R1")),
-        taken=["R1"],
-    ),
-    Case(
         "more prefixes of the root's namespace than a tag may declare",
         lambda: feed(AS_MANY, "\n", element(declared(range(60, 60 + MOST), ROOT)), PRODUCT.format("R1")),
         taken=["R1"],
@@ -62,13 +57,6 @@ CASES = [
             AS_MANY,
             *nested([declared(range(MOST), ROOT, f"q{number}x{{}}") for number in range(DEEP)], ""),
             PRODUCT.format("R1"),
-        ),
-        taken=["R1"],
-    ),
-    Case(
-        "more prefixes, of which some stand for something else there",
-        lambda: feed(
-            AS_MANY, element(declared(range(1, 9), OTHER) + declared(range(60, MOST + 8), ROOT)), PRODUCT.format("R1")
         ),
         taken=["R1"],
     ),

@@ -5,7 +5,7 @@ from itertools import product
 from string import ascii_uppercase
 
 from tests.program.feeds.convert.case_files import FRAMES, SUPPLIER, said
-from tests.program.feeds.convert.running import FEED, convert, refused_lines
+from tests.program.feeds.convert.running import FEED, convert
 from tests.program.room import Ran, Room
 from tests.running import Outcome
 
@@ -73,20 +73,6 @@ def products_besides(room: Room) -> Iterator[Outcome]:
     yield Outcome("lines on products besides others, counted", lines[-1], count)
 
 
-def refused(room: Room) -> Iterator[Outcome]:
-    """Of a file that is refused there is one line, and nothing is counted."""
-    bad = prices(3, "06").replace(b"</ONIXMessage>", b"</Product>")
-    room.write("a.xml", bad)
-    room.write("b.xml", prices(1, "07"))
-    came = convert(room, "-o", ".", "a.xml", "b.xml")
-    errors = came.errors.decode().splitlines()
-    found = came.status, refused_lines(came), errors[1:]
-    counts = ["Price left out: PriceQualifier 07: 1", "1 of 1 product left without a Price", "1 note"]
-    told = [*notes_on("b.xml", 1, "07"), *counts]
-    wanted = 1, [("a.xml", 5)], said(told).decode().splitlines()
-    yield Outcome("a refused file of notes, and another", found, wanted)
-
-
 def regions(room: Room) -> Iterator[Outcome]:
     """Regions are read whole, however long their field is, and each of them is counted."""
     many = "GB-NIR " * 2_500
@@ -135,30 +121,3 @@ def unions(room: Room) -> Iterator[Outcome]:
     records = FRAMES["product"].records + "EndMessage,2\n"
     found = came.status, came.output.decode(), came.errors.decode().splitlines()[-1]
     yield Outcome(f"Markets of {most + 1} countries", found, (0, records, "onixdesk: 2 notes"))
-
-
-def long_prices(room: Room) -> Iterator[Outcome]:
-    """A Price with a field that is too long is left out."""
-    long = " ".join(COUNTRIES[:400])
-    territory = f"<Territory><CountriesIncluded>{long}</CountriesIncluded></Territory>"
-    room.write(FEED, feed_of("price", territory))
-    came = convert(room, FEED)
-    at = FRAMES["price"].before.index("<Price>") + 1
-    first, *_, last = came.errors.decode().splitlines()
-    found = came.status, came.output, first.startswith(f"onixdesk: {FEED}:1:{at}: R1: Price left out: "), last
-    last_line = "onixdesk: 1 note, 1 product wrong"
-    yield Outcome("a Price with a long field", found, (1, message_of("price"), True, last_line))
-
-
-def old_elements(room: Room) -> Iterator[Outcome]:
-    """The summary names the elements of ONIX 2.1, which are no texts of a feed."""
-    names = ["CountryCode", "PriceEffectiveFrom", "PriceEffectiveUntil", "PriceTypeCode"]
-    price = "<Price><{0}>GB</{0}><PriceAmount>1</PriceAmount></Price>"
-    room.write(FEED, feed_of("prices", "\n".join(price.format(name) for name in [*names, names[0]])))
-    came = convert(room, FEED)
-    counts = [f"Price left out: {name} of ONIX 2.1: {1 + (name == names[0])}" for name in names]
-    lines = [*counts, "1 of 1 product left without a Price", "5 notes, 1 product wrong"]
-    summary = said(lines).decode().splitlines()
-    yield Outcome(
-        "elements of ONIX 2.1 in the summary", (came.status, came.errors.decode().splitlines()[5:]), (1, summary)
-    )

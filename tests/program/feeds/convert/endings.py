@@ -15,8 +15,6 @@ from tests.program.feeds.convert.case_files import in_short_tags, said
 from tests.program.feeds.convert.words_and_statuses import LARGE, large_part
 from tests.program.feeds.convert.running import FEED
 from tests.program.feeds.convert.wanted_runs import FRAME, ONE, PRODUCT, TWO, message_of
-from tests.program.feeds.convert.argument_grammar import HEADER, SENDER
-from tests.program.feeds.convert.argument_grammar import feed_of as message_with
 from tests.program.room import SECONDS, Group, Ran, Room
 from tests.program.written_cases import TESTS, read_file, repeated, unescaped
 from tests.running import Outcome
@@ -29,17 +27,11 @@ LONG = f"<!--{' ' * 70_000}-->"
 
 
 class Case(NamedTuple):
-    """A feed that is refused, words, and why it is."""
+    """A feed that is refused, and why it is."""
 
     name: str
     feed: bytes
     why: str
-    words: list[str] = []
-
-
-def numbered(number: str, why: str, *words: str) -> Case:
-    header = HEADER.format(SENDER).replace("<MessageNumber>1<", f"<MessageNumber>{number}<")
-    return Case(f"the number {number[:12]} {' '.join(words)}", message_with(header), why, [*words])
 
 
 def feeds() -> Iterator[Case]:
@@ -80,73 +72,6 @@ ENDS = [
     ),
 ]
 
-NUMBER = "is not a number of 1 to 9 digits, not all zero; --number N gives one"
-
-NUMBERS = [
-    numbered("0", f"MessageNumber 0 {NUMBER}"),
-    numbered("0", f"MessageNumber 0 {NUMBER}", "--number-offset", "5"),
-    numbered("01000000070", f"MessageNumber 01000000070 {NUMBER}"),
-    numbered("٧", f"MessageNumber ٧ {NUMBER}"),
-    numbered("7" * 200, f"MessageNumber {'7' * 100}.. {NUMBER}"),
-    numbered(
-        "2",
-        "MessageNumber 2 with --number-offset 999999998 is 1000000000, above 999999999",
-        "--number-offset",
-        "999999998",
-    ),
-    numbered(
-        "1",
-        "message 500000000 in 2 parts would end with number 1000000000, above 999999999",
-        "--number-offset",
-        "499999999",
-        "--parts",
-        "2",
-    ),
-    numbered(
-        "1",
-        "message 999999999 in 2 parts would end with number 1999999998, above 999999999",
-        "--number",
-        "999999999",
-        "--parts",
-        "2",
-    ),
-]
-NUMBERS += [
-    Case("a Header in short tags", in_short_tags(NUMBERS[0].feed.decode()).encode(), NUMBERS[0].why),
-    Case(
-        "a Header behind a long comment",
-        NUMBERS[0].feed.replace(b"<Header>", f"{LONG}<Header>".encode()),
-        NUMBERS[0].why,
-    ),
-]
-
-
-NO_SENDER = "no sender identifier; --sender TYPE,VALUE gives one"
-NEITHER = message_with("<Header></Header>")
-
-# What a Header lacks is said in one line; what is given is not asked for again.
-LACKING = [
-    Case("neither a sender nor a number", NEITHER, f"{NO_SENDER}; no MessageNumber either; --number N gives one"),
-    Case("no sender beside a given number", NEITHER, NO_SENDER, ["--number", "7"]),
-    Case("no sender", message_with(HEADER.format("")), NO_SENDER),
-    Case("no number", NEITHER, "no MessageNumber; --number N gives one", ["--sender", "06,S"]),
-]
-
-# Beyond the limits that docs/ONIX.md has.
-BEYOND = [
-    Case("elements within one another", BEGUN.encode() + b"<a>" * 1_000, "more than 1,000 elements within one another"),
-    Case(
-        "attributes",
-        BEGUN.encode() + b"<a " + b" ".join(b"a%d=''" % number for number in range(65)) + b"/>",
-        "a tag with more than 64 attributes, or 65,536 bytes of them",
-    ),
-    Case(
-        "a comment",
-        BEGUN.encode() + b"<!--" + b" " * 5_000_000 + b"-->",
-        "a tag, name or comment of more than 4,194,304 bytes",
-    ),
-]
-
 
 def packed(room: Room) -> Iterator[Outcome]:
     """A FILE that is packed by its name is refused with the command that converts it."""
@@ -167,8 +92,8 @@ def refused(cases: list[Case], room: Room) -> Iterator[Outcome]:
     for case in cases:
         room.write(FEED, case.feed)
         for name, came in [
-            (FEED, room.run("convert", *case.words, FEED)),
-            ("-", room.run("convert", *case.words, given=case.feed)),
+            (FEED, room.run("convert", FEED)),
+            ("-", room.run("convert", given=case.feed)),
         ]:
             head, between, why = came.errors.decode().partition(": refused: ")
             found = came.status, came.output, head.startswith(f"onixdesk: {name}:"), between, why
@@ -331,9 +256,6 @@ def strangers(room: Room) -> Iterator[Outcome]:
 GROUPS = [
     Group("convert: files that are no message", partial(refused, [*feeds()])),
     Group("convert: files that end too early", partial(refused, ENDS)),
-    Group("convert: numbers that are refused", partial(refused, NUMBERS)),
-    Group("convert: Headers that lack something", partial(refused, LACKING)),
-    Group("convert: beyond the limits", partial(refused, BEYOND)),
     *(
         Group(f"convert: {number.name}", partial(stopped, number))
         for number in (signal.SIGTERM, signal.SIGINT, signal.SIGKILL)

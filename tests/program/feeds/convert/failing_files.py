@@ -116,19 +116,6 @@ def begun(room: Room, *words: str) -> subprocess.Popen[bytes]:
     return subprocess.Popen(command, cwd=room.folder, stdin=subprocess.PIPE, stderr=subprocess.PIPE)
 
 
-def links(room: Room) -> Iterator[Outcome]:
-    """A link with the name of the file beside is neither followed nor written over."""
-    room.write("precious", b"precious")
-    process = begun(room)
-    beside = room.path(f"out/.message.csv.{process.pid}")
-    beside.symlink_to(room.path("precious"))
-    _, errors = process.communicate(ONE, timeout=SECONDS)
-    found = process.returncode, errors, room.path("precious").read_bytes()
-    yield Outcome("convert: a link beside", found, (0, b"", b"precious"))
-    is_there = "message.csv" in names(room.path("out")) and room.path("out/message.csv").read_bytes()
-    yield Outcome("convert: the message beside a link", is_there, message_of("R1"))
-
-
 def empty_files(room: Room) -> Iterator[Outcome]:
     """An empty regular file counts as not there; a link to one, and what is no regular file, does not."""
     room.write("a.xml", ONE)
@@ -146,14 +133,6 @@ def empty_files(room: Room) -> Iterator[Outcome]:
     place.write_bytes(b"")
     found = convert(room, "-o", ".", "a.xml"), place.read_bytes()
     yield Outcome("convert: an empty file", found, (Ran(0), message_of("R1")))
-    room.path("out").mkdir()
-    room.write("out/a.part-01.csv", b"")
-    room.write("out/a.part-03.csv", b"other")
-    came = convert(room, "--parts", "3", "-o", "out", "a.xml")
-    wanted = Ran(3, b"", said(["out/a.part-03.csv: already exists, with different content"]))
-    left = names(room.path("out")), room.path("out/a.part-03.csv").read_bytes()
-    yield Outcome("convert: an empty file beside another", (came, left[1]), (wanted, b"other"))
-    yield Outcome("convert: no part beside another file", "a.part-02.csv" in left[0], False)
 
 
 def came_meanwhile(room: Room) -> Iterator[Outcome]:

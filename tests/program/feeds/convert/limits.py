@@ -143,28 +143,6 @@ def large_product(room: Room) -> Iterator[Outcome]:
         yield Outcome(f"a product of 19,998 supply details {option}", came, Ran(1, b"", said_of))
 
 
-def declared(prefixes: range) -> str:
-    """Declarations by which these stand for the namespace of the root."""
-    return "".join(f' xmlns:p{number}="urn:root"' for number in prefixes)
-
-
-def prefixes_of(root: range, product: range, name: range) -> bytes:
-    """A feed whose root, Product and RecordReference declare these, beside the name without a prefix."""
-    before = FRAME.before.replace("<ONIXMessage ", f'<ONIXMessage xmlns="urn:root"{declared(root)} ')
-    within = PRODUCT.format("R1").replace("<Product>", f"<Product{declared(product)}>")
-    within = within.replace("<RecordReference>", f"<RecordReference{declared(name)}>")
-    return f"{before}\n{within}{FRAME.behind}".encode()
-
-
-def prefixes(room: Room) -> Iterator[Outcome]:
-    """As many prefixes may stand for the namespace of the root at one place as tags within their bounds declare."""
-    room.write(FEED, prefixes_of(range(40), range(20, 63), range(63)))
-    yield Outcome("prefixes that are declared again", convert(room, FEED), Ran(0, message_of("R1")))
-
-    room.write(FEED, prefixes_of(range(60), range(60, 120), range(120, 180)))
-    yield Outcome("180 prefixes for the root's namespace", convert(room, FEED), Ran(0, message_of("R1")))
-
-
 def a_whole_product_in_the_next_part(room: Room) -> Iterator[Outcome]:
     """A product that does not fit into what is left of a part begins the next."""
     names = references(MOST - 1)

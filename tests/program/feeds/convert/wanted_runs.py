@@ -157,12 +157,3 @@ CASES = [
     Case("a folder that is not there", {"a.xml": ONE}, ["-o", "absent", "a.xml"], ends(3, "absent: no folder")),
     Case("a folder that is a file", {"a.xml": ONE}, ["-o", "a.xml", "a.xml"], ends(3, "a.xml: no folder")),
 ]
-
-
-SENDER = "Žitný é"
-
-
-def encoded(declared: str, codec: str, mark: bytes = b"", between: str = "", sender: str = SENDER) -> bytes:
-    """A feed that declares an encoding, with this between its declaration and its root."""
-    text = feed_of("R1").decode().replace("<IDValue>S<", f"<IDValue>{sender}<")
-    return mark + f'<?xml version="1.0" encoding="{declared}"?>{between}{text}'.encode(codec)

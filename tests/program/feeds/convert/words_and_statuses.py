@@ -1,6 +1,5 @@
 """The words, files and statuses of `onixdesk convert`."""
 
-import codecs
 import gzip
 import re
 from collections.abc import Iterator
@@ -10,16 +9,13 @@ from tests.program.feeds.convert import argument_grammar, wanted_runs
 from tests.program.feeds.convert.case_files import FRAMES, in_short_tags, records_of
 from tests.program.feeds.convert.running import FEED
 from tests.program.feeds.convert.wanted_runs import (
-    BAD,
     DETAIL,
     FRAME,
     ISBN,
     ONE,
     PRICE,
     TWO,
-    WRONG,
     Case,
-    encoded,
     message_of,
     supplied,
 )
@@ -71,16 +67,6 @@ CASES = [
         ["--parts", "3", "-o", ".", FEED],
         Ran(0),
         {f"feed.part-0{part}.csv": records for part, records in LARGE_PARTS.items()},
-    ),
-    *(
-        Case(
-            f"a file that is packed by its name, {name}",
-            {name: gzip.compress(ONE), "b.xml": ONE},
-            ["-o", ".", name, "b.xml"],
-            Ran(1, b"", f"onixdesk: {name}:1:1: refused\n".encode()),
-            {"b.csv": message_of("R1")},
-        )
-        for name in ["a.xml.gz", "A.GZ", "a.zip", "A.Zip"]
     ),
     Case(
         "a packed file by standard input", {}, [], Ran(1, b"", b"onixdesk: -:1:1: refused\n"), given=gzip.compress(ONE)
@@ -156,58 +142,13 @@ def good_words(room: Room) -> Iterator[Outcome]:
         yield Outcome(f"convert {words}", came, Ran(0, records.encode()))
 
 
-# Names of the encodings that are read, and their codecs. A mark outweighs what is declared.
-ENCODINGS = [
-    *(encoded(name, "utf-8") for name in ("utf-8", "UTF-8", "utf8", "Utf_8")),
-    *(encoded(name, "utf-8", codecs.BOM_UTF8) for name in ("UTF-8", "utf8", "ISO-8859-1", "UTF-16")),
-    # As some libraries write it.
-    *(encoded(name, "utf-8") for name in ("UTF-16", "utf-16")),
-]
-LATIN = [
-    *(encoded(name, "latin-1", sender="é") for name in ("ISO-8859-1", "iso8859_1", "ISO88591", "latin1", "Latin-1")),
-    *(encoded(name, "cp1252", sender="é") for name in ("windows-1252", "Windows1252", "cp1252", "CP-1252")),
-    *(encoded(name, "ascii", sender="&#233;") for name in ("US-ASCII", "usascii", "ascii", "ASCII")),
-]
-
-# The eight characters by which ISO-8859-15 is another than ISO-8859-1.
-EURO = "€ŠšŽžŒœŸ"
-EUROPEAN = [encoded(name, "iso8859-15", sender=EURO) for name in ("ISO-8859-15", "iso_8859_15", "iso885915")]
-
-OTHERS = [encoded("windows-1250", "cp1250"), encoded("ISO-8859-2", "iso8859-2"), encoded("x", "utf-8")]
-
-
-def encodings(room: Room) -> Iterator[Outcome]:
-    for sender, feeds in [(wanted_runs.SENDER, ENCODINGS), ("é", LATIN), (EURO, EUROPEAN)]:
-        records = message_of("R1").replace(b",S,", f",{sender},".encode())
-        for feed in feeds:
-            yield Outcome(f"convert: encoding {feed[:50]!r}", room.run("convert", given=feed), Ran(0, records))
-    for feed in OTHERS:
-        came = room.run("convert", given=feed)
-        yield Outcome(f"convert: another encoding {feed[:50]!r}", (came.status, came.output), (1, b""))
-
-
 def streams(room: Room) -> Iterator[Outcome]:
-    """An output that takes nothing, an input that cannot be read, and a refusal beside what is missing."""
+    """An output that takes nothing, and an input that cannot be read."""
     room.write(FEED, ONE)
     came = room.run("convert", FEED, is_full=True)
     yield Outcome("convert: an output that takes nothing", (came.status, came.errors != b""), (3, True))
     came = room.run("convert", given=None)
     yield Outcome("convert: an input that cannot be read", (came.status, came.output), (3, b""))
-    room.write("b.xml", BAD)
-    room.write("w.xml", WRONG)
-    runs = [
-        ([FEED], 0),
-        (["b.xml", FEED], 1),
-        (["w.xml", FEED], 1),
-        (["absent.xml", "b.xml", FEED], 3),
-        (["w.xml", "absent.xml", FEED], 3),
-    ]
-    for number, (words, status) in enumerate(runs):
-        folder = str(number)
-        room.path(folder).mkdir()
-        came = room.run("convert", "-o", folder, *words)
-        is_made = room.path(f"{folder}/feed.csv").exists()
-        yield Outcome(f"convert: {words}", (came.status, is_made), (status, True))
 
 
 GROUPS = [Group(f"convert: {case.name}", partial(check, case)) for case in CASES]

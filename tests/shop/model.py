@@ -122,14 +122,12 @@ class Model(RuleBasedStateMachine):
         self.inbox.send(name, data, time)
         sent = self.sent.setdefault(digest_of(data), Sent(data, time, is_whole, number))
         sent.terms.add(self.inbox.terms)
-        if sent.is_lost and self.is_next and self.file_of(sent).state == "refused":
-            # It is a new file then.
-            sent.time = time
-        sent.is_lost = False
-
-    def file_of(self, sent: Sent) -> File:
-        found: File = self.inbox.work(lambda inbox: inbox.ledger.latest(digest_of(sent.data)))
-        return found
+        if sent.is_lost:
+            # What was refused is a new file then, if nothing ends the run amid its copy.
+            state = self.inbox.work(lambda inbox: inbox.ledger.latest(digest_of(data)).state)
+            sent.time = time if state == "refused" else sent.time
+            sent.is_lost = False
+            self.clean()
 
     # Which of what there is: a number, so that the steps of a run can be made again as they are printed.
     some = st.integers(0, 11)

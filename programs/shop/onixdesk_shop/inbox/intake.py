@@ -71,6 +71,7 @@ def take_file(inbox: Inbox, entry: Entry) -> str:
         return ""
     ending = ENDINGS[Path(entry.name.lower()).suffix]
     stored = inbox.store / f"{digest}{ending}"
+    is_new = inbox.settings.gives_number(ending) or not machine.exists(stored)
     if machine.exists(stored):
         # With the time by which it was judged.
         machine.remove(copy)
@@ -78,7 +79,6 @@ def take_file(inbox: Inbox, entry: Entry) -> str:
         machine.rename(copy, stored)
     machine.sync_folder(inbox.store)
     before = inbox.ledger.latest(digest)
-    is_new = inbox.settings.gives_number(ending)
     file = inbox.ledger.take(digest, shown(entry.name), ending, entry.size, entry.modified, time_of(entry), is_new)
     if before:
         if before.ending != file.ending:

@@ -96,10 +96,10 @@ class Machine:
             return file.read(most)
 
     def read_json(self, path: Path) -> Any:
-        """What a file of JSON has, an empty object where it cannot be read."""
+        """What a file of JSON has, an empty object where there is none, or no JSON in it."""
         try:
             return json.loads(self.read(path))
-        except (OSError, ValueError):
+        except (FileNotFoundError, ValueError):
             return {}
 
     def lines_of(self, path: Path) -> Iterator[bytes]:

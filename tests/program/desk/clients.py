@@ -1,5 +1,5 @@
-"""Clients of a port that close early, fall silent, send more than they said or less, a port that is taken,
-and one whose lines cannot be written."""
+"""Clients of a port that close early, fall silent, send more than they said or less, how a port is written, and one
+whose lines cannot be written."""
 
 import contextlib
 import signal
@@ -133,16 +133,6 @@ def bodies_that_do_not_come(room: Room) -> Iterator[Outcome]:
         desk.reply([GAPS.input])
         wanted = desk.wanted(["404", "400", "400", "404"])
         yield Outcome("the lines of short bodies", desk.ended(), wanted)
-
-
-def a_port_that_is_taken(room: Room) -> Iterator[Outcome]:
-    with socket.socket() as listener:
-        listener.bind((HOST, 0))
-        listener.listen()
-        port = listener.getsockname()[1]
-        came = room.run("serve", "--port", str(port), "--requests", "1", given=UNREADABLE)
-        wanted = Ran(3, b"", b"onixdesk: port %d\n" % port)
-        yield Outcome("a port that is taken", came, wanted)
 
 
 # Of the port 8080; tests/refusals/commands.txt has others, which are refused.

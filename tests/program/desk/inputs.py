@@ -1,11 +1,11 @@
-"""Inputs that are long or bad, and streams that fail."""
+"""Inputs that are long or bad, or do not end."""
 
 import subprocess
 from collections.abc import Iterator
 
 from tests.program.databases import batch
 from tests.program.messages import AGREED, AGREEMENT, applied
-from tests.program.room import SECONDS, UNREADABLE, Ran, Room, without_reasons
+from tests.program.room import SECONDS, Ran, Room, without_reasons
 from tests.running import Outcome
 
 OPENING = b"Message,1,06,4012345000009,06,5012345678900,1,,,,\n"
@@ -45,13 +45,6 @@ def largest_record(room: Room) -> Iterator[Outcome]:
     came = batch(room, b"AskCatalogue,north\n")
     kept = b"catalogue,north,1\nrecord,R1,15,9781234567897\n" + supply
     yield Outcome("the largest record, as it is kept", came, Ran(0, kept))
-
-
-def broken_streams(room: Room) -> Iterator[Outcome]:
-    came = room.run("batch", given=UNREADABLE)
-    yield Outcome("an input that cannot be read", came, Ran(3, b"", b"onixdesk: input: read\n"))
-    came = room.run("batch", given=b"Foo,1\n", is_full=True)
-    yield Outcome("an output that takes nothing", came, Ran(3, b"", b"onixdesk: output\n"))
 
 
 def unended_input(room: Room) -> Iterator[Outcome]:

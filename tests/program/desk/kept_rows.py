@@ -1,8 +1,6 @@
 """A desk with rows that a run leaves as they were: one that ends with status 3 before anything is asked, or
 whose answer cannot be written. So it is with a migration whose line cannot be written."""
 
-import contextlib
-import socket
 from collections.abc import Iterator
 from functools import partial
 from typing import NamedTuple
@@ -12,7 +10,6 @@ from tests.program.databases import DATABASE, all_rows, batch, complaints, execu
 from tests.program.messages import AGREEMENT
 from tests.program.desk.migrations import CASES, Case
 from tests.program.room import UNREADABLE, Group, Ran, Room
-from tests.program.serving import HOST, free_port
 from tests.running import Outcome
 
 
@@ -45,28 +42,6 @@ def after_a_fault(fault: Fault, room: Room) -> Iterator[Outcome]:
     words = "--db", DATABASE, *fault.words.split()
     came = room.run(*words, given=UNREADABLE, is_full=fault.is_full)
     yield from stays(room, fault.words, came, Ran(3, b"", fault.line), before)
-
-
-def behind_a_taken_port(room: Room) -> Iterator[Outcome]:
-    batch(room, AGREEMENT + FIRST)
-    before = all_rows(room)
-    with contextlib.closing(socket.socket()) as listener:
-        listener.bind((HOST, 0))
-        listener.listen()
-        port = listener.getsockname()[1]
-        came = room.run("--db", DATABASE, "serve", "--port", str(port), given=UNREADABLE)
-    wanted = Ran(3, b"", b"onixdesk: port %d\n" % port)
-    yield from stays(room, "a port that is taken", came, wanted, before)
-
-
-def behind_a_file_in_the_way(room: Room) -> Iterator[Outcome]:
-    """Another file than a socket is not taken away."""
-    batch(room, AGREEMENT + FIRST)
-    before = all_rows(room)
-    room.write("desk.socket", b"")
-    words = "serve", "--port", str(free_port()), "--batches", "desk.socket"
-    came = room.run("--db", DATABASE, *words, given=UNREADABLE)
-    yield from stays(room, "a socket in the way", came, Ran(3, b"", b"onixdesk: socket\n"), before)
 
 
 def migrated_unwritten(case: Case, room: Room) -> Iterator[Outcome]:

@@ -141,7 +141,9 @@ def a_wrong_message(room: Room) -> Iterator[Outcome]:
 def a_wrong_file_of_parts(room: Room) -> Iterator[Outcome]:
     with machine(room, AGREED, WORDS="--parts 5") as desk:
         before, wrong = with_a_wrong_message(desk)
-        yield from undone(desk, "waive north 6-10", before, {"a": "10.000", "c": "7.000"}, {"3f9a0c51d2b7": mark(wrong)})
+        yield from undone(
+            desk, "waive north 6-10", before, {"a": "10.000", "c": "7.000"}, {"3f9a0c51d2b7": mark(wrong)}
+        )
         yield Outcome("a wrong file of parts: the gaps", desk.ask("AskGaps,north"), [GAPS.format(16, 15)])
 
 

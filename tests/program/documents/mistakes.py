@@ -18,6 +18,8 @@ CORRECT = "/usr/share/onixdesk/correct.sh"
 AGREEMENT = "Agree,north,06,{},06,5012345678900,{}\n"
 AGREED = AGREEMENT.format("4012345000009", 1)
 
+GAPS = "gaps,north,first=1,next={},greatest={},held=0,missing=0"
+
 
 def block_with(text: str) -> list[str]:
     """The one block that has this text."""
@@ -77,12 +79,14 @@ def another_identifier(room: Room) -> Iterator[Outcome]:
 
 
 def numbers_that_begin_again(room: Room) -> Iterator[Outcome]:
-    with machine(room, AGREED, WORDS="") as desk:
+    """Other options stay, here two numbers for each file."""
+    with machine(room, AGREED, WORDS="--parts 2") as desk:
         desk.take({"1.xml": feed(1, a="10.00", b="20.00"), "2.xml": feed(2, a="11.00")})
         states = desk.take({"new.xml": feed(1, a="12.00")})
         yield Outcome("numbers that begin again: the file", states["new.xml"], "refused")
         before, behind = {"a": "11.000", "b": "20.000"}, {"a": "12.000", "b": "20.000"}
-        yield from undone(desk, "WORDS=--number-offset 2", before, behind)
+        yield from undone(desk, "s/$/ --number-offset 2/", before, behind)
+        yield Outcome("numbers that begin again: the gaps", desk.ask("AskGaps,north")[0], GAPS.format(7, 6))
 
 
 def a_wrong_number(room: Room) -> Iterator[Outcome]:
@@ -94,8 +98,7 @@ def a_wrong_number(room: Room) -> Iterator[Outcome]:
         yield Outcome("a wrong number: its files", desk.take({}), {"1.xml": "applied", "feed.xml": "held"})
         before, behind = {"a": "9.000", "b": "20.000"}, {"a": "10.000", "b": "20.000"}
         yield from undone(desk, "20250401,/,/^EndMessage", before, behind, {"3f9a0c51d2b7": mark(dated)})
-        wanted = ["gaps,north,first=1,next=3,greatest=2,held=0,missing=0"]
-        yield Outcome("a wrong number: the gaps", desk.ask("AskGaps,north"), wanted)
+        yield Outcome("a wrong number: the gaps", desk.ask("AskGaps,north"), [GAPS.format(3, 2)])
 
 
 def a_waiver_too_early(room: Room) -> Iterator[Outcome]:
@@ -121,8 +124,7 @@ def with_a_wrong_message(desk: Machine) -> tuple[dict[str, str], bytes]:
 
 def what_comes_then(desk: Machine) -> Iterator[Outcome]:
     found = desk.ask("AskGaps,north"), desk.take({"4.xml": feed(4, a="10.50")})["4.xml"]
-    wanted = ["gaps,north,first=1,next=4,greatest=3,held=0,missing=0"], "applied"
-    yield Outcome("a wrong message: what comes then", found, wanted)
+    yield Outcome("a wrong message: what comes then", found, ([GAPS.format(4, 3)], "applied"))
 
 
 def a_wrong_message(room: Room) -> Iterator[Outcome]:
@@ -134,6 +136,15 @@ def a_wrong_message(room: Room) -> Iterator[Outcome]:
         aside = sorted(name.endswith(".before-correction") for name in copies)
         yield Outcome("a wrong message: a new copy, and the one from before", aside, [False, True])
         yield from what_comes_then(desk)
+
+
+def a_wrong_file_of_parts(room: Room) -> Iterator[Outcome]:
+    with machine(room, AGREED, WORDS="--parts 5") as desk:
+        before, wrong = with_a_wrong_message(desk)
+        yield from undone(
+            desk, "waive north 6-10", before, {"a": "10.000", "c": "7.000"}, {"3f9a0c51d2b7": mark(wrong)}
+        )
+        yield Outcome("a wrong file of parts: the gaps", desk.ask("AskGaps,north"), [GAPS.format(16, 15)])
 
 
 def a_copy_from_before_it(room: Room) -> Iterator[Outcome]:

@@ -43,7 +43,7 @@ class Settings:
 
     def given(self, word: str, usual: int) -> int:
         """The number behind a word of the converter."""
-        found = re.search(rf"{word}[ =]([0-9]{{1,9}})(?= |$)", " ".join(self.words))
+        found = re.search(rf"{word}[ =]([1-9][0-9]{{0,8}})(?= |$)", " ".join(self.words))
         return int(found[1]) if found else usual
 
     def gives_number(self, ending: str) -> bool:

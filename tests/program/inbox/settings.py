@@ -43,6 +43,9 @@ def wrong_settings(room: Room) -> Iterator[Outcome]:
     room.write("least.conf", SENDER.encode())
     found = [read_settings(Machine("test"), room.path(name)) for name in ("example.conf", "least.conf")]
     yield Outcome("the example has the defaults", found[0], found[1])
+    room.write("none.conf", f"{SENDER}WORDS=--parts 0\n".encode())
+    settings = read_settings(Machine("test"), room.path("none.conf"))
+    yield Outcome("that there are no parts the converter has to refuse", settings.parts, 1)
 
 
 def dated_terms(room: Room) -> Iterator[Outcome]:

@@ -330,6 +330,12 @@ def refused(room: Room) -> Iterator[Outcome]:
     state = inbox.work(lambda each: each.ledger.value("SELECT state FROM message WHERE number = 1"))
     wanted = {"1.xml": "rejected", "1-other.xml": "refused"}
     yield Outcome("a text without an answer", (inbox.states(), state), (wanted, "posted"))
+    inbox = inbox_in(room, "parts", words=("--parts", "5"))
+    inbox.send("far.xml", feed_of(1000, {"R1": "1.00"}))
+    inbox.run()
+    machine = inbox.machine()
+    inbox.work(lambda each: decide.decide(each, "refuse", each.ledger.files("1")[0].mark), machine)
+    yield Outcome("all numbers of its parts", "waive north 4996-5000\n" in machine.written, True)
 
 
 def halves(room: Room) -> Iterator[Outcome]:

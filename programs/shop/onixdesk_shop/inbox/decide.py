@@ -42,8 +42,9 @@ def refuse(inbox: Inbox, file: File) -> str:
     if stands:
         return "is not posted again; what the desk has of it stays until it is corrected"
     if file.number and inbox.settings.number == OWN:
-        command = f"onixdesk-inbox waive {inbox.series} {file.number}"
-        return f"is refused; unless it is sent again, its number has to be waived: {command}"
+        parts = 1 if file.ending == ".csv" else inbox.settings.parts
+        command = f"onixdesk-inbox waive {inbox.series} {ranges([*range(file.number, file.number + parts)])}"
+        return f"is refused; unless it is sent again, its numbers have to be waived: {command}"
     return "is refused"
 
 

@@ -75,8 +75,7 @@ def next_file(inbox: Inbox, seen: set[int]) -> File | None:
 
 def tell_waiting(inbox: Inbox, gaps: Gaps | None) -> None:
     """Tells once that a series waits for a number for a day, and that nothing was heard for days."""
-    waits = "SELECT min(at) FROM message WHERE state = 'held'"
-    since = inbox.ledger.value(waits)
+    since = inbox.ledger.value("SELECT min(at) FROM message WHERE state = 'held'")
     if gaps and since is not None and inbox.machine.now() - since > DAY:
         command = f"onixdesk-inbox waive {inbox.series} {gaps.next} (or have it sent again)"
         inbox.tell_once(f"waits {gaps.next}", ERROR, f"{command}; the series waits for number {gaps.next} for a day")

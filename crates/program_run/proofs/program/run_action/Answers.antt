@@ -15,7 +15,9 @@ returns-in-Migrate-clause-end g c = rw c.in-Migrate.is (tt, tt, (refl, c.migrate
 pub returns-clause-end : goal.returns-clause-end
 returns-clause-end g c =
     elim c.match-action.branch [
-      | in-InMemory w ↦ rw (w.in-InMemory.is, w.status-is, w.machine-is) (((refl, tt), w.run_in_memory-status.ensures.end), tt, tt, tt, tt, tt)
+      | in-InMemory w ↦
+          let ended = w.run_in_memory-status.ensures.end in
+          rw (w.in-InMemory.is, w.status-is, w.machine-is) (((refl, tt), ended.0, ended.1, ended.2, ended.3, ended.4), tt, tt, tt, tt, tt)
       | in-Send w ↦ rw (w.in-Send.is, w.status-is, w.machine-is) (tt, tt, tt, ((refl, tt), w.send_input-status.ensures.end), tt, tt)
       | in-Convert w ↦ rw (w.in-Convert.is, w.status-is, w.machine-is) (tt, tt, tt, tt, (tt, w.convert-status.ensures.end), tt)
       | in-CheckRules w ↦ rw (w.in-CheckRules.is, w.status-is, w.machine-is) (tt, tt, tt, tt, tt, ((refl, tt), w.check_rules-status.ensures.end))

@@ -335,7 +335,7 @@ def refused(room: Room) -> Iterator[Outcome]:
     inbox.run()
     machine = inbox.machine()
     inbox.work(lambda each: decide.decide(each, "refuse", each.ledger.files("1")[0].mark), machine)
-    yield Outcome("all numbers of its parts", "waive north 4996-5000\n" in machine.written, True)
+    yield Outcome("all numbers of its parts", "waive north 4996-5000; " in machine.written, True)
 
 
 def halves(room: Room) -> Iterator[Outcome]:

@@ -42,8 +42,8 @@ def refuse(inbox: Inbox, file: File) -> str:
     if stands:
         return "is not posted again; what the desk has of it stays until it is corrected"
     if file.number and inbox.settings.number == OWN:
-        parts = 1 if file.ending == ".csv" else inbox.settings.parts
-        command = f"onixdesk-inbox waive {inbox.series} {ranges([*range(file.number, file.number + parts)])}"
+        last = file.number + (0 if file.ending == ".csv" else inbox.settings.parts - 1)
+        command = f"onixdesk-inbox waive {inbox.series} {file.number}" + f"-{last}" * (last > file.number)
         return f"is refused; unless it is sent again, its numbers have to be waived: {command}"
     return "is refused"
 

@@ -124,8 +124,8 @@ class Model(RuleBasedStateMachine):
         sent.terms.add(self.inbox.terms)
         if sent.is_lost:
             # What was refused is a new file then, if nothing ends the run amid its copy.
-            state = self.inbox.work(lambda inbox: inbox.ledger.latest(digest_of(data)).state)
-            sent.time = time if state == "refused" else sent.time
+            file = self.inbox.work(lambda inbox: inbox.ledger.latest(digest_of(data)))
+            sent.time = time if file and file.state == "refused" else sent.time
             sent.is_lost = False
             self.clean()
 

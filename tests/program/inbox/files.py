@@ -383,6 +383,7 @@ def waived_half(room: Room) -> Iterator[Outcome]:
     inbox.run()
     yield Outcome("its other part alone", (inbox.states(), price_of(inbox, "R2")), ({"1.xml": "refused"}, ""))
     inbox.work(lambda each: decide.take_back(each, [2]))
+    yield Outcome("taken back again", inbox.work(lambda each: decide.take_back(each, [2])), 0)
     inbox.desk = before
     inbox.run()
     yield Outcome("both", (inbox.states(), price_of(inbox, "R2")), ({"1.xml": "applied"}, "2.000"))

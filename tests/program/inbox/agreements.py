@@ -79,6 +79,25 @@ def over_a_restored_desk(room: Room) -> Iterator[Outcome]:
     yield Outcome("and told so", (set(inbox.states().values()), inbox.shown()["refused"]), ({"applied"}, 0))
 
 
+def of_others(room: Room) -> Iterator[Outcome]:
+    """What waits for an agreement keeps its number, whatever comes meanwhile."""
+    for number, wanted in ("own", ([1, 2], "2.000")), (NEXT, ([1, 2, 3], "3.000")):
+        inbox = inbox_in(room, f"others {number}", number=number)
+        for place in (1, 2):
+            inbox.send(f"{place}.xml", feed_of(place, {"R1": f"{place}.00", f"S{place}": "1.00"}))
+            inbox.run()
+        inbox.desk = FakeDesk()
+        inbox.desk.series["north"] = Series((*SENDER, *ADDRESSEE), 1)
+        inbox.run()
+        inbox.send("other.xml", feed_of(2, {"R1": "3.00"}))
+        inbox.run()
+        inbox.series.parties = (*SENDER, "", "")
+        inbox.run()
+        yield Outcome(f"{number}: numbers and price", (sorted(inbox.series.had), price_of(inbox, "R1")), wanted)
+        has_all = {"R1", "S1", "S2"} <= set(inbox.series.catalogue())
+        yield Outcome(f"{number}: nothing is lost", has_all, True)
+
+
 def of_another_series(room: Room) -> Iterator[Outcome]:
     """A file that goes into another series is refused here, and posted once."""
     for number in ("own", NEXT):

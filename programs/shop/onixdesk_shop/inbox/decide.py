@@ -98,8 +98,7 @@ def waive(inbox: Inbox, numbers: Sequence[int]) -> int:
 
 
 def take_back(inbox: Inbox, numbers: Sequence[int]) -> int:
-    """The waivers of numbers are not made again. The desk has them until its text is corrected, also one that an older
-    copy of it brought back."""
+    """The waivers of numbers are not made again. The desk has them until its text is corrected."""
     with inbox.ledger.step():
         for number in {*inbox.ledger.waived()}.intersection(numbers):
             inbox.ledger.decide(Decision.UNWAIVE, number=number)

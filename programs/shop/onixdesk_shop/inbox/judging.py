@@ -14,7 +14,7 @@ from onixdesk_shop.faults import Fault
 from onixdesk_shop.feeds import Refusal, Said, check, convert
 from onixdesk_shop.inbox import full, quarantine
 from onixdesk_shop.inbox.context import Inbox
-from onixdesk_shop.inbox.ledger import File, Message, Row, State
+from onixdesk_shop.inbox.ledger import STANDING, File, Message, Row, State
 from onixdesk_shop.inbox.posting import begin_again, why_refused
 from onixdesk_shop.inbox.quarantine import Quarantine
 from onixdesk_shop.lines import ERROR, NOTICE, WARNING, cut, ranges
@@ -96,7 +96,8 @@ def feed_of(inbox: Inbox, file: File, gaps: Gaps, words: list[str], terms: bytes
     else:
         number = []
         if inbox.settings.gives_number(file.ending):
-            first = inbox.ledger.next_number(gaps, inbox.settings.parts)
+            kept = [row.number for row in inbox.ledger.messages_of(file) if row.state != State.RETURNED]
+            first = kept[0] if kept else inbox.ledger.next_number(gaps, inbox.settings.parts)
             number = ["--number", str((first - 1) // inbox.settings.parts + 1)]
         texts, said = convert(
             inbox.machine, inbox.places.program, source, [*words, *number], terms, inbox.folder / WORK
@@ -145,11 +146,12 @@ def look_at(inbox: Inbox, feed: Feed, gaps: Gaps) -> None:
 
 
 def final_row(inbox: Inbox, file: File, number: int) -> Row | None:
-    """What stands at a number of another file, whose text is final."""
+    """What stands at a number of another file, whose text is final; what has no agreement yet keeps its number too."""
     row = inbox.ledger.row(number)
-    if not row or row.file == file.id or row.state not in (State.READY, State.POSTED, State.HELD, State.APPLIED):
+    if not row or row.file == file.id:
         return None
-    return row
+    is_kept = row.state == State.REFUSED and '"unknown-series"' in row.answer
+    return row if row.state in STANDING or is_kept else None
 
 
 def take(inbox: Inbox, feed: Feed, others: dict[int, Row], messages: list[Message]) -> None:

@@ -208,7 +208,7 @@ class Ledger:
 
     def heard_at(self) -> int | None:
         """When a file came last that was no empty one."""
-        found: int | None = self.value("SELECT max(seen) FROM file WHERE products > 0")
+        found: int | None = self.value("SELECT max(seen) FROM file WHERE coalesce(products, 1) > 0")
         return found
 
     def kinds_since(self, second: int) -> list[list[str]]:
@@ -276,12 +276,8 @@ class Ledger:
             " AND file NOT IN (SELECT id FROM file WHERE state = 'rejected') ORDER BY number"
         )
         found = (Row(*row) for row in self.rows(query, gaps.first, gaps.next))
-        return [row for row in found if self.is_to_post(row, gaps)]
-
-    def is_to_post(self, row: Row, gaps: Gaps) -> bool:
-        if row.state in (State.READY, State.POSTED):
-            return True
-        return gaps.lacks(row.number) or row.state == State.HELD and row.number < gaps.next
+        new = State.READY, State.POSTED
+        return [row for row in found if row.number < gaps.next or row.state in new or gaps.lacks(row.number)]
 
     def next_number(self, gaps: Gaps, parts: int) -> int:
         """The number that a new file gets: above all that are given, and all that the desk has, the first of a whole

@@ -106,7 +106,7 @@ def settle_refused(inbox: Inbox, row: Row, answer: Refused) -> None:
     file = ledger.file(row.file)
     ledger.set_message(row.number, State.REFUSED, answer.said)
     is_next = inbox.settings.gives_number(file.ending)
-    if is_next and not ledger.has_stood(file, (State.HELD, State.APPLIED)):
+    if is_next and answer.reason != "unknown-series" and not ledger.has_stood(file, (State.HELD, State.APPLIED)):
         for each in ledger.messages_of(file):
             ledger.set_message(each.number, State.RETURNED)
         if answer.reason in QUICKER and row.state in (State.READY, State.POSTED):

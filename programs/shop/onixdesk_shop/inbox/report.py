@@ -58,8 +58,7 @@ def of_the_week(inbox: Inbox) -> Iterator[str]:
 
 
 def not_alike(inbox: Inbox, gaps: Gaps | None) -> Iterator[str]:
-    """What the agreement, desk.json or the terms have otherwise than the settings. Of an agreement that is there the desk
-    only says whether it is the same. The table of terms may be a wrong one."""
+    """What the agreement, desk.json or the terms have otherwise than the settings. The terms may be no table."""
     settings, shop = inbox.settings, inbox.shop
     if gaps:
         agreement = inbox.ledger.agreement(inbox.series, settings.sender, gaps.first)

@@ -278,7 +278,10 @@ def https_without_times(room: Room) -> Iterator[Outcome]:
         fetch.offer("c.xml", "new")
         ran = fetch.run()
         yield Outcome("fetch: as long as before", (ran, sorted(fetch.came().values())), (Ran(0), ["new", "old", "old"]))
-        yield Outcome("fetch: its time is its arrival's", (fetch.incoming / "c.xml").stat().st_mtime > DAY * 365, True)
+        time_of_c = (fetch.incoming / "c.xml").stat().st_mtime
+        yield Outcome("fetch: its time is its arrival's", time_of_c > DAY * 365, True)
+        fetch.run()
+        yield Outcome("fetch: the same again is none", (fetch.incoming / "c.xml").stat().st_mtime, time_of_c)
 
 
 def killed_amid(room: Room) -> Iterator[Outcome]:

@@ -52,10 +52,13 @@ PASSES: dict[str, Feed] = {
 }
 
 
-def behind_a_first_feed(room: Room, name: str, books: Feed, **settings: Any) -> tuple[FakeInbox, str]:
+def behind_a_first_feed(
+    room: Room, name: str, books: Feed, has_shop: bool = True, **settings: Any
+) -> tuple[FakeInbox, str]:
     folder = room.path(name.replace(" ", "-"))
     folder.mkdir()
     inbox = FakeInbox(folder, room.program, **settings)
+    inbox.shop = inbox.shop if has_shop else None
     inbox.places.rules.write_text(RULES)
     inbox.send("first.xml", feed(1, BOOKS))
     inbox.run()
@@ -69,6 +72,13 @@ def feeds_that_look_wrong(room: Room) -> Iterator[Outcome]:
         yield Outcome(name, behind_a_first_feed(room, name, books)[1], "quarantined")
     for name, books in PASSES.items():
         yield Outcome(name, behind_a_first_feed(room, name, books)[1], "applied")
+
+
+def without_desk_json(room: Room) -> Iterator[Outcome]:
+    """For whom the last feed was is asked for where no settings of the shop say it."""
+    for name in ("in another currency", "for another market", "all deleted"):
+        state = behind_a_first_feed(room, name, QUARANTINED[name], has_shop=False)[1]
+        yield Outcome(f"{name}, without desk.json", state, "quarantined")
 
 
 def few_deletions_of_many(room: Room) -> Iterator[Outcome]:

@@ -89,6 +89,17 @@ def numbers_that_begin_again(room: Room) -> Iterator[Outcome]:
         yield Outcome("numbers that begin again: the gaps", desk.ask("AskGaps,north")[0], GAPS.format(7, 6))
 
 
+def numbers_that_begin_again_below_a_waiver(room: Room) -> Iterator[Outcome]:
+    """The desk refuses the new file by the waiver, and its line has no setting."""
+    with machine(room, AGREED) as desk:
+        desk.run(["onixdesk-inbox waive north 1"])
+        desk.take({"2.xml": feed(2, a="11.00")})
+        states = desk.take({"new.xml": feed(1, a="12.00")})
+        yield Outcome("numbers that begin again below a waiver: the file", states["new.xml"], "refused")
+        yield from undone(desk, "s/$/ --number-offset 2/", {"a": "11.000"}, {"a": "12.000"})
+        yield Outcome("numbers that begin again below a waiver: the gaps", desk.ask("AskGaps,north"), [GAPS.format(4, 3)])
+
+
 def a_wrong_number(room: Room) -> Iterator[Outcome]:
     """It is in quarantine first, since its number is far ahead, and somebody lets it in."""
     with machine(room, AGREED) as desk:
@@ -110,6 +121,10 @@ def a_waiver_too_early(room: Room) -> Iterator[Outcome]:
         states = desk.take({"6.xml": feed(6, b="6.00")}) | desk.take(arrived)
         yield Outcome("a waiver too early: its files", states["5.xml"], "refused")
         before, behind = {"a": "14.000", "b": "6.000"}, {"a": "16.000", "b": "6.000", "c": "7.000"}
+        desk.run(["systemctl start onixdesk-copy.service"])
+        yield from undone(desk, "waive --back north 5", before, behind)
+        ran = desk.run(["desk-restore --before-correction --yes /var/lib/onixdesk-copies/*.before-correction"])
+        yield Outcome("a waiver too early: a copy from before it is back", desk.prices()["a"], ["14.000"])
         yield from undone(desk, "waive --back north 5", before, behind)
 
 

@@ -91,7 +91,7 @@ def numbers_that_begin_again(room: Room) -> Iterator[Outcome]:
 
 def numbers_that_begin_again_below_a_waiver(room: Room) -> Iterator[Outcome]:
     """The desk refuses the new file by the waiver, and its line has no setting."""
-    with machine(room, AGREED) as desk:
+    with machine(room, AGREED, WORDS="") as desk:
         desk.run(["onixdesk-inbox waive north 1"])
         desk.take({"2.xml": feed(2, a="11.00")})
         states = desk.take({"new.xml": feed(1, a="12.00")})
@@ -123,7 +123,7 @@ def a_waiver_too_early(room: Room) -> Iterator[Outcome]:
         before, behind = {"a": "14.000", "b": "6.000"}, {"a": "16.000", "b": "6.000", "c": "7.000"}
         desk.run(["systemctl start onixdesk-copy.service"])
         yield from undone(desk, "waive --back north 5", before, behind)
-        ran = desk.run(["desk-restore --before-correction --yes /var/lib/onixdesk-copies/*.before-correction"])
+        desk.run(["desk-restore --before-correction --yes /var/lib/onixdesk-copies/*.before-correction"])
         yield Outcome("a waiver too early: a copy from before it is back", desk.prices()["a"], ["14.000"])
         yield from undone(desk, "waive --back north 5", before, behind)
 

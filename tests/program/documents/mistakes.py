@@ -110,7 +110,9 @@ def numbers_that_begin_again_below_a_waiver(room: Room) -> Iterator[Outcome]:
         states = desk.take({"new.xml": feed(1, a="12.00")})
         yield Outcome("numbers that begin again below a waiver: the file", states["new.xml"], "refused")
         yield from undone(desk, "s/$/ --number-offset 2/", {"a": "11.000"}, {"a": "12.000"})
-        yield Outcome("numbers that begin again below a waiver: the gaps", desk.ask("AskGaps,north"), [GAPS.format(4, 3)])
+        yield Outcome(
+            "numbers that begin again below a waiver: the gaps", desk.ask("AskGaps,north"), [GAPS.format(4, 3)]
+        )
 
 
 def a_wrong_number(room: Room) -> Iterator[Outcome]:

@@ -45,6 +45,18 @@ def undone(
     yield Outcome(f"{text}: prices behind", desk.prices(), {name: [amount] for name, amount in behind.items()})
 
 
+def undone_again(
+    desk: Machine, text: str, before: dict[str, str], behind: dict[str, str], lacking: bytes
+) -> Iterator[Outcome]:
+    """So it is behind a restore of a copy from before it, which may say what the desk lacks until then."""
+    desk.run(["systemctl start onixdesk-copy.service"])
+    yield from undone(desk, text, before, behind)
+    ran = desk.run(["desk-restore --before-correction --yes /var/lib/onixdesk-copies/*.before-correction"])
+    found = ran.status, lacking in ran.errors
+    yield Outcome(f"{text}: a copy from before it is restored", found, (1 if lacking else 0, True))
+    yield from undone(desk, text, before, behind)
+
+
 def a_mistyped_sender(room: Room) -> Iterator[Outcome]:
     with machine(room, AGREEMENT.format("4012345000008", 1), SENDER="06,4012345000008") as desk:
         states = desk.take({"1.xml": feed(1, a="10.00", b="20.00"), "2.xml": feed(2, a="11.00")})
@@ -75,7 +87,8 @@ def another_identifier(room: Room) -> Iterator[Outcome]:
         states = desk.take(files)
         yield Outcome("another identifier: its files", states, {"1.xml": "applied", "2.xml": "refused"})
         before, behind = {"a": "10.000", "b": "20.000"}, {"a": "11.000", "b": "20.000"}
-        yield from undone(desk, "s/^\\(Agree,[^,]*\\|Message", before, behind)
+        lacking = b"the desk still lacks number 2"
+        yield from undone_again(desk, "s/^\\(Agree,[^,]*\\|Message", before, behind, lacking)
 
 
 def numbers_that_begin_again(room: Room) -> Iterator[Outcome]:
@@ -87,6 +100,19 @@ def numbers_that_begin_again(room: Room) -> Iterator[Outcome]:
         before, behind = {"a": "11.000", "b": "20.000"}, {"a": "12.000", "b": "20.000"}
         yield from undone(desk, "s/$/ --number-offset 2/", before, behind)
         yield Outcome("numbers that begin again: the gaps", desk.ask("AskGaps,north")[0], GAPS.format(7, 6))
+
+
+def numbers_that_begin_again_below_a_waiver(room: Room) -> Iterator[Outcome]:
+    """The desk refuses the new file by the waiver, and its line has no setting."""
+    with machine(room, AGREED, WORDS="") as desk:
+        desk.run(["onixdesk-inbox waive north 1"])
+        desk.take({"2.xml": feed(2, a="11.00")})
+        states = desk.take({"new.xml": feed(1, a="12.00")})
+        yield Outcome("numbers that begin again below a waiver: the file", states["new.xml"], "refused")
+        yield from undone(desk, "s/$/ --number-offset 2/", {"a": "11.000"}, {"a": "12.000"})
+        yield Outcome(
+            "numbers that begin again below a waiver: the gaps", desk.ask("AskGaps,north"), [GAPS.format(4, 3)]
+        )
 
 
 def a_wrong_number(room: Room) -> Iterator[Outcome]:
@@ -110,7 +136,7 @@ def a_waiver_too_early(room: Room) -> Iterator[Outcome]:
         states = desk.take({"6.xml": feed(6, b="6.00")}) | desk.take(arrived)
         yield Outcome("a waiver too early: its files", states["5.xml"], "refused")
         before, behind = {"a": "14.000", "b": "6.000"}, {"a": "16.000", "b": "6.000", "c": "7.000"}
-        yield from undone(desk, "waive --back north 5", before, behind)
+        yield from undone_again(desk, "waive --back north 5", before, behind, b"")
 
 
 def with_a_wrong_message(desk: Machine) -> tuple[dict[str, str], bytes]:

@@ -5,7 +5,7 @@ import sys
 from dataclasses import dataclass, field
 from pathlib import Path
 
-from onixdesk_shop.faults import BAD_CALL, DONE, FAILED, BadCall, BadEnd, Fault
+from onixdesk_shop.faults import BAD_CALL, DONE, FAILED, BadCall, BadEnd
 from onixdesk_shop.feed_stream import Damaged, pieces_of
 from onixdesk_shop.lines import cut, shown
 from onixdesk_shop.machine import Machine
@@ -110,10 +110,11 @@ def convert(
 
 def check(machine: Machine, program: Path, message: bytes) -> str:
     """Why the desk would not take a message, or an empty text."""
-    ended = machine.run([program, "check", "-"], (DONE, FAILED), message, seconds=CHECK_SECONDS)
+    try:
+        ended = machine.run([program, "check", "-"], (DONE, FAILED), message, seconds=CHECK_SECONDS)
+    except BadEnd as end:
+        return f"its check failed: {end}"
     if ended.status == DONE:
         return ""
     lines = ended.errors.decode("utf-8", "backslashreplace").splitlines()
-    if not lines:
-        raise Fault(f"{program} check ended with status {ended.status}, and said nothing")
-    return cut(ON_INPUT.sub("", lines[0]).removeprefix(PROGRAM_SAYS))
+    return cut(ON_INPUT.sub("", lines[0]).removeprefix(PROGRAM_SAYS)) if lines else "its check says nothing"

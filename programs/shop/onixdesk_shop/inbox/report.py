@@ -53,8 +53,7 @@ def of_the_week(inbox: Inbox) -> Iterator[str]:
     """The last files that were taken, and how much of what the series had was deleted in seven days."""
     for file in inbox.ledger.files("state = 'applied'")[-LAST_FILES:]:
         yield f"{file.mark}: applied {moment(file.at)}; {token(file.name)}"
-    since = int(inbox.machine.now()) - WEEK
-    yield f"{count(inbox.ledger.value(DELETED, since), 'article')} deleted in seven days"
+    yield f"{count(inbox.ledger.value(DELETED, int(inbox.machine.now()) - WEEK), 'article')} deleted in seven days"
 
 
 def not_alike(inbox: Inbox, gaps: Gaps | None) -> Iterator[str]:

@@ -115,6 +115,7 @@ def set_up_and_removed(room: Room) -> Iterator[Outcome]:
 def uploads_by_sftp(room: Room) -> Iterator[Outcome]:
     room.call(["ssh-keygen", "-q", "-t", "ed25519", "-N", "", "-f", "host"])
     lines = [f"HostKey {room.path('host')}", *block_with("Match Group")]
+    os.makedirs("/run/sshd", exist_ok=True)
     room.write("sshd.conf", written(lines))
     ran = room.call(["/usr/sbin/sshd", "-t", "-f", room.path("sshd.conf")])
     yield Outcome(f"{PAGE}: the lines of sshd_config", (ran.status, ran.errors), (0, b""))
@@ -124,8 +125,7 @@ def uploads_by_sftp(room: Room) -> Iterator[Outcome]:
 def fetched_by_sftp(room: Room) -> Iterator[Outcome]:
     """rclone reads the key that the block writes; no server is asked."""
     desk = Machine(room)
-    room.path("etc/onixdesk/fetch").mkdir()
-    folder = room.path("etc/onixdesk/fetch")
+    (folder := room.path("etc/onixdesk/fetch")).mkdir()
     for name in ("key", "host"):
         room.call(["ssh-keygen", "-q", "-t", "ed25519", "-N", "", "-f", folder / name])
     example = (ROOT / "programs/onixdesk-fetch/example.env").read_bytes()

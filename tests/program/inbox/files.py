@@ -406,6 +406,32 @@ def waived_half(room: Room) -> Iterator[Outcome]:
     yield Outcome("both", (inbox.states(), price_of(inbox, "R2")), ({"1.xml": "applied"}, "2.000"))
 
 
+def waived_before(room: Room) -> Iterator[Outcome]:
+    """A desk from before has a waiver again that was taken back: that is told, and what came since is posted as it was once
+    the desk lacks it."""
+    for number, state in (1, "applied"), (2, "held"):
+        inbox = inbox_in(room, f"waived before {state}")
+        assert inbox.desk
+        before = inbox.desk.copy()
+        inbox.work(lambda each: decide.waive(each, [number]))
+        inbox.run()
+        waived = inbox.desk
+        inbox.work(lambda each: decide.take_back(each, [number]))
+        inbox.desk = before.copy()
+        inbox.send("a.xml", feed_of(number, {"R1": "1.00"}))
+        inbox.run()
+        had = inbox.series.had[number]
+        yield Outcome(f"{state}: it came", (inbox.states(), inbox.run()), ({"a.xml": state}, []))
+        inbox.desk = waived
+        said = [line.rpartition("; ")[0].rpartition("; ")[2] for line in inbox.run()]
+        found = said, inbox.states(), inbox.shown()["refused"], inbox.work(lambda each: each.ledger.articles()), inbox.run()
+        wanted = [f"refused: number {number} was waived"], {"a.xml": "refused"}, 1, 0, []
+        yield Outcome(f"{state}: waived again", found, wanted)
+        inbox.desk, inbox.terms = before, b"50"
+        inbox.run()
+        yield Outcome(f"{state}: once more", (inbox.series.had[number], inbox.states()), (had, {"a.xml": state}))
+
+
 def endings(room: Room) -> Iterator[Outcome]:
     """A file that came under a wrong ending is put there again under the right one."""
     inbox = inbox_in(room, "ending")

@@ -14,7 +14,7 @@ from onixdesk_shop.faults import Fault
 from onixdesk_shop.feeds import Refusal, Said, check, convert
 from onixdesk_shop.inbox import full, quarantine
 from onixdesk_shop.inbox.context import Inbox
-from onixdesk_shop.inbox.ledger import STANDING, File, Message, Row, State
+from onixdesk_shop.inbox.ledger import ROW, STANDING, File, Message, Row, State
 from onixdesk_shop.inbox.posting import begin_again, why_refused
 from onixdesk_shop.inbox.quarantine import Quarantine
 from onixdesk_shop.lines import ERROR, NOTICE, WARNING, cut, ranges
@@ -218,12 +218,14 @@ def retry_refused(inbox: Inbox, gaps: Gaps) -> None:
     ledger = inbox.ledger
     ledger.retry_refused(inbox.basis(gaps.first))
     was_had = "answer LIKE '%\"other-contents\"%' OR answer LIKE '%\"waived\"%'"
-    query = f"SELECT number, file FROM message WHERE state = 'refused' AND ({was_had})"
-    lacking = [(number, ledger.file(file)) for number, file in ledger.rows(query) if gaps.lacks(number)]
+    query = f"{ROW} WHERE state = 'refused' AND ({was_had} OR answer LIKE '%\"held\"%' OR answer LIKE '%\"applied\"%')"
+    lacking = [row for row in map(Row._make, ledger.rows(query)) if row.has_text and gaps.lacks(row.number)]
     if lacking:
         with ledger.step():
-            for number, file in lacking:
-                ledger.do("UPDATE message SET answer = '' WHERE number = ?", number)
-                if file.state == State.REFUSED and ledger.has_stood(file):
+            for row in lacking:
+                file = ledger.file(row.file)
+                if file.state == State.REFUSED and ledger.is_final(file):
                     begin_again(inbox, file)
+                if not row.was_taken:
+                    ledger.do("UPDATE message SET answer = '' WHERE number = ?", row.number)
             ledger.retry_refused()

@@ -72,6 +72,11 @@ class Row(NamedTuple):
     answer: str
     has_text: int
 
+    @property
+    def was_taken(self) -> bool:
+        """Whether a desk took it, this one or one before."""
+        return self.answer.startswith(('{"answer": "held"', '{"answer": "applied"'))
+
 
 @dataclass(frozen=True)
 class Message:
@@ -144,7 +149,7 @@ class Ledger:
             self.set_of_file(known, name=name, modified=modified, seen=now)
             if known.state == State.NEW:
                 self.set_of_file(known, time=min(time, known.time))
-            if known.state == State.REFUSED and not self.has_stood(known):
+            if known.state == State.REFUSED and not self.is_final(known):
                 self.set_of_file(known, time=time if is_new else min(time, known.time), ending=ending)
                 self.set_state(known, State.NEW, "its bytes were put there again")
             return self.file(known.id)
@@ -168,12 +173,17 @@ class Ledger:
         """Has what was refused by another basis judged anew."""
         with self.step():
             for file in self.files("state = 'refused' AND basis <> ?", basis):
-                if not self.has_stood(file):
+                if not self.is_final(file):
                     self.set_state(file, State.NEW)
 
     def has_stood(self, file: File, states: tuple[State, ...] = (State.POSTED, State.HELD, State.APPLIED)) -> bool:
         """Whether the desk has, or may have, a message of a file."""
         return any(row.state in states for row in self.messages_of(file))
+
+    def is_final(self, file: File) -> bool:
+        """Whether a text of a file is final: the desk has it, or may have it, or one before took it."""
+        were_taken = any(row.state == State.REFUSED and row.was_taken for row in self.messages_of(file))
+        return were_taken or self.has_stood(file)
 
     def set_state(self, file: File, state: str, why: str = "") -> None:
         now = int(self.machine.now())
@@ -338,10 +348,10 @@ class Ledger:
             return False
         return self.file(row.file).state != State.REJECTED
 
-    def waived(self) -> list[int]:
-        """The numbers of which it was decided last that they are waived."""
+    def waived(self, decision: Decision = Decision.WAIVE) -> list[int]:
+        """The numbers of which it was decided last that they are waived, or that they are not any more."""
         last = "SELECT number, what, max(id) FROM decision WHERE what IN ('waive', 'unwaive') GROUP BY number"
-        return [number for number, what, _ in self.rows(last) if what == Decision.WAIVE]
+        return [number for number, what, _ in self.rows(last) if what == decision]
 
     def left(self, subject: str) -> File | None:
         """The file that was taken and left in its folder, by what is told of it."""

@@ -104,7 +104,9 @@ def settle_file(inbox: Inbox, file: File) -> None:
 def settle_refused(inbox: Inbox, row: Row, answer: Refused) -> None:
     ledger, why = inbox.ledger, why_refused(answer)
     file = ledger.file(row.file)
-    ledger.set_message(row.number, State.REFUSED, answer.said)
+    # With the answer of a desk that took it, it is posted again as it is once the desk lacks it.
+    is_kept = row.was_taken and answer.reason in ("waived", "other-contents")
+    ledger.set_message(row.number, State.REFUSED, "" if is_kept else answer.said)
     is_next = inbox.settings.gives_number(file.ending)
     if is_next and answer.reason != "unknown-series" and not ledger.has_stood(file, (State.HELD, State.APPLIED)):
         for each in ledger.messages_of(file):
@@ -129,6 +131,22 @@ def retry_unknown(inbox: Inbox, gaps: Gaps) -> None:
     for number, file in inbox.ledger.rows(query, gaps.first):
         if isinstance(inbox.desk.post(inbox.ledger.text(number)), Taken):
             begin_again(inbox, inbox.ledger.file(file), number)
+
+
+def post_unwaived(inbox: Inbox, gaps: Gaps) -> None:
+    """Posts again what came to a number whose waiver was taken back: that a desk from before has it again shows in nothing
+    else."""
+    ledger = inbox.ledger
+    for number in ledger.waived(Decision.UNWAIVE):
+        row = ledger.row(number)
+        stands = row and row.has_text and ledger.stands(number, (State.HELD, State.APPLIED))
+        if not row or not stands or number < gaps.first or gaps.lacks(number):
+            continue
+        answer = inbox.desk.post(ledger.text(number))
+        if isinstance(answer, Refused):
+            with ledger.step():
+                settle_refused(inbox, row, answer)
+                ledger.forget_references(number)
 
 
 def begin_again(inbox: Inbox, file: File, taken: int = 0) -> None:

@@ -41,6 +41,7 @@ def work(inbox: Inbox, gaps: Gaps) -> Gaps:
     gaps = posting.waive(inbox, gaps)
     posting.below_first(inbox, gaps)
     posting.retry_unknown(inbox, gaps)
+    posting.post_unwaived(inbox, gaps)
     retry_refused(inbox, gaps)
     try:
         gaps = posting.post_all(inbox, gaps)

@@ -150,7 +150,7 @@ def final_row(inbox: Inbox, file: File, number: int) -> Row | None:
     row = inbox.ledger.row(number)
     if not row or row.file == file.id:
         return None
-    is_kept = row.state == State.REFUSED and '"unknown-series"' in row.answer
+    is_kept = row.state == State.REFUSED and ('"unknown-series"' in row.answer or row.was_taken)
     return row if row.state in STANDING or is_kept else None
 
 

@@ -74,8 +74,8 @@ class Row(NamedTuple):
 
     @property
     def was_taken(self) -> bool:
-        """Whether a desk took it, this one or one before."""
-        return self.answer.startswith(('{"answer": "held"', '{"answer": "applied"'))
+        """Whether a desk took its text, this one or one before."""
+        return bool(self.has_text) and self.answer.startswith(('{"answer": "held"', '{"answer": "applied"'))
 
 
 @dataclass(frozen=True)

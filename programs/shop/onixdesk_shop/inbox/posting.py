@@ -1,6 +1,7 @@
 """What the ledger has, posted to the desk: only the ledger's text, in order of numbers."""
 
 import itertools
+import json
 
 from functools import partial
 
@@ -67,7 +68,8 @@ def post_row(inbox: Inbox, row: Row) -> None:
         inbox.ledger.set_message(row.number, State.POSTED)
     answer = inbox.desk.post(inbox.ledger.text(row.number))
     if isinstance(answer, Taken) and answer.series != inbox.series:
-        answer = Refused("other-series", {"series": answer.series}, answer.said)
+        members = {"reason": "other-series", "series": answer.series}
+        answer = Refused("other-series", members, json.dumps({"answer": "refused", **members}))
     with inbox.ledger.step():
         if isinstance(answer, Taken):
             settle_taken(inbox, current, answer)

@@ -4,7 +4,7 @@ from collections.abc import Iterator
 from dataclasses import replace
 from typing import Any
 
-from onixdesk_shop.inbox import report
+from onixdesk_shop.inbox import decide, report
 from onixdesk_shop.settings import NEXT
 from tests.program.inbox.files import inbox_in, price_of
 from tests.program.room import Room
@@ -96,6 +96,24 @@ def of_others(room: Room) -> Iterator[Outcome]:
         yield Outcome(f"{number}: numbers and price", (sorted(inbox.series.had), price_of(inbox, "R1")), wanted)
         has_all = {"R1", "S1", "S2"} <= set(inbox.series.catalogue())
         yield Outcome(f"{number}: nothing is lost", has_all, True)
+
+
+def compared(room: Room) -> Iterator[Outcome]:
+    """What came before its series was agreed is compared with what came before it, once that is there."""
+    for number in ("own", NEXT):
+        inbox = inbox_in(room, f"compared {number}", number=number)
+        inbox.series.parties = (*SENDER, *ADDRESSEE)
+        for place, price in enumerate(("4.50", "1000.00", "5.00"), 1):
+            inbox.send(f"{place}.xml", feed_of(place, {f"R{each}": price for each in range(12)}))
+            inbox.run()
+        inbox.series.parties = (*SENDER, "", "")
+        inbox.run()
+        wanted = {"1.xml": "applied", "2.xml": "quarantined", "3.xml": "new"}
+        yield Outcome(f"{number}: in its turn", (inbox.states(), price_of(inbox, "R1")), (wanted, "4.500"))
+        inbox.work(lambda each: decide.decide(each, "let-in", each.ledger.files("state = 'quarantined'")[0].mark))
+        inbox.run()
+        found = price_of(inbox, "R1"), inbox.states()["3.xml"], [*inbox.series.had]
+        yield Outcome(f"{number}: let in", found, ("1000.000", "quarantined", [1, 2]))
 
 
 def of_another_series(room: Room) -> Iterator[Outcome]:

@@ -15,7 +15,7 @@ from onixdesk_shop.feeds import Refusal, Said, check, convert
 from onixdesk_shop.inbox import full, quarantine
 from onixdesk_shop.inbox.context import Inbox
 from onixdesk_shop.inbox.ledger import ROW, STANDING, File, Message, Row, State
-from onixdesk_shop.inbox.posting import begin_again, why_refused
+from onixdesk_shop.inbox.posting import REASONS, begin_again, why_refused
 from onixdesk_shop.inbox.quarantine import Quarantine
 from onixdesk_shop.lines import ERROR, NOTICE, WARNING, cut, ranges
 from onixdesk_shop.messages import header_of, is_message, products_of
@@ -224,7 +224,8 @@ def retry_refused(inbox: Inbox, gaps: Gaps) -> None:
         with ledger.step():
             for row in lacking:
                 file = ledger.file(row.file)
-                if file.state == State.REFUSED and ledger.is_final(file):
+                is_agreed = file.why != REASONS["unknown-series"]
+                if file.state == State.REFUSED and is_agreed and ledger.is_final(file):
                     begin_again(inbox, file)
                 if not row.was_taken:
                     ledger.do("UPDATE message SET answer = '' WHERE number = ?", row.number)

@@ -107,7 +107,7 @@ def settle_refused(inbox: Inbox, row: Row, answer: Refused) -> None:
     ledger, why = inbox.ledger, why_refused(answer)
     file = ledger.file(row.file)
     # With the answer of a desk that took it, it is posted again as it is once the desk lacks it.
-    is_kept = row.was_taken and answer.reason in ("waived", "other-contents")
+    is_kept = row.was_taken and answer.reason in ("waived", "other-contents", "unknown-series")
     ledger.set_message(row.number, State.REFUSED, "" if is_kept else answer.said)
     is_next = inbox.settings.gives_number(file.ending)
     if is_next and answer.reason != "unknown-series" and not ledger.has_stood(file, (State.HELD, State.APPLIED)):
@@ -123,16 +123,20 @@ def settle_refused(inbox: Inbox, row: Row, answer: Refused) -> None:
 
 
 def retry_unknown(inbox: Inbox, gaps: Gaps) -> None:
-    """Posts again what no agreement was for, without a line: that the desk has another one by now shows in nothing
-    else."""
+    """Posts again what no agreement was for, without a line: that the desk has another one by now shows in nothing else.
+    Behind the first that it takes, what no desk took before is judged anew, since there was nothing to compare it with."""
+    ledger, is_agreed = inbox.ledger, False
     query = (
         "SELECT number, file FROM message WHERE state IN ('refused', 'returned') AND number >= ? AND text IS NOT NULL"
-        " AND answer LIKE '%\"unknown-series\"%' AND file IN (SELECT id FROM file WHERE state = 'refused')"
-        " ORDER BY number"
+        " AND file IN (SELECT id FROM file WHERE state = 'refused' AND why = ?) ORDER BY number"
     )
-    for number, file in inbox.ledger.rows(query, gaps.first):
-        if isinstance(inbox.desk.post(inbox.ledger.text(number)), Taken):
-            begin_again(inbox, inbox.ledger.file(file), number)
+    for number, of_file in ledger.rows(query, gaps.first, REASONS["unknown-series"]):
+        file = ledger.file(of_file)
+        if file.state == State.REFUSED and is_agreed and not ledger.is_final(file):
+            ledger.set_state(file, State.NEW)
+        elif file.state == State.REFUSED and isinstance(inbox.desk.post(ledger.text(number)), Taken):
+            begin_again(inbox, file, number)
+            is_agreed = True
 
 
 def post_unwaived(inbox: Inbox, gaps: Gaps) -> None:

@@ -123,11 +123,15 @@ class Model(RuleBasedStateMachine):
         sent = self.sent.setdefault(digest_of(data), Sent(data, time, is_whole, number))
         sent.terms.add(self.inbox.terms)
         if sent.is_lost:
-            # What was refused is a new file then, if nothing ends the run amid its copy.
-            file = self.inbox.work(lambda inbox: inbox.ledger.latest(digest_of(data)))
-            sent.time = time if file and file.state == "refused" else sent.time
+            # What was refused whole is a new file then, if nothing ends the run amid its copy.
+            sent.time = time if self.inbox.work(lambda inbox: self.is_refused(inbox, data)) else sent.time
             sent.is_lost = False
             self.clean()
+
+    def is_refused(self, inbox: Inbox, data: bytes) -> bool:
+        """Whether a file is refused, and no desk has anything of it."""
+        file = inbox.ledger.latest(digest_of(data))
+        return file is not None and file.state == "refused" and not inbox.ledger.is_final(file)
 
     # Which of what there is: a number, so that the steps of a run can be made again as they are printed.
     some = st.integers(0, 11)

@@ -289,6 +289,11 @@ class Ledger:
         new = State.READY, State.POSTED
         return [row for row in found if row.number < gaps.next or row.state in new or gaps.lacks(row.number)]
 
+    def last_final(self) -> int:
+        """The greatest number that its file has for good."""
+        rows = map(Row._make, self.rows(ROW))
+        return max((row.number for row in rows if row.was_taken or row.state in STANDING), default=0)
+
     def next_number(self, gaps: Gaps, parts: int) -> int:
         """The number that a new file gets: above all that are given, and all that the desk has, the first of a whole
         group of parts."""

@@ -132,11 +132,25 @@ def retry_unknown(inbox: Inbox, gaps: Gaps) -> None:
     )
     for number, of_file in ledger.rows(query, gaps.first, REASONS["unknown-series"]):
         file = ledger.file(of_file)
-        if file.state == State.REFUSED and is_agreed and not ledger.is_final(file):
-            ledger.set_state(file, State.NEW)
-        elif file.state == State.REFUSED and isinstance(inbox.desk.post(ledger.text(number)), Taken):
+        if file.state != State.REFUSED or is_agreed and not ledger.is_final(file):
+            continue
+        if isinstance(inbox.desk.post(ledger.text(number)), Taken):
             begin_again(inbox, file, number)
             is_agreed = True
+    for file in ledger.files("state = 'refused' AND why = ?", REASONS["unknown-series"]) if is_agreed else []:
+        if not ledger.is_final(file):
+            judge_again(inbox, file)
+
+
+def judge_again(inbox: Inbox, file: File) -> None:
+    """Has a file that no desk took judged anew; it gives back the numbers that the inbox gave, unless a later one has
+    its own for good."""
+    ledger = inbox.ledger
+    with ledger.step():
+        for row in ledger.messages_of(file) if inbox.settings.gives_number(file.ending) else []:
+            if row.number > ledger.last_final():
+                ledger.set_message(row.number, State.RETURNED)
+        ledger.set_state(file, State.NEW)
 
 
 def post_unwaived(inbox: Inbox, gaps: Gaps) -> None:

@@ -15,7 +15,7 @@ from onixdesk_shop.feeds import Refusal, Said, check, convert
 from onixdesk_shop.inbox import full, quarantine
 from onixdesk_shop.inbox.context import Inbox
 from onixdesk_shop.inbox.ledger import ROW, STANDING, File, Message, Row, State
-from onixdesk_shop.inbox.posting import REASONS, begin_again, why_refused
+from onixdesk_shop.inbox.posting import REASONS, begin_again, give_back, why_refused
 from onixdesk_shop.inbox.quarantine import Quarantine
 from onixdesk_shop.lines import ERROR, NOTICE, WARNING, cut, ranges
 from onixdesk_shop.messages import header_of, is_message, products_of
@@ -79,7 +79,9 @@ def offset_for(inbox: Inbox, file: File, gaps: Gaps) -> list[str]:
 
 
 def quarantine_file(inbox: Inbox, file: File, why: str) -> None:
-    inbox.ledger.set_state(file, State.QUARANTINED, why)
+    with inbox.ledger.step():
+        give_back(inbox, file)
+        inbox.ledger.set_state(file, State.QUARANTINED, why)
     commands = inbox.command("let-in", file), inbox.command("refuse", file)
     inbox.tell_file(ERROR, file, f"quarantined: {why}; later files wait", *commands)
 

@@ -137,20 +137,28 @@ def retry_unknown(inbox: Inbox, gaps: Gaps) -> None:
         if isinstance(inbox.desk.post(ledger.text(number)), Taken):
             begin_again(inbox, file, number)
             is_agreed = True
-    for file in ledger.files("state = 'refused' AND why = ?", REASONS["unknown-series"]) if is_agreed else []:
-        if not ledger.is_final(file):
-            judge_again(inbox, file)
+    if is_agreed:
+        judge_behind(inbox)
 
 
-def judge_again(inbox: Inbox, file: File) -> None:
-    """Has a file that no desk took judged anew; it gives back the numbers that the inbox gave, unless a later one has
-    its own for good."""
+def judge_behind(inbox: Inbox) -> None:
+    """Has all that waited for an agreement, and no desk took, judged anew."""
     ledger = inbox.ledger
     with ledger.step():
-        for row in ledger.messages_of(file) if inbox.settings.gives_number(file.ending) else []:
+        for file in ledger.files("state = 'new' OR state = 'refused' AND why = ?", REASONS["unknown-series"]):
+            give_back(inbox, file)
+            if not ledger.is_final(file):
+                ledger.set_state(file, State.NEW)
+
+
+def give_back(inbox: Inbox, file: File) -> None:
+    """The numbers that the inbox gave to a file that no desk took are free again, unless a later one is another's for
+    good."""
+    ledger = inbox.ledger
+    if inbox.settings.gives_number(file.ending) and not ledger.is_final(file):
+        for row in ledger.messages_of(file):
             if row.number > ledger.last_final():
                 ledger.set_message(row.number, State.RETURNED)
-        ledger.set_state(file, State.NEW)
 
 
 def post_unwaived(inbox: Inbox, gaps: Gaps) -> None:

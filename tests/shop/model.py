@@ -21,7 +21,7 @@ from hypothesis import strategies as st
 from hypothesis.stateful import RuleBasedStateMachine, initialize, precondition, rule
 
 from onixdesk_shop.faults import Failed, Fault
-from onixdesk_shop.inbox import decide
+from onixdesk_shop.inbox import decide, posting
 from onixdesk_shop.inbox.context import Inbox
 from onixdesk_shop.inbox.ledger import File
 from onixdesk_shop.settings import NEXT, OWN
@@ -179,6 +179,14 @@ class Model(RuleBasedStateMachine):
         self.inbox.desk = desk
         assert not self.inbox.shown()["desk"]
         assert self.inbox.settings.leave or not os.listdir(self.inbox.incoming), self.inbox.lines
+
+    @rule()
+    def run_misagreed(self) -> None:
+        """The agreement is another one, until it is corrected."""
+        parties = self.inbox.series.parties
+        self.inbox.series.parties = (*parties[:2], "06", "5012345678900")
+        self.run()
+        self.inbox.series.parties = parties
 
     @rule()
     def copy(self) -> None:
@@ -405,7 +413,9 @@ class Model(RuleBasedStateMachine):
             sent = self.sent[file.digest]
             if file.state == "refused" and sent.is_whole and not sent.is_lost:
                 assert not self.is_next, file
-                assert not self.is_had(sent, series), file
+                # What came again while no series was agreed is refused until it is sent once more.
+                is_again = file.why == posting.REASONS["unknown-series"] and not inbox.ledger.messages_of(file)
+                assert is_again or not self.is_had(sent, series), file
 
     def is_had(self, sent: Sent, series: Series) -> bool:
         """Whether the desk has a feed of that number with the same products, by whichever terms."""

@@ -124,7 +124,7 @@ def settle_refused(inbox: Inbox, row: Row, answer: Refused) -> None:
 
 def retry_unknown(inbox: Inbox, gaps: Gaps) -> None:
     """Posts again what no agreement was for, without a line: that the desk has another one by now shows in nothing else.
-    Behind the first that it takes, what no desk took before is judged anew, since there was nothing to compare it with."""
+    Behind the first that it takes, what no desk took before is judged anew, there was nothing to compare it with."""
     ledger, is_agreed = inbox.ledger, False
     query = (
         "SELECT number, file FROM message WHERE state IN ('refused', 'returned') AND number >= ? AND text IS NOT NULL"

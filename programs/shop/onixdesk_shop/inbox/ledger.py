@@ -199,9 +199,13 @@ class Ledger:
         return sorted(found, key=lambda file: file.number or 0, reverse=True)
 
     def last_taken(self) -> int | None:
-        """The time of the latest file that the desk has, or may have, something of, at a number of ours."""
+        """The time of the latest file that the desk has, or may have, something of, at a number of ours, or that keeps one
+        until its series is agreed."""
         query = "SELECT max(time) FROM file JOIN message ON message.file = file.id WHERE ending <> '.csv'"
-        found: int | None = self.value(f"{query} AND message.state IN ('ready', 'posted', 'held', 'applied')")
+        is_kept = "message.state = 'refused' AND answer LIKE '%\"unknown-series\"%'"
+        found: int | None = self.value(
+            f"{query} AND (message.state IN ('ready', 'posted', 'held', 'applied') OR {is_kept})"
+        )
         return found
 
     # What is told of them

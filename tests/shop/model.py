@@ -408,6 +408,8 @@ class Model(RuleBasedStateMachine):
         for file in files:
             if file.state in ("applied", "held"):
                 for row in inbox.ledger.messages_of(file):
+                    if row.state == "returned":
+                        continue
                     had, text = series.had.get(row.number), inbox.ledger.text(row.number).decode()
                     assert had == contents_of(records_of(text)) or bare(had) in rejected, (file, had)
             sent = self.sent[file.digest]

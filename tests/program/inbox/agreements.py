@@ -116,6 +116,25 @@ def compared(room: Room) -> Iterator[Outcome]:
         yield Outcome(f"{number}: let in", found, ("1000.000", "quarantined", [1, 2]))
 
 
+def numbered_anew(room: Room) -> Iterator[Outcome]:
+    """A file that got another number, once its series was agreed, is posted again under that alone."""
+    inbox = inbox_in(room, "anew", number=NEXT)
+    inbox.series.parties = (*SENDER, *ADDRESSEE)
+    for place, price in (1, "4.50"), (2, "1000.00"), (3, "4.60"):
+        inbox.send(f"{place}.xml", feed_of(place, {f"R{each}": price for each in range(12)}))
+        inbox.run()
+    inbox.series.parties = (*SENDER, "", "")
+    inbox.run()
+    inbox.work(lambda each: decide.decide(each, "refuse", each.ledger.files("state = 'quarantined'")[0].mark))
+    inbox.run()
+    yield Outcome("the next number", ([*inbox.series.had], price_of(inbox, "R1")), ([1, 2], "4.600"))
+    for parties in (*SENDER, *ADDRESSEE), (*SENDER, "", ""):
+        inbox.desk = FakeDesk()
+        inbox.desk.series["north"] = Series(parties, 1)
+        inbox.run()
+    yield Outcome("posted again", ([*inbox.series.had], price_of(inbox, "R1")), ([1, 2], "4.600"))
+
+
 def of_another_series(room: Room) -> Iterator[Outcome]:
     """A file that goes into another series is refused here, and posted once."""
     for number in ("own", NEXT):

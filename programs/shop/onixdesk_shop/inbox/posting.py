@@ -127,7 +127,7 @@ def retry_unknown(inbox: Inbox, gaps: Gaps) -> None:
     Behind the first that it takes, what no desk took before is judged anew, there was nothing to compare it with."""
     ledger, is_agreed = inbox.ledger, False
     query = (
-        "SELECT number, file FROM message WHERE state IN ('refused', 'returned') AND number >= ? AND text IS NOT NULL"
+        "SELECT number, file FROM message WHERE state = 'refused' AND number >= ? AND text IS NOT NULL"
         " AND file IN (SELECT id FROM file WHERE state = 'refused' AND why = ?) ORDER BY number"
     )
     for number, of_file in ledger.rows(query, gaps.first, REASONS["unknown-series"]):
@@ -181,7 +181,7 @@ def begin_again(inbox: Inbox, file: File, taken: int = 0) -> None:
     """Has all messages of a refused file posted again, of which the desk has taken one, or may take another one now."""
     with inbox.ledger.step():
         for row in inbox.ledger.messages_of(file):
-            if row.state in (State.REFUSED, State.RETURNED):
+            if row.state == State.REFUSED:
                 inbox.ledger.set_message(row.number, State.POSTED if row.number == taken else State.READY)
         inbox.ledger.set_state(file, State.POSTING)
 

@@ -426,7 +426,7 @@ def waived_before(room: Room) -> Iterator[Outcome]:
         said = [line.rpartition("; ")[0].rpartition("; ")[2] for line in inbox.run()]
         articles = inbox.work(lambda each: each.ledger.articles())
         found = said, inbox.states(), inbox.shown()["refused"], articles, inbox.run()
-        wanted = [f"refused: number {number} was waived"], {"a.xml": "refused"}, 1, 0, []
+        wanted: tuple[Any, ...] = [f"refused: number {number} was waived"], {"a.xml": "refused"}, 1, 0, []
         yield Outcome(f"{state}: waived again", found, wanted)
         inbox.desk, inbox.terms = before, b"50"
         inbox.run()

@@ -295,6 +295,7 @@ class Model(RuleBasedStateMachine):
         for row in inbox.ledger.messages_of(file) if file else []:
             if sent.is_rejected and row.state in ("posted", "held", "applied"):
                 self.inbox.series.had.pop(row.number, None)
+                self.is_restored = True
                 sent.is_gone = not self.unsure
 
     @rule(days=st.integers(4, 6))

@@ -37,7 +37,8 @@ takes_code asked scheme said = is_among asked said.code && is_asked scheme (Some
 
 -- whether it takes what one and the same DiscountCoded of a price says, if it asks for codes
 abbrev pub has_code : Term → List SaidCode → Bool
-has_code term said = option_map_or (λ asked. list_any (takes_code asked term.scheme) said) term.codes true
+has_code term said =
+    option_map_or (λ asked. list_any (takes_code asked term.scheme) said) term.codes true
 
 -- whether a term takes the scheme of a DiscountCoded, where it goes by one
 abbrev pub takes_scheme : Option (List ℕ) → Option (List ℕ) → Bool

@@ -13,12 +13,13 @@ use Rattle.feed_terms.specs.declared.price.GivenPrice.{GivenPrice}
 use Rattle.feed_terms.specs.declared.price.Kind.{Kind}
 
 -- the order of a type and a currency, each of which may be absent
-abbrev pub kind_cmp : Option (List ℕ) × Option (List ℕ) → Option (List ℕ) × Option (List ℕ) → Ordering
+abbrev pub kind_cmp
+    : Option (List ℕ) × Option (List ℕ) → Option (List ℕ) × Option (List ℕ) → Ordering
 kind_cmp a b =
     ordering_then (option_cmp (slice_cmp nat_cmp) a.0 b.0) (option_cmp (slice_cmp nat_cmp) a.1 b.1)
 
--- whether the start that is kept of a type and a currency holds back a price from so many copies and
--- from that day on
+-- whether the start that is kept of a type and a currency holds back a price from so many copies
+-- and from that day on
 abbrev pub holds_at : GivenStarts → Option (List ℕ) → Option (List ℕ) → ℕ → Option ℤ → Bool
 holds_at starts price_type currency minimum from =
     option_map_or (λ s. is_no_higher s.minimum s.from minimum from)

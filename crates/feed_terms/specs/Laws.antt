@@ -55,7 +55,9 @@ LessComputedIsWithout =
     (terms : List Term) (supplier : Option (List ℕ)) (closed : List Kind) (given : List GivenPrice)
     (records : List (List (List ℕ)))
     → less_behind
-    (map (λ g. length (written_of terms supplier (is_held_back terms supplier given closed) g)) given)
+    (map
+    (λ g. length (written_of terms supplier (is_held_back terms supplier given closed) g))
+    given)
     (with_terms terms supplier closed given records) ≡ records
 
 -- wherever a price of the feed is the current one of an offer, it is that with the terms too

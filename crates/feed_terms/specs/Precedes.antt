@@ -30,6 +30,7 @@ takes_tax _ _ = true
 -- whether a term fits each price that another fits
 abbrev pub takes_all : Term → Term → Bool
 takes_all first later =
-    are_among first.types later.types && takes_codes first.codes later.codes && is_asked first.scheme later.scheme
-    && is_asked first.supplier later.supplier && is_asked first.currency later.currency
+    are_among first.types later.types && takes_codes first.codes later.codes
+    && is_asked first.scheme later.scheme && is_asked first.supplier later.supplier
+    && is_asked first.currency later.currency
     && takes_discount first.percent later.percent && takes_tax first.tax later.tax

@@ -11,7 +11,8 @@ use Rattle.feed_terms.specs.TermsFile.{is_discount}
 use Rattle.feed_terms.specs.declared.price.Discount.{Discount}
 use Rattle.feed_terms.specs.declared.price.SaidCode.{SaidCode}
 
--- what a DiscountCoded says, by its type, the name of that and its code, where the type is two digits
+-- what a DiscountCoded says, by its type, the name of that and its code, where the type is two
+-- digits
 abbrev pub code_said : List ℕ → List ℕ → List ℕ → Option SaidCode
 code_said code_type scheme code = do
   digits ← code2_of code_type

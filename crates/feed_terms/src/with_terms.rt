@@ -220,7 +220,8 @@ fn add_with_computed(
         ++ with_computed terms.now (option_copied supplier.entry) (is_held_beside beside.now)
         source.now given.now) }
     ensures remarks { IfOk result (λ r. r
-        ≡ remarks_of terms.now (option_copied supplier.entry) (is_held_beside beside.now) given.now) }
+        ≡ remarks_of terms.now (option_copied supplier.entry) (is_held_beside beside.now)
+        given.now) }
 {
     let outcome = outcome_of(alloc, terms, supplier, beside, given)?;
     output.push(source)?;

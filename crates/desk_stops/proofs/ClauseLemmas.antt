@@ -20,7 +20,7 @@ use Rattle.series_rules.proofs.TraceLemmas.{trace_premise}
 use Rattle.series_rules.proofs.Questions.{question_changes_nothing, question_left}
 use Rattle.series_rules.proofs.ViewLemmas.{asks_of}
 use Rattle.series_rules.specs.Changes.{changes, is_question}
-use Rattle.series_rules.specs.Traces.{Trace}
+use Rattle.series_rules.specs.Steps.{Asked}
 use Rattle.series_rules.specs.Views.{Asks, Tells}
 
 -- ---- requests
@@ -45,7 +45,7 @@ module _ {Store : Type 0} (g : Ghosts Store) (rules : List Rule) where
   }
 
   trace_runs : (found : Trees) (h : List (Event Request Answer)) (steps : List (Request × Result Answer StoreFault)) (old new : Held Store)
-      → Runs (storage g rules) found h (Open old) → Trace (seen g rules) rules steps old new → HasCleanDisk (state g new) → Runs (storage g rules) found (events_after g rules h steps) (Open new)
+      → Runs (storage g rules) found h (Open old) → Asked (seen g rules) rules old new steps → HasCleanDisk (state g new) → Runs (storage g rules) found (events_after g rules h steps) (Open new)
   trace_runs found h [] old new runs same clean = subst (λ c. Runs (storage g rules) found h (Open c)) (sym same) runs
   trace_runs found h ((r, Ok a) ∷ steps) old new runs (next, first, rest) clean =
       trace_runs found (Answered r a ∷ h) steps next new

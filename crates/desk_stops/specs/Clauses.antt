@@ -8,8 +8,8 @@ use Rattle.onix_records.specs.declared.faults.StoreFault.{StoreFault}
 use Rattle.price_rules.specs.declared.precedence.Rule.{Rule}
 use Rattle.series_rules.specs.Answers.{agree_answer, answer_to, catalogue_answer, catalogue_or_unknown, delivery_answer, gaps_answer, gaps_or_unknown, waive_answer}
 use Rattle.series_rules.specs.Changes.{is_question}
-use Rattle.series_rules.specs.Traces.{Trace}
 use Rattle.series_rules.specs.PriceAnswers.{calendar_answer, chosen_by, prices_of}
+use Rattle.series_rules.specs.Steps.{Asked}
 use Rattle.series_rules.specs.Views.{Asks, Tells, View}
 use Rattle.series_rules.specs.declared.answers.Answer.{Answer}
 use Rattle.series_rules.specs.declared.requests.Request.{Request}
@@ -103,7 +103,7 @@ module _ {Store : Type 0} (g : Ghosts Store) (rules : List Rule) where
     pub all : (found : Trees) (h : List (Event Request Answer))
         (steps : List (Request × Result Answer StoreFault)) (old new : Held Store)
         → Runs (storage g rules) found h (Open old)
-        → Trace seen rules steps old new
+        → Asked seen rules old new steps
         → HasCleanDisk (state g new)
         → Runs (storage g rules) found (events_after h steps) (Open new)
 

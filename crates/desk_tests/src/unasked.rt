@@ -1,25 +1,22 @@
-//! Calls that no run of the program makes: requests asked as one list, the offers of a catalogue, and the
-//! calendar day by day. What is to come is taken from the desk's written rules.
+//! Calls that no run of the program makes: the offers of a catalogue, and the calendar day by day. What is to
+//! come is taken from the desk's written rules.
 
 use crate::cases::{expect, expect_bytes, found, made};
 use csv_records::reading::RecordReader;
 use desk_memory::MemoryDesk;
 use desk_texts::answer_text::write_answer;
 use desk_texts::request_rows::read_requests;
-use onix_message::StoreFault;
 use onix_terms::code::{Code2, Country, Currency};
 use onix_terms::day::Day;
 use onix_terms::isbn13::Isbn13;
-use onix_terms::items::Items;
 use onix_terms::quantity::Quantity;
 use onix_terms::series_name::SeriesName;
 use price_rules::calendar::{CalendarFault, Span, calendar};
 use price_rules::day_by_day::calendar_day_by_day;
 use price_rules::offer::{CalendarQuery, Offer};
 use price_rules::precedence::Precedence;
-use series_rules::answers::Answer;
+use series_rules::answering::answer;
 use series_rules::desk::Desk;
-use series_rules::run::ask_all;
 use std::alloc::Global;
 use std::process::Abort;
 
@@ -45,41 +42,17 @@ applied,north,1,replaced=1,updated=0,deleted=0,unknown=0,ignored=0
 gaps,north,first=1,next=3,greatest=2,held=0,missing=0
 ";
 
-// Asks a desk all of them.
-fn outcomes_of<D: Desk>(
-    alloc: Global,
-    stop: &impl Abort,
-    desk: &mut D,
-) -> Items<Result<Answer, StoreFault>> {
+// The answers are these, one after the other.
+fn expect_answers<D: Desk>(alloc: Global, stop: &impl Abort, desk: &mut D) {
     let mut reader = made(stop, RecordReader::new(alloc, REQUESTS.as_bytes()));
     let requests = made(stop, read_requests(alloc, &mut reader));
     drop(reader);
-    let outcomes = ask_all(alloc, desk, &Precedence::none(alloc), requests.as_slice());
-    made(stop, outcomes)
-}
-
-// Adds the text of an answer.
-fn push_answer(
-    alloc: Global,
-    stop: &impl Abort,
-    text: &mut String,
-    outcome: &Result<Answer, StoreFault>,
-) {
-    match outcome {
-        Ok(answer) => {
-            let written = made(stop, write_answer(alloc, answer));
-            made(stop, text.push_str(written.as_str()));
-        }
-        Err(_) => stop.panic("a fault of the store"),
-    }
-}
-
-// The answers are these, one after the other.
-fn expect_answers<D: Desk>(alloc: Global, stop: &impl Abort, desk: &mut D) {
-    let outcomes = outcomes_of(alloc, stop, desk);
+    let precedence = Precedence::none(alloc);
     let mut text = String::new(alloc);
-    for outcome in outcomes.as_slice() {
-        push_answer(alloc, stop, &mut text, outcome);
+    for request in requests.as_slice() {
+        let answered = made(stop, answer(alloc, desk, &precedence, request));
+        let written = made(stop, write_answer(alloc, &answered));
+        made(stop, text.push_str(written.as_str()));
     }
     expect_bytes(stop, text.as_bytes(), ANSWERS.as_bytes(), "the answers");
 }

@@ -10,8 +10,7 @@ use Rattle.series_rules.proofs.TraceLemmas.{trace_premise}
 use Rattle.series_rules.specs.Answers.{answer_to}
 use Rattle.series_rules.specs.Changes.{changes, is_question}
 use Rattle.series_rules.specs.Content.{SameContent, same_trans}
-use Rattle.series_rules.specs.Steps.{ChangeNothing, Follows, HasAll, Step, TracesLead, has_change, in_doubt, with_answered}
-use Rattle.series_rules.specs.Traces.{Trace}
+use Rattle.series_rules.specs.Steps.{Asked, ChangeNothing, Follows, HasAll, Step, TracesLead, has_change, in_doubt, with_answered}
 use Rattle.series_rules.specs.Views.{Asks, DeskKind, IsFaultOf, Stays, View}
 use Rattle.series_rules.specs.declared.answers.Answer.{Answer}
 use Rattle.series_rules.specs.declared.requests.Request.{Request}
@@ -81,10 +80,10 @@ module _ {D : Type 0} {k : DeskKind} (seen : D → View k) (rules : List Rule) w
     where
       went : (seen old).may_leave x ⊎ ((is_question r ≡ false) × k.comes_to x (r ∷ L)) → HasAll k (with_answered L steps) (in_doubt L ((r, Err f) ∷ steps)) x ⊎ ((has_change L steps ≡ false) × (seen old).may_leave x)
       went (inl before) = inr (same, before)
-      went (inr with_it) = inl (first_doubted k rules L r steps (has_change L steps) same same x with_it.1)
+      went (inr with_it) = inl (first_doubted k rules L r steps (has_change L steps || is_question r) (or_false (has_change L steps) (is_question r) same with_it.0) same x with_it.1)
 
   -- of every list
-  pub follows : (steps : List Step) (old new : D) → Trace seen rules steps old new → (L : List Request) → (seen old).stands_for L → (seen new).sound → Follows rules L steps (seen old) (seen new)
+  pub follows : (steps : List Step) (old new : D) → Asked seen rules old new steps → (L : List Request) → (seen old).stands_for L → (seen new).sound → Follows rules L steps (seen old) (seen new)
   follows [] old new same L stands sound = record {
     answers = tt;
     stands = subst (λ d. (seen d).stands_for L) (sym same) stands;
@@ -115,10 +114,10 @@ module _ {D : Type 0} {k : DeskKind} (seen : D → View k) (rules : List Rule) w
     where
       go : (seen next).sound → (x : k.Left) → HasAll k (with_answered L steps) (in_doubt L steps) x ⊎ ((has_change L steps ≡ false) × (seen next).may_leave x)
           → HasAll k (with_answered L steps) (in_doubt L ((r, Err f) ∷ steps)) x ⊎ ((has_change L steps ≡ false) × (seen old).may_leave x)
-      go mid x (inl has) = inl (more_doubted k rules (with_answered L steps) (in_doubt L steps) r (has_change L steps) x has)
+      go mid x (inl has) = inl (more_doubted k rules (with_answered L steps) (in_doubt L steps) r (has_change L steps || is_question r) x has)
       go mid x (inr left) = faulted_left L r f steps old next stands mid asked x left.0 left.1
 
-  stays : (steps : List Step) (old new : D) → Trace seen rules steps old new → All (λ s. is_question s.0 ≡ true) steps → (seen new).sound → Stays (seen old) (seen new)
+  stays : (steps : List Step) (old new : D) → Asked seen rules old new steps → All (λ s. is_question s.0 ≡ true) steps → (seen new).sound → Stays (seen old) (seen new)
   stays [] old new same are sound = subst (λ d. Stays (seen old) (seen d)) (sym same) (λ x. (λ held. held, λ may. may))
   stays (s ∷ steps) old new (next, asked, rest) are sound =
       let first = asked.question (All-head (λ s. is_question s.0 ≡ true) s steps are) (trace_premise seen rules steps next new rest sound) in
@@ -131,14 +130,14 @@ module _ {D : Type 0} {k : DeskKind} (seen : D → View k) (rules : List Rule) w
   holds_one r (Ok a) old next asked sound (inr failed) x is = absurd cc
   holds_one r (Err f) old next asked sound (inr failed) x is = asked.undone sound x is
 
-  held : (steps : List Step) (old new : D) → Trace seen rules steps old new → ChangeNothing steps → (seen new).sound → (x : k.Left) → (seen old).holds x → (seen new).holds x
+  held : (steps : List Step) (old new : D) → Asked seen rules old new steps → ChangeNothing steps → (seen new).sound → (x : k.Left) → (seen old).holds x → (seen new).holds x
   held [] old new same are sound x is = subst (λ d. (seen d).holds x) (sym same) is
   held (s ∷ steps) old new (next, asked, rest) are sound x is =
       let unchanging : Step → Type 0 = λ s. (is_question s.0 ≡ true) ⊎ (is_err s.1 ≡ true) in
       held steps next new rest (All-tail unchanging s steps are) sound x
       (holds_one s.0 s.1 old next asked (trace_premise seen rules steps next new rest sound) (All-head unchanging s steps are) x is)
 
-  faults : (steps : List Step) (old new : D) → Trace seen rules steps old new → All (λ s. IfErr s.1 (IsFaultOf k)) steps
+  faults : (steps : List Step) (old new : D) → Asked seen rules old new steps → All (λ s. IfErr s.1 (IsFaultOf k)) steps
   faults [] old new same = All-nil (λ (s : Step). IfErr s.1 (IsFaultOf k))
   faults (s ∷ steps) old new (next, asked, rest) = All-cons (λ (s : Step). IfErr s.1 (IsFaultOf k)) s steps asked.fault (faults steps next new rest)
 

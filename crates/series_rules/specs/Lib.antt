@@ -10,7 +10,6 @@ pub mod Content
 pub mod Listing
 pub mod Changes
 pub mod Views
-pub mod Traces
 pub mod Steps
 pub mod Laws
 pub mod OfferLaws

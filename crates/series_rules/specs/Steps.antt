@@ -1,11 +1,10 @@
 -- What the steps of a desk come to, for every list of requests that it stood for.
-use Rattle.std.specs.Prelude.{◌≡◌, ◌⊎◌, ◌||◌, All, Bool, true, false, Contains, IfErr, List, [], ◌∷◌, Result, Ok, Err, if◌then◌else◌, is_err, map, ⊤}
+use Rattle.std.specs.Prelude.{◌≡◌, ◌⊎◌, ◌||◌, All, Bool, true, false, Contains, IfErr, List, [], ◌∷◌, Result, Ok, Err, if◌then◌else◌, is_err, ⊤}
 use Rattle.onix_records.specs.declared.faults.StoreFault.{StoreFault}
 use Rattle.price_rules.specs.declared.precedence.Rule.{Rule}
 use Rattle.series_rules.specs.Answers.{answer_to}
 use Rattle.series_rules.specs.Changes.{changes, is_question}
-use Rattle.series_rules.specs.Traces.{Trace}
-use Rattle.series_rules.specs.Views.{DeskKind, IsFaultOf, View}
+use Rattle.series_rules.specs.Views.{Asks, DeskKind, IsFaultOf, View}
 use Rattle.series_rules.specs.declared.answers.Answer.{Answer}
 use Rattle.series_rules.specs.declared.requests.Request.{Request}
 
@@ -13,16 +12,14 @@ use Rattle.series_rules.specs.declared.requests.Request.{Request}
 abbrev pub Step : Type 0
 Step = Request × Result Answer StoreFault
 
--- a desk was asked these steps, one after the other, which led it from `old` to `new`
+-- a desk was asked these steps, the first first, each as `answer` asks one; they led it from `old`
+-- to `new`
 abbrev pub Asked : {D : Type 0} → {k : DeskKind} → (D → View k) → List Rule → D → D
     → List Step → Type 0
-Asked seen rules old new steps = Trace seen rules steps old new
-
--- these requests had these outcomes, one after the other. Asked: a desk was asked these steps
-abbrev pub AsksAll : (List Step → Type 0) → List Request → List (Result Answer StoreFault) → Type 0
-AsksAll asked requests outcomes =
-    (steps : List Step) × (map (λ s. s.0) steps ≡ requests) × (map (λ s. s.1) steps ≡ outcomes)
-    × asked steps
+Asked seen rules old new [] = new ≡ old
+Asked {D} seen rules old new (s ∷ steps) =
+    (next : D) × Asks s.0 (λ L. answer_to rules L s.0) (seen old) (seen next) s.1
+    × Asked seen rules next new steps
 
 -- L and then each request that was answered
 abbrev pub with_answered : List Request → List Step → List Request
@@ -42,12 +39,13 @@ has_change L [] = false
 has_change L ((r, Ok a) ∷ steps) = changes L r || has_change (r ∷ L) steps
 has_change L ((r, Err f) ∷ steps) = has_change L steps
 
--- the requests that had a fault of the store, and behind which no answer changed something
+-- the requests, no questions, that had a fault of the store and behind which no answer changed
+-- something
 abbrev pub in_doubt : List Request → List Step → List Request
 in_doubt L [] = []
 in_doubt L ((r, Ok a) ∷ steps) = in_doubt (r ∷ L) steps
 in_doubt L ((r, Err f) ∷ steps) =
-    if has_change L steps then in_doubt L steps else r ∷ in_doubt L steps
+    if has_change L steps || is_question r then in_doubt L steps else r ∷ in_doubt L steps
 
 -- x is what those requests come to, or these and one that is in doubt
 abbrev pub HasAll : (k : DeskKind) → List Request → List Request → k.Left → Type 0

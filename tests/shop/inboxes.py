@@ -88,7 +88,7 @@ class FakeInbox:
         words = self.disk, self.desk, self.clock
         return ProgramMachine(self.places, *words) if self.program else FakeMachine(*words)
 
-    def send(self, name: str, data: bytes | str, time: int | None = None) -> None:
+    def send(self, name: str, data: bytes | str, time: float | None = None) -> None:
         """A file comes, a minute after the last thing that happened, or with a time of its server's."""
         self.clock += 60
         path = self.incoming / name

@@ -8,6 +8,7 @@ import shutil
 import sqlite3
 import tempfile
 import unittest
+from collections.abc import Callable
 from contextlib import closing, suppress
 from copy import deepcopy
 from dataclasses import dataclass, field, replace
@@ -48,7 +49,7 @@ class Sent:
     """Bytes that were sent: when first, whether the desk can take them, and what a person decided."""
 
     data: bytes
-    time: int
+    time: float
     is_whole: bool
     number: int | None
     is_rejected: bool = False
@@ -105,6 +106,8 @@ class Model(RuleBasedStateMachine):
         self.waived: set[int] = set()
         self.ever: dict[int, Contents] = {}
         self.unsure: set[int] = set()
+        # The numbers that were waived at the desk by a person, who waives them again where it is restored.
+        self.by_hand: set[int] = set()
         # What was judged over another desk may look wrong beside what this one has.
         self.is_restored = False
 
@@ -118,15 +121,19 @@ class Model(RuleBasedStateMachine):
         """A wholesaler that overwrites its file before that is taken has sent nothing before: this one waits."""
         if (self.inbox.incoming / name).exists():
             self.clean()
-        time = self.inbox.clock + 60 - (100_000 if is_late else 0)
-        self.inbox.send(name, data, time)
-        sent = self.sent.setdefault(digest_of(data), Sent(data, time, is_whole, number))
-        sent.terms.add(self.inbox.terms)
+        sent = self.put(name, data, is_whole, number, self.inbox.clock + 60 - (100_000 if is_late else 0))
         if sent.is_lost:
             # What was refused whole is a new file then, if nothing ends the run amid its copy.
+            time = (self.inbox.incoming / name).stat().st_mtime
             sent.time = time if self.inbox.work(lambda inbox: self.is_refused(inbox, data)) else sent.time
             sent.is_lost = False
             self.clean()
+
+    def put(self, name: str, data: bytes, is_whole: bool, number: int | None, time: float) -> Sent:
+        self.inbox.send(name, data, time)
+        sent = self.sent.setdefault(digest_of(data), Sent(data, time, is_whole, number))
+        sent.terms.add(self.inbox.terms)
+        return sent
 
     def is_refused(self, inbox: Inbox, data: bytes) -> bool:
         """Whether a file is refused, and no desk has anything of it."""
@@ -180,13 +187,54 @@ class Model(RuleBasedStateMachine):
         assert not self.inbox.shown()["desk"]
         assert self.inbox.settings.leave or not os.listdir(self.inbox.incoming), self.inbox.lines
 
-    @rule()
-    def run_misagreed(self) -> None:
+    @precondition(lambda self: not any(sent.is_lost for sent in self.sent.values()))
+    @rule(
+        name=names,
+        number=numbers,
+        first=small,
+        products=small,
+        is_cut=st.booleans(),
+        what=st.sampled_from(STEPS),
+        place=st.integers(1, 8),
+    )
+    def run_with_upload(
+        self, name: str, number: int, first: Any, products: Any, is_cut: bool, what: str, place: int
+    ) -> None:
+        """Amid a run a file is written over, which may be taken by then, or it is whole from then on."""
+        self.clean()
+        of_sender = None if self.is_next else number
+        data = fake_program.feed_of(of_sender, products, sent="")
+        before = data[:-9] if is_cut else fake_program.feed_of(of_sender, first, sent="")
+        known = set(self.sent)
+        self.upload(name, before, not is_cut, of_sender)
+        self.run(("meanwhile", what, place), lambda time: self.put(name, data, True, of_sender, time))
+        if before != data and digest_of(before) not in known | {file.digest for file in self.inbox.files()}:
+            del self.sent[digest_of(before)]
+
+    @precondition(lambda self: self.is_next)
+    @rule(name=names, products=small, place=st.integers(1, 4))
+    def run_with_waiver(self, name: str, products: dict[str, str], place: int) -> None:
+        """Amid a run somebody waives the last number of a feed at the desk, which has the feed's first half then, or not;
+        and later what is missing below."""
+        self.clean()
+        self.send(name, 1, "", False, products)
+        self.run(("meanwhile", "batch", place), lambda _: self.waive_at_desk())
+        had = self.inbox.series.had
+        self.by_hand |= {number for number in range(1, max(had)) if had.setdefault(number, WAIVED) == WAIVED}
+
+    def waive_at_desk(self) -> None:
+        last = (self.inbox.series.next + self.parts - 2) // self.parts * self.parts + self.parts
+        self.inbox.series.had[last] = WAIVED
+        self.by_hand.add(last)
+
+    @rule(is_other=st.booleans(), first=st.integers(1, 3))
+    def run_misagreed(self, is_other: bool, first: int) -> None:
         """The agreement is another one, until it is corrected."""
-        parties = self.inbox.series.parties
-        self.inbox.series.parties = (*parties[:2], "06", "5012345678900")
+        series, parties = self.inbox.series, self.inbox.series.parties
+        series.parties = (*parties[:2], "06", "5012345678900") if is_other else parties
+        series.first = 1 if self.is_next else first
         self.run()
-        self.inbox.series.parties = parties
+        series.parties, series.first = parties, 1
 
     @rule()
     def copy(self) -> None:
@@ -210,6 +258,8 @@ class Model(RuleBasedStateMachine):
             # It has what was refused, and taken out since: desk-restore does not take it.
             return
         self.inbox.desk = desk
+        for number in self.by_hand:
+            desk.series[SERIES].had.setdefault(number, WAIVED)
         self.is_restored = True
         for sent in self.sent.values():
             sent.is_gone |= sent.is_rejected and not self.unsure and had.isdisjoint(self.all_parts(sent))
@@ -226,6 +276,7 @@ class Model(RuleBasedStateMachine):
         del self.ledgers[at + 1 :], self.known[at + 1 :], self.copies[at + 2 :]
         self.inbox.desk, self.inbox.disk.undo = self.copies[-1].copy(), []
         self.sent, self.waived, self.ever, self.unsure = deepcopy(self.known[-1])
+        self.by_hand = {number for number in self.by_hand if self.inbox.series.had.get(number) == WAIVED}
         self.is_restored = True
         for path in [*self.inbox.incoming.iterdir(), *self.inbox.store.iterdir()]:
             path.unlink()
@@ -342,8 +393,13 @@ class Model(RuleBasedStateMachine):
         assert self.inbox.desk
         return self.inbox.desk
 
-    def run(self, fault: tuple[str, str, int] = ("", "", 0)) -> None:
+    def run(
+        self, fault: tuple[str, str, int] = ("", "", 0), meanwhile: Callable[[float], object] | None = None
+    ) -> None:
+        """One run, with a fault, or with what somebody else does amid it."""
         machine = FakeMachine(self.inbox.disk, self.inbox.desk, self.inbox.clock, fault)
+        if meanwhile:
+            machine.meanwhile = lambda: meanwhile(machine.clock)
         try:
             self.inbox.run(machine)
         except (Killed, SystemExit, OSError, Fault):
@@ -415,10 +471,13 @@ class Model(RuleBasedStateMachine):
                     assert had == contents_of(records_of(text)) or bare(had) in rejected, (file, had)
             sent = self.sent[file.digest]
             if file.state == "refused" and sent.is_whole and not sent.is_lost:
-                assert not self.is_next, file
-                # What came again while no series was agreed is refused until it is sent once more.
-                is_again = file.why == posting.REASONS["unknown-series"] and not inbox.ledger.messages_of(file)
-                assert is_again or not self.is_had(sent, series), file
+                numbers = {row.number for row in inbox.ledger.messages_of(file)}
+                assert not self.is_next or numbers & self.by_hand, file
+                # What came again while no series was agreed is refused until it is sent once more; and what another
+                # file of its number took a part over from, until a person dismisses it.
+                is_again = file.why == posting.REASONS["unknown-series"] and not numbers
+                is_taken_over = inbox.ledger.has_stood(file) and len(numbers) < self.parts
+                assert is_again or is_taken_over or not self.is_had(sent, series), file
 
     def is_had(self, sent: Sent, series: Series) -> bool:
         """Whether the desk has a feed of that number with the same products, by whichever terms."""
@@ -479,10 +538,11 @@ class Model(RuleBasedStateMachine):
             group = had[at : at + self.parts]
             if all(each == WAIVED for each in group):
                 continue
-            if later := next((sent for sent in others if self.fits(sent, group, sent.is_rejected)), None):
+            is_half = at + self.parts in self.by_hand
+            if later := next((sent for sent in others if self.fits(sent, group, sent.is_rejected or is_half)), None):
                 others.remove(later)
                 continue
-            while ordered and not self.fits(ordered[0], group, ordered[0].is_rejected):
+            while ordered and not self.fits(ordered[0], group, ordered[0].is_rejected or is_half):
                 assert ordered[0].is_rejected, (ordered[0], group)
                 ordered.pop(0)
             assert ordered and not ordered[0].is_gone, group
@@ -514,7 +574,7 @@ class Model(RuleBasedStateMachine):
         """The desk has what the last full files named, where nothing was missing and nobody refused anything."""
         last = inbox.ledger.full_files()[: self.inbox.settings.full]
         refused = any(sent.is_rejected for sent in self.sent.values())
-        if not self.is_next or not last or refused or any(file.state != "applied" for file in last):
+        if not self.is_next or not last or refused or self.by_hand or any(file.state != "applied" for file in last):
             return
         prices: dict[str, str] = {}
         for file in reversed(last):

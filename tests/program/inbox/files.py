@@ -195,6 +195,17 @@ def gone_with_the_machine(room: Room) -> Iterator[Outcome]:
     wanted = {"1.xml": "applied", "1-other.csv": "refused", "1-other.xml": "refused", "2.xml": "applied"}
     yield Outcome("the states", inbox.states(), wanted)
     yield Outcome("the lines", sum("its bytes are not kept any more" in line for line in lines), 2)
+    inbox = inbox_in(room, "not agreed")
+    parties, inbox.series.parties = inbox.series.parties, ("06", "5012345678900", "", "")
+    inbox.send("1.xml", feed_of(1, {"R1": "1.00"}))
+    inbox.run()
+    next(inbox.store.iterdir()).unlink()
+    inbox.settings = replace(inbox.settings, silent_days=5)
+    inbox.send("1-other.xml", feed_of(1, {"R1": "2.00"}))
+    inbox.run()
+    inbox.series.parties = parties
+    inbox.run()
+    yield Outcome("its number is free", inbox.states(), {"1.xml": "refused", "1-other.xml": "applied"})
 
 
 def renewed(room: Room) -> Iterator[Outcome]:

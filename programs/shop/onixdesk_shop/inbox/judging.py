@@ -53,7 +53,9 @@ def judge(inbox: Inbox, file: File, gaps: Gaps) -> None:
             quarantine.look(inbox, new, gaps)
             take(inbox, new, others, full.with_deletions(inbox, new, gaps))
     except Refusal as refusal:
-        inbox.ledger.set_state(file, State.REFUSED, str(refusal))
+        with inbox.ledger.step():
+            give_back(inbox, file)
+            inbox.ledger.set_state(file, State.REFUSED, str(refusal))
         inbox.tell_refused(file, str(refusal), None, *offset_for(inbox, inbox.ledger.file(file.id), gaps))
     except Quarantine as why:
         quarantine_file(inbox, file, str(why))

@@ -152,13 +152,13 @@ def judge_behind(inbox: Inbox) -> None:
 
 
 def give_back(inbox: Inbox, file: File) -> None:
-    """The numbers that the inbox gave to a file that no desk took are free again, unless a later one is another's for
-    good."""
+    """The numbers of a file that no desk took are free again; of those that the inbox gave none that has a later one behind
+    it, which is another's for good."""
     ledger = inbox.ledger
-    if inbox.settings.gives_number(file.ending) and not ledger.is_final(file):
-        for row in ledger.messages_of(file):
-            if row.number > ledger.last_final():
-                ledger.set_message(row.number, State.RETURNED)
+    last = ledger.last_final() if inbox.settings.gives_number(file.ending) else 0
+    for row in ledger.messages_of(file) if not ledger.is_final(file) else []:
+        if row.number > last:
+            ledger.set_message(row.number, State.RETURNED)
 
 
 def post_unwaived(inbox: Inbox, gaps: Gaps) -> None:

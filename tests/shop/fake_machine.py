@@ -1,6 +1,7 @@
 """A machine whose files are real, and whose desk, program and clock are the tests'; with faults at each of its calls."""
 
 import contextlib
+import io
 import os
 import shutil
 import sqlite3
@@ -47,6 +48,11 @@ def put_back(now: Path, before: Path) -> None:
         os.rename(now, before)
 
 
+class ClosedOutput(io.StringIO):
+    def write(self, _text: str) -> int:
+        raise BrokenPipeError(32, "Broken pipe")
+
+
 class FakeMachine(Machine):
     """One run of a program: `fault` is what happens at which step, or at any without a name, and at the how many'th."""
 
@@ -63,6 +69,7 @@ class FakeMachine(Machine):
         self.steps: Counter[str] = Counter()
         self.is_dead = False
         self.lines: list[tuple[int, str]] = []
+        self.errors = io.StringIO()
         self.posted: list[bytes] = []
         self.written = ""
 
@@ -170,6 +177,12 @@ class FakeMachine(Machine):
 
     def tell(self, priority: int, line: str) -> None:
         self.lines.append((priority, line))
+        with contextlib.redirect_stderr(self.errors):
+            super().tell(priority, line)
+
+    def close_output(self) -> None:
+        """Nobody takes it any more."""
+        self.errors = ClosedOutput()
 
     def write(self, text: str) -> None:
         self.written += text

@@ -187,6 +187,10 @@ class Model(RuleBasedStateMachine):
         assert not self.inbox.shown()["desk"]
         assert self.inbox.settings.leave or not os.listdir(self.inbox.incoming), self.inbox.lines
 
+    @rule(what=st.sampled_from(STEPS), place=st.integers(1, 8))
+    def run_with_closed_output(self, what: str, place: int) -> None:
+        self.run(("meanwhile", what, place), FakeMachine.close_output)
+
     @precondition(lambda self: not any(sent.is_lost for sent in self.sent.values()))
     @rule(
         name=names,
@@ -207,11 +211,11 @@ class Model(RuleBasedStateMachine):
         before = data[:-9] if is_cut else fake_program.feed_of(of_sender, first, sent="")
         known = set(self.sent)
         self.upload(name, before, not is_cut, of_sender)
-        self.run(("meanwhile", what, place), lambda time: self.put(name, data, True, of_sender, time))
+        self.run(("meanwhile", what, place), lambda machine: self.put(name, data, True, of_sender, machine.clock))
         if before != data and digest_of(before) not in known | {file.digest for file in self.inbox.files()}:
             del self.sent[digest_of(before)]
 
-    @precondition(lambda self: self.is_next)
+    @precondition(lambda self: bool(self.is_next))
     @rule(name=names, products=small, place=st.integers(1, 4))
     def run_with_waiver(self, name: str, products: dict[str, str], place: int) -> None:
         """Amid a run somebody waives the last number of a feed at the desk, which has the feed's first half then, or not;
@@ -394,16 +398,16 @@ class Model(RuleBasedStateMachine):
         return self.inbox.desk
 
     def run(
-        self, fault: tuple[str, str, int] = ("", "", 0), meanwhile: Callable[[float], object] | None = None
+        self, fault: tuple[str, str, int] = ("", "", 0), meanwhile: Callable[[FakeMachine], object] | None = None
     ) -> None:
-        """One run, with a fault, or with what somebody else does amid it."""
+        """One run, with a fault, or with what others do amid it, which ends none."""
         machine = FakeMachine(self.inbox.disk, self.inbox.desk, self.inbox.clock, fault)
         if meanwhile:
-            machine.meanwhile = lambda: meanwhile(machine.clock)
+            machine.meanwhile = functools.partial(meanwhile, machine)
         try:
             self.inbox.run(machine)
         except (Killed, SystemExit, OSError, Fault):
-            pass
+            assert not meanwhile
         assert not any(sent.is_rejected and not sent.refused.isdisjoint(machine.posted) for sent in self.sent.values())
 
     @rule()
